@@ -1,0 +1,6 @@
+pub mod Digits
+pub mod Refusals
+pub mod Sent
+pub mod OneReplay
+pub mod OneAnswer
+pub mod Replayed

@@ -1,0 +1,68 @@
+-- An order and what was read of an input have one answer.
+use Rattle.std.proofs.Common.{◌≡◌, ◌≤◌, ◌<◌, ◌⊎◌, ℕ, List, length, ◌∙◌, refl, sym, ap, inl, inr, Bool, true, false, Result, Ok, Err, nat_lt}
+use Rattle.std.proofs.lemmas.Bool.{ltb-true, ltb-false}
+use Rattle.stamp_core.specs.declared.layout.Layout.{Layout}
+use Rattle.stamp_core.specs.declared.layout.Layout.TheVariants.{One}
+use Rattle.stamp_core.specs.declared.reply.Reply.{Reply}
+use Rattle.stamp_history.specs.ReplayText.{replayed_text}
+use Rattle.stamp_history.specs.declared.read_error.ReadError.{ReadError}
+use Rattle.stamp_history.specs.Replay.{Replay, replay_of}
+use Rattle.stamp_history.specs.ReplayAnswer.{IsReplayedText}
+use Rattle.stamp_history.proofs.OnlyLockCalls.{replay_of_lock}
+use Rattle.stamp_cli.specs.declared.faults.ServeFault.{ServeFault}
+use Rattle.stamp_cli.specs.declared.faults.ServeFault.TheVariants.{Waits}
+use Rattle.stamp_cli.specs.declared.orders.Order.{Order}
+use Rattle.stamp_cli.specs.declared.orders.Order.TheVariants as order
+use Rattle.stamp_cli.specs.Answer.{IsWaitFault, IsReadingAnswer, IsReplayAnswer, IsStampAnswer, IsAnswer}
+use Rattle.stamp_cli.specs.Source.{most_bytes}
+use Rattle.stamp_cli.specs.StampText.{kind_text}
+use Rattle.stamp_core.proofs.OneStampKind.{one_kind}
+use Rattle.stamp_cli.proofs.OneReplay.{AreOfLock, of_all, one_replayed, one_wait, waits_or_replayed}
+
+-- the calls of a replay are the lock's
+abbrev pub AreOfLockIn : Result Replay ReadError → Type 0
+AreOfLockIn (Ok replay) = AreOfLock replay.calls
+AreOfLockIn (Err e) = Unit {0}
+
+one_line : (replay : Replay) (a b : List ℕ) → AreOfLock replay.calls → IsReplayedText replay a → IsReplayedText replay b → a ≡ b
+one_line replay a b lock x y =
+    let same = one_replayed replay.limits replay.calls x.replies y.replies x.word y.word lock x.replayed y.replayed in
+    x.is ∙ ap (λ (rs : List Reply). replayed_text rs x.word.bits) same.0 ∙ ap (replayed_text y.replies) same.1 ∙ sym y.is
+
+line_or_wait : (replay : Replay) (a : List ℕ) (e : ServeFault) → AreOfLock replay.calls → IsReplayedText replay a → IsWaitFault replay e → ⊥
+line_or_wait replay a e lock x y = waits_or_replayed replay.limits replay.calls y.call x.replies x.word lock y.waits x.replayed
+
+one_reading : (r : Result Replay ReadError) (a b : Result (List ℕ) ServeFault) → AreOfLockIn r → IsReadingAnswer r a → IsReadingAnswer r b → a ≡ b
+one_reading (Ok replay) (Ok a) (Ok b) lock x y = ap Ok (one_line replay a b lock x y)
+one_reading (Ok replay) (Ok a) (Err e) lock x y = absurd (line_or_wait replay a e lock x y)
+one_reading (Ok replay) (Err e) (Ok b) lock x y = absurd (line_or_wait replay b e lock y x)
+one_reading (Ok replay) (Err d) (Err e) lock x y = ap Err (x.named ∙ ap Waits (one_wait replay.limits replay.calls x.call y.call lock x.waits y.waits) ∙ sym y.named)
+one_reading (Err e) a b lock x y = x ∙ sym y
+
+of_lock_in : (input : List ℕ) → AreOfLockIn (replay_of input)
+of_lock_in input = by (replay_of input) refl
+  where
+    by : (r : Result Replay ReadError) → replay_of input ≡ r → AreOfLockIn r
+    by (Ok replay) e = of_all replay.calls (replay_of_lock input replay e)
+    by (Err e) _ = tt
+
+long_or_not : (n m : ℕ) → (n < m) ⊎ (m ≤ n)
+long_or_not n m = by_test (nat_lt n m) refl
+  where
+    by_test : (b : Bool) → nat_lt n m ≡ b → (n < m) ⊎ (m ≤ n)
+    by_test true e = inl (ltb-true n m e)
+    by_test false e = inr (ltb-false n m e)
+
+one_to_replay : (input : List ℕ) (a b : Result (List ℕ) ServeFault) → (most_bytes < length input) ⊎ (length input ≤ most_bytes) → IsReplayAnswer input a → IsReplayAnswer input b → a ≡ b
+one_to_replay input a b (inl long) x y = x.too_long long ∙ sym (y.too_long long)
+one_to_replay input a b (inr fits) x y = one_reading (replay_of input) a b (of_lock_in input) (x.read fits) (y.read fits)
+
+one_to_stamp : (layout : Layout) (n : ℕ) (a b : Result (List ℕ) ServeFault) → IsStampAnswer layout n a → IsStampAnswer layout n b → a ≡ b
+one_to_stamp layout n a b x y =
+    let same = one_kind layout n x.text.kind y.text.kind x.text.has y.text.has in
+    x.is ∙ ap Ok (x.text.says ∙ ap kind_text same ∙ sym y.text.says) ∙ sym y.is
+
+pub one_answer : (o : Order) (input : List ℕ) (a b : Result (List ℕ) ServeFault) → IsAnswer o input a → IsAnswer o input b → a ≡ b
+one_answer order.Replay input a b x y = one_to_replay input a b (long_or_not most_bytes (length input)) x y
+one_answer (order.Stamp n) input a b x y = one_to_stamp One n a b x y
+one_answer (order.StampIn layout n) input a b x y = one_to_stamp layout n a b x y

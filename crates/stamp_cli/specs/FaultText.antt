@@ -1,0 +1,32 @@
+-- The line on standard error for each fault.
+use Rattle.std.specs.Prelude.{ℕ, List, ◌++◌, codes, decimal}
+use Rattle.stamp_core.specs.declared.script_error.ScriptError.{ScriptError}
+use Rattle.stamp_core.specs.declared.script_error.ScriptError.TheVariants.{TooManyThreads, TooManyCalls, TooManySteps, NoSuchThread, RecordWidth}
+use Rattle.stamp_history.specs.Field.{field_text}
+use Rattle.stamp_history.specs.declared.read_error.ReadError.{ReadError}
+use Rattle.stamp_history.specs.declared.read_error.ReadError.TheVariants as read
+use Rattle.stamp_cli.specs.declared.faults.ServeFault.{ServeFault}
+use Rattle.stamp_cli.specs.declared.faults.ServeFault.TheVariants.{ReadFault, TooLong, Refused, Waits, Memory, WriteFault}
+
+abbrev pub script_error_text : ScriptError → List ℕ
+script_error_text TooManyThreads = codes "too many threads"
+script_error_text TooManyCalls = codes "too many calls"
+script_error_text TooManySteps = codes "too many steps"
+script_error_text (NoSuchThread i) = codes "no thread at step " ++ decimal i
+script_error_text RecordWidth = codes "record width"
+
+abbrev pub read_error_text : ReadError → List ℕ
+read_error_text read.NotJson = codes "stamped: not json"
+read_error_text (read.NotHistory field) = codes "stamped: not a history: " ++ field_text field
+read_error_text (read.Limit field) = codes "stamped: over a limit: " ++ field_text field
+read_error_text read.Memory = codes "stamped: memory"
+read_error_text (read.NotScript field) = codes "stamped: not a script: " ++ field_text field
+read_error_text (read.BadScript e) = codes "stamped: script refused: " ++ script_error_text e
+
+abbrev pub fault_text : ServeFault → List ℕ
+fault_text ReadFault = codes "stamped: read fault"
+fault_text TooLong = codes "stamped: input over 16777216 bytes"
+fault_text (Refused e) = read_error_text e
+fault_text (Waits i) = codes "stamped: call " ++ decimal i ++ codes " waits"
+fault_text Memory = codes "stamped: memory"
+fault_text WriteFault = codes "stamped: write fault"

@@ -1,0 +1,31 @@
+-- What reads of a source did.
+use Rattle.std.specs.Prelude.{ℕ, ◌+◌, ◌≡◌, ◌<◌, ◌≤◌, ◌++◌, List, [], length, Bool, true, false, Option}
+use Rattle.std.specs.Io.KnownBytes.{Keeps, Consumes, IsAtEnd}
+
+-- the most bytes of an input
+abbrev pub most_bytes : ℕ
+most_bytes = 16777216
+
+-- the most reads of an input: each but the last takes a byte
+abbrev pub most_reads : ℕ
+most_reads = 16777217
+
+-- what was read is input: all to the end, or to one byte past the most
+pub record Reads (old new : Option (List ℕ)) (input : List ℕ) : Type 0 where
+  pub took : Consumes old new input
+  pub within : length input ≤ most_bytes + 1
+  pub whole : length input ≤ most_bytes → IsAtEnd new
+
+-- nothing was read
+pub record ReadsNone (old new : Option (List ℕ)) (input : List ℕ) : Type 0 where
+  pub kept : Keeps old new
+  pub none : input ≡ []
+
+-- one read took the bytes by which the input grew, none only at the end
+pub record ReadsMore (old new : Option (List ℕ)) (before after : List ℕ) (more : Bool) : Type 0 where
+  pub taken : List ℕ
+  pub took : Consumes old new taken
+  pub grown : after ≡ before ++ taken
+  pub within : length after ≤ most_bytes + 1
+  pub longer : more ≡ true → 0 < length taken
+  pub at_end : more ≡ false → (taken ≡ []) × IsAtEnd new

@@ -1,0 +1,63 @@
+//! The input of a command, read to its end.
+
+ghost use Rattle.std.specs.Prelude.{◌≡◌, ◌↔◌, ◌⊎◌, ◌+◌, ◌<◌, ◌≤◌, length, vec_len, true, false, IfOk, IfErr, Err};
+ghost use Rattle.stamp_cli.specs.Source.{most_bytes, most_reads, Reads, ReadsMore};
+
+use crate::faults::ServeFault;
+use crate::sources::Source;
+use std::alloc::{AllocError, Global};
+
+/// The most bytes of an input.
+pub(crate) const MOST_BYTES: usize = 16_777_216;
+
+/// The most bytes of one read.
+const CHUNK: usize = 65_536;
+
+fn zeros(alloc: Global, count: usize) -> Result<Vec<u8>, AllocError>
+    ensures { IfOk result (λ zeros. vec_len zeros ≡ count) }
+{
+    vec![in alloc; 0u8; count]
+}
+
+/// Appends what one read gives to the input. Whether there was any.
+fn read_more<S: Source>(
+    source: &mut S,
+    chunk: &mut [u8],
+    input: &mut Vec<u8>,
+) -> Result<bool, ServeFault>
+    requires room { 0 < length chunk.old }
+    requires within { vec_len input.old ≤ most_bytes }
+    requires unfailed { S.has_failed source.old ≡ false }
+    requires few { S.reads source.old ≤ vec_len input.old }
+    ensures counted { S.reads source.new ≡ S.reads source.old + 1 }
+    ensures more { IfOk result (λ more. ReadsMore (S.left source.old) (S.left source.new)
+        input.old.items input.new.items more) }
+    ensures failed { (result ≡ Err ServeFault.ReadFault) ↔ (S.has_failed source.new ≡ true) }
+    ensures only { IfErr result (λ e. (e ≡ ServeFault.ReadFault) ⊎ (e ≡ ServeFault.Memory)) }
+{
+    let room = chunk.len().min(MOST_BYTES + 1 - input.len());
+    let Ok(taken) = source.read(&mut chunk[..room]) else {
+        return Err(ServeFault::ReadFault);
+    };
+    input.extend_from_slice(&chunk[..taken])?;
+    Ok(taken > 0)
+}
+
+/// The input to its end, or to one byte past the most.
+pub(crate) fn read_input<S: Source>(alloc: Global, source: &mut S) -> Result<Vec<u8>, ServeFault>
+    requires unread { S.reads source.old ≡ 0 }
+    requires unfailed { S.has_failed source.old ≡ false }
+    ensures few { S.reads source.new ≤ most_reads }
+    ensures read { IfOk result (λ input. Reads (S.left source.old) (S.left source.new) input.items) }
+    ensures failed { (result ≡ Err ServeFault.ReadFault) ↔ (S.has_failed source.new ≡ true) }
+    ensures only { IfErr result (λ e. (e ≡ ServeFault.ReadFault) ⊎ (e ≡ ServeFault.Memory)) }
+{
+    let mut input = Vec::new(alloc);
+    let mut chunk = zeros(alloc, CHUNK)?;
+    while input.len() <= MOST_BYTES {
+        if !read_more(source, &mut chunk, &mut input)? {
+            return Ok(input);
+        }
+    }
+    Ok(input)
+}

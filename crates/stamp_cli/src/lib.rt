@@ -1,0 +1,21 @@
+//! The engine of the program `stamped`: its command line, its input, and the line that answers it.
+#![tactic(auto)]
+
+mod answer;
+mod faults;
+mod input;
+pub mod laws;
+mod orders;
+mod output;
+mod serving;
+mod sinks;
+mod sources;
+mod stamp_text;
+#[cfg(test)]
+mod tests;
+
+pub use faults::{ServeFault, fault_line};
+pub use orders::{CommandFault, Order, order_of};
+pub use serving::{Verdict, serve};
+pub use sinks::{Sink, WriteSink};
+pub use sources::{ReadSource, Source};

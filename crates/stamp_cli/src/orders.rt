@@ -1,0 +1,101 @@
+//! The command line.
+
+ghost use Rattle.std.specs.Prelude.{◌≡◌, map};
+ghost use Rattle.std.specs.Char.{is_ascii_digit};
+ghost use Rattle.std.specs.List.{list_all};
+ghost use Rattle.stamp_cli.specs.Order as order;
+
+use stamp_core::Layout;
+
+/// What the program is told to do.
+#[derive(Clone, Copy, Debug, PartialEq, Eq)]
+pub enum Order {
+    /// Reads a replay and answers what its calls are replied.
+    Replay,
+    /// Says what a number is as a stamp of layout 1.
+    Stamp(u64),
+    /// Says what a number is as a stamp of a layout.
+    StampIn(Layout, u64),
+}
+
+/// Why words are no order.
+#[derive(Clone, Copy, Debug, PartialEq, Eq)]
+pub enum CommandFault {
+    /// 1: the words are no form of the command line.
+    Bad,
+}
+
+fn is_digits(text: &str) -> bool
+    ensures { result ≡ list_all is_ascii_digit text.now }
+{
+    text.bytes().all(|byte| byte.is_ascii_digit())
+}
+
+/// The number below 2^64 that the text is in decimal digits alone.
+#[tactic(auto, using(crate::proofs::Digits::number_parsed))]
+fn number_in(text: &str) -> Option<u64>
+    ensures { result ≡ order.number_in text.now }
+{
+    // A sign is no digit, and `parse` would take it.
+    if !is_digits(text) {
+        return None;
+    }
+    text.parse().ok()
+}
+
+fn layout_in(text: &str) -> Option<Layout>
+    ensures { result ≡ order.layout_in text.now }
+{
+    match text {
+        "1" => Some(Layout::One),
+        "2" => Some(Layout::Two),
+        _ => None,
+    }
+}
+
+fn one_word(word: &str) -> Option<Order>
+    ensures { result ≡ order.one_word word.now }
+{
+    match word {
+        "replay" => Some(Order::Replay),
+        _ => None,
+    }
+}
+
+fn two_words(command: &str, number: &str) -> Option<Order>
+    ensures { result ≡ order.two_words command.now number.now }
+{
+    match command {
+        "stamp" => Some(Order::Stamp(number_in(number)?)),
+        _ => None,
+    }
+}
+
+fn four_words(command: &str, option: &str, layout: &str, number: &str) -> Option<Order>
+    ensures { result ≡ order.four_words command.now option.now layout.now number.now }
+{
+    match command {
+        "stamp" if option == "--layout" => {
+            Some(Order::StampIn(layout_in(layout)?, number_in(number)?))
+        }
+        _ => None,
+    }
+}
+
+fn form_of(words: &[&str]) -> Option<Order>
+    ensures { result ≡ order.form_of (map (λ word. word.now) words.now) }
+{
+    match words {
+        [word] => one_word(word),
+        [command, number] => two_words(command, number),
+        [command, option, layout, number] => four_words(command, option, layout, number),
+        _ => None,
+    }
+}
+
+/// The order that the words after the program's name give.
+pub fn order_of(words: &[&str]) -> Result<Order, CommandFault>
+    ensures { result ≡ order.order_in (map (λ word. word.now) words.now) }
+{
+    form_of(words).ok_or(CommandFault::Bad)
+}

@@ -1,0 +1,59 @@
+//! A command from the bytes that come in to the line that goes out.
+
+ghost use Rattle.std.specs.Prelude.{◌≡◌, ◌≢◌, ◌↔◌, ◌++◌, ◌∷◌, ◌≤◌, [], List, ℕ, true, false, IfOk, IfErr, OnOk, Ok, Err};
+ghost use Rattle.std.specs.Io.KnownBytes.{Appends, Keeps};
+ghost use Rattle.stamp_cli.specs.Sink.{AppendsFront};
+ghost use Rattle.stamp_cli.specs.Answer.{Answers, most_reads_of};
+
+use crate::answer::line_of;
+use crate::faults::ServeFault;
+use crate::orders::Order;
+use crate::output::write_line;
+use crate::sinks::Sink;
+use crate::sources::Source;
+use std::alloc::Global;
+
+/// What the line that was written says.
+#[derive(Clone, Copy, Debug, PartialEq, Eq)]
+pub enum Verdict {
+    /// The line is an answer.
+    Accepted,
+    /// The line says that a history is bad; no order that is there asks for one yet.
+    Bad,
+}
+
+/// Answers the order: reads what it needs of the source and writes one line, or says why not.
+pub fn serve<S: Source, K: Sink>(
+    alloc: Global,
+    order: Order,
+    source: &mut S,
+    sink: &mut K,
+) -> Result<Verdict, ServeFault>
+    requires unread { S.reads source.old ≡ 0 }
+    requires source { S.has_failed source.old ≡ false }
+    requires sink { K.has_failed sink.old ≡ false }
+    ensures few { S.reads source.new ≤ most_reads_of order }
+
+    // The answer to what was read is written with a line feed, and nothing else.
+    ensures ok { OnOk result ((line : List ℕ) × Answers order (S.left source.old) (S.left source.new) (Ok line)
+        × Appends (K.sent sink.old) (K.sent sink.new) (line ++ 10 ∷ [])) }
+    ensures verdict { IfOk result (λ verdict. verdict ≡ Verdict.Accepted) }
+
+    // What was read is refused so.
+    ensures refused { IfErr result (λ e. e ≢ ServeFault.ReadFault → e ≢ ServeFault.WriteFault
+        → e ≢ ServeFault.Memory → Answers order (S.left source.old) (S.left source.new) (Err e)) }
+    ensures read_fault { (result ≡ Err ServeFault.ReadFault) ↔ (S.has_failed source.new ≡ true) }
+
+    // A write that failed leaves a front of the line, and no other refusal writes.
+    ensures write_fault { (result ≡ Err ServeFault.WriteFault) ↔ (K.has_failed sink.new ≡ true) }
+    ensures front { result ≡ Err ServeFault.WriteFault → ((line : List ℕ)
+        × Answers order (S.left source.old) (S.left source.new) (Ok line)
+        × AppendsFront (K.sent sink.old) (K.sent sink.new) (line ++ 10 ∷ [])) }
+    ensures silent { IfErr result (λ e. e ≢ ServeFault.WriteFault
+        → Keeps (K.sent sink.old) (K.sent sink.new)) }
+{
+    let mut line = line_of(alloc, order, source)?;
+    line.push(b'\n')?;
+    write_line(sink, &line)?;
+    Ok(Verdict::Accepted)
+}

@@ -1,0 +1,66 @@
+//! Where a command's input comes from.
+
+ghost use Rattle.std.specs.Prelude.{◌≡◌, ◌||◌, ◌+◌, ◌<◌, ℕ, List, Option, Bool, false, is_err};
+ghost use Rattle.std.specs.Io.{ReadsAtMost};
+ghost use Rattle.std.specs.Io.KnownBytes.{ReadConsumes};
+ghost use Rattle.stamp_cli.specs.Source.{most_reads};
+
+use std::io;
+use std::io::Read;
+
+/// What is read from.
+pub trait Source {
+    // The bytes that reads will give from here on, where they are known.
+    ghost left: { Self → Option (List ℕ) };
+
+    // Whether a read has failed so far.
+    ghost has_failed: { Self → Bool };
+
+    // How many reads were made.
+    ghost reads: { Self → ℕ };
+
+    fn read(&mut self, buffer: &mut [u8]) -> io::Result<usize>
+        requires { reads self.old < most_reads }
+        ensures counted { reads self.new ≡ reads self.old + 1 }
+        ensures bound { ReadsAtMost result buffer.new }
+        ensures bytes { ReadConsumes (left self.old) (left self.new) result buffer.new }
+        ensures failed { has_failed self.new ≡ has_failed self.old || is_err result };
+}
+
+/// A reader of std as a `Source`.
+#[derive(Drop)]
+pub struct ReadSource<R> {
+    reader: R,
+    has_failed: bool,
+    reads: u64,
+}
+
+impl<R: Read> ReadSource<R> {
+    /// A source that has made no read yet.
+    pub fn new(reader: R) -> Self
+        ensures { result ≡ record { reader = reader; has_failed = false; reads = 0 } }
+    {
+        ReadSource {
+            reader,
+            has_failed: false,
+            reads: 0,
+        }
+    }
+}
+
+impl<R: Read> Source for ReadSource<R> {
+    ghost left = { λ source. R.remaining source.reader };
+
+    ghost has_failed = { λ source. source.has_failed };
+
+    ghost reads = { λ source. source.reads };
+
+    fn read(&mut self, buffer: &mut [u8]) -> io::Result<usize> {
+        self.reads += 1;
+        let result = self.reader.read(buffer);
+        if result.is_err() {
+            self.has_failed = true;
+        }
+        result
+    }
+}

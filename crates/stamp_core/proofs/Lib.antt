@@ -1,0 +1,15 @@
+pub mod OneHolder
+pub mod OneStampKind
+pub mod Suiting
+pub mod Filling
+pub mod WellFormedPush
+pub mod TransitionsKeep
+pub mod WordCounts
+pub mod WordNumbers
+pub mod StampValidity
+pub mod Deciding
+pub mod Stepping
+pub mod Linearizing
+pub mod Replaying
+pub mod TwoLayouts
+pub mod StampTests

@@ -1,0 +1,228 @@
+//! The call table on the word: one function for each row, without a quantifier.
+#![tactic(auto, using(crate::proofs::OneHolder::one_holder))]
+
+ghost use Rattle.std.specs.Prelude.{◌≡◌, if◌then◌else◌};
+ghost use Rattle.stamp_core.specs.CountedDecision.{decision_of};
+
+use crate::call::Call;
+use crate::decision::Decision;
+use crate::limits::Limits;
+use crate::reply::Reply;
+use crate::word::Word;
+
+#[inline(always)]
+pub(crate) fn decided(limits: Limits, word: Word, call: Call) -> Decision
+    requires { word.layout ≡ limits.layout }
+    ensures { result ≡ decision_of limits word call }
+{
+    match call {
+        Call::TryWrite => try_write(limits, word),
+        Call::TryRead => try_read(limits, word),
+        Call::WriteLock => write_lock(limits, word),
+        Call::ReadLock => read_lock(limits, word),
+        Call::Optimistic => optimistic(limits, word),
+        Call::Validate(stamp) => validate(limits, word, stamp),
+        Call::UnlockWrite(stamp) => unlock_write(limits, word, stamp),
+        Call::UnlockRead(stamp) => unlock_read(limits, word, stamp),
+        Call::Unlock(stamp) => unlock(limits, word, stamp),
+        Call::ToWrite(stamp) => to_write(limits, word, stamp),
+        Call::ToRead(stamp) => to_read(limits, word, stamp),
+        Call::ToOptimistic(stamp) => to_optimistic(limits, word, stamp),
+        Call::TryUnlockWrite => try_unlock_write(limits, word),
+        Call::TryUnlockRead => try_unlock_read(limits, word),
+        Call::IsWriteLocked => yes_where(word.has_writer()),
+        Call::IsReadLocked => yes_where(word.reader_count() > 0),
+        Call::ReadCount => Decision::Answer(Reply::Count(word.reader_count())),
+        Call::Get | Call::Put(_) | Call::PutIf(_, _) => Decision::Wait,
+    }
+}
+
+fn zero() -> Decision
+    ensures { result ≡ Decision.Answer (Reply.Stamp 0) }
+{
+    Decision::Answer(Reply::Stamp(0))
+}
+
+fn yes_where(holds: bool) -> Decision
+    ensures { result ≡ Decision.Answer (if holds then Reply.Yes else Reply.No) }
+{
+    Decision::Answer(if holds { Reply::Yes } else { Reply::No })
+}
+
+/// Answers the stamp that the new word is.
+fn gets(word: Word) -> Decision
+    ensures { result ≡ Decision.Change word (Reply.Stamp word.bits) }
+{
+    Decision::Change(word, Reply::Stamp(word.bits()))
+}
+
+fn try_write(limits: Limits, word: Word) -> Decision
+    requires { word.layout ≡ limits.layout }
+    ensures { result ≡ decision_of limits word Call.TryWrite }
+{
+    if word.may_write(limits) {
+        gets(word.with_writer())
+    } else {
+        zero()
+    }
+}
+
+fn try_read(limits: Limits, word: Word) -> Decision
+    requires { word.layout ≡ limits.layout }
+    ensures { result ≡ decision_of limits word Call.TryRead }
+{
+    if word.may_read(limits) {
+        gets(word.with_reader())
+    } else {
+        zero()
+    }
+}
+
+fn write_lock(limits: Limits, word: Word) -> Decision
+    requires { word.layout ≡ limits.layout }
+    ensures { result ≡ decision_of limits word Call.WriteLock }
+{
+    if word.version() == limits.versions() {
+        zero()
+    } else if word.may_write(limits) {
+        gets(word.with_writer())
+    } else {
+        Decision::Wait
+    }
+}
+
+fn read_lock(limits: Limits, word: Word) -> Decision
+    requires { word.layout ≡ limits.layout }
+    ensures { result ≡ decision_of limits word Call.ReadLock }
+{
+    if word.may_read(limits) {
+        gets(word.with_reader())
+    } else {
+        Decision::Wait
+    }
+}
+
+fn optimistic(limits: Limits, word: Word) -> Decision
+    requires { word.layout ≡ limits.layout }
+    ensures { result ≡ decision_of limits word Call.Optimistic }
+{
+    if word.has_writer() {
+        zero()
+    } else {
+        Decision::Answer(Reply::Stamp(word.observed()))
+    }
+}
+
+fn validate(limits: Limits, word: Word, stamp: u64) -> Decision
+    requires { word.layout ≡ limits.layout }
+    ensures { result ≡ decision_of limits word (Call.Validate stamp) }
+{
+    yes_where(word.validates(stamp))
+}
+
+fn unlock_write(limits: Limits, word: Word, stamp: u64) -> Decision
+    requires { word.layout ≡ limits.layout }
+    ensures { result ≡ decision_of limits word (Call.UnlockWrite stamp) }
+{
+    if word.holds_write(stamp) {
+        Decision::Change(word.without_writer(), Reply::Done)
+    } else {
+        Decision::Answer(Reply::Mismatch)
+    }
+}
+
+fn unlock_read(limits: Limits, word: Word, stamp: u64) -> Decision
+    requires { word.layout ≡ limits.layout }
+    ensures { result ≡ decision_of limits word (Call.UnlockRead stamp) }
+{
+    if word.holds_read(stamp) {
+        Decision::Change(word.without_reader(), Reply::Done)
+    } else {
+        Decision::Answer(Reply::Mismatch)
+    }
+}
+
+fn unlock(limits: Limits, word: Word, stamp: u64) -> Decision
+    requires { word.layout ≡ limits.layout }
+    ensures { result ≡ decision_of limits word (Call.Unlock stamp) }
+{
+    if word.holds_write(stamp) {
+        Decision::Change(word.without_writer(), Reply::Done)
+    } else if word.holds_read(stamp) {
+        Decision::Change(word.without_reader(), Reply::Done)
+    } else {
+        Decision::Answer(Reply::Mismatch)
+    }
+}
+
+fn to_write(limits: Limits, word: Word, stamp: u64) -> Decision
+    requires { word.layout ≡ limits.layout }
+    ensures { result ≡ decision_of limits word (Call.ToWrite stamp) }
+{
+    if word.holds_write(stamp) {
+        Decision::Answer(Reply::Stamp(stamp))
+    } else if word.holds_read(stamp)
+        && word.reader_count() == 1
+        && word.version() < limits.versions()
+    {
+        gets(word.without_reader().with_writer())
+    } else if word.may_write(limits) && stamp == word.observed() {
+        gets(word.with_writer())
+    } else {
+        zero()
+    }
+}
+
+fn to_read(limits: Limits, word: Word, stamp: u64) -> Decision
+    requires { word.layout ≡ limits.layout }
+    ensures { result ≡ decision_of limits word (Call.ToRead stamp) }
+{
+    if word.holds_write(stamp) {
+        gets(word.without_writer().with_reader())
+    } else if word.holds_read(stamp) {
+        Decision::Answer(Reply::Stamp(stamp))
+    } else if word.may_read(limits) && stamp == word.observed() {
+        gets(word.with_reader())
+    } else {
+        zero()
+    }
+}
+
+fn to_optimistic(limits: Limits, word: Word, stamp: u64) -> Decision
+    requires { word.layout ≡ limits.layout }
+    ensures { result ≡ decision_of limits word (Call.ToOptimistic stamp) }
+{
+    if word.holds_write(stamp) {
+        let next = word.without_writer();
+        Decision::Change(next, Reply::Stamp(next.bits()))
+    } else if word.holds_read(stamp) {
+        let next = word.without_reader();
+        Decision::Change(next, Reply::Stamp(next.observed()))
+    } else if !word.has_writer() && stamp == word.observed() {
+        Decision::Answer(Reply::Stamp(stamp))
+    } else {
+        zero()
+    }
+}
+
+fn try_unlock_write(limits: Limits, word: Word) -> Decision
+    requires { word.layout ≡ limits.layout }
+    ensures { result ≡ decision_of limits word Call.TryUnlockWrite }
+{
+    if word.has_writer() {
+        Decision::Change(word.without_writer(), Reply::Yes)
+    } else {
+        Decision::Answer(Reply::No)
+    }
+}
+
+fn try_unlock_read(limits: Limits, word: Word) -> Decision
+    requires { word.layout ≡ limits.layout }
+    ensures { result ≡ decision_of limits word Call.TryUnlockRead }
+{
+    if word.reader_count() > 0 {
+        Decision::Change(word.without_reader(), Reply::Yes)
+    } else {
+        Decision::Answer(Reply::No)
+    }
+}

@@ -1,0 +1,51 @@
+//! What a call does with the word that it finds.
+ghost use Rattle.std.specs.Prelude.{◌≡◌, IsTrue};
+ghost use Rattle.stamp_core.specs.Call.{is_lock_call};
+ghost use Rattle.stamp_core.specs.Word.{IsAdmitted};
+ghost use Rattle.stamp_core.specs.Decision.{Decides, Steps, FitsInStamp};
+ghost use Rattle.stamp_core.specs.CountedDecision.{decision};
+
+use crate::call::Call;
+use crate::call_table::decided;
+use crate::limits::Limits;
+use crate::reply::Reply;
+use crate::word::Word;
+
+/// What a call is to do with the word that it finds.
+#[derive(Clone, Copy, Debug, PartialEq, Eq)]
+pub enum Decision {
+    /// It is answered, and the word stays.
+    Answer(Reply),
+    /// The word is to become this one, and then the call is answered.
+    Change(Word, Reply),
+    /// It waits: `WriteLock` and `ReadLock` alone do.
+    Wait,
+}
+
+/// Decides a call of the lock by the word found.
+#[inline(always)]
+pub fn decide(limits: Limits, word: Word, call: Call) -> Decision
+    requires admitted { IsAdmitted limits word }
+    requires lock { IsTrue (is_lock_call call) }
+    ensures decides { Decides limits word call result }
+
+    // For the crates above: the decision is a function of the number, and its stamp leaves room.
+    ensures number { result ≡ decision limits word.bits call }
+    ensures fits { FitsInStamp result }
+{
+    limits.known();
+    decided(limits, word, call)
+}
+
+/// The word after a call of the lock and its reply; nothing where the call waits.
+pub fn step(limits: Limits, word: Word, call: Call) -> Option<(Word, Reply)>
+    requires admitted { IsAdmitted limits word }
+    requires lock { IsTrue (is_lock_call call) }
+    ensures { Steps limits word call result }
+{
+    match decide(limits, word, call) {
+        Decision::Answer(reply) => Some((word, reply)),
+        Decision::Change(next, reply) => Some((next, reply)),
+        Decision::Wait => None,
+    }
+}

@@ -1,0 +1,73 @@
+//! How a word and its stamps are laid out.
+ghost use Rattle.std.specs.Prelude.{◌≡◌, ◌+◌, ◌<◌, ◌^◌, ◌↔◌, IsTrue};
+ghost use Rattle.stamp_core.specs.Layout.{units_of};
+
+/// The layout of words and stamps: how the bits of a number are shared out.
+#[derive(Clone, Copy, Debug, PartialEq, Eq)]
+pub enum Layout {
+    /// 55 bits of version and 127 readers.
+    One,
+    /// 46 bits of version and 65,535 readers.
+    Two,
+}
+
+#[tactic(auto, unfolding(crate::specs::Layout::units_of))]
+impl Layout {
+    /// What one write acquisition adds to a number.
+    pub(crate) fn version_unit(self) -> u64
+        ensures { result ≡ (units_of self).version }
+    {
+        match self {
+            Layout::One => 256,
+            Layout::Two => 131_072,
+        }
+    }
+
+    /// What stands for the writer.
+    pub(crate) fn writer_unit(self) -> u64
+        ensures { result ≡ (units_of self).writer }
+    {
+        match self {
+            Layout::One => 128,
+            Layout::Two => 65_536,
+        }
+    }
+
+    /// The most readers.
+    pub fn most_readers(self) -> u64
+        ensures { result ≡ (units_of self).readers }
+    {
+        match self {
+            Layout::One => 127,
+            Layout::Two => 65_535,
+        }
+    }
+
+    /// The most write acquisitions.
+    pub fn most_versions(self) -> u64
+        ensures { result ≡ (units_of self).versions }
+    {
+        match self {
+            Layout::One => 36_028_797_018_963_966,
+            Layout::Two => 70_368_744_177_662,
+        }
+    }
+
+    /// The number of the word that a writer with this stamp leaves behind.
+    pub fn released(self, stamp: u64) -> u64
+        requires { stamp < 2 ^ 63 }
+        ensures { result ≡ stamp + (units_of self).writer }
+    {
+        match self {
+            Layout::One => stamp + 128,
+            Layout::Two => stamp + 65_536,
+        }
+    }
+
+    /// Whether it is this layout.
+    pub(crate) fn is_same(self, other: Layout) -> bool
+        ensures { IsTrue result ↔ (self ≡ other) }
+    {
+        self == other
+    }
+}

@@ -1,0 +1,38 @@
+//! The sequential lock on one packed word: its words and stamps, what each call does, and the
+//! records of what was called.
+#![tactic(auto)]
+
+mod call;
+mod call_table;
+mod decision;
+mod entry;
+pub mod laws;
+mod layout;
+mod limits;
+mod records;
+mod replayed;
+mod reply;
+mod respelling;
+mod script_error;
+mod stamps;
+#[cfg(test)]
+mod tests;
+mod word;
+mod words;
+
+pub use call::Call;
+pub use decision::{Decision, decide, step};
+pub use entry::Entry;
+pub use layout::Layout;
+pub use limits::{CoreError, Limits};
+pub use records::{MOST_ENTRIES, MOST_THREADS, MOST_WIDTH, Record};
+pub use replayed::{ReplayError, Replayed, replay};
+pub use reply::Reply;
+pub use respelling::respell;
+pub use script_error::ScriptError;
+pub use stamps::{
+    StampKind, is_lock_stamp, is_lock_stamp_in, is_optimistic_stamp, is_optimistic_stamp_in,
+    is_read_stamp, is_read_stamp_in, is_write_stamp, is_write_stamp_in, stamp_kind, stamp_kind_in,
+};
+pub use word::Word;
+pub use words::{MOST_WORDS, Words};

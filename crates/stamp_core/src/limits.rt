@@ -1,0 +1,130 @@
+//! The limits of a lock.
+ghost use Rattle.std.specs.Prelude.{◌≡◌, ◌≤◌, ◌↔◌, IsOk, IfOk, IsTrue};
+ghost use Rattle.stamp_core.specs.Limits.{AreInRange, bounds, widest};
+ghost use Rattle.stamp_core.specs.Word.{IsAdmitted, word_at};
+ghost use Rattle.stamp_core.specs.Decoded.{counts_in};
+
+use crate::layout::Layout;
+use crate::word::Word;
+use std::marker::Model;
+
+/// Why limits are refused.
+#[derive(Clone, Copy, Debug, PartialEq, Eq)]
+pub enum CoreError {
+    /// 1: no reader at all, or more readers or write acquisitions than the layout has room for.
+    LimitsOutOfRange,
+}
+
+/// How many readers a lock may have at a time, and how many write acquisitions in all.
+#[derive(Clone, Copy, Debug, PartialEq, Eq)]
+pub struct Limits {
+    layout: Layout,
+    readers: u64,
+    versions: u64,
+}
+
+impl Model for Limits {
+    ghost use Rattle.stamp_core.specs.Limits.{Bounds, bounds, AreInRange};
+
+    ghost Value = { Bounds };
+
+    ghost view = { λ l. bounds l.layout l.readers l.versions };
+
+    ghost invariant = { λ l. AreInRange (bounds l.layout l.readers l.versions) };
+
+    ghost inverse = { λ b. record { layout = b.layout; readers = b.readers; versions = b.versions } };
+}
+
+impl Limits {
+    /// Limits of layout 1: 1 to 127 readers, and up to 2^55-2 write acquisitions.
+    pub fn new(readers: u64, versions: u64) -> Result<Limits, CoreError>
+        ensures ok { IfOk result (λ limits. limits ≡ bounds Layout.One readers versions) }
+        ensures in_range { IsOk result ↔ AreInRange (bounds Layout.One readers versions) }
+    {
+        Limits::in_layout(Layout::One, readers, versions)
+    }
+
+    /// Limits of a layout; in layout 2 up to 65,535 readers and 2^46-2 write acquisitions.
+    pub fn in_layout(layout: Layout, readers: u64, versions: u64) -> Result<Limits, CoreError>
+        ensures ok { IfOk result (λ limits. limits ≡ bounds layout readers versions) }
+        ensures in_range { IsOk result ↔ AreInRange (bounds layout readers versions) }
+    {
+        if readers < 1 || readers > layout.most_readers() || versions > layout.most_versions() {
+            Err(CoreError::LimitsOutOfRange)
+        } else {
+            Ok(Limits {
+                layout,
+                readers,
+                versions,
+            })
+        }
+    }
+
+    /// The widest limits of a layout.
+    pub fn widest(layout: Layout) -> Limits
+        ensures { result ≡ widest layout }
+    {
+        Limits {
+            layout,
+            readers: layout.most_readers(),
+            versions: layout.most_versions(),
+        }
+    }
+
+    pub fn layout(&self) -> Layout
+        ensures layout { result ≡ self.now.layout }
+        ensures in_range { AreInRange self.now }
+    {
+        self.layout
+    }
+
+    pub fn readers(&self) -> u64
+        ensures readers { result ≡ self.now.readers }
+        ensures in_range { AreInRange self.now }
+    {
+        self.readers
+    }
+
+    pub fn versions(&self) -> u64
+        ensures versions { result ≡ self.now.versions }
+        ensures in_range { AreInRange self.now }
+    {
+        self.versions
+    }
+
+    /// Touches a field, by which the prover knows the invariant of the type.
+    pub(crate) fn known(&self)
+        ensures { AreInRange self.now }
+    {
+        let _ = &self.readers;
+    }
+
+    /// Whether the word is of the limits' layout, with no more readers and write acquisitions.
+    pub fn admits(&self, word: Word) -> bool
+        ensures { IsTrue result ↔ IsAdmitted self.now word }
+    {
+        if word.layout().is_same(self.layout()) {
+            self.known();
+            word.known();
+            self.covers(word)
+        } else {
+            false
+        }
+    }
+
+    fn covers(&self, word: Word) -> bool
+        ensures { IsTrue result ↔ ((counts_in word).readers ≤ self.now.readers)
+            × ((counts_in word).write_count ≤ self.now.versions) }
+    {
+        word.reader_count() <= self.readers && word.version() <= self.versions
+    }
+
+    /// The word of a number that the limits admit, which is not tested again.
+    pub fn word(&self, bits: u64) -> Word
+        requires { IsAdmitted self.now (word_at self.now bits) }
+        ensures { result ≡ word_at self.now bits }
+    {
+        self.known();
+        Word::of_state(self.layout(), bits)
+    }
+}

@@ -1,0 +1,65 @@
+//! Calls taken one after the other, from the opening word.
+ghost use Rattle.std.specs.Prelude.{◌≡◌, IsTrue};
+ghost use Rattle.std.specs.List.{All};
+ghost use Rattle.stamp_core.specs.Call.{is_lock_call};
+ghost use Rattle.stamp_core.specs.Replayed.{Replays};
+
+use crate::call::Call;
+use crate::decision::step;
+use crate::limits::Limits;
+use crate::reply::Reply;
+use crate::word::Word;
+use std::alloc::{AllocError, AllocFailed, Global};
+
+/// What calls were answered, and the word that they left.
+#[derive(Drop)]
+pub struct Replayed {
+    pub replies: Vec<Reply>,
+    pub word: Word,
+}
+
+/// Why calls were not replayed. Nothing is kept after either.
+#[derive(Clone, Copy, Debug, PartialEq, Eq)]
+pub enum ReplayError {
+    /// 1: this call, counted from 0, would wait.
+    Waits(u64),
+    /// 2: a growth was refused.
+    Memory,
+}
+
+impl From<AllocError> for ReplayError {
+    ghost use Rattle.stamp_core.specs.declared.replayed.ReplayError.TheVariants.{Memory};
+
+    ghost from_gives = { λ _ e. e ≡ Memory };
+
+    fn from(_refused: AllocError) -> ReplayError {
+        ReplayError::Memory
+    }
+}
+
+impl<T: Drop> From<AllocFailed<T>> for ReplayError {
+    ghost use Rattle.stamp_core.specs.declared.replayed.ReplayError.TheVariants.{Memory};
+
+    ghost from_gives = { λ _ e. e ≡ Memory };
+
+    fn from(_refused: AllocFailed<T>) -> ReplayError {
+        ReplayError::Memory
+    }
+}
+
+/// Takes calls of the lock one after the other, from the opening word.
+pub fn replay(alloc: Global, limits: Limits, calls: &[Call]) -> Result<Replayed, ReplayError>
+    requires { All (λ call. IsTrue (is_lock_call call)) calls.now }
+    ensures { Replays limits calls.now result }
+{
+    let mut word = Word::opening_in(limits.layout());
+    let mut replies = Vec::new(alloc);
+    for (i, call) in calls.iter().enumerate() {
+        let Some((next, reply)) = step(limits, word, *call) else {
+            return Err(ReplayError::Waits(i as u64));
+        };
+        replies.push(reply)?;
+        word = next;
+    }
+    Ok(Replayed { replies, word })
+}

@@ -1,0 +1,61 @@
+//! What a call is answered.
+ghost use Rattle.std.specs.Prelude.{◌≡◌, ◌↔◌, IsTrue};
+
+use crate::words::Words;
+
+/// What a call is answered. A stamp of 0 is the stamp of failure.
+#[derive(Clone, Copy, Debug, PartialEq, Eq)]
+pub enum Reply {
+    Stamp(u64),
+    Yes,
+    No,
+    Done,
+    /// The state does not match the stamp (`IllegalMonitorStateException` in Java).
+    Mismatch,
+    Count(u64),
+    Content(Words),
+}
+
+fn is_stamp(reply: &Reply, stamp: u64) -> bool
+    ensures { IsTrue result ↔ (reply.now ≡ Reply.Stamp stamp) }
+{
+    match *reply {
+        Reply::Stamp(other) => other == stamp,
+        _ => false,
+    }
+}
+
+fn is_count(reply: &Reply, count: u64) -> bool
+    ensures { IsTrue result ↔ (reply.now ≡ Reply.Count count) }
+{
+    match *reply {
+        Reply::Count(other) => other == count,
+        _ => false,
+    }
+}
+
+fn is_content(reply: &Reply, words: &Words) -> bool
+    ensures { IsTrue result ↔ (reply.now ≡ Reply.Content words.now) }
+{
+    match reply {
+        Reply::Content(other) => other.is_same(words),
+        _ => false,
+    }
+}
+
+impl Reply {
+    /// Whether they are the same reply. Unlike `==` its contract says so in the crates above too.
+    pub fn is_same(&self, other: &Reply) -> bool
+        ensures { IsTrue result ↔ (self.now ≡ other.now) }
+    {
+        match other {
+            Reply::Stamp(stamp) => is_stamp(self, *stamp),
+            Reply::Yes => matches!(self, Reply::Yes),
+            Reply::No => matches!(self, Reply::No),
+            Reply::Done => matches!(self, Reply::Done),
+            Reply::Mismatch => matches!(self, Reply::Mismatch),
+            Reply::Count(count) => is_count(self, *count),
+            Reply::Content(words) => is_content(self, words),
+        }
+    }
+}

@@ -1,0 +1,31 @@
+//! Stamps of layout 1, spelled anew in layout 2.
+ghost use Rattle.std.specs.Prelude.{◌≡◌};
+ghost use Rattle.stamp_core.specs.StampKind.{HasKind};
+ghost use Rattle.stamp_core.specs.Layout.{narrow};
+ghost use Rattle.stamp_core.specs.Respelling.{respelled, IsRespelled};
+
+use crate::stamps::{StampKind, stamp_kind};
+
+/// The most write acquisitions of layout 2.
+const MOST_VERSIONS: u64 = 70_368_744_177_662;
+
+fn spelled(kind: StampKind, stamp: u64) -> u64
+    requires { HasKind narrow stamp kind }
+    ensures { result ≡ respelled kind }
+{
+    match kind {
+        StampKind::Write(k) if k <= MOST_VERSIONS => 131_072 * k + 65_536,
+        StampKind::Read(k, c) if k <= MOST_VERSIONS => 131_072 * (k + 1) + c,
+        StampKind::Optimistic(k) if k <= MOST_VERSIONS => 131_072 * (k + 1),
+        _ => 0,
+    }
+}
+
+/// The stamp of the same kind, version and place in layout 2; 0 for a number that is no stamp of
+/// layout 1, and for a version that layout 2 has not.
+#[tactic(auto, unfolding(crate::specs::Layout::units_of))]
+pub fn respell(stamp: u64) -> u64
+    ensures { IsRespelled stamp result }
+{
+    spelled(stamp_kind(stamp), stamp)
+}

@@ -1,0 +1,9 @@
+pub mod CallLengths
+pub mod ItemLengths
+pub mod EachItem
+pub mod NoJson
+pub mod NoFloat
+pub mod StoredCalls
+pub mod RepliesSoFar
+pub mod ReplayAnswers
+pub mod OnlyLockCalls

@@ -1,0 +1,95 @@
+-- The calls of a replay are the lock's.
+use Rattle.std.proofs.Common.{◌≡◌, ℕ, ◌+◌, List, [], ◌∷◌, Bool, true, false, refl, subst, Option, Some, None, Result, Ok, option_and_then}
+use Rattle.std.specs.Prelude.{IsTrue, if◌then◌else◌, codes}
+use Rattle.std.specs.List.{All}
+use Rattle.std.specs.Str.{bytes_eq}
+use Rattle.std.proofs.lemmas.List.Elements.{All-nil, All-cons}
+use Rattle.serde_json.specs.Data.{Data, Items, no_items, item}
+use Rattle.serde_json.specs.Find as find
+use Rattle.stamp_core.specs.Call.{is_lock_call}
+use Rattle.stamp_core.specs.declared.call.Call.{Call}
+use Rattle.stamp_core.specs.declared.call.Call.TheVariants.{TryWrite, TryRead, WriteLock, ReadLock, Optimistic, Validate, UnlockWrite, UnlockRead, Unlock, ToWrite, ToRead, ToOptimistic, TryUnlockWrite, TryUnlockRead, IsWriteLocked, IsReadLocked, ReadCount}
+use Rattle.stamp_history.specs.JsonValue.{whole}
+use Rattle.stamp_history.specs.LockCall.{plain_call, stamp_call, listed_call, lock_call}
+use Rattle.stamp_history.specs.Reading.{◌>>=◌, json_of, each}
+use Rattle.stamp_history.specs.Replay.{Replay, limits_in, replay_in, replay_of}
+use Rattle.stamp_history.specs.ReplayFields.{call_at, calls, listed_calls}
+use Rattle.stamp_history.specs.declared.read_error.ReadError.{ReadError}
+use Rattle.stamp_history.proofs.EachItem.{bind_ok, found_call}
+
+-- what was found, if anything, is a call of the lock
+pub record IsOfLock (found : Option Call) : Type 0 where
+  pub is : (call : Call) → found ≡ Some call → IsTrue (is_lock_call call)
+
+one : (k : Call) → IsTrue (is_lock_call k) → IsOfLock (Some k)
+one k lock = record { is = λ call e. let same : k ≡ call = cc in subst (λ (c : Call). IsTrue (is_lock_call c)) same lock }
+
+-- a call whose test computes
+abbrev lock : IsTrue true
+lock = refl
+
+nothing : IsOfLock None
+nothing = record { is = λ call e. cc }
+
+either : (b : Bool) {x y : Option Call} → IsOfLock x → IsOfLock y → IsOfLock (if b then x else y)
+either true f g = f
+either false f g = g
+
+and_then : {A : Type 0} (found : Option A) (f : A → Option Call) → ((x : A) → IsOfLock (f x)) → IsOfLock (option_and_then f found)
+and_then None f h = nothing
+and_then (Some x) f h = h x
+
+plain_of_lock : (name : List ℕ) → IsOfLock (plain_call name)
+plain_of_lock name =
+    either (bytes_eq name (codes "try_write")) (one TryWrite lock)
+    (either (bytes_eq name (codes "try_read")) (one TryRead lock)
+    (either (bytes_eq name (codes "write_lock")) (one WriteLock lock)
+    (either (bytes_eq name (codes "read_lock")) (one ReadLock lock)
+    (either (bytes_eq name (codes "optimistic")) (one Optimistic lock)
+    (either (bytes_eq name (codes "try_unlock_write")) (one TryUnlockWrite lock)
+    (either (bytes_eq name (codes "try_unlock_read")) (one TryUnlockRead lock)
+    (either (bytes_eq name (codes "is_write_locked")) (one IsWriteLocked lock)
+    (either (bytes_eq name (codes "is_read_locked")) (one IsReadLocked lock)
+    (either (bytes_eq name (codes "read_count")) (one ReadCount lock) nothing)))))))))
+
+stamp_of_lock : (name : List ℕ) (stamp : ℕ) → IsOfLock (stamp_call name stamp)
+stamp_of_lock name stamp =
+    either (bytes_eq name (codes "validate")) (one (Validate stamp) lock)
+    (either (bytes_eq name (codes "unlock_write")) (one (UnlockWrite stamp) lock)
+    (either (bytes_eq name (codes "unlock_read")) (one (UnlockRead stamp) lock)
+    (either (bytes_eq name (codes "unlock")) (one (Unlock stamp) lock)
+    (either (bytes_eq name (codes "to_write")) (one (ToWrite stamp) lock)
+    (either (bytes_eq name (codes "to_read")) (one (ToRead stamp) lock)
+    (either (bytes_eq name (codes "to_optimistic")) (one (ToOptimistic stamp) lock) nothing))))))
+
+listed_of_lock : (ds : Items) → IsOfLock (listed_call ds)
+listed_of_lock no_items = nothing
+listed_of_lock (item name no_items) = and_then (find.as_str name) plain_call plain_of_lock
+listed_of_lock (item name (item stamp no_items)) = and_then (find.as_str name) (λ text. option_and_then (stamp_call text) (whole stamp)) (λ text. and_then (whole stamp) (stamp_call text) (stamp_of_lock text))
+listed_of_lock (item name (item stamp (item further rest))) = nothing
+
+lock_call_of_lock : (d : Data) → IsOfLock (lock_call d)
+lock_call_of_lock d = and_then (find.as_array d) listed_call listed_of_lock
+
+each_of_lock : (i : ℕ) (ds : Items) (found : List Call) → each call_at i ds ≡ Ok found → All (λ call. IsTrue (is_lock_call call)) found
+each_of_lock i no_items found e = let none : [] ≡ found = cc in subst (All (λ call. IsTrue (is_lock_call call))) none (All-nil (λ call. IsTrue (is_lock_call call)))
+each_of_lock i (item d ds) found e =
+    let first = bind_ok (call_at i d) (λ x. each call_at (i + 1) ds >>= λ later. Ok (x ∷ later)) found e in
+    let rest = bind_ok (each call_at (i + 1) ds) (λ later. Ok (first.0 ∷ later)) found first.2 in
+    let last : Ok (first.0 ∷ rest.0) ≡ Ok found = rest.2 in
+    let all : first.0 ∷ rest.0 ≡ found = cc in
+    subst (All (λ call. IsTrue (is_lock_call call))) all (All-cons (λ call. IsTrue (is_lock_call call)) first.0 rest.0 ((lock_call_of_lock d).is first.0 (found_call i d first.0 first.1)) (each_of_lock (i + 1) ds rest.0 rest.1))
+
+calls_of_lock : (d : Data) (found : List Call) → calls d ≡ Ok found → All (λ call. IsTrue (is_lock_call call)) found
+unfolding calls
+calls_of_lock d found e = let list = bind_ok (listed_calls d) (each call_at 0) found e in each_of_lock 0 list.0 found list.2
+
+pub replay_of_lock : (bytes : List ℕ) (replay : Replay) → replay_of bytes ≡ Ok replay → All (λ call. IsTrue (is_lock_call call)) replay.calls
+unfolding replay_of replay_in
+replay_of_lock bytes replay e =
+    let value = bind_ok (json_of bytes) replay_in replay e in
+    let limits = bind_ok (limits_in value.0) (λ found_limits. calls value.0 >>= λ found_calls. Ok (record { limits = found_limits; calls = found_calls })) replay value.2 in
+    let found = bind_ok (calls value.0) (λ found_calls. Ok (record { limits = limits.0; calls = found_calls })) replay limits.2 in
+    let made : Ok (record { limits = limits.0; calls = found.0 }) ≡ Ok replay = found.2 in
+    let same : record { limits = limits.0; calls = found.0 } ≡ replay = cc in
+    subst (λ (r : Replay). All (λ call. IsTrue (is_lock_call call)) r.calls) same (calls_of_lock value.0 found.0 found.1)

@@ -1,0 +1,10 @@
+pub mod Field
+pub mod Gives
+pub mod JsonValue
+pub mod LockCall
+pub mod StoredCall
+pub mod Reading
+pub mod ReplayFields
+pub mod Replay
+pub mod ReplayText
+pub mod ReplayAnswer

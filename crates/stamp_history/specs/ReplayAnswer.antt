@@ -1,0 +1,42 @@
+-- What the text of a replay is answered.
+use Rattle.std.specs.Prelude.{◌≡◌, ◌≢◌, ℕ, List, map, Result, Ok, Err, Vec}
+use Rattle.std.specs.declared.alloc.Global.{Global}
+use Rattle.serde_json.specs.View.{view}
+use Rattle.serde_json.specs.declared.value.Value.{Value}
+use Rattle.stamp_core.specs.Limits.{Bounds}
+use Rattle.stamp_core.specs.Word.{LockWord}
+use Rattle.stamp_core.specs.Replayed.{IsReplayed, WaitsAt}
+use Rattle.stamp_core.specs.declared.call.Call.{Call}
+use Rattle.stamp_core.specs.declared.reply.Reply.{Reply}
+use Rattle.stamp_history.specs.Replay.{Replay, replay_of}
+use Rattle.stamp_history.specs.ReplayText.{reply_data, replayed_text}
+use Rattle.stamp_history.specs.declared.read_error.ReadError.{ReadError}
+use Rattle.stamp_history.specs.declared.read_error.ReadError.TheVariants.{Memory}
+use Rattle.stamp_history.specs.declared.answer_error.AnswerError.{AnswerError}
+use Rattle.stamp_history.specs.declared.answer_error.AnswerError.TheVariants.{Refused, Waits}
+
+-- the text has the replies to the calls, and the word that they leave
+pub record IsReplayedText (replay : Replay) (text : List ℕ) : Type 0 where
+  pub replies : List Reply
+  pub word : LockWord
+  pub replayed : IsReplayed replay.limits replay.calls replies word
+  pub is : text ≡ replayed_text replies word.bits
+
+-- the answer to a reading: the text of the replies, the call that waits, or the reading's refusal
+abbrev pub IsAnswer : Result Replay ReadError → Result (List ℕ) AnswerError → Type 0
+IsAnswer (Ok replay) (Ok text) = IsReplayedText replay text
+IsAnswer (Ok replay) (Err (Waits i)) = WaitsAt replay.limits replay.calls i
+IsAnswer (Ok replay) (Err (Refused e)) = ⊥
+IsAnswer (Err e) (Ok text) = ⊥
+IsAnswer (Err e) (Err fault) = fault ≡ Refused e
+
+-- memory aside
+abbrev pub Answers : List ℕ → Result (Vec ℕ Global) AnswerError → Type 0
+Answers bytes (Ok text) = IsAnswer (replay_of bytes) (Ok text.items)
+Answers bytes (Err fault) = fault ≢ Refused Memory → IsAnswer (replay_of bytes) (Err fault)
+
+-- to calls: values of the replies and the word, or the call that waits
+abbrev pub RepliesTo : Bounds → List Call → Result (Vec Value Global × LockWord) AnswerError → Type 0
+RepliesTo limits calls (Ok x) = (replies : List Reply) × (map view x.0.items ≡ map reply_data replies) × IsReplayed limits calls replies x.1
+RepliesTo limits calls (Err (Waits i)) = WaitsAt limits calls i
+RepliesTo limits calls (Err (Refused e)) = e ≡ Memory

@@ -1,0 +1,68 @@
+//! What is asked of a JSON value.
+
+ghost use Rattle.std.specs.Prelude.{◌≡◌, map, is_some, option_map};
+ghost use Rattle.std.specs.List.{list_all};
+ghost use Rattle.serde_json.specs.Find.{get};
+ghost use Rattle.serde_json.specs.View.{view, items_view};
+ghost use Rattle.stamp_history.specs.Gives.{Gives};
+ghost use Rattle.stamp_history.specs.JsonValue as spec;
+ghost use Rattle.stamp_history.specs.Reading.{json_of};
+
+use crate::read_error::ReadError;
+use serde_json::Value;
+use std::alloc::Global;
+
+/// The JSON value that the bytes are.
+pub(crate) fn json(alloc: Global, bytes: &[u8]) -> Result<Value, ReadError>
+    ensures { Gives ReadError.Memory view result (json_of bytes.now) }
+{
+    match Value::from_slice(alloc, bytes) {
+        Ok(value) => Ok(value),
+        Err(fault) if fault.is_memory() => Err(ReadError::Memory),
+        Err(_) => Err(ReadError::NotJson),
+    }
+}
+
+fn has_members(value: &Value, count: usize) -> bool
+    ensures { result ≡ spec.has_members count (view value.now) }
+{
+    match value.as_object() {
+        Some(members) => members.len() == count,
+        None => false,
+    }
+}
+
+pub(crate) fn has_key(value: &Value, key: &str) -> bool
+    ensures { result ≡ spec.has_key key.now (view value.now) }
+{
+    value.get(key).is_some()
+}
+
+fn has_each(value: &Value, keys: &[&str]) -> bool
+    ensures { result
+        ≡ list_all (λ key. is_some (get key.now (view value.now))) keys.now }
+{
+    keys.iter().all(|key| value.get(*key).is_some())
+}
+
+/// Whether the value is an object with these keys and no others.
+pub(crate) fn has_keys(value: &Value, keys: &[&str]) -> bool
+    ensures { result ≡ spec.has_keys (map (λ key. key.now) keys.now) (view value.now) }
+{
+    has_members(value, keys.len()) && has_each(value, keys)
+}
+
+/// The whole number under a key.
+pub(crate) fn whole_under(value: &Value, key: &str) -> Option<u64>
+    ensures { result ≡ spec.whole_under key.now (view value.now) }
+{
+    value.get(key)?.as_u64()
+}
+
+/// The list under a key.
+pub(crate) fn list_under<'v>(value: &'v Value, key: &str) -> Option<&'v Vec<Value>>
+    ensures { option_map (λ list. items_view list.now.items) result
+        ≡ spec.list_under key.now (view value.now) }
+{
+    value.get(key)?.as_array()
+}

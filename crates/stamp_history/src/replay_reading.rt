@@ -1,0 +1,78 @@
+//! A replay out of its text.
+
+ghost use Rattle.std.specs.Prelude.{◌≡◌, IsTrue, IfOk, map};
+ghost use Rattle.std.specs.List.{All};
+ghost use Rattle.serde_json.specs.View.{view};
+ghost use Rattle.stamp_core.specs.Call.{is_lock_call};
+ghost use Rattle.stamp_core.specs.Limits.{AreInRange};
+ghost use Rattle.stamp_history.specs.Gives.{Gives};
+ghost use Rattle.stamp_history.specs.Replay.{limits_in, replay_of, replay_view, stored_view};
+ghost use Rattle.stamp_history.specs.StoredCall.{call_of};
+
+use crate::json_values::json;
+use crate::read_error::ReadError;
+use crate::replay_fields::{check_top, read_calls, read_layout, read_readers, read_versions};
+use crate::stored_call::StoredCall;
+use serde_json::Value;
+use stamp_core::{Call, Layout, Limits};
+use std::alloc::{AllocError, Global};
+
+/// Limits that were found in range.
+fn limits_of(layout: Layout, readers: u64, versions: u64) -> Limits
+    requires { AreInRange (record { layout = layout; readers = readers; versions = versions }) }
+    ensures { result ≡ record { layout = layout; readers = readers; versions = versions } }
+{
+    match Limits::in_layout(layout, readers, versions) {
+        Ok(limits) => limits,
+        Err(_) => unreachable!(),
+    }
+}
+
+/// The limits, in a value with the keys of a replay.
+#[tactic(auto, unfolding(crate::specs::Replay::limits_in))]
+pub(crate) fn read_limits(value: &Value) -> Result<Limits, ReadError>
+    ensures { Gives ReadError.Memory (λ limits. limits) result (limits_in (view value.now)) }
+{
+    check_top(value)?;
+    let layout = read_layout(value)?;
+    let readers = read_readers(layout, value)?;
+    let versions = read_versions(layout, value)?;
+    Ok(limits_of(layout, readers, versions))
+}
+
+/// The limits and the stored calls of a replay.
+#[tactic(auto, unfolding(crate::specs::Replay::replay_of, crate::specs::Replay::replay_in))]
+pub(crate) fn read_stored(
+    alloc: Global,
+    bytes: &[u8],
+) -> Result<(Limits, Vec<StoredCall>), ReadError>
+    ensures { Gives ReadError.Memory stored_view result (replay_of bytes.now) }
+{
+    let value = json(alloc, bytes)?;
+    let limits = read_limits(&value)?;
+    let calls = read_calls(alloc, &value)?;
+    Ok((limits, calls))
+}
+
+fn calls_of(alloc: Global, stored: &[StoredCall]) -> Result<Vec<Call>, AllocError>
+    ensures calls { IfOk result (λ calls. calls.items ≡ map call_of stored.now) }
+    ensures lock { IfOk result (λ calls. All (λ call. IsTrue (is_lock_call call)) calls.items) }
+{
+    let mut calls = Vec::with_capacity(alloc, stored.len())?;
+    for call in stored {
+        calls.push(call.call())?;
+    }
+    Ok(calls)
+}
+
+/// The limits and the calls that the text gives, or its first fault in the order of the fields:
+/// top, layout, readers, versions, calls, and each call. Of a field the kind is tested before the
+/// range. Errors: 1 `NotJson`; 5 `NotScript`, with the field of another kind; 3 `Limit`, with the
+/// field out of range; 4 `Memory`, which may come before these. Nothing is kept after any.
+pub fn read_replay(alloc: Global, bytes: &[u8]) -> Result<(Limits, Vec<Call>), ReadError>
+    ensures replay { Gives ReadError.Memory replay_view result (replay_of bytes.now) }
+    ensures lock { IfOk result (λ read. All (λ call. IsTrue (is_lock_call call)) read.1.items) }
+{
+    let (limits, stored) = read_stored(alloc, bytes)?;
+    Ok((limits, calls_of(alloc, &stored)?))
+}

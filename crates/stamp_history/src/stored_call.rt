@@ -1,0 +1,56 @@
+//! Calls of the lock, stored small.
+
+ghost use Rattle.std.specs.Prelude.{◌≡◌, IsTrue};
+ghost use Rattle.stamp_core.specs.Call.{is_lock_call};
+ghost use Rattle.stamp_history.specs.StoredCall.{call_of};
+
+use stamp_core::Call;
+
+/// A call of the lock in 16 bytes. A `Call` has room for the words of a record, and takes 280.
+#[derive(Clone, Copy, Debug, PartialEq, Eq)]
+pub(crate) enum StoredCall {
+    TryWrite,
+    TryRead,
+    WriteLock,
+    ReadLock,
+    Optimistic,
+    Validate(u64),
+    UnlockWrite(u64),
+    UnlockRead(u64),
+    Unlock(u64),
+    ToWrite(u64),
+    ToRead(u64),
+    ToOptimistic(u64),
+    TryUnlockWrite,
+    TryUnlockRead,
+    IsWriteLocked,
+    IsReadLocked,
+    ReadCount,
+}
+
+impl StoredCall {
+    pub(crate) fn call(self) -> Call
+        ensures call { result ≡ call_of self }
+        ensures lock { IsTrue (is_lock_call result) }
+    {
+        match self {
+            StoredCall::TryWrite => Call::TryWrite,
+            StoredCall::TryRead => Call::TryRead,
+            StoredCall::WriteLock => Call::WriteLock,
+            StoredCall::ReadLock => Call::ReadLock,
+            StoredCall::Optimistic => Call::Optimistic,
+            StoredCall::Validate(stamp) => Call::Validate(stamp),
+            StoredCall::UnlockWrite(stamp) => Call::UnlockWrite(stamp),
+            StoredCall::UnlockRead(stamp) => Call::UnlockRead(stamp),
+            StoredCall::Unlock(stamp) => Call::Unlock(stamp),
+            StoredCall::ToWrite(stamp) => Call::ToWrite(stamp),
+            StoredCall::ToRead(stamp) => Call::ToRead(stamp),
+            StoredCall::ToOptimistic(stamp) => Call::ToOptimistic(stamp),
+            StoredCall::TryUnlockWrite => Call::TryUnlockWrite,
+            StoredCall::TryUnlockRead => Call::TryUnlockRead,
+            StoredCall::IsWriteLocked => Call::IsWriteLocked,
+            StoredCall::IsReadLocked => Call::IsReadLocked,
+            StoredCall::ReadCount => Call::ReadCount,
+        }
+    }
+}

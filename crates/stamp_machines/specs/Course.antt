@@ -1,0 +1,7 @@
+-- A run: its script, and the names that were stepped.
+use Rattle.std.specs.Prelude.{ℕ, List}
+use Rattle.stamp_machines.specs.Script.{Scripted}
+
+pub record Course : Type 0 where
+  pub plan : Scripted
+  pub names : List ℕ

@@ -1,0 +1,52 @@
+-- What holds after every step of a schedule, also in the middle of calls.
+use Rattle.std.specs.Prelude.{◌≡◌, ℕ, ◌+◌, ◌≤◌, List, length, drop, map, Option, Some, None, slice_index, slice_index_or}
+use Rattle.stamp_core.specs.LockEvent.{LockEvent}
+use Rattle.stamp_core.specs.History.{IsLegal, events_of, content_after}
+use Rattle.stamp_core.specs.Linearized.{history_of}
+use Rattle.stamp_machines.specs.LockNumber.{RepresentsAt, counts_at}
+use Rattle.stamp_machines.specs.Job.{Job, job_in}
+use Rattle.stamp_machines.specs.declared.shape.Shape.{Shape}
+use Rattle.stamp_machines.specs.MachineState.{Phase, OnLock, OnRecord, record_limits}
+use Rattle.stamp_machines.specs.Script.{Scripted}
+use Rattle.stamp_machines.specs.World.{World, shape_of}
+use Rattle.stamp_machines.specs.declared.state.Begun.{Begun}
+use Rattle.stamp_machines.specs.RecordKept.{Doing, RecordKept}
+
+-- the record's call that a phase is in
+abbrev pub doing_at : Phase → Option Doing
+doing_at (OnLock seen) = None
+doing_at (OnRecord job place) = Some (record { job = job; place = place })
+
+abbrev pub doing_in : Option Begun → Option Doing
+doing_in None = None
+doing_in (Some b) = doing_at b.machine.phase
+
+abbrev pub job_at : Phase → Option Job
+job_at (OnLock seen) = None
+job_at (OnRecord job place) = Some job
+
+-- a call's machine has the script's shape, and its phase is one of its call
+abbrev pub IsOf : Shape → Option Begun → Type 0
+IsOf shape None = Unit {0}
+IsOf shape (Some b) = (b.machine.shape ≡ shape) × (job_in b.machine.call ≡ job_at b.machine.phase)
+
+-- the events and the content that the finished calls leave
+abbrev pub events_in : Scripted → World → List LockEvent
+events_in plan world = events_of plan.limits (history_of world.entries)
+
+abbrev pub content_in : Scripted → World → List ℕ
+content_in plan world = content_after plan.width (history_of world.entries)
+
+pub record Kept (plan : Scripted) (world : World) : Type 0 where
+  -- the finished calls are a history of the sequential lock and record, with exactly these replies
+  pub legal : IsLegal plan.limits plan.width (history_of world.entries)
+  -- the lock word represents the events of this history
+  pub represented : RepresentsAt plan.limits (slice_index world.words 0) (events_in plan world)
+  -- the record's lock and its words stand for the content of this history
+  pub record_kept : RecordKept (record_limits (shape_of plan)) (slice_index world.words 1) (drop 2 world.words) (content_in plan world) (map doing_in world.begun)
+  pub width : length (content_in plan world) ≡ plan.width
+  pub memory : length world.words ≡ 2 + plan.width
+  pub threads : length world.begun ≡ length plan.threads
+  pub begun : (t : ℕ) → IsOf (shape_of plan) (slice_index_or world.begun t None)
+  -- write mode of the record's lock is got at most once a step
+  pub few : (counts_at (record_limits (shape_of plan)) (slice_index world.words 1)).write_count ≤ world.position

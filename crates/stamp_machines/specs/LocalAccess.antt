@@ -1,0 +1,36 @@
+-- An access as a phase sees it: to its lock's word, or to a word of the record.
+use Rattle.std.specs.Prelude.{ℕ, ◌+◌, ◌==◌, List, if◌then◌else◌, slice_index, slice_set}
+use Rattle.stamp_machines.specs.declared.access.Access.{Access}
+use Rattle.stamp_machines.specs.declared.access.Access.TheVariants.{Load, Cas, Store}
+
+pub data LocalAccess : Type 0 where
+  LoadLock : LocalAccess
+  CasLock : ℕ → ℕ → LocalAccess
+  LoadItem : ℕ → LocalAccess
+  StoreItem : ℕ → ℕ → LocalAccess
+
+-- on the common words, where the lock is word i; the record's words come after both locks
+abbrev pub with_lock : ℕ → LocalAccess → Access
+with_lock i LoadLock = Load i
+with_lock i (CasLock old new) = Cas i old new
+with_lock i (LoadItem j) = Load (2 + j)
+with_lock i (StoreItem j value) = Store (2 + j) value
+
+-- the lock's word and the record's words after the access, and what it sees
+abbrev pub lock_after : LocalAccess → ℕ → ℕ
+lock_after LoadLock lock = lock
+lock_after (CasLock old new) lock = if lock == old then new else lock
+lock_after (LoadItem i) lock = lock
+lock_after (StoreItem i value) lock = lock
+
+abbrev pub items_after : LocalAccess → List ℕ → List ℕ
+items_after LoadLock items = items
+items_after (CasLock old new) items = items
+items_after (LoadItem i) items = items
+items_after (StoreItem i value) items = slice_set items i value
+
+abbrev pub local_seen : LocalAccess → ℕ → List ℕ → ℕ
+local_seen LoadLock lock items = lock
+local_seen (CasLock old new) lock items = lock
+local_seen (LoadItem i) lock items = slice_index items i
+local_seen (StoreItem i value) lock items = slice_index items i

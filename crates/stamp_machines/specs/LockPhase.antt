@@ -1,0 +1,39 @@
+-- A lock call on its way: a load, and then exchanges until one wins or the word found decides the call.
+use Rattle.std.specs.Prelude.{ℕ, ◌==◌, Option, Some, None, if◌then◌else◌}
+use Rattle.stamp_core.specs.Limits.{Bounds}
+use Rattle.stamp_core.specs.CountedDecision.{decision}
+use Rattle.stamp_core.specs.declared.call.Call.{Call}
+use Rattle.stamp_core.specs.declared.reply.Reply.{Reply}
+use Rattle.stamp_core.specs.declared.decision.Decision.{Decision}
+use Rattle.stamp_core.specs.declared.decision.Decision.TheVariants.{Answer, Change, Wait}
+use Rattle.stamp_machines.specs.LocalAccess.{LocalAccess, LoadLock, CasLock}
+
+-- it goes on with the word that it decided to change, or with none, which is to be loaded; or it has ended
+pub data PhaseTurn : Type 0 where
+  Still : Option ℕ → PhaseTurn
+  Ended : Reply → PhaseTurn
+
+abbrev pub next_on : ℕ → Decision → LocalAccess
+next_on word (Answer reply) = LoadLock
+next_on word (Change new reply) = CasLock word new.bits
+next_on word Wait = LoadLock
+
+-- its next access
+abbrev pub phase_next : Bounds → Call → Option ℕ → LocalAccess
+phase_next limits call None = LoadLock
+phase_next limits call (Some word) = next_on word (decision limits word call)
+
+abbrev pub judged : ℕ → Decision → PhaseTurn
+judged word (Answer reply) = Ended reply
+judged word (Change new reply) = Still (Some word)
+judged word Wait = Still None
+
+abbrev pub tried : Bounds → Call → ℕ → ℕ → Decision → PhaseTurn
+tried limits call old found (Answer reply) = judged found (decision limits found call)
+tried limits call old found (Change new reply) = if found == old then Ended reply else judged found (decision limits found call)
+tried limits call old found Wait = judged found (decision limits found call)
+
+-- where it is after an access has found this word
+abbrev pub phase_after : Bounds → Call → Option ℕ → ℕ → PhaseTurn
+phase_after limits call None found = judged found (decision limits found call)
+phase_after limits call (Some old) found = tried limits call old found (decision limits old call)

@@ -1,0 +1,55 @@
+-- The next access of a call, and where it stands after it.
+use Rattle.std.specs.Prelude.{ℕ, ◌≤◌, length}
+use Rattle.stamp_core.specs.declared.call.Call.{Call}
+use Rattle.stamp_machines.specs.LockNumber.{IsAdmittedAt}
+use Rattle.stamp_machines.specs.Job.{Job}
+use Rattle.stamp_machines.specs.RecordPhase as record_calls
+use Rattle.stamp_machines.specs.RecordPhase.{Place, PlaceTurn}
+use Rattle.stamp_machines.specs.LocalAccess.{with_lock}
+use Rattle.stamp_machines.specs.LockPhase.{PhaseTurn, Still, Ended, phase_next, phase_after}
+use Rattle.stamp_machines.specs.MachineState.{MachineState, Phase, OnLock, OnRecord, record_limits}
+use Rattle.stamp_machines.specs.declared.shape.Shape.{Shape}
+use Rattle.stamp_machines.specs.declared.machine.Turn.{Turn}
+use Rattle.stamp_machines.specs.declared.machine.Turn.TheVariants.{Going, Done}
+use Rattle.stamp_machines.specs.declared.access.Access.{Access}
+
+-- a lock phase is on word 0; a call of the record has its lock at word 1
+abbrev pub next_in : Shape → Call → Phase → Access
+next_in shape call (OnLock seen) = with_lock 0 (phase_next shape.limits call seen)
+next_in shape call (OnRecord job place) = with_lock 1 (record_calls.next (record_limits shape) shape.width job place)
+
+abbrev pub next_access : MachineState → Access
+next_access s = next_in s.shape s.call s.phase
+
+abbrev pub lock_turn : Shape → Call → PhaseTurn → Turn
+lock_turn shape call (Still seen) = Going (record { shape = shape; call = call; phase = OnLock seen })
+lock_turn shape call (Ended r) = Done r
+
+abbrev pub record_turn : Shape → Call → Job → PlaceTurn → Turn
+record_turn shape call job (record_calls.Going place) = Going (record { shape = shape; call = call; phase = OnRecord job place })
+record_turn shape call job (record_calls.Done r) = Done r
+
+abbrev pub after_in : Shape → Call → ℕ → Phase → Turn
+after_in shape call seen (OnLock last) = lock_turn shape call (phase_after shape.limits call last seen)
+after_in shape call seen (OnRecord job place) = record_turn shape call job (record_calls.after (record_limits shape) shape.width job place seen)
+
+-- where the call stands after its access has seen this, or its reply
+abbrev pub after_access : MachineState → ℕ → Turn
+after_access s seen = after_in s.shape s.call seen s.phase
+
+-- what is read as a lock's word is one that the lock's limits admit
+abbrev pub IsFoundAt : Shape → Place → ℕ → Type 0
+IsFoundAt shape record_calls.Glancing found = IsAdmittedAt (record_limits shape) found
+IsFoundAt shape (record_calls.Copying first loaded) found = shape.width ≤ length loaded → IsAdmittedAt (record_limits shape) found
+IsFoundAt shape (record_calls.Locking e seen) found = IsAdmittedAt (record_limits shape) found
+IsFoundAt shape (record_calls.Reading s loaded) found = Unit {0}
+IsFoundAt shape (record_calls.Checking s loaded) found = Unit {0}
+IsFoundAt shape (record_calls.Storing s i) found = Unit {0}
+IsFoundAt shape (record_calls.Releasing s r) found = Unit {0}
+
+abbrev pub IsFoundIn : Shape → Phase → ℕ → Type 0
+IsFoundIn shape (OnLock seen) found = IsAdmittedAt shape.limits found
+IsFoundIn shape (OnRecord job place) found = IsFoundAt shape place found
+
+abbrev pub IsFound : MachineState → ℕ → Type 0
+IsFound s found = IsFoundIn s.shape s.phase found

@@ -1,0 +1,27 @@
+-- A call on its way.
+use Rattle.std.specs.Prelude.{ℕ, Option, Some, None}
+use Rattle.stamp_core.specs.Limits.{Bounds, widest}
+use Rattle.stamp_core.specs.declared.call.Call.{Call}
+use Rattle.stamp_machines.specs.Job.{Job, job_in}
+use Rattle.stamp_machines.specs.RecordPhase.{Place, opening}
+use Rattle.stamp_machines.specs.declared.shape.Shape.{Shape}
+
+pub data Phase : Type 0 where
+  OnLock : Option ℕ → Phase  -- a lock phase on word 0, with the word that it decided on
+  OnRecord : Job → Place → Phase  -- a call of the record
+
+pub record MachineState : Type 0 where
+  pub shape : Shape
+  pub call : Call
+  pub phase : Phase
+
+abbrev pub first_phase : Option Job → Phase
+first_phase None = OnLock None
+first_phase (Some job) = OnRecord job (opening job)
+
+abbrev pub start : Shape → Call → MachineState
+start shape call = record { shape = shape; call = call; phase = first_phase (job_in call) }
+
+-- the limits of the record's lock
+abbrev pub record_limits : Shape → Bounds
+record_limits shape = widest shape.limits.layout

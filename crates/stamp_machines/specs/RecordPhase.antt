@@ -1,0 +1,96 @@
+-- The record calls: where they may stand, what they access next, and where that leads.
+use Rattle.std.specs.Prelude.{ℕ, ◌+◌, ◌==◌, ◌&&◌, nat_lt, Bool, List, [], ◌∷◌, ◌++◌, length, Option, None, if◌then◌else◌, slice_index}
+use Rattle.stamp_core.specs.Limits.{Bounds, units}
+use Rattle.stamp_core.specs.declared.call.Call.{Call}
+use Rattle.stamp_core.specs.declared.call.Call.TheVariants.{ReadLock, WriteLock, UnlockRead, ToWrite}
+use Rattle.stamp_core.specs.declared.reply.Reply.{Reply}
+use Rattle.stamp_core.specs.declared.reply.Reply.TheVariants as reply
+use Rattle.stamp_core.specs.Decision.{stamp_in}
+use Rattle.stamp_machines.specs.LockNumber.{counts_at}
+use Rattle.stamp_machines.specs.Job.{Job, Getting, Putting, PuttingIf, new_words, expects, is_get, stored_reply}
+use Rattle.stamp_machines.specs.LocalAccess.{LocalAccess, LoadLock, CasLock, LoadItem, StoreItem}
+use Rattle.stamp_machines.specs.LockPhase.{PhaseTurn, Still, Ended, phase_next, phase_after}
+
+-- a lock call on the record's lock, and what its end leads to
+pub data Errand : Type 0 where
+  ToShare : Errand  -- read lock of a get or a put_if
+  ToLeave : ℕ → List ℕ → Errand  -- unlock after a get has read these words
+  ToRefuse : ℕ → Errand  -- unlock of a put_if that read other words
+  ToUpgrade : ℕ → Errand  -- conversion of a put_if that read its words
+  ToRetreat : ℕ → Errand  -- unlock of a put_if whose conversion gave nothing
+  ToClaim : Errand  -- write lock of a put or a put_if
+
+pub data Place : Type 0 where
+  Glancing : Place
+  Copying : ℕ → List ℕ → Place  -- the lock word first seen, the words loaded
+  Locking : Errand → Option ℕ → Place  -- a lock phase, with the word that it decided on
+  Reading : ℕ → List ℕ → Place  -- under a read stamp
+  Checking : ℕ → List ℕ → Place  -- under a write stamp, of a put_if
+  Storing : ℕ → ℕ → Place  -- under a write stamp, so many words stored
+  Releasing : ℕ → Reply → Place
+
+pub data PlaceTurn : Type 0 where
+  Going : Place → PlaceTurn
+  Done : Reply → PlaceTurn
+
+abbrev pub call_for : Errand → Call
+call_for ToShare = ReadLock
+call_for (ToLeave s loaded) = UnlockRead s
+call_for (ToRefuse s) = UnlockRead s
+call_for (ToUpgrade s) = ToWrite s
+call_for (ToRetreat s) = UnlockRead s
+call_for ToClaim = WriteLock
+
+abbrev pub opening : Job → Place
+opening Getting = Glancing
+opening (Putting a) = Locking ToClaim None
+opening (PuttingIf a b) = Locking ToShare None
+
+abbrev pub next : Bounds → ℕ → Job → Place → LocalAccess
+next limits n job Glancing = LoadLock
+next limits n job (Copying first loaded) = if nat_lt (length loaded) n then LoadItem (length loaded) else LoadLock
+next limits n job (Locking e seen) = phase_next limits (call_for e) seen
+next limits n job (Reading s loaded) = LoadItem (length loaded)
+next limits n job (Checking s loaded) = LoadItem (length loaded)
+next limits n job (Storing s i) = StoreItem i (slice_index (new_words job) i)
+next limits n job (Releasing s a) = CasLock s (s + (units limits).writer)
+
+-- after the write lock
+abbrev pub claimed : Job → ℕ → PlaceTurn
+claimed Getting s = Going (Storing s 0)
+claimed (Putting a) s = Going (Storing s 0)
+claimed (PuttingIf a b) s = Going (Checking s [])
+
+abbrev pub errand_done : Job → Errand → ℕ → PlaceTurn
+errand_done job ToShare s = Going (Reading s [])
+errand_done job (ToLeave t loaded) s = Done (reply.Content loaded)
+errand_done job (ToRefuse t) s = Done reply.No
+errand_done job (ToUpgrade t) s = if s == 0 then Going (Locking (ToRetreat t) None) else Going (Storing s 0)
+errand_done job (ToRetreat t) s = Going (Locking ToClaim None)
+errand_done job ToClaim s = claimed job s
+
+abbrev pub passed : Job → Errand → PhaseTurn → PlaceTurn
+passed job e (Still seen) = Going (Locking e seen)
+passed job e (Ended r) = errand_done job e (stamp_in r)
+
+abbrev pub unchanged : Bounds → ℕ → ℕ → Bool
+unchanged limits first found = ((counts_at limits found).writers == 0) && ((counts_at limits found).write_count == (counts_at limits first).write_count)
+
+abbrev pub all_read : Job → ℕ → List ℕ → PlaceTurn
+all_read job s loaded =
+    if is_get job then Going (Locking (ToLeave s loaded) None)
+    else (if expects job loaded then Going (Locking (ToUpgrade s) None) else Going (Locking (ToRefuse s) None))
+
+abbrev pub after : Bounds → ℕ → Job → Place → ℕ → PlaceTurn
+after limits n job Glancing found = if (counts_at limits found).writers == 0 then Going (Copying found []) else Going (Locking ToShare None)
+after limits n job (Copying first loaded) found =
+    if nat_lt (length loaded) n then Going (Copying first (loaded ++ found ∷ []))
+    else (if unchanged limits first found then Done (reply.Content loaded) else Going (Locking ToShare None))
+after limits n job (Locking e seen) found = passed job e (phase_after limits (call_for e) seen found)
+after limits n job (Reading s loaded) found =
+    if nat_lt (length loaded + 1) n then Going (Reading s (loaded ++ found ∷ [])) else all_read job s (loaded ++ found ∷ [])
+after limits n job (Checking s loaded) found =
+    if nat_lt (length loaded + 1) n then Going (Checking s (loaded ++ found ∷ []))
+    else (if expects job (loaded ++ found ∷ []) then Going (Storing s 0) else Going (Releasing s reply.No))
+after limits n job (Storing s i) found = if nat_lt (i + 1) n then Going (Storing s (i + 1)) else Going (Releasing s (stored_reply job))
+after limits n job (Releasing s a) found = Done a

@@ -1,0 +1,11 @@
+-- How a script's fields are read as a plan, and what each script keeps to.
+use Rattle.std.specs.Prelude.{map}
+use Rattle.stamp_machines.specs.Script.{Scripted}
+use Rattle.stamp_machines.specs.ScriptFault.{calls_in, IsGood}
+use Rattle.stamp_machines.specs.declared.script.Script.TheInside.{Inside}
+
+abbrev pub scripted_of : Inside → Scripted
+scripted_of s = record { limits = s.limits; width = s.width; threads = map calls_in s.threads.items; steps = s.steps.items }
+
+abbrev pub IsWithin : Inside → Type 0
+IsWithin s = IsGood s.width s.threads.items s.steps.items

@@ -1,0 +1,33 @@
+-- What the workers of a run keep of the finished calls.
+use Rattle.std.specs.Prelude.{◌≡◌, ℕ, List, [], map, Option, Some, None, slice_index_or, vec_len, vec_capacity, ◌<◌}
+use Rattle.stamp_machines.specs.declared.state.Begun.{Begun}
+use Rattle.stamp_machines.specs.declared.state.Worker.{Worker}
+use Rattle.stamp_machines.specs.declared.state.State.{State}
+use Rattle.stamp_machines.specs.World.{World}
+
+abbrev pub begun_in : Worker → Option Begun
+begun_in w = w.begun
+
+abbrev pub stamps_in : Worker → List ℕ
+stamps_in w = w.stamps.items
+
+-- the stamps of a thread's finished calls, none for a thread that is not there
+abbrev pub stamps_at : List Worker → ℕ → List ℕ
+stamps_at workers thread = slice_index_or (map stamps_in workers) thread []
+
+-- there is room for one stamp more
+abbrev pub HasRoom : Option Worker → Type 0
+HasRoom None = Unit {0}
+HasRoom (Some w) = vec_len w.stamps < vec_capacity w.stamps
+
+abbrev pub world_at : State → ℕ → World
+world_at s position =
+    record { words = s.words.items; begun = map begun_in s.workers.items; entries = s.entries.items; position = position }
+
+-- what clients see of two states is the same
+pub record SameState (old : State) (new : State) : Type 0 where
+  pub words : new.words ≡ old.words
+  pub begun : map begun_in new.workers.items ≡ map begun_in old.workers.items
+  pub stamps : (t : ℕ) → stamps_at new.workers.items t ≡ stamps_at old.workers.items t
+  pub workers : vec_len new.workers ≡ vec_len old.workers
+  pub entries : new.entries.items ≡ old.entries.items

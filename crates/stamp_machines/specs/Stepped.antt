@@ -1,0 +1,19 @@
+-- What a step reports, and the value of a run.
+use Rattle.std.specs.Prelude.{◌≡◌, ℕ, [], ◌∷◌, ◌++◌, IsSome, None}
+use Rattle.stamp_machines.specs.Script.{Scripted}
+use Rattle.stamp_machines.specs.World.{World, current, step, entry_of}
+use Rattle.stamp_machines.specs.declared.machine.Turn.{Turn}
+use Rattle.stamp_machines.specs.declared.machine.Turn.TheVariants as turned
+use Rattle.stamp_machines.specs.declared.state.Begun.{Begun}
+use Rattle.stamp_machines.specs.declared.running.Stepped.{Stepped}
+use Rattle.stamp_machines.specs.declared.running.Stepped.TheVariants.{Idle, Going, Ended}
+
+-- idle where the thread has no call left, ended with the entry that was appended, and else going
+abbrev pub Reports : Scripted → World → ℕ → Stepped → Type 0
+Reports plan world thread Idle = current plan world thread ≡ None
+Reports plan world thread Going = IsSome (current plan world thread) × ((step plan world thread).entries ≡ world.entries)
+Reports plan world thread (Ended e) = (step plan world thread).entries ≡ world.entries ++ e ∷ []
+
+abbrev pub told : World → ℕ → Begun → Turn → Stepped
+told world thread b (turned.Going machine) = Going
+told world thread b (turned.Done reply) = Ended (entry_of world thread b reply)

@@ -1,0 +1,139 @@
+-- A schedule: each name in turn makes one access of its thread's current call on the common words.
+use Rattle.std.specs.Prelude.{ℕ, ◌+◌, ◌==◌, Bool, List, [], ◌∷◌, ◌++◌, length, map, filter, replicate, Option, Some, None, if◌then◌else◌, slice_get, slice_index, slice_index_or, slice_set, fold}
+use Rattle.stamp_core.specs.LockEvent.{counts}
+use Rattle.stamp_core.specs.Limits.{Bounds, units}
+use Rattle.stamp_core.specs.Word.{word_number}
+use Rattle.stamp_core.specs.declared.call.Call.{Call}
+use Rattle.stamp_core.specs.declared.call.Call.TheVariants as call
+use Rattle.stamp_core.specs.declared.reply.Reply.{Reply}
+use Rattle.stamp_machines.specs.declared.script.Arg.{Arg}
+use Rattle.stamp_machines.specs.declared.script.Arg.TheVariants.{Number, Of}
+use Rattle.stamp_machines.specs.declared.script.ScriptCall.{ScriptCall}
+use Rattle.stamp_machines.specs.declared.script.ScriptCall.TheVariants.{TryWrite, TryRead, WriteLock, ReadLock, Optimistic, Validate, UnlockWrite, UnlockRead, Unlock, ToWrite, ToRead, ToOptimistic, TryUnlockWrite, TryUnlockRead, IsWriteLocked, IsReadLocked, ReadCount, Get, Put, PutIf}
+use Rattle.stamp_core.specs.declared.entry.Entry.{Entry}
+use Rattle.stamp_machines.specs.Access.{words_after, seen_by}
+use Rattle.stamp_core.specs.Decision.{stamp_in}
+use Rattle.stamp_machines.specs.declared.state.Begun.{Begun}
+use Rattle.stamp_machines.specs.declared.machine.Turn.{Turn}
+use Rattle.stamp_machines.specs.declared.machine.Turn.TheVariants as turned
+use Rattle.stamp_machines.specs.declared.shape.Shape.{Shape}
+use Rattle.stamp_machines.specs.MachineState.{start}
+use Rattle.stamp_machines.specs.Machine.{next_access, after_access}
+use Rattle.stamp_machines.specs.Script.{Scripted, calls_of}
+
+-- the common words, each thread's call that has begun and not ended, the finished calls, and the steps made
+pub record World : Type 0 where
+  pub words : List ℕ
+  pub begun : List (Option Begun)
+  pub entries : List Entry
+  pub position : ℕ
+
+-- the word of a lock that nothing has happened to
+abbrev pub opening_word : Bounds → ℕ
+opening_word limits = word_number (units limits) (counts [])
+
+-- word 0 is the lock, word 1 the record's own lock, and the record's words come after them
+abbrev pub opening_of : Bounds → ℕ → ℕ → World
+opening_of limits width threads =
+    record { words = opening_word limits ∷ opening_word limits ∷ replicate width 0; begun = replicate threads None; entries = []; position = 0 }
+
+abbrev pub opening : Scripted → World
+opening plan = opening_of plan.limits plan.width (length plan.threads)
+
+abbrev pub is_of : ℕ → Entry → Bool
+is_of thread e = thread == e.thread
+
+-- the stamps that a thread's finished calls answered, zero for a call that answered none
+abbrev pub stamps_of : ℕ → List Entry → List ℕ
+stamps_of thread entries = map (λ (e : Entry). stamp_in e.reply) (filter (is_of thread) entries)
+
+-- an argument's number: zero where it names a call that has not finished or does not exist
+abbrev pub number_of : (ℕ → List ℕ) → Arg → ℕ
+number_of stamps (Number n) = n
+number_of stamps (Of thread index) = slice_index (stamps thread) index
+
+abbrev pub call_of : (ℕ → List ℕ) → ScriptCall → Call
+call_of stamps TryWrite = call.TryWrite
+call_of stamps TryRead = call.TryRead
+call_of stamps WriteLock = call.WriteLock
+call_of stamps ReadLock = call.ReadLock
+call_of stamps Optimistic = call.Optimistic
+call_of stamps (Validate a) = call.Validate (number_of stamps a)
+call_of stamps (UnlockWrite a) = call.UnlockWrite (number_of stamps a)
+call_of stamps (UnlockRead a) = call.UnlockRead (number_of stamps a)
+call_of stamps (Unlock a) = call.Unlock (number_of stamps a)
+call_of stamps (ToWrite a) = call.ToWrite (number_of stamps a)
+call_of stamps (ToRead a) = call.ToRead (number_of stamps a)
+call_of stamps (ToOptimistic a) = call.ToOptimistic (number_of stamps a)
+call_of stamps TryUnlockWrite = call.TryUnlockWrite
+call_of stamps TryUnlockRead = call.TryUnlockRead
+call_of stamps IsWriteLocked = call.IsWriteLocked
+call_of stamps IsReadLocked = call.IsReadLocked
+call_of stamps ReadCount = call.ReadCount
+call_of stamps Get = call.Get
+call_of stamps (Put a) = call.Put a
+call_of stamps (PutIf a b) = call.PutIf a b
+
+abbrev pub begin : Shape → (ℕ → List ℕ) → ℕ → Option ScriptCall → Option Begun
+begin shape stamps position None = None
+begin shape stamps position (Some c) = Some (record { machine = start shape (call_of stamps c); first = position })
+
+abbrev pub shape_of : Scripted → Shape
+shape_of plan = record { limits = plan.limits; width = plan.width }
+
+-- the call after a thread's finished calls, which begins at this position
+abbrev pub next_call : Scripted → (ℕ → List ℕ) → ℕ → ℕ → Option Begun
+next_call plan stamps position thread = begin (shape_of plan) stamps position (slice_get (calls_of plan thread) (length (stamps thread)))
+
+abbrev pub current_of : Scripted → (ℕ → List ℕ) → ℕ → ℕ → Option Begun → Option Begun
+current_of plan stamps position thread (Some b) = Some b
+current_of plan stamps position thread None = next_call plan stamps position thread
+
+-- the call that a thread is in: the one that it has begun, or else its next one
+abbrev pub current : Scripted → World → ℕ → Option Begun
+current plan world thread = current_of plan (λ t. stamps_of t world.entries) world.position thread (slice_index_or world.begun thread None)
+
+-- the world while the thread's call is out of it
+abbrev pub without : World → ℕ → World
+without world thread = record world { begun = slice_set world.begun thread None }
+
+abbrev pub entry_of : World → ℕ → Begun → Reply → Entry
+entry_of world thread b reply =
+    record { thread = thread; call = b.machine.call; reply = reply; first = b.first; point = world.position; last = world.position }
+
+-- the stamps of thread t after a step of another or of itself
+abbrev pub stamps_after : ℕ → ℕ → List ℕ → Turn → List ℕ
+stamps_after t thread stamps (turned.Going machine) = stamps
+stamps_after t thread stamps (turned.Done reply) = if t == thread then stamps ++ stamp_in reply ∷ [] else stamps
+
+abbrev pub landed : World → ℕ → Begun → List ℕ → Turn → World
+landed world thread b words (turned.Going machine) =
+    record {
+      words = words;
+      begun = slice_set world.begun thread (Some (record { machine = machine; first = b.first }));
+      entries = world.entries;
+      position = world.position + 1;
+    }
+landed world thread b words (turned.Done reply) =
+    record {
+      words = words;
+      begun = slice_set world.begun thread None;
+      entries = world.entries ++ entry_of world thread b reply ∷ [];
+      position = world.position + 1;
+    }
+
+abbrev pub stepped : World → ℕ → Option Begun → World
+stepped world thread None = record world { position = world.position + 1 }
+stepped world thread (Some b) =
+    landed world thread b (words_after (next_access b.machine) world.words) (after_access b.machine (seen_by (next_access b.machine) world.words))
+
+abbrev pub step : Scripted → World → ℕ → World
+step plan world thread = stepped world thread (current plan world thread)
+
+-- what a schedule of these names does
+unfoldable pub execution_of : Scripted → List ℕ → World
+execution_of plan names = fold (step plan) (opening plan) names
+
+-- one entry for each call that they finish, by rising last step
+abbrev pub completed_calls : Scripted → List ℕ → List Entry
+completed_calls plan names = (execution_of plan names).entries

@@ -1,0 +1,35 @@
+//! One access to one of the common words.
+ghost use Rattle.std.specs.Prelude.{◌≡◌, ◌<◌, length};
+ghost use Rattle.stamp_machines.specs.Access.{place_of, words_after, seen_by};
+
+/// One access to the word of this place, counted from 0.
+#[derive(Clone, Copy, Debug, PartialEq, Eq)]
+pub enum Access {
+    Load(usize),
+    /// Puts the second value where the first one is found.
+    Cas(usize, u64, u64),
+    Store(usize, u64),
+}
+
+/// Makes the access, and gives what stood there before.
+pub(crate) fn make(words: &mut [u64], access: Access) -> u64
+    requires { place_of access < length words.old }
+    ensures words { words.new ≡ words_after access words.old }
+    ensures seen { result ≡ seen_by access words.old }
+{
+    match access {
+        Access::Load(i) => words[i],
+        Access::Cas(i, old, new) => {
+            let found = words[i];
+            if found == old {
+                words[i] = new;
+            }
+            found
+        }
+        Access::Store(i, value) => {
+            let before = words[i];
+            words[i] = value;
+            before
+        }
+    }
+}

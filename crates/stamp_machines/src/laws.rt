@@ -1,0 +1,46 @@
+//! What holds of every schedule. Each function does nothing; its contract is the law, over every
+//! script and every list of names.
+ghost use Rattle.stamp_machines.specs.Interference.{StepsBoundedAlways};
+ghost use Rattle.stamp_machines.specs.Undisturbed.{EndsWithinTwo};
+ghost use Rattle.stamp_machines.specs.Laws.{LegalAlways, LinearizedAlways, RepresentedAlways, StampsValidateAlways, GetsAnswerContentAlways, ReleasesWinAlways};
+
+/// The finished calls are a legal history of the lock and the record, whoever steps when.
+pub fn finished_calls_are_legal()
+    ensures { LegalAlways }
+{}
+
+/// The lock's word represents that history after every step, also in the middle of calls.
+pub fn the_word_represents_the_history()
+    ensures { RepresentedAlways }
+{}
+
+/// The finished calls are linearized by their last steps.
+pub fn finished_calls_are_linearized()
+    ensures { LinearizedAlways }
+{}
+
+/// A call of the lock that has a transition ends within two accesses when nobody disturbs it.
+pub fn undisturbed_calls_end()
+    ensures { EndsWithinTwo }
+{}
+
+/// An issued stamp validates exactly while no call that has finished since acquired write mode.
+pub fn issued_stamps_validate()
+    ensures { StampsValidateAlways }
+{}
+
+/// A get answers words that the record held together.
+pub fn gets_answer_the_content()
+    ensures { GetsAnswerContentAlways }
+{}
+
+/// The exchange by which a call of the record releases its write lock always wins.
+pub fn releasing_exchanges_win()
+    ensures { ReleasesWinAlways }
+{}
+
+/// A call of the lock that never waits takes at most two steps, and one more for each step of
+/// another thread between its first and its last that changes the lock's word.
+pub fn steps_are_bounded()
+    ensures { StepsBoundedAlways }
+{}

@@ -1,0 +1,26 @@
+//! Calls of the lock and of its record as machines that make one access a step, and scripts of
+//! such calls under any order of steps.
+#![tactic(auto)]
+
+mod access;
+pub mod laws;
+mod loaded;
+mod lock_phase;
+mod machine;
+mod run_whole;
+mod running;
+mod script;
+mod shape;
+mod stage;
+mod state;
+mod tally;
+#[cfg(test)]
+mod tests;
+
+pub use access::Access;
+pub use machine::{Machine, Turn};
+pub use run_whole::{run, run_reported};
+pub use running::{MOST_STEPS, Run, RunError, Stepped};
+pub use script::{Arg, Script, ScriptCall};
+pub use shape::Shape;
+pub use stamp_core::ScriptError;

@@ -1,0 +1,41 @@
+//! A script from its first step to its last.
+ghost use Rattle.std.specs.Prelude.{◌≡◌, [], All, map, IfOk, OnErr};
+ghost use Rattle.stamp_core.specs.Linearized.{IsLinearized};
+ghost use Rattle.stamp_machines.specs.World.{completed_calls};
+ghost use Rattle.stamp_machines.specs.Interference.{cost};
+
+use crate::running::{Run, RunError};
+use crate::script::Script;
+use crate::tally::Tally;
+use stamp_core::Record;
+use std::alloc::Global;
+
+/// Runs a script to its end. The record has an entry for each finished call, in the order of their
+/// last steps, which are their points.
+pub fn run(alloc: Global, script: &Script) -> Result<Record, RunError>
+    ensures record { IfOk result (λ r. r ≡ record { limits = script.now.limits; width = script.now.width; entries = completed_calls script.now script.now.steps; report = [] }) }
+    ensures linearized { IfOk result (λ r. IsLinearized r) }
+    ensures points { IfOk result (λ r. All (λ e. e.point ≡ e.last) r.entries) }
+    ensures memory { OnErr result (result ≡ Err RunError.Memory) }
+{
+    let mut run = Run::start(alloc, script)?;
+    for name in script.steps() {
+        run.advance(*name)?;
+    }
+    Ok(run.into_record())
+}
+
+/// Runs a script to its end as `run` does. The report has a pair for each entry: its own steps, and
+/// the steps of others between its first and its last that changed the lock's word.
+pub fn run_reported(alloc: Global, script: &Script) -> Result<Record, RunError>
+    ensures record { IfOk result (λ r. r ≡ record { limits = script.now.limits; width = script.now.width; entries = completed_calls script.now script.now.steps; report = map (cost script.now script.now.steps) (completed_calls script.now script.now.steps) }) }
+    ensures linearized { IfOk result (λ r. IsLinearized r) }
+    ensures memory { OnErr result (result ≡ Err RunError.Memory) }
+{
+    let mut run = Run::start(alloc, script)?;
+    let mut tally = Tally::new(alloc, script.thread_count())?;
+    for name in script.steps() {
+        run.step_counted(*name, &mut tally)?;
+    }
+    Ok(run.into_reported(tally.report))
+}

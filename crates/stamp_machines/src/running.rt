@@ -1,0 +1,218 @@
+//! A script that is being run.
+ghost use Rattle.std.specs.Prelude.{◌≡◌, ◌<◌, ◌≤◌, ◌↔◌, ◌++◌, ◌∷◌, [], length, IfOk, OnOk, OnErr, slice_index, All};
+
+use crate::script::Script;
+use crate::state::State;
+use crate::tally::Tally;
+use stamp_core::{Call, Entry, Record, Word};
+use std::alloc::{AllocError, Global};
+use std::marker::Model;
+
+/// No run has more steps.
+pub const MOST_STEPS: usize = 1_000_000;
+
+/// What a step did.
+#[derive(Clone, Copy)]
+pub enum Stepped {
+    /// The thread has no call left.
+    Idle,
+    /// Its call goes on.
+    Going,
+    /// Its call has ended, and this is its entry.
+    Ended(Entry),
+}
+
+/// Why a run refuses.
+#[derive(Clone, Copy, Debug, PartialEq, Eq)]
+pub enum RunError {
+    /// 3: the run has made 1,000,000 steps.
+    TooManySteps,
+    /// 6: a growth was refused.
+    Memory,
+}
+
+impl From<AllocError> for RunError {
+    ghost use Rattle.stamp_machines.specs.declared.running.RunError.{RunError};
+
+    ghost from_gives = { λ _ e. e ≡ RunError.Memory };
+
+    fn from(_: AllocError) -> Self {
+        RunError::Memory
+    }
+}
+
+/// A script, and how far it has come.
+#[derive(Drop)]
+pub struct Run<'a> {
+    script: &'a Script,
+    state: State,
+    steps: Vec<u64>,
+}
+
+impl<'a> Model for Run<'a> {
+    ghost use Rattle.stamp_machines.specs.Course.{Course};
+
+    ghost Value = { Course };
+
+    ghost use Rattle.stamp_machines.specs.RunFields.{course_of, IsAt};
+
+    ghost view = { course_of };
+
+    ghost invariant = { IsAt };
+}
+
+impl<'a> Run<'a> {
+    ghost use Rattle.stamp_machines.specs.World.{execution_of, completed_calls};
+    ghost use Rattle.stamp_core.specs.Word.{Represents, word_at};
+    ghost use Rattle.stamp_core.specs.History.{events_of};
+    ghost use Rattle.stamp_core.specs.Linearized.{history_of, AreLinearized};
+    ghost use Rattle.stamp_machines.specs.Script.{IsSound};
+    ghost use Rattle.stamp_machines.specs.Stepped.{Reports};
+    ghost use Rattle.stamp_machines.specs.Tally.{tally_of, IsTallied};
+
+    /// The run before its first step: it refuses for want of memory alone.
+    pub fn start(alloc: Global, script: &'a Script) -> Result<Run<'a>, RunError>
+        ensures ok { IfOk result (λ r. r ≡ record { plan = script.now; names = [] }) }
+        ensures memory { OnErr result (result ≡ Err RunError.Memory) }
+    {
+        let state = State::new(alloc, script.shape(), script.thread_count())?;
+        Ok(Run {
+            script,
+            state,
+            steps: Vec::new(alloc),
+        })
+    }
+
+    /// One access of the thread's current call. A refused step leaves the run as it was.
+    pub fn step(&mut self, thread: u64) -> Result<Stepped, RunError>
+        requires { thread < length self.old.plan.threads }
+        ensures ok { OnOk result (self.new ≡ record self.old { names = self.old.names ++ thread ∷ [] }) }
+        ensures report { IfOk result (Reports self.old.plan (execution_of self.old.plan self.old.names) thread) }
+        ensures err { OnErr result (self.new ≡ self.old) }
+        ensures full { (result ≡ Err RunError.TooManySteps) ↔ (length self.old.names ≡ 1000000) }
+    {
+        if self.steps.len() == MOST_STEPS {
+            return Err(RunError::TooManySteps);
+        }
+        let at = thread as usize;
+        let position = self.steps.len() as u64;
+        self.steps.reserve(1)?;
+        self.state.reserve(at)?;
+        let _ = self.steps.push(thread);
+        Ok(self.state.step(self.script, at, position))
+    }
+
+    /// One access, of which only the refusal is told.
+    pub(crate) fn advance(&mut self, thread: u64) -> Result<(), RunError>
+        requires { thread < length self.old.plan.threads }
+        ensures ok { OnOk result (self.new ≡ record self.old { names = self.old.names ++ thread ∷ [] }) }
+        ensures full { (result ≡ Err RunError.TooManySteps) ↔ (length self.old.names ≡ 1000000) }
+    {
+        match self.step(thread) {
+            Ok(stepped) => {
+                let _ = told(&stepped);
+                Ok(())
+            }
+            Err(refusal) => Err(refusal),
+        }
+    }
+
+    /// What each run keeps to.
+    fn known(&self)
+        ensures sound { IsSound self.now.plan }
+        ensures few { length self.now.names ≤ 1000000 }
+    {
+        let _ = &self.script;
+    }
+
+    /// One access, which is counted.
+    pub(crate) fn step_counted(&mut self, thread: u64, tally: &mut Tally) -> Result<(), RunError>
+        requires thread { thread < length self.old.plan.threads }
+        requires tallied { IsTallied self.old.plan self.old.names (tally_of tally.old) }
+        ensures ok { OnOk result (self.new ≡ record self.old { names = self.old.names ++ thread ∷ [] }) }
+        ensures tallied { OnOk result (IsTallied self.new.plan self.new.names (tally_of tally.new)) }
+        ensures full { (result ≡ Err RunError.TooManySteps) → (length self.old.names ≡ 1000000) }
+    {
+        self.known();
+        let before = self.word().bits();
+        match self.step(thread) {
+            Ok(stepped) => {
+                let _ = told(&stepped);
+                let is_changed = self.word().bits() != before;
+                tally.count(thread as usize, is_changed, &stepped)?;
+                Ok(())
+            }
+            Err(refusal) => Err(refusal),
+        }
+    }
+
+    /// The names stepped so far.
+    pub fn steps(&self) -> &[u64]
+        ensures { result.now ≡ self.now.names }
+    {
+        &self.steps
+    }
+
+    /// The finished calls, in the order of their last steps.
+    pub fn finished(&self) -> &[Entry]
+        ensures entries { result.now ≡ completed_calls self.now.plan self.now.names }
+        ensures linearized { AreLinearized self.now.plan.limits self.now.plan.width result.now }
+    {
+        &self.state.entries
+    }
+
+    /// The lock's word.
+    pub fn word(&self) -> Word
+        ensures word { result ≡ word_at self.now.plan.limits (slice_index (execution_of self.now.plan self.now.names).words 0) }
+        ensures represented { Represents self.now.plan.limits result (events_of self.now.plan.limits (history_of (completed_calls self.now.plan self.now.names))) }
+    {
+        self.script.limits().word(self.state.words[0])
+    }
+}
+
+impl<'a> Run<'a> {
+    ghost use Rattle.stamp_core.specs.Linearized.{IsLinearized};
+    ghost use Rattle.stamp_machines.specs.World.{completed_calls};
+
+    /// The finished calls as a record, with no report.
+    pub(crate) fn into_record(self) -> Record
+        ensures record { result ≡ record { limits = self.entry.plan.limits; width = self.entry.plan.width; entries = completed_calls self.entry.plan self.entry.names; report = [] } }
+        ensures linearized { IsLinearized result }
+        ensures points { All (λ e. e.point ≡ e.last) result.entries }
+    {
+        Record::of(
+            self.script.limits(),
+            self.script.width(),
+            self.state.entries,
+        )
+        .unwrap()
+    }
+}
+
+impl<'a> Run<'a> {
+    ghost use Rattle.stamp_core.specs.Linearized.{IsLinearized};
+    ghost use Rattle.stamp_machines.specs.World.{completed_calls};
+
+    /// The finished calls as a record, with a report that has a pair for each.
+    pub(crate) fn into_reported(self, report: Vec<(u64, u64)>) -> Record
+        requires { length report.items ≡ length (completed_calls self.plan self.names) }
+        ensures record { result ≡ record { limits = self.entry.plan.limits; width = self.entry.plan.width; entries = completed_calls self.entry.plan self.entry.names; report = report.items } }
+        ensures linearized { IsLinearized result }
+    {
+        Record::of_reported(
+            self.script.limits(),
+            self.script.width(),
+            self.state.entries,
+            report,
+        )
+        .unwrap()
+    }
+}
+
+/// The call that ended, if one did.
+fn told(stepped: &Stepped) -> Option<Call> {
+    match stepped {
+        Stepped::Ended(entry) => Some(entry.call),
+        _ => None,
+    }
+}

@@ -1,0 +1,195 @@
+//! Scripts: the calls of each thread, and who steps when.
+ghost use Rattle.std.specs.Prelude.{◌≡◌, ◌<◌, ◌≤◌, ◌↔◌, length, slice_get, map, vec_len, IsTrue, IfSome, IfNone, IfOk, IfErr, All};
+ghost use Rattle.stamp_machines.specs.Script.{Suits, IsSound, calls_of};
+
+use crate::shape::Shape;
+use stamp_core::{Limits, ScriptError, Words};
+use std::marker::Model;
+
+/// A stamp argument.
+#[derive(Clone, Copy)]
+pub enum Arg {
+    Number(u64),
+    /// The stamp that this thread's call of this index, from 0, has answered when the call with the
+    /// argument makes its first step; 0 where it has not finished, answered none or does not exist.
+    Of(u64, u64),
+}
+
+/// A call of a script: a call of the lock or the record whose stamp may be one still to come.
+#[derive(Clone, Copy)]
+pub enum ScriptCall {
+    TryWrite,
+    TryRead,
+    WriteLock,
+    ReadLock,
+    Optimistic,
+    Validate(Arg),
+    UnlockWrite(Arg),
+    UnlockRead(Arg),
+    Unlock(Arg),
+    ToWrite(Arg),
+    ToRead(Arg),
+    ToOptimistic(Arg),
+    TryUnlockWrite,
+    TryUnlockRead,
+    IsWriteLocked,
+    IsReadLocked,
+    ReadCount,
+    Get,
+    Put(Words),
+    PutIf(Words, Words),
+}
+
+/// The calls of each thread, and the names of the threads in the order in which they step.
+#[derive(Drop)]
+pub struct Script {
+    limits: Limits,
+    width: u64,
+    threads: Vec<Vec<ScriptCall>>,
+    steps: Vec<u64>,
+}
+
+impl Model for Script {
+    ghost use Rattle.stamp_machines.specs.Script.{Scripted};
+
+    ghost Value = { Scripted };
+
+    ghost use Rattle.stamp_machines.specs.ScriptFields.{scripted_of, IsWithin};
+
+    ghost view = { scripted_of };
+
+    ghost invariant = { IsWithin };
+}
+
+ghost use Rattle.stamp_machines.specs.ScriptFault.{calls_in, AreShort, AreSuited, AreNamed, IsFirstUnknown, IsFirstFault, IsGood};
+
+fn suits(width: u64, call: &ScriptCall) -> bool
+    ensures { IsTrue result ↔ Suits width call.now }
+{
+    match call {
+        ScriptCall::Get => width > 0,
+        ScriptCall::Put(new) => width > 0 && new.len() as u64 == width,
+        ScriptCall::PutIf(old, new) => {
+            width > 0 && old.len() as u64 == width && new.len() as u64 == width
+        }
+        _ => true,
+    }
+}
+
+fn calls_suit(width: u64, calls: &[ScriptCall]) -> bool
+    ensures { IsTrue result ↔ All (Suits width) calls.now }
+{
+    calls.iter().all(|call| suits(width, call))
+}
+
+fn are_suited(width: u64, threads: &[Vec<ScriptCall>]) -> bool
+    ensures { IsTrue result ↔ AreSuited width threads.now }
+{
+    threads.iter().all(|calls| calls_suit(width, calls))
+}
+
+fn are_short(threads: &[Vec<ScriptCall>]) -> bool
+    ensures { IsTrue result ↔ AreShort threads.now }
+{
+    threads.iter().all(|calls| calls.len() <= 10_000)
+}
+
+fn first_unknown(steps: &[u64], threads: u64) -> Option<usize>
+    ensures some { IfSome result (λ i. IsFirstUnknown threads steps.now i) }
+    ensures none { IfNone result (AreNamed threads steps.now) }
+{
+    steps.iter().position(|name| threads <= *name)
+}
+
+impl Script {
+    /// A script of just what was handed in, or its first fault; then all of it is dropped.
+    pub fn new(
+        limits: Limits,
+        width: u64,
+        threads: Vec<Vec<ScriptCall>>,
+        steps: Vec<u64>,
+    ) -> Result<Script, ScriptError>
+        ensures ok { IfOk result (λ s. s ≡ record { limits = limits; width = width; threads = map calls_in threads.items; steps = steps.items }) }
+        ensures good { IfOk result (λ _. IsGood width threads.items steps.items) }
+        ensures fault { IfErr result (IsFirstFault width threads.items steps.items) }
+    {
+        if threads.len() > 64 {
+            return Err(ScriptError::TooManyThreads);
+        }
+        if !are_short(&threads) {
+            return Err(ScriptError::TooManyCalls);
+        }
+        if steps.len() > 1_000_000 {
+            return Err(ScriptError::TooManySteps);
+        }
+        let count = threads.len() as u64;
+        if let Some(at) = first_unknown(&steps, count) {
+            return Err(ScriptError::NoSuchThread(at as u64));
+        }
+        if width > 16 || !are_suited(width, &threads) {
+            return Err(ScriptError::RecordWidth);
+        }
+        Ok(Script {
+            limits,
+            width,
+            threads,
+            steps,
+        })
+    }
+
+    /// What the machines of its calls are made for.
+    pub(crate) fn shape(&self) -> Shape
+        ensures shape { result ≡ record { limits = self.now.limits; width = self.now.width } }
+        ensures sound { IsSound self.now }
+        ensures few { self.now.width ≤ 16 }
+    {
+        let _ = self.limits.layout();
+        Shape {
+            limits: self.limits,
+            width: self.width,
+        }
+    }
+
+    pub fn limits(&self) -> Limits
+        ensures { result ≡ self.now.limits }
+    {
+        self.limits
+    }
+
+    /// How many words the record has, 0 for no record.
+    pub fn width(&self) -> u64
+        ensures { result ≡ self.now.width }
+    {
+        self.width
+    }
+
+    pub fn threads(&self) -> &[Vec<ScriptCall>]
+        ensures { map calls_in result.now ≡ self.now.threads }
+    {
+        &self.threads
+    }
+
+    /// The names of the threads, in the order in which they step.
+    pub fn steps(&self) -> &[u64]
+        ensures steps { result.now ≡ self.now.steps }
+        ensures few { length self.now.steps ≤ 1000000 }
+        ensures named { All (λ n. n < length self.now.threads) self.now.steps }
+    {
+        &self.steps
+    }
+
+    pub(crate) fn thread_count(&self) -> usize
+        ensures count { result ≡ length self.now.threads }
+        ensures few { result ≤ 64 }
+    {
+        self.threads.len()
+    }
+
+    /// A call of a thread, none past its last.
+    pub(crate) fn call(&self, thread: usize, index: usize) -> Option<ScriptCall>
+        requires { thread < length self.now.threads }
+        ensures { result ≡ slice_get (calls_of self.now thread) index }
+    {
+        self.threads[thread].get(index).copied()
+    }
+}

@@ -1,0 +1,28 @@
+//! What machines are made for.
+ghost use Rattle.std.specs.Prelude.{◌≡◌};
+ghost use Rattle.stamp_machines.specs.MachineState.{record_limits};
+
+use stamp_core::Limits;
+
+/// The limits of the lock, and the width of the record in words, 0 for none.
+#[derive(Clone, Copy)]
+pub struct Shape {
+    pub limits: Limits,
+    pub width: u64,
+}
+
+impl Shape {
+    /// The width as a number of places.
+    pub(crate) fn words(&self) -> usize
+        ensures { result ≡ self.now.width }
+    {
+        self.width as usize
+    }
+
+    /// The limits of the record's own lock: the widest of the layout.
+    pub(crate) fn record_limits(&self) -> Limits
+        ensures { result ≡ record_limits self.now }
+    {
+        Limits::widest(self.limits.layout())
+    }
+}

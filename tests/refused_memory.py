@@ -1,0 +1,64 @@
+"""Runs programs with each of their allocations refused in turn, until a run makes fewer.
+
+    refused_memory.py SHIM STAMPED TRIAL
+
+With ample memory each ends as the table says. A refused run of `stamped` ends with the memory line
+(or with none, where memory for the line is refused too), status 1 and nothing on standard output, or
+as with ample memory. One of TRIAL ends with status 1 and no output, or as with ample memory."""
+import os
+import subprocess
+import sys
+import tempfile
+
+REPLAY = b'{"calls":[["try_read"],["to_write",257],["read_count"]],"readers":1,"versions":1}'
+WAITS = b'{"calls":[["try_read"],["write_lock"]],"readers":1,"versions":1}'
+REPLIES = b'{"replies":[257,384,{"count":0}],"word":384}\n'
+BAD_LINE = (2, b"", b"stamped: bad command line\n")
+MOST = 10_000
+
+
+def ended(words, text, refuse=0, shim=None):
+    """How a run ended, and whether it made the allocation that was to be refused."""
+    with tempfile.TemporaryDirectory() as room:
+        marker = os.path.join(room, "refused")
+        env = dict(os.environ, REFUSE=str(refuse), REFUSED=marker)
+        if shim:
+            env["LD_PRELOAD"] = shim
+        ran = subprocess.run(words, input=text, capture_output=True, env=env, timeout=60)
+        return (ran.returncode, ran.stdout, ran.stderr), os.path.exists(marker)
+
+
+def runs_of(words, text, shim, wanted, refusals):
+    """Refuses each allocation in turn; returns how many there were."""
+    ample, _ = ended(words, text)
+    if ample != wanted:
+        sys.exit(f"{words}: {ample}, and not {wanted}")
+    for number in range(1, MOST):
+        answer, was_refused = ended(words, text, number, shim)
+        if answer != ample and not (was_refused and answer in refusals):
+            sys.exit(f"{words} with allocation {number} refused: {answer}, and not {ample}")
+        if not was_refused:
+            return number - 1
+    sys.exit(f"{words}: over {MOST} allocations")
+
+
+def main():
+    shim, stamped, trial = (os.path.abspath(path) for path in sys.argv[1:])
+    told = [(1, b"", b"stamped: memory\n"), (1, b"", b"")]
+    table = [
+        ([stamped, "replay"], REPLAY, (0, REPLIES, b""), told),
+        ([stamped, "replay"], WAITS, (1, b"", b"stamped: call 1 waits\n"), told),
+        ([stamped, "replay"], b"[", (1, b"", b"stamped: not json\n"), told),
+        ([stamped, "stamp", "257"], b"", (0, b"read 0 1\n", b""), told),
+        ([stamped, "stamp", "--layout", "2", "196608"], b"", (0, b"write 1\n", b""), told),
+        ([stamped, "lock"], b"", BAD_LINE, told),
+        ([stamped], b"", BAD_LINE, told),
+        ([stamped, b"\xff"], b"", BAD_LINE, told),
+        ([trial], b"", (0, b"right\n", b""), [(1, b"", b"")]),
+    ]
+    for words, text, wanted, refusals in table:
+        count = runs_of(words, text, shim, wanted, refusals)
+        print(f"{[os.path.basename(words[0]), *words[1:]]}: {count} allocations refused in turn")
+
+
+main()
