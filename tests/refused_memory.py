@@ -4,7 +4,8 @@
 
 With ample memory each ends as the table says. A refused run of `stamped` ends with the memory line
 (or with none, where memory for the line is refused too), status 1 and nothing on standard output, or
-as with ample memory. One of TRIAL ends with status 1 and no output, or as with ample memory."""
+as with ample memory. One of TRIAL ends with status 1 and no output, or as with ample memory. A
+refused step of a schedule is made again there, so some refused runs end as with ample memory."""
 import os
 import subprocess
 import sys
@@ -13,6 +14,17 @@ import tempfile
 REPLAY = b'{"calls":[["try_read"],["to_write",257],["read_count"]],"readers":1,"versions":1}'
 WAITS = b'{"calls":[["try_read"],["write_lock"]],"readers":1,"versions":1}'
 REPLIES = b'{"replies":[257,384,{"count":0}],"word":384}\n'
+SCRIPT = (
+    b'{"readers":1,"steps":[0,0,1,1],"threads":[[["try_write"]],[["unlock",[0,0]]]],'
+    b'"versions":1,"width":0}'
+)
+HISTORY = (
+    b'{"entries":[{"call":["try_write"],"first":0,"last":1,"point":1,"reply":384,"thread":0},'
+    b'{"call":["unlock",384],"first":2,"last":3,"point":3,"reply":"done","thread":1}],'
+    b'"format":1,"readers":1,%s"versions":1,"width":0}\n'
+)
+NO_THREAD = b'{"readers":1,"steps":[0,64],"threads":[[]],"versions":1,"width":0}'
+NO_THREAD_LINE = b"stamped: script refused: no thread at step 1\n"
 BAD_LINE = (2, b"", b"stamped: bad command line\n")
 MOST = 10_000
 
@@ -29,16 +41,18 @@ def ended(words, text, refuse=0, shim=None):
 
 
 def runs_of(words, text, shim, wanted, refusals):
-    """Refuses each allocation in turn; returns how many there were."""
+    """Refuses each allocation in turn; returns how many there were, and how many runs bore it."""
     ample, _ = ended(words, text)
     if ample != wanted:
         sys.exit(f"{words}: {ample}, and not {wanted}")
+    borne = 0
     for number in range(1, MOST):
         answer, was_refused = ended(words, text, number, shim)
         if answer != ample and not (was_refused and answer in refusals):
             sys.exit(f"{words} with allocation {number} refused: {answer}, and not {ample}")
         if not was_refused:
-            return number - 1
+            return number - 1, borne
+        borne += answer == ample
     sys.exit(f"{words}: over {MOST} allocations")
 
 
@@ -49,6 +63,9 @@ def main():
         ([stamped, "replay"], REPLAY, (0, REPLIES, b""), told),
         ([stamped, "replay"], WAITS, (1, b"", b"stamped: call 1 waits\n"), told),
         ([stamped, "replay"], b"[", (1, b"", b"stamped: not json\n"), told),
+        ([stamped, "run"], SCRIPT, (0, HISTORY % b"", b""), told),
+        ([stamped, "run", "--report"], SCRIPT, (0, HISTORY % b'"report":[[2,0],[2,0]],', b""), told),
+        ([stamped, "run"], NO_THREAD, (1, b"", NO_THREAD_LINE), told),
         ([stamped, "stamp", "257"], b"", (0, b"read 0 1\n", b""), told),
         ([stamped, "stamp", "--layout", "2", "196608"], b"", (0, b"write 1\n", b""), told),
         ([stamped, "lock"], b"", BAD_LINE, told),
@@ -57,7 +74,9 @@ def main():
         ([trial], b"", (0, b"right\n", b""), [(1, b"", b"")]),
     ]
     for words, text, wanted, refusals in table:
-        count = runs_of(words, text, shim, wanted, refusals)
+        count, borne = runs_of(words, text, shim, wanted, refusals)
+        if words == [trial] and not borne:
+            sys.exit(f"{words}: no refused step was made again")
         print(f"{[os.path.basename(words[0]), *words[1:]]}: {count} allocations refused in turn")
 
 

@@ -3,6 +3,11 @@
 //! than the right one is printed, and ends with status 0.
 #![tactic(auto)]
 
+mod schedules;
+
+use crate::schedules::{
+    bad_script_outcome, history_outcome, run_outcome, run_reported_outcome, steps_outcome,
+};
 use stamp_cli::{Order, ReadSource, ServeFault, Verdict, WriteSink, fault_line, serve};
 use stamp_core::{Call, Layout, Limits, ReplayError, Replayed, replay};
 use stamp_history::{AnswerError, Field, ReadError, read_replay, replay_text, write_replay};
@@ -162,6 +167,11 @@ fn outcome_of_all(alloc: Global) -> Outcome {
         ),
         serve_outcome(alloc, Order::Stamp(257), b"read 0 1\n"),
         serve_outcome(alloc, Order::StampIn(Layout::Two, 196_608), b"write 1\n"),
+        history_outcome(alloc),
+        bad_script_outcome(alloc),
+        run_outcome(alloc),
+        run_reported_outcome(alloc),
+        steps_outcome(alloc),
     ];
     if outcomes.contains(&Outcome::Wrong) {
         Outcome::Wrong

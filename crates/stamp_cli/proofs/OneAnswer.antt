@@ -13,7 +13,7 @@ use Rattle.stamp_cli.specs.declared.faults.ServeFault.{ServeFault}
 use Rattle.stamp_cli.specs.declared.faults.ServeFault.TheVariants.{Waits}
 use Rattle.stamp_cli.specs.declared.orders.Order.{Order}
 use Rattle.stamp_cli.specs.declared.orders.Order.TheVariants as order
-use Rattle.stamp_cli.specs.Answer.{IsWaitFault, IsReadingAnswer, IsReplayAnswer, IsStampAnswer, IsAnswer}
+use Rattle.stamp_cli.specs.Answer.{IsWaitFault, IsReplayAnswer, IsInputAnswer, AnswersReplay, AnswersRun, AnswersReportedRun, IsStampAnswer, IsAnswer}
 use Rattle.stamp_cli.specs.Source.{most_bytes}
 use Rattle.stamp_cli.specs.StampText.{kind_text}
 use Rattle.stamp_core.proofs.OneStampKind.{one_kind}
@@ -32,7 +32,7 @@ one_line replay a b lock x y =
 line_or_wait : (replay : Replay) (a : List ℕ) (e : ServeFault) → AreOfLock replay.calls → IsReplayedText replay a → IsWaitFault replay e → ⊥
 line_or_wait replay a e lock x y = waits_or_replayed replay.limits replay.calls y.call x.replies x.word lock y.waits x.replayed
 
-one_reading : (r : Result Replay ReadError) (a b : Result (List ℕ) ServeFault) → AreOfLockIn r → IsReadingAnswer r a → IsReadingAnswer r b → a ≡ b
+one_reading : (r : Result Replay ReadError) (a b : Result (List ℕ) ServeFault) → AreOfLockIn r → IsReplayAnswer r a → IsReplayAnswer r b → a ≡ b
 one_reading (Ok replay) (Ok a) (Ok b) lock x y = ap Ok (one_line replay a b lock x y)
 one_reading (Ok replay) (Ok a) (Err e) lock x y = absurd (line_or_wait replay a e lock x y)
 one_reading (Ok replay) (Err e) (Ok b) lock x y = absurd (line_or_wait replay b e lock y x)
@@ -53,9 +53,25 @@ long_or_not n m = by_test (nat_lt n m) refl
     by_test true e = inl (ltb-true n m e)
     by_test false e = inr (ltb-false n m e)
 
-one_to_replay : (input : List ℕ) (a b : Result (List ℕ) ServeFault) → (most_bytes < length input) ⊎ (length input ≤ most_bytes) → IsReplayAnswer input a → IsReplayAnswer input b → a ≡ b
-one_to_replay input a b (inl long) x y = x.too_long long ∙ sym (y.too_long long)
-one_to_replay input a b (inr fits) x y = one_reading (replay_of input) a b (of_lock_in input) (x.read fits) (y.read fits)
+-- there is one answer of this kind to an input
+abbrev pub IsOnce : (List ℕ → Result (List ℕ) ServeFault → Type 0) → Type 0
+IsOnce IsSo = (input : List ℕ) (a b : Result (List ℕ) ServeFault) → IsSo input a → IsSo input b → a ≡ b
+
+one_to_input : (IsSo : List ℕ → Result (List ℕ) ServeFault → Type 0) → IsOnce IsSo → IsOnce (IsInputAnswer IsSo)
+one_to_input IsSo once input a b x y = by (long_or_not most_bytes (length input))
+  where
+    by : (most_bytes < length input) ⊎ (length input ≤ most_bytes) → a ≡ b
+    by (inl long) = x.too_long long ∙ sym (y.too_long long)
+    by (inr fits) = once input a b (x.read fits) (y.read fits)
+
+one_to_replay : IsOnce AnswersReplay
+one_to_replay input a b x y = one_reading (replay_of input) a b (of_lock_in input) x y
+
+one_to_run : IsOnce AnswersRun
+one_to_run input a b x y = x ∙ sym y
+
+one_to_reported_run : IsOnce AnswersReportedRun
+one_to_reported_run input a b x y = x ∙ sym y
 
 one_to_stamp : (layout : Layout) (n : ℕ) (a b : Result (List ℕ) ServeFault) → IsStampAnswer layout n a → IsStampAnswer layout n b → a ≡ b
 one_to_stamp layout n a b x y =
@@ -63,6 +79,8 @@ one_to_stamp layout n a b x y =
     x.is ∙ ap Ok (x.text.says ∙ ap kind_text same ∙ sym y.text.says) ∙ sym y.is
 
 pub one_answer : (o : Order) (input : List ℕ) (a b : Result (List ℕ) ServeFault) → IsAnswer o input a → IsAnswer o input b → a ≡ b
-one_answer order.Replay input a b x y = one_to_replay input a b (long_or_not most_bytes (length input)) x y
+one_answer order.Replay input a b x y = one_to_input AnswersReplay one_to_replay input a b x y
+one_answer order.Run input a b x y = one_to_input AnswersRun one_to_run input a b x y
+one_answer order.RunReported input a b x y = one_to_input AnswersReportedRun one_to_reported_run input a b x y
 one_answer (order.Stamp n) input a b x y = one_to_stamp One n a b x y
 one_answer (order.StampIn layout n) input a b x y = one_to_stamp layout n a b x y

@@ -1,11 +1,16 @@
 -- The line that answers an order, or why there is none.
 use Rattle.std.specs.Prelude.{◌≡◌, ◌≢◌, ℕ, ◌<◌, ◌≤◌, List, Vec, length, Option, Result, Ok, Err}
 use Rattle.std.specs.declared.alloc.Global.{Global}
+use Rattle.stamp_core.specs.Record.{Recorded}
 use Rattle.stamp_core.specs.Replayed.{WaitsAt}
 use Rattle.stamp_core.specs.declared.layout.Layout.{Layout}
 use Rattle.stamp_core.specs.declared.layout.Layout.TheVariants.{One}
+use Rattle.stamp_machines.specs.Script.{Scripted}
+use Rattle.stamp_machines.specs.RunRecord.{run_record, reported_record}
+use Rattle.stamp_history.specs.HistoryText.{history_text}
 use Rattle.stamp_history.specs.Replay.{Replay, replay_of}
 use Rattle.stamp_history.specs.ReplayAnswer.{IsReplayedText}
+use Rattle.stamp_history.specs.ScriptReading.{script_of}
 use Rattle.stamp_history.specs.declared.read_error.ReadError.{ReadError}
 use Rattle.stamp_cli.specs.declared.faults.ServeFault.{ServeFault}
 use Rattle.stamp_cli.specs.declared.faults.ServeFault.TheVariants.{TooLong, Waits, Memory}
@@ -21,16 +26,31 @@ pub record IsWaitFault (replay : Replay) (fault : ServeFault) : Type 0 where
   pub waits : WaitsAt replay.limits replay.calls call
   pub named : fault ≡ Waits call
 
--- the answer to what the input reads as
-abbrev pub IsReadingAnswer : Result Replay ReadError → Result (List ℕ) ServeFault → Type 0
-IsReadingAnswer (Ok replay) (Ok line) = IsReplayedText replay line
-IsReadingAnswer (Ok replay) (Err fault) = IsWaitFault replay fault
-IsReadingAnswer (Err e) answer = answer ≡ Err (refusal e)
+-- the answer to what an input reads as, if that is a replay
+abbrev pub IsReplayAnswer : Result Replay ReadError → Result (List ℕ) ServeFault → Type 0
+IsReplayAnswer (Ok replay) (Ok line) = IsReplayedText replay line
+IsReplayAnswer (Ok replay) (Err fault) = IsWaitFault replay fault
+IsReplayAnswer (Err e) answer = answer ≡ Err (refusal e)
 
--- the answer to a replay
-pub record IsReplayAnswer (input : List ℕ) (answer : Result (List ℕ) ServeFault) : Type 0 where
+-- and if that is a script: the text of the record that it is run to
+abbrev pub script_answer : (Scripted → Recorded) → Result Scripted ReadError → Result (List ℕ) ServeFault
+script_answer record_of (Ok plan) = Ok (history_text (record_of plan))
+script_answer record_of (Err e) = Err (refusal e)
+
+-- the answer to an input: it is too long, or it is answered so
+pub record IsInputAnswer (IsSo : List ℕ → Result (List ℕ) ServeFault → Type 0) (input : List ℕ) (answer : Result (List ℕ) ServeFault) : Type 0 where
   pub too_long : most_bytes < length input → answer ≡ Err TooLong
-  pub read : length input ≤ most_bytes → IsReadingAnswer (replay_of input) answer
+  pub read : length input ≤ most_bytes → IsSo input answer
+
+-- the answers to the bytes of a replay, and of a script that is run, without a report and with one
+abbrev pub AnswersReplay : List ℕ → Result (List ℕ) ServeFault → Type 0
+AnswersReplay input answer = IsReplayAnswer (replay_of input) answer
+
+abbrev pub AnswersRun : List ℕ → Result (List ℕ) ServeFault → Type 0
+AnswersRun input answer = answer ≡ script_answer run_record (script_of input)
+
+abbrev pub AnswersReportedRun : List ℕ → Result (List ℕ) ServeFault → Type 0
+AnswersReportedRun input answer = answer ≡ script_answer reported_record (script_of input)
 
 -- the answer to a number
 pub record IsStampAnswer (layout : Layout) (n : ℕ) (answer : Result (List ℕ) ServeFault) : Type 0 where
@@ -40,19 +60,25 @@ pub record IsStampAnswer (layout : Layout) (n : ℕ) (answer : Result (List ℕ)
 
 -- the answer to an order, without the line feed
 abbrev pub IsAnswer : Order → List ℕ → Result (List ℕ) ServeFault → Type 0
-IsAnswer order.Replay input answer = IsReplayAnswer input answer
+IsAnswer order.Replay input answer = IsInputAnswer AnswersReplay input answer
+IsAnswer order.Run input answer = IsInputAnswer AnswersRun input answer
+IsAnswer order.RunReported input answer = IsInputAnswer AnswersReportedRun input answer
 IsAnswer (order.Stamp n) input answer = IsStampAnswer One n answer
 IsAnswer (order.StampIn layout n) input answer = IsStampAnswer layout n answer
 
 -- input is what an order reads of a source
 abbrev pub IsRead : Order → Option (List ℕ) → Option (List ℕ) → List ℕ → Type 0
 IsRead order.Replay old new input = Reads old new input
+IsRead order.Run old new input = Reads old new input
+IsRead order.RunReported old new input = Reads old new input
 IsRead (order.Stamp n) old new input = ReadsNone old new input
 IsRead (order.StampIn layout n) old new input = ReadsNone old new input
 
 -- a stamp makes no read
 abbrev pub most_reads_of : Order → ℕ
 most_reads_of order.Replay = most_reads
+most_reads_of order.Run = most_reads
+most_reads_of order.RunReported = most_reads
 most_reads_of (order.Stamp n) = 0
 most_reads_of (order.StampIn layout n) = 0
 

@@ -8,7 +8,7 @@ use Rattle.std.specs.Str.Parse.{digits_value}
 use Rattle.stamp_core.specs.declared.layout.Layout.{Layout}
 use Rattle.stamp_core.specs.declared.layout.Layout.TheVariants.{One, Two}
 use Rattle.stamp_cli.specs.declared.orders.Order.{Order}
-use Rattle.stamp_cli.specs.declared.orders.Order.TheVariants.{Replay, Stamp, StampIn}
+use Rattle.stamp_cli.specs.declared.orders.Order.TheVariants.{Replay, Run, RunReported, Stamp, StampIn}
 use Rattle.stamp_cli.specs.declared.orders.CommandFault.{CommandFault}
 use Rattle.stamp_cli.specs.declared.orders.CommandFault.TheVariants.{Bad}
 
@@ -20,10 +20,16 @@ abbrev pub layout_in : List ℕ → Option Layout
 layout_in text = if bytes_eq text (codes "1") then Some One else if bytes_eq text (codes "2") then Some Two else None
 
 abbrev pub one_word : List ℕ → Option Order
-one_word word = if bytes_eq word (codes "replay") then Some Replay else None
+one_word word =
+    if bytes_eq word (codes "replay") then Some Replay
+    else if bytes_eq word (codes "run") then Some Run
+    else None
 
 abbrev pub two_words : List ℕ → List ℕ → Option Order
-two_words command number = if bytes_eq command (codes "stamp") then option_map Stamp (number_in number) else None
+two_words command second =
+    if bytes_eq command (codes "stamp") then option_map Stamp (number_in second)
+    else if bytes_eq command (codes "run") && bytes_eq second (codes "--report") then Some RunReported
+    else None
 
 abbrev pub four_words : List ℕ → List ℕ → List ℕ → List ℕ → Option Order
 four_words command option layout number =
@@ -31,10 +37,10 @@ four_words command option layout number =
     then option_and_then (λ found. option_map (StampIn found) (number_in number)) (layout_in layout)
     else None
 
--- the forms of the command line: replay, stamp N, stamp --layout L N
+-- the forms of the command line: replay, run, run --report, stamp N, stamp --layout L N
 abbrev pub form_of : List (List ℕ) → Option Order
 form_of (word ∷ []) = one_word word
-form_of (command ∷ number ∷ []) = two_words command number
+form_of (command ∷ second ∷ []) = two_words command second
 form_of (command ∷ option ∷ layout ∷ number ∷ []) = four_words command option layout number
 form_of _ = None
 

@@ -1,9 +1,9 @@
 //! The line that answers an order.
 
-ghost use Rattle.std.specs.Prelude.{◌≡◌, ◌≢◌, ◌↔◌, ◌+◌, ◌≤◌, true, false, IfOk, IfErr, Ok, Err};
-ghost use Rattle.stamp_history.specs.Replay.{replay_of};
+ghost use Rattle.std.specs.Prelude.{◌≡◌, ◌≢◌, ◌↔◌, ◌+◌, ◌<◌, ◌≤◌, length, true, false, IfOk, IfErr, Ok, Err};
 ghost use Rattle.stamp_cli.specs.Refusal.{is_of_end};
-ghost use Rattle.stamp_cli.specs.Answer.{Answers, IsReplayAnswer, IsReadingAnswer, UnlessMemory, most_reads_of};
+ghost use Rattle.stamp_cli.specs.Source.{most_bytes};
+ghost use Rattle.stamp_cli.specs.Answer.{Answers, AnswersReplay, AnswersReportedRun, AnswersRun, IsInputAnswer, UnlessMemory, most_reads_of};
 
 use crate::faults::ServeFault;
 use crate::input::{MOST_BYTES, read_input};
@@ -11,26 +11,71 @@ use crate::orders::Order;
 use crate::sources::Source;
 use crate::stamp_text::stamp_line;
 use stamp_core::Layout;
-use stamp_history::replay_text;
+use stamp_history::{read_script, replay_text, write_history};
+use stamp_machines::{run, run_reported};
 use std::alloc::Global;
 
 /// What the calls of a replay are replied.
 #[tactic(auto, using(crate::proofs::Refusals::inner))]
 fn line_of_calls(alloc: Global, input: &[u8]) -> Result<Vec<u8>, ServeFault>
-    ensures answer { UnlessMemory (IsReadingAnswer (replay_of input.now)) result }
+    ensures answer { UnlessMemory (AnswersReplay input.now) result }
     ensures inner { IfErr result (λ e. is_of_end e ≡ false) }
 {
     Ok(replay_text(alloc, input)?)
 }
 
-fn line_of_replay(alloc: Global, input: &[u8]) -> Result<Vec<u8>, ServeFault>
-    ensures answer { UnlessMemory (IsReplayAnswer input.now) result }
+/// The history of the calls that a script finishes.
+#[tactic(auto, using(crate::proofs::Refusals::inner))]
+fn line_of_script(alloc: Global, input: &[u8]) -> Result<Vec<u8>, ServeFault>
+    ensures answer { UnlessMemory (AnswersRun input.now) result }
     ensures inner { IfErr result (λ e. is_of_end e ≡ false) }
+{
+    let script = read_script(alloc, input)?;
+    let record = run(alloc, &script)?;
+    Ok(write_history(alloc, &record)?)
+}
+
+/// That history, with a report.
+#[tactic(auto, using(crate::proofs::Refusals::inner))]
+fn line_of_reported_script(alloc: Global, input: &[u8]) -> Result<Vec<u8>, ServeFault>
+    ensures answer { UnlessMemory (AnswersReportedRun input.now) result }
+    ensures inner { IfErr result (λ e. is_of_end e ≡ false) }
+{
+    let script = read_script(alloc, input)?;
+    let record = run_reported(alloc, &script)?;
+    Ok(write_history(alloc, &record)?)
+}
+
+/// The input, unless it is longer than the most.
+fn within(input: &[u8]) -> Result<&[u8], ServeFault>
+    ensures ok { IfOk result (λ bytes. (bytes.now ≡ input.now) × (length input.now ≤ most_bytes)) }
+    ensures err { IfErr result (λ e. (e ≡ ServeFault.TooLong) × (most_bytes < length input.now)) }
 {
     if input.len() > MOST_BYTES {
         return Err(ServeFault::TooLong);
     }
-    line_of_calls(alloc, input)
+    Ok(input)
+}
+
+fn line_of_replay(alloc: Global, input: &[u8]) -> Result<Vec<u8>, ServeFault>
+    ensures answer { UnlessMemory (IsInputAnswer AnswersReplay input.now) result }
+    ensures inner { IfErr result (λ e. is_of_end e ≡ false) }
+{
+    line_of_calls(alloc, within(input)?)
+}
+
+fn line_of_run(alloc: Global, input: &[u8]) -> Result<Vec<u8>, ServeFault>
+    ensures answer { UnlessMemory (IsInputAnswer AnswersRun input.now) result }
+    ensures inner { IfErr result (λ e. is_of_end e ≡ false) }
+{
+    line_of_script(alloc, within(input)?)
+}
+
+fn line_of_reported_run(alloc: Global, input: &[u8]) -> Result<Vec<u8>, ServeFault>
+    ensures answer { UnlessMemory (IsInputAnswer AnswersReportedRun input.now) result }
+    ensures inner { IfErr result (λ e. is_of_end e ≡ false) }
+{
+    line_of_reported_script(alloc, within(input)?)
 }
 
 /// The line that answers the order, without its line feed. A stamp makes no read.
@@ -52,6 +97,14 @@ pub(crate) fn line_of<S: Source>(
         Order::Replay => {
             let input = read_input(alloc, source)?;
             line_of_replay(alloc, &input)
+        }
+        Order::Run => {
+            let input = read_input(alloc, source)?;
+            line_of_run(alloc, &input)
+        }
+        Order::RunReported => {
+            let input = read_input(alloc, source)?;
+            line_of_reported_run(alloc, &input)
         }
         Order::Stamp(stamp) => Ok(stamp_line(alloc, Layout::One, stamp)?),
         Order::StampIn(layout, stamp) => Ok(stamp_line(alloc, layout, stamp)?),

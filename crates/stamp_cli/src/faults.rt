@@ -7,6 +7,7 @@ ghost use Rattle.stamp_cli.specs.FaultText.{script_error_text, read_error_text, 
 
 use stamp_core::ScriptError;
 use stamp_history::{AnswerError, ReadError};
+use stamp_machines::RunError;
 use std::alloc::{AllocError, AllocFailed, Global};
 use std::fmt;
 use thiserror::Error;
@@ -58,6 +59,15 @@ impl From<ReadError> for ServeFault {
             ReadError::Memory => ServeFault::Memory,
             error => ServeFault::Refused(error),
         }
+    }
+}
+
+impl From<RunError> for ServeFault {
+    ghost from_gives = { λ _ e. e ≡ Memory };
+
+    /// A script has no more steps than a run can make, so that memory alone ends one early.
+    fn from(_refused: RunError) -> ServeFault {
+        ServeFault::Memory
     }
 }
 

@@ -7,6 +7,8 @@ mod input;
 pub mod laws;
 mod orders;
 mod output;
+#[cfg(test)]
+mod run_tests;
 mod serving;
 mod sinks;
 mod sources;

@@ -12,6 +12,10 @@ use stamp_core::Layout;
 pub enum Order {
     /// Reads a replay and answers what its calls are replied.
     Replay,
+    /// Reads a script, runs it and answers the history of its finished calls.
+    Run,
+    /// As `Run`, and tells of each finished call the steps it took and what others changed meanwhile.
+    RunReported,
     /// Says what a number is as a stamp of layout 1.
     Stamp(u64),
     /// Says what a number is as a stamp of a layout.
@@ -58,15 +62,17 @@ fn one_word(word: &str) -> Option<Order>
 {
     match word {
         "replay" => Some(Order::Replay),
+        "run" => Some(Order::Run),
         _ => None,
     }
 }
 
-fn two_words(command: &str, number: &str) -> Option<Order>
-    ensures { result ≡ order.two_words command.now number.now }
+fn two_words(command: &str, second: &str) -> Option<Order>
+    ensures { result ≡ order.two_words command.now second.now }
 {
     match command {
-        "stamp" => Some(Order::Stamp(number_in(number)?)),
+        "stamp" => Some(Order::Stamp(number_in(second)?)),
+        "run" if second == "--report" => Some(Order::RunReported),
         _ => None,
     }
 }
@@ -87,7 +93,7 @@ fn form_of(words: &[&str]) -> Option<Order>
 {
     match words {
         [word] => one_word(word),
-        [command, number] => two_words(command, number),
+        [command, second] => two_words(command, second),
         [command, option, layout, number] => four_words(command, option, layout, number),
         _ => None,
     }

@@ -124,7 +124,11 @@ impl Write for Kept {
 }
 
 /// What an order writes, or the line of its fault where it writes nothing.
-fn answered<R: Read + Drop>(alloc: Global, order: Order, reader: R) -> Result<String, Fail> {
+pub(crate) fn answered<R: Read + Drop>(
+    alloc: Global,
+    order: Order,
+    reader: R,
+) -> Result<String, Fail> {
     let mut source = ReadSource::new(reader);
     let mut sink = WriteSink::new(Kept {
         bytes: Vec::new(alloc),
@@ -515,7 +519,7 @@ fn a_write_that_fails_leaves_a_front_of_the_line(rt: HostRuntime) {
 #[test]
 fn words_are_an_order_in_these_forms_alone(rt: HostRuntime) {
     let most = u64::MAX;
-    let table: [(&[&str], Result<Order, CommandFault>); 30] = [
+    let table: [(&[&str], Result<Order, CommandFault>); 34] = [
         (&["replay"], Ok(Order::Replay)),
         (&["stamp", "384"], Ok(Order::Stamp(384))),
         (&["stamp", "0"], Ok(Order::Stamp(0))),
@@ -551,8 +555,12 @@ fn words_are_an_order_in_these_forms_alone(rt: HostRuntime) {
         (&[""], Err(CommandFault::Bad)),
         (&["Replay"], Err(CommandFault::Bad)),
         (&["replay", "5"], Err(CommandFault::Bad)),
-        (&["run"], Err(CommandFault::Bad)),
-        (&["run", "--report"], Err(CommandFault::Bad)),
+        (&["run"], Ok(Order::Run)),
+        (&["run", "--report"], Ok(Order::RunReported)),
+        (&["run", "--reports"], Err(CommandFault::Bad)),
+        (&["--report", "run"], Err(CommandFault::Bad)),
+        (&["run", "--report", "--report"], Err(CommandFault::Bad)),
+        (&["replay", "--report"], Err(CommandFault::Bad)),
         (&["check"], Err(CommandFault::Bad)),
         (&["migrate"], Err(CommandFault::Bad)),
     ];

@@ -7,3 +7,11 @@ pub mod StoredCalls
 pub mod RepliesSoFar
 pub mod ReplayAnswers
 pub mod OnlyLockCalls
+pub mod ScriptCallLengths
+pub mod NumbersSoFar
+pub mod PlanFaults
+pub mod ItemsText
+pub mod Appending
+pub mod CallText
+pub mod ReportKey
+pub mod HistoryParts

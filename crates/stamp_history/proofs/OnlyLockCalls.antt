@@ -1,5 +1,5 @@
 -- The calls of a replay are the lock's.
-use Rattle.std.proofs.Common.{◌≡◌, ℕ, ◌+◌, List, [], ◌∷◌, Bool, true, false, refl, subst, Option, Some, None, Result, Ok, option_and_then}
+use Rattle.std.proofs.Common.{◌≡◌, ℕ, ◌+◌, List, [], ◌∷◌, Bool, true, false, refl, subst, Option, Some, None, Ok, option_and_then}
 use Rattle.std.specs.Prelude.{IsTrue, if◌then◌else◌, codes}
 use Rattle.std.specs.List.{All}
 use Rattle.std.specs.Str.{bytes_eq}
@@ -12,9 +12,9 @@ use Rattle.stamp_core.specs.declared.call.Call.TheVariants.{TryWrite, TryRead, W
 use Rattle.stamp_history.specs.JsonValue.{whole}
 use Rattle.stamp_history.specs.LockCall.{plain_call, stamp_call, listed_call, lock_call}
 use Rattle.stamp_history.specs.Reading.{◌>>=◌, json_of, each}
-use Rattle.stamp_history.specs.Replay.{Replay, limits_in, replay_in, replay_of}
-use Rattle.stamp_history.specs.ReplayFields.{call_at, calls, listed_calls}
-use Rattle.stamp_history.specs.declared.read_error.ReadError.{ReadError}
+use Rattle.stamp_history.specs.LimitFields.{limits}
+use Rattle.stamp_history.specs.Replay.{Replay, replay_in, replay_of}
+use Rattle.stamp_history.specs.ReplayFields.{top, call_at, calls, listed_calls}
 use Rattle.stamp_history.proofs.EachItem.{bind_ok, found_call}
 
 -- what was found, if anything, is a call of the lock
@@ -88,8 +88,9 @@ pub replay_of_lock : (bytes : List ℕ) (replay : Replay) → replay_of bytes �
 unfolding replay_of replay_in
 replay_of_lock bytes replay e =
     let value = bind_ok (json_of bytes) replay_in replay e in
-    let limits = bind_ok (limits_in value.0) (λ found_limits. calls value.0 >>= λ found_calls. Ok (record { limits = found_limits; calls = found_calls })) replay value.2 in
-    let found = bind_ok (calls value.0) (λ found_calls. Ok (record { limits = limits.0; calls = found_calls })) replay limits.2 in
-    let made : Ok (record { limits = limits.0; calls = found.0 }) ≡ Ok replay = found.2 in
-    let same : record { limits = limits.0; calls = found.0 } ≡ replay = cc in
+    let keys = bind_ok (top value.0) (λ _. limits value.0 >>= λ found_limits. calls value.0 >>= λ found_calls. Ok (record { limits = found_limits; calls = found_calls })) replay value.2 in
+    let bounds = bind_ok (limits value.0) (λ found_limits. calls value.0 >>= λ found_calls. Ok (record { limits = found_limits; calls = found_calls })) replay keys.2 in
+    let found = bind_ok (calls value.0) (λ found_calls. Ok (record { limits = bounds.0; calls = found_calls })) replay bounds.2 in
+    let made : Ok (record { limits = bounds.0; calls = found.0 }) ≡ Ok replay = found.2 in
+    let same : record { limits = bounds.0; calls = found.0 } ≡ replay = cc in
     subst (λ (r : Replay). All (λ call. IsTrue (is_lock_call call)) r.calls) same (calls_of_lock value.0 found.0 found.1)

@@ -4,7 +4,14 @@ pub mod JsonValue
 pub mod LockCall
 pub mod StoredCall
 pub mod Reading
+pub mod LimitFields
 pub mod ReplayFields
 pub mod Replay
 pub mod ReplayText
 pub mod ReplayAnswer
+pub mod WordsValue
+pub mod ScriptCallValue
+pub mod ScriptValue
+pub mod PlanFault
+pub mod ScriptReading
+pub mod HistoryText

@@ -2,31 +2,24 @@
 use Rattle.std.specs.Prelude.{ℕ, Vec, List, Result, Ok}
 use Rattle.std.specs.declared.alloc.Global.{Global}
 use Rattle.serde_json.specs.Data.{Data}
-use Rattle.stamp_core.specs.Limits.{Bounds, bounds}
+use Rattle.stamp_core.specs.Limits.{Bounds}
 use Rattle.stamp_core.specs.declared.call.Call.{Call}
 use Rattle.stamp_history.specs.StoredCall.{stored_calls}
 use Rattle.stamp_history.specs.declared.stored_call.StoredCall.{StoredCall}
 use Rattle.stamp_history.specs.declared.read_error.ReadError.{ReadError}
 use Rattle.stamp_history.specs.Reading.{◌>>=◌, json_of}
-use Rattle.stamp_history.specs.ReplayFields.{top, layout, readers, versions, calls}
+use Rattle.stamp_history.specs.LimitFields.{limits}
+use Rattle.stamp_history.specs.ReplayFields.{top, calls}
 
 -- calls to be taken one after the other, under limits
 pub record Replay : Type 0 where
   pub limits : Bounds
   pub calls : List Call
 
--- the limits, in a value with the keys of a replay
-unfoldable pub limits_in : Data → Result Bounds ReadError
-limits_in d = do
-  _ ← top d
-  found_layout ← layout d
-  found_readers ← readers found_layout d
-  found_versions ← versions found_layout d
-  Ok (bounds found_layout found_readers found_versions)
-
 unfoldable pub replay_in : Data → Result Replay ReadError
 replay_in d = do
-  found_limits ← limits_in d
+  _ ← top d
+  found_limits ← limits d
   found_calls ← calls d
   Ok (record { limits = found_limits; calls = found_calls })
 

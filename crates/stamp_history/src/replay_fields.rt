@@ -1,4 +1,4 @@
-//! The fields of a replay, each over one JSON value.
+//! The fields of a replay beside its limits, each over one JSON value.
 
 ghost use Rattle.std.specs.Prelude.{◌≡◌};
 ghost use Rattle.serde_json.specs.View.{view, items_view};
@@ -8,12 +8,11 @@ ghost use Rattle.stamp_history.specs.Reading.{each};
 ghost use Rattle.stamp_history.specs.ReplayFields as field;
 
 use crate::field::Field;
-use crate::json_values::{has_key, has_keys, list_under, whole_under};
+use crate::json_values::{has_keys, list_under};
 use crate::lock_calls::lock_call_of;
 use crate::read_error::ReadError;
 use crate::stored_call::StoredCall;
 use serde_json::Value;
-use stamp_core::Layout;
 use std::alloc::Global;
 
 /// The most calls of a replay.
@@ -28,56 +27,6 @@ pub(crate) fn check_top(value: &Value) -> Result<(), ReadError>
         Ok(())
     } else {
         Err(ReadError::NotScript(Field::Top))
-    }
-}
-
-fn numbered_layout(number: Option<u64>) -> Result<Layout, ReadError>
-    ensures { result ≡ field.numbered_layout number }
-{
-    match number {
-        Some(1) => Ok(Layout::One),
-        Some(2) => Ok(Layout::Two),
-        _ => Err(ReadError::NotScript(Field::Layout)),
-    }
-}
-
-pub(crate) fn read_layout(value: &Value) -> Result<Layout, ReadError>
-    ensures { result ≡ field.layout (view value.now) }
-{
-    if has_key(value, "layout") {
-        numbered_layout(whole_under(value, "layout"))
-    } else {
-        Ok(Layout::One)
-    }
-}
-
-pub(crate) fn read_readers(layout: Layout, value: &Value) -> Result<u64, ReadError>
-    ensures { result ≡ field.readers layout (view value.now) }
-{
-    match whole_under(value, "readers") {
-        None => Err(ReadError::NotScript(Field::Readers)),
-        Some(readers) => {
-            if 1 <= readers && readers <= layout.most_readers() {
-                Ok(readers)
-            } else {
-                Err(ReadError::Limit(Field::Readers))
-            }
-        }
-    }
-}
-
-pub(crate) fn read_versions(layout: Layout, value: &Value) -> Result<u64, ReadError>
-    ensures { result ≡ field.versions layout (view value.now) }
-{
-    match whole_under(value, "versions") {
-        None => Err(ReadError::NotScript(Field::Versions)),
-        Some(versions) => {
-            if versions <= layout.most_versions() {
-                Ok(versions)
-            } else {
-                Err(ReadError::Limit(Field::Versions))
-            }
-        }
     }
 }
 

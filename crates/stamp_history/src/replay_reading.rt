@@ -2,43 +2,18 @@
 
 ghost use Rattle.std.specs.Prelude.{◌≡◌, IsTrue, IfOk, map};
 ghost use Rattle.std.specs.List.{All};
-ghost use Rattle.serde_json.specs.View.{view};
 ghost use Rattle.stamp_core.specs.Call.{is_lock_call};
-ghost use Rattle.stamp_core.specs.Limits.{AreInRange};
 ghost use Rattle.stamp_history.specs.Gives.{Gives};
-ghost use Rattle.stamp_history.specs.Replay.{limits_in, replay_of, replay_view, stored_view};
+ghost use Rattle.stamp_history.specs.Replay.{replay_of, replay_view, stored_view};
 ghost use Rattle.stamp_history.specs.StoredCall.{call_of};
 
 use crate::json_values::json;
+use crate::limit_fields::read_limits;
 use crate::read_error::ReadError;
-use crate::replay_fields::{check_top, read_calls, read_layout, read_readers, read_versions};
+use crate::replay_fields::{check_top, read_calls};
 use crate::stored_call::StoredCall;
-use serde_json::Value;
-use stamp_core::{Call, Layout, Limits};
+use stamp_core::{Call, Limits};
 use std::alloc::{AllocError, Global};
-
-/// Limits that were found in range.
-fn limits_of(layout: Layout, readers: u64, versions: u64) -> Limits
-    requires { AreInRange (record { layout = layout; readers = readers; versions = versions }) }
-    ensures { result ≡ record { layout = layout; readers = readers; versions = versions } }
-{
-    match Limits::in_layout(layout, readers, versions) {
-        Ok(limits) => limits,
-        Err(_) => unreachable!(),
-    }
-}
-
-/// The limits, in a value with the keys of a replay.
-#[tactic(auto, unfolding(crate::specs::Replay::limits_in))]
-pub(crate) fn read_limits(value: &Value) -> Result<Limits, ReadError>
-    ensures { Gives ReadError.Memory (λ limits. limits) result (limits_in (view value.now)) }
-{
-    check_top(value)?;
-    let layout = read_layout(value)?;
-    let readers = read_readers(layout, value)?;
-    let versions = read_versions(layout, value)?;
-    Ok(limits_of(layout, readers, versions))
-}
 
 /// The limits and the stored calls of a replay.
 #[tactic(auto, unfolding(crate::specs::Replay::replay_of, crate::specs::Replay::replay_in))]
@@ -49,6 +24,7 @@ pub(crate) fn read_stored(
     ensures { Gives ReadError.Memory stored_view result (replay_of bytes.now) }
 {
     let value = json(alloc, bytes)?;
+    check_top(&value)?;
     let limits = read_limits(&value)?;
     let calls = read_calls(alloc, &value)?;
     Ok((limits, calls))

@@ -1,5 +1,7 @@
--- What a step needs of the world: its access is within the memory, and what it sees as a lock's word is one that the limits admit.
-use Rattle.std.proofs.Common.{◌≡◌, ℕ, ◌+◌, ◌<◌, ◌≤◌, Bool, true, false, List, length, Option, Some, None, if◌then◌else◌, refl, sym, subst, arith, nat_lt}
+-- What a step needs of the world: its access is within the memory, and what it sees as a lock's
+-- word is one that the limits admit.
+use Rattle.std.proofs.Common.{◌≡◌, ℕ, ◌+◌, ◌<◌, ◌≤◌, Bool, true, false, List, length, Option, Some}
+use Rattle.std.proofs.Common.{None, if◌then◌else◌, refl, sym, subst, arith, nat_lt}
 use Rattle.std.specs.Prelude.{slice_index}
 use Rattle.std.proofs.lemmas.Bool.Decides.{nat_tests}
 use Rattle.stamp_core.specs.Limits.{Bounds}
@@ -20,7 +22,8 @@ use Rattle.stamp_machines.specs.Machine.{next_in, IsFoundIn}
 use Rattle.stamp_machines.specs.RecordKept.{Fits}
 
 -- a lock phase is on its lock's word
-phase-place : (i : ℕ) (limits : Bounds) (call : Call) (seen : Option ℕ) → place_of (with_lock i (phase_next limits call seen)) ≡ i
+phase-place : (i : ℕ) (limits : Bounds) (call : Call) (seen : Option ℕ) →
+    place_of (with_lock i (phase_next limits call seen)) ≡ i
 phase-place i limits call None = refl
 phase-place i limits call (Some word) = go (decision limits word call)
   where
@@ -31,29 +34,56 @@ phase-place i limits call (Some word) = go (decision limits word call)
 
 -- the access is within the memory, and what it sees may be resumed with
 abbrev pub IsSafeIn : Shape → Call → Phase → List ℕ → Type 0
-IsSafeIn shape call phase words = (place_of (next_in shape call phase) < length words) × IsFoundIn shape phase (seen_by (next_in shape call phase) words)
+IsSafeIn shape call phase words =
+    (place_of (next_in shape call phase) < length words)
+    × IsFoundIn shape phase (seen_by (next_in shape call phase) words)
 
-copying-safe : (shape : Shape) (call : Call) (job : Job) (first : ℕ) (loaded : List ℕ) (words : List ℕ) → length words ≡ 2 + shape.width → IsAdmittedAt (record_limits shape) (slice_index words 1) → IsSafeIn shape call (OnRecord job (record_calls.Copying first loaded)) words
+copying-safe : (shape : Shape) (call : Call) (job : Job) (first : ℕ) (loaded : List ℕ)
+    (words : List ℕ) → length words ≡ 2 + shape.width →
+    IsAdmittedAt (record_limits shape) (slice_index words 1) →
+    IsSafeIn shape call (OnRecord job (record_calls.Copying first loaded)) words
 copying-safe shape call job first loaded words n w = go (nat_lt (length loaded) shape.width) refl
   where
-    go : (b : Bool) → nat_lt (length loaded) shape.width ≡ b → (place_of (with_lock 1 (if b then LoadItem (length loaded) else LoadLock)) < length words) × (shape.width ≤ length loaded → IsAdmittedAt (record_limits shape) (seen_by (with_lock 1 (if b then LoadItem (length loaded) else LoadLock)) words))
+    go : (b : Bool) → nat_lt (length loaded) shape.width ≡ b →
+        (place_of (with_lock 1 (if b then LoadItem (length loaded) else LoadLock)) < length words)
+        × (shape.width ≤ length loaded →
+        IsAdmittedAt (record_limits shape)
+        (seen_by (with_lock 1 (if b then LoadItem (length loaded) else LoadLock)) words))
     go true q =
         let h : length loaded < shape.width = grind (arith, nat_tests, q) in
         (omega (arith, h, n), λ k. absurd (omega (arith, h, k)))
     go false q = (omega (arith, n), λ k. w)
 
-pub record-safe : (shape : Shape) (call : Call) (limits : Bounds) (k wr : ℕ) (content items : List ℕ) (job : Job) (place : Place) (words : List ℕ) → length words ≡ 2 + shape.width → length content ≡ shape.width → IsAdmittedAt (record_limits shape) (slice_index words 1) → Fits limits k wr content items job place → IsSafeIn shape call (OnRecord job place) words
-record-safe shape call limits k wr content items job record_calls.Glancing words n l w f = (omega (arith, n), w)
-record-safe shape call limits k wr content items job (record_calls.Copying first loaded) words n l w f = copying-safe shape call job first loaded words n w
+pub record-safe : (shape : Shape) (call : Call) (limits : Bounds) (k wr : ℕ)
+    (content items : List ℕ) (job : Job) (place : Place) (words : List ℕ) →
+    length words ≡ 2 + shape.width → length content ≡ shape.width →
+    IsAdmittedAt (record_limits shape) (slice_index words 1) →
+    Fits limits k wr content items job place → IsSafeIn shape call (OnRecord job place) words
+record-safe shape call limits k wr content items job record_calls.Glancing words n l w f =
+    (omega (arith, n), w)
+record-safe shape call limits k wr content items job (record_calls.Copying first loaded) words n l w
+    f = copying-safe shape call job first loaded words n w
 record-safe shape call limits k wr content items job (record_calls.Locking e seen) words n l w f =
-    let at : place_of (with_lock 1 (phase_next (record_limits shape) (call_for e) seen)) ≡ 1 = phase-place 1 (record_limits shape) (call_for e) seen in
-    (omega (arith, at, n), subst (λ (i : ℕ). IsAdmittedAt (record_limits shape) (slice_index words i)) (sym at) w)
-record-safe shape call limits k wr content items job (record_calls.Reading s loaded) words n l w f = (omega (arith, n, l, f.2), tt)
-record-safe shape call limits k wr content items job (record_calls.Checking s loaded) words n l w f = (omega (arith, n, l, f.4), tt)
-record-safe shape call limits k wr content items job (record_calls.Storing s i) words n l w f = (omega (arith, n, l, f.3), tt)
-record-safe shape call limits k wr content items job (record_calls.Releasing s a) words n l w f = (omega (arith, n), tt)
+    let at : place_of (with_lock 1 (phase_next (record_limits shape) (call_for e) seen)) ≡ 1 =
+    phase-place 1 (record_limits shape) (call_for e) seen in (
+      omega (arith, at, n),
+      subst (λ (i : ℕ). IsAdmittedAt (record_limits shape) (slice_index words i)) (sym at) w,
+    )
+record-safe shape call limits k wr content items job (record_calls.Reading s loaded) words n l w f =
+    (omega (arith, n, l, f.2), tt)
+record-safe shape call limits k wr content items job (record_calls.Checking s loaded) words n l w
+    f = (omega (arith, n, l, f.4), tt)
+record-safe shape call limits k wr content items job (record_calls.Storing s i) words n l w f =
+    (omega (arith, n, l, f.3), tt)
+record-safe shape call limits k wr content items job (record_calls.Releasing s a) words n l w f =
+    (omega (arith, n), tt)
 
-pub lock-safe : (shape : Shape) (call : Call) (seen : Option ℕ) (words : List ℕ) → length words ≡ 2 + shape.width → IsAdmittedAt shape.limits (slice_index words 0) → IsSafeIn shape call (OnLock seen) words
+pub lock-safe : (shape : Shape) (call : Call) (seen : Option ℕ) (words : List ℕ) →
+    length words ≡ 2 + shape.width → IsAdmittedAt shape.limits (slice_index words 0) →
+    IsSafeIn shape call (OnLock seen) words
 lock-safe shape call seen words n w =
-    let at : place_of (with_lock 0 (phase_next shape.limits call seen)) ≡ 0 = phase-place 0 shape.limits call seen in
-    (omega (arith, at, n), subst (λ (i : ℕ). IsAdmittedAt shape.limits (slice_index words i)) (sym at) w)
+    let at : place_of (with_lock 0 (phase_next shape.limits call seen)) ≡ 0 =
+    phase-place 0 shape.limits call seen in (
+      omega (arith, at, n),
+      subst (λ (i : ℕ). IsAdmittedAt shape.limits (slice_index words i)) (sym at) w,
+    )

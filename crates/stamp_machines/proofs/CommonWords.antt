@@ -1,5 +1,6 @@
 -- What an access of a phase does to the common words.
-use Rattle.std.proofs.Common.{◌≡◌, ℕ, ◌+◌, ◌==◌, Bool, true, false, List, [], ◌∷◌, length, drop, Option, Some, None, if◌then◌else◌, refl, arith, suc}
+use Rattle.std.proofs.Common.{◌≡◌, ℕ, ◌+◌, ◌==◌, Bool, true, false, List, [], ◌∷◌, length, drop}
+use Rattle.std.proofs.Common.{Option, Some, None, if◌then◌else◌, refl, arith, suc}
 use Rattle.std.specs.Prelude.{slice_index, slice_set}
 use Rattle.stamp_core.specs.Limits.{Bounds}
 use Rattle.stamp_core.specs.declared.call.Call.{Call}
@@ -7,7 +8,8 @@ use Rattle.stamp_core.specs.declared.decision.Decision.{Decision}
 use Rattle.stamp_core.specs.declared.decision.Decision.TheVariants.{Answer, Change, Wait}
 use Rattle.stamp_machines.specs.Access.{words_after, seen_by}
 use Rattle.stamp_core.specs.CountedDecision.{decision}
-use Rattle.stamp_machines.specs.LocalAccess.{LocalAccess, LoadLock, CasLock, LoadItem, StoreItem, lock_after, items_after, with_lock, local_seen}
+use Rattle.stamp_machines.specs.LocalAccess.{LocalAccess, LoadLock, CasLock, LoadItem, StoreItem}
+use Rattle.stamp_machines.specs.LocalAccess.{lock_after, items_after, with_lock, local_seen}
 use Rattle.stamp_machines.specs.LockPhase.{phase_next, next_on}
 
 -- the access is to the lock's word
@@ -17,7 +19,8 @@ IsToLock (CasLock old new) = Unit {0}
 IsToLock (LoadItem i) = ⊥
 IsToLock (StoreItem i v) = ⊥
 
-pub phase-to_lock : (limits : Bounds) (call : Call) (seen : Option ℕ) → IsToLock (phase_next limits call seen)
+pub phase-to_lock : (limits : Bounds) (call : Call) (seen : Option ℕ) →
+    IsToLock (phase_next limits call seen)
 phase-to_lock limits call None = tt
 phase-to_lock limits call (Some word) = go (decision limits word call)
   where
@@ -26,22 +29,26 @@ phase-to_lock limits call (Some word) = go (decision limits word call)
     go (Change new r) = tt
     go Wait = tt
 
-pub split-words : (words : List ℕ) (n : ℕ) → length words ≡ 2 + n → words ≡ slice_index words 0 ∷ slice_index words 1 ∷ drop 2 words
+pub split-words : (words : List ℕ) (n : ℕ) → length words ≡ 2 + n →
+    words ≡ slice_index words 0 ∷ slice_index words 1 ∷ drop 2 words
 split-words [] n h = absurd (omega arith)
 split-words (x ∷ []) n h = absurd (omega arith)
 split-words (x ∷ y ∷ items) n h = refl
 
-on-lock : (a : LocalAccess) (x y : ℕ) (items : List ℕ) → IsToLock a → words_after (with_lock 0 a) (x ∷ y ∷ items) ≡ lock_after a x ∷ y ∷ items
+on-lock : (a : LocalAccess) (x y : ℕ) (items : List ℕ) → IsToLock a →
+    words_after (with_lock 0 a) (x ∷ y ∷ items) ≡ lock_after a x ∷ y ∷ items
 on-lock LoadLock x y items h = refl
 on-lock (CasLock old new) x y items h = go (x == old)
   where
-    go : (b : Bool) → (if b then slice_set (x ∷ y ∷ items) 0 new else x ∷ y ∷ items) ≡ (if b then new else x) ∷ y ∷ items
+    go : (b : Bool) → (if b then slice_set (x ∷ y ∷ items) 0 new else x ∷ y ∷ items)
+        ≡ (if b then new else x) ∷ y ∷ items
     go true = refl
     go false = refl
 on-lock (LoadItem i) x y items h = absurd h
 on-lock (StoreItem i v) x y items h = absurd h
 
-seen-lock : (a : LocalAccess) (x y : ℕ) (items : List ℕ) → IsToLock a → seen_by (with_lock 0 a) (x ∷ y ∷ items) ≡ local_seen a x []
+seen-lock : (a : LocalAccess) (x y : ℕ) (items : List ℕ) → IsToLock a →
+    seen_by (with_lock 0 a) (x ∷ y ∷ items) ≡ local_seen a x []
 seen-lock LoadLock x y items h = refl
 seen-lock (CasLock old new) x y items h = refl
 seen-lock (LoadItem i) x y items h = absurd h
@@ -50,17 +57,20 @@ seen-lock (StoreItem i v) x y items h = absurd h
 two-more : (i : ℕ) → 2 + i ≡ suc (suc i)
 two-more i = omega arith
 
-on-record : (a : LocalAccess) (x y : ℕ) (items : List ℕ) → words_after (with_lock 1 a) (x ∷ y ∷ items) ≡ x ∷ lock_after a y ∷ items_after a items
+on-record : (a : LocalAccess) (x y : ℕ) (items : List ℕ) →
+    words_after (with_lock 1 a) (x ∷ y ∷ items) ≡ x ∷ lock_after a y ∷ items_after a items
 on-record LoadLock x y items = refl
 on-record (CasLock old new) x y items = go (y == old)
   where
-    go : (b : Bool) → (if b then slice_set (x ∷ y ∷ items) 1 new else x ∷ y ∷ items) ≡ x ∷ (if b then new else y) ∷ items
+    go : (b : Bool) → (if b then slice_set (x ∷ y ∷ items) 1 new else x ∷ y ∷ items)
+        ≡ x ∷ (if b then new else y) ∷ items
     go true = refl
     go false = refl
 on-record (LoadItem i) x y items = refl
 on-record (StoreItem i v) x y items = rw (two-more i) refl
 
-seen-record : (a : LocalAccess) (x y : ℕ) (items : List ℕ) → seen_by (with_lock 1 a) (x ∷ y ∷ items) ≡ local_seen a y items
+seen-record : (a : LocalAccess) (x y : ℕ) (items : List ℕ) →
+    seen_by (with_lock 1 a) (x ∷ y ∷ items) ≡ local_seen a y items
 seen-record LoadLock x y items = refl
 seen-record (CasLock old new) x y items = refl
 seen-record (LoadItem i) x y items = rw (two-more i) refl
@@ -68,20 +78,26 @@ seen-record (StoreItem i v) x y items = rw (two-more i) refl
 
 -- an access to the lock leaves all other words
 pub record LockMoves (words : List ℕ) (a : LocalAccess) : Type 0 where
-  pub after : words_after (with_lock 0 a) words ≡ lock_after a (slice_index words 0) ∷ slice_index words 1 ∷ drop 2 words
+  pub after : words_after (with_lock 0 a) words
+      ≡ lock_after a (slice_index words 0) ∷ slice_index words 1 ∷ drop 2 words
   pub seen : seen_by (with_lock 0 a) words ≡ local_seen a (slice_index words 0) []
 
 -- an access of a call of the record leaves the public lock
 pub record RecordMoves (words : List ℕ) (a : LocalAccess) : Type 0 where
-  pub after : words_after (with_lock 1 a) words ≡ slice_index words 0 ∷ lock_after a (slice_index words 1) ∷ items_after a (drop 2 words)
+  pub after : words_after (with_lock 1 a) words
+      ≡ slice_index words 0 ∷ lock_after a (slice_index words 1) ∷ items_after a (drop 2 words)
   pub seen : seen_by (with_lock 1 a) words ≡ local_seen a (slice_index words 1) (drop 2 words)
 
-pub lock-moves : (words : List ℕ) (n : ℕ) (a : LocalAccess) → length words ≡ 2 + n → IsToLock a → LockMoves words a
+pub lock-moves : (words : List ℕ) (n : ℕ) (a : LocalAccess) → length words ≡ 2 + n → IsToLock a →
+    LockMoves words a
 lock-moves [] n a h i = absurd (omega arith)
 lock-moves (x ∷ []) n a h i = absurd (omega arith)
-lock-moves (x ∷ y ∷ items) n a h i = record { after = on-lock a x y items i; seen = seen-lock a x y items i }
+lock-moves (x ∷ y ∷ items) n a h i =
+    record { after = on-lock a x y items i; seen = seen-lock a x y items i }
 
-pub record-moves : (words : List ℕ) (n : ℕ) (a : LocalAccess) → length words ≡ 2 + n → RecordMoves words a
+pub record-moves : (words : List ℕ) (n : ℕ) (a : LocalAccess) → length words ≡ 2 + n →
+    RecordMoves words a
 record-moves [] n a h = absurd (omega arith)
 record-moves (x ∷ []) n a h = absurd (omega arith)
-record-moves (x ∷ y ∷ items) n a h = record { after = on-record a x y items; seen = seen-record a x y items }
+record-moves (x ∷ y ∷ items) n a h =
+    record { after = on-record a x y items; seen = seen-record a x y items }

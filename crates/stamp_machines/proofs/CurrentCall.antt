@@ -1,11 +1,21 @@
 -- The call that a thread is in: one that has begun, or its next one.
-use Rattle.std.proofs.Common.{◌≡◌, ℕ, ◌<◌, true, List, [], ◌∷◌, length, Option, Some, None, zero, suc, refl, sym, subst, arith, ◌⊎◌, inl, inr}
+use Rattle.std.proofs.Common.{◌≡◌, ℕ, ◌<◌, true, List, [], ◌∷◌, length, Option, Some, None, zero}
+use Rattle.std.proofs.Common.{suc, refl, sym, subst, arith, ◌⊎◌, inl, inr}
 use Rattle.std.specs.Prelude.{slice_index_or, slice_get, All}
 use Rattle.std.proofs.lemmas.Option.{slice_get_within, get_or_from_slice_get}
 use Rattle.stamp_core.specs.Limits.{Bounds}
 use Rattle.stamp_core.specs.declared.call.Call.{Call}
 use Rattle.stamp_machines.specs.declared.script.ScriptCall.{ScriptCall}
-use Rattle.stamp_machines.specs.declared.script.ScriptCall.TheVariants.{TryWrite, TryRead, WriteLock, ReadLock, Optimistic, Validate, UnlockWrite, UnlockRead, Unlock, ToWrite, ToRead, ToOptimistic, TryUnlockWrite, TryUnlockRead, IsWriteLocked, IsReadLocked, ReadCount, Get, Put, PutIf}
+use Rattle.stamp_machines.specs.declared.script.ScriptCall.TheVariants.{TryWrite, TryRead}
+use Rattle.stamp_machines.specs.declared.script.ScriptCall.TheVariants.{WriteLock, ReadLock}
+use Rattle.stamp_machines.specs.declared.script.ScriptCall.TheVariants.{Optimistic, Validate}
+use Rattle.stamp_machines.specs.declared.script.ScriptCall.TheVariants.{UnlockWrite, UnlockRead}
+use Rattle.stamp_machines.specs.declared.script.ScriptCall.TheVariants.{Unlock, ToWrite, ToRead}
+use Rattle.stamp_machines.specs.declared.script.ScriptCall.TheVariants.{ToOptimistic}
+use Rattle.stamp_machines.specs.declared.script.ScriptCall.TheVariants.{TryUnlockWrite}
+use Rattle.stamp_machines.specs.declared.script.ScriptCall.TheVariants.{TryUnlockRead}
+use Rattle.stamp_machines.specs.declared.script.ScriptCall.TheVariants.{IsWriteLocked, IsReadLocked}
+use Rattle.stamp_machines.specs.declared.script.ScriptCall.TheVariants.{ReadCount, Get, Put, PutIf}
 use Rattle.stamp_machines.specs.Job.{Job, Getting, Putting, PuttingIf, job_in, new_words, is_get}
 use Rattle.stamp_machines.specs.RecordPhase.{opening}
 use Rattle.stamp_machines.specs.declared.shape.Shape.{Shape}
@@ -26,7 +36,8 @@ opening_writes Getting = refl
 opening_writes (Putting a) = refl
 opening_writes (PuttingIf a b) = refl
 
-opening_fits : (limits : Bounds) (k w : ℕ) (content items : List ℕ) (job : Job) → Fits limits k w content items job (opening job)
+opening_fits : (limits : Bounds) (k w : ℕ) (content items : List ℕ) (job : Job) →
+    Fits limits k w content items job (opening job)
 opening_fits limits k w content items Getting = refl
 opening_fits limits k w content items (Putting a) = refl
 opening_fits limits k w content items (PuttingIf a b) = tt
@@ -35,7 +46,8 @@ abbrev pub SuitsJob : ℕ → Option Job → Type 0
 SuitsJob width None = Unit {0}
 SuitsJob width (Some job) = (0 < width) × ((is_get job ≡ true) ⊎ (length (new_words job) ≡ width))
 
-suits-job : (stamps : ℕ → List ℕ) (width : ℕ) (c : ScriptCall) → Suits width c → SuitsJob width (job_in (call_of stamps c))
+suits-job : (stamps : ℕ → List ℕ) (width : ℕ) (c : ScriptCall) → Suits width c →
+    SuitsJob width (job_in (call_of stamps c))
 suits-job stamps width TryWrite s = tt
 suits-job stamps width TryRead s = tt
 suits-job stamps width WriteLock s = tt
@@ -58,50 +70,86 @@ suits-job stamps width (Put a) s = (s.0, inr s.1)
 suits-job stamps width (PutIf a b) s = (s.0, inr s.2)
 
 -- what is known of the call that a thread is in, beside the one that it had begun
-pub record Ready (limits : Bounds) (shape : Shape) (k w : ℕ) (content items : List ℕ) (slot : Option Begun) (b : Begun) : Type 0 where
+pub record Ready (limits : Bounds) (shape : Shape) (k w : ℕ) (content items : List ℕ)
+    (slot : Option Begun) (b : Begun) : Type 0 where
   pub of : IsOf shape (Some b)
   pub reads : read_in (doing_in slot) ≡ read_in (doing_at b.machine.phase)
   pub writes : written_in (doing_in slot) ≡ written_in (doing_at b.machine.phase)
   pub fits : FitsIn limits k w content items (doing_at b.machine.phase)
   pub lock : doing_at b.machine.phase ≡ None → doing_in slot ≡ None
 
-first-ready : (limits : Bounds) (shape : Shape) (k w : ℕ) (content items : List ℕ) (call : Call) (first : ℕ) (j : Option Job) → job_in call ≡ j → SuitsJob (length content) j → Ready limits shape k w content items None (record { machine = record { shape = shape; call = call; phase = first_phase j }; first = first })
-first-ready limits shape k w content items call first None e s = record { of = (refl, e); reads = refl; writes = refl; fits = tt; lock = λ _. refl }
+first-ready : (limits : Bounds) (shape : Shape) (k w : ℕ) (content items : List ℕ) (call : Call)
+    (first : ℕ) (j : Option Job) → job_in call ≡ j → SuitsJob (length content) j →
+    Ready limits shape k w content items None
+    (record {
+      machine = record { shape = shape; call = call; phase = first_phase j };
+      first = first;
+    })
+first-ready limits shape k w content items call first None e s =
+    record { of = (refl, e); reads = refl; writes = refl; fits = tt; lock = λ _. refl }
 first-ready limits shape k w content items call first (Some job) e s =
-    record { of = (refl, e); reads = sym (opening_reads job); writes = sym (opening_writes job); fits = (s.0, s.1, opening_fits limits k w content items job); lock = λ _. refl }
+    record {
+      of = (refl, e);
+      reads = sym (opening_reads job);
+      writes = sym (opening_writes job);
+      fits = (s.0, s.1, opening_fits limits k w content items job);
+      lock = λ _. refl;
+    }
 
 -- a call of a script's thread suits the width
-pub call-suits : (width : ℕ) (calls : List ScriptCall) (i : ℕ) (c : ScriptCall) → All (Suits width) calls → slice_get calls i ≡ Some c → Suits width c
-call-suits width calls i c h e = subst (λ (x : ScriptCall). Suits width x) (get_or_from_slice_get calls i c c e) (h i c (slice_get_within calls i c e))
+pub call-suits : (width : ℕ) (calls : List ScriptCall) (i : ℕ) (c : ScriptCall) →
+    All (Suits width) calls → slice_get calls i ≡ Some c → Suits width c
+call-suits width calls i c h e =
+    subst (λ (x : ScriptCall). Suits width x) (get_or_from_slice_get calls i c c e)
+    (h i c (slice_get_within calls i c e))
 
 -- a thread that has a call is one of the script's
-pub thread-within : (threads : List (List ScriptCall)) (t i : ℕ) (c : ScriptCall) → slice_get (slice_index_or threads t []) i ≡ Some c → t < length threads
+pub thread-within : (threads : List (List ScriptCall)) (t i : ℕ) (c : ScriptCall) →
+    slice_get (slice_index_or threads t []) i ≡ Some c → t < length threads
 thread-within [] t i c e = cc
 thread-within (x ∷ threads) zero i c e = omega arith
-thread-within (x ∷ threads) (suc t) i c e = let h = thread-within threads t i c e in omega (arith, h)
+thread-within (x ∷ threads) (suc t) i c e = let h = thread-within threads t i c e in
+    omega (arith, h)
 
-pub slot-within : (begun : List (Option Begun)) (t : ℕ) (b : Begun) → slice_index_or begun t None ≡ Some b → t < length begun
+pub slot-within : (begun : List (Option Begun)) (t : ℕ) (b : Begun) →
+    slice_index_or begun t None ≡ Some b → t < length begun
 slot-within [] t b e = cc
 slot-within (x ∷ begun) zero b e = omega arith
 slot-within (x ∷ begun) (suc t) b e = let h = slot-within begun t b e in omega (arith, h)
 
-next-ready : (limits : Bounds) (plan : Scripted) (stamps : ℕ → List ℕ) (position t : ℕ) (k w : ℕ) (content items : List ℕ) (c : Option ScriptCall) (b : Begun) → (All (λ calls. All (Suits plan.width) calls) plan.threads) → length content ≡ plan.width → slice_get (calls_of plan t) (length (stamps t)) ≡ c → begin (shape_of plan) stamps position c ≡ Some b → (t < length plan.threads) × Ready limits (shape_of plan) k w content items None b
+next-ready : (limits : Bounds) (plan : Scripted) (stamps : ℕ → List ℕ) (position t : ℕ) (k w : ℕ)
+    (content items : List ℕ) (c : Option ScriptCall) (b : Begun) →
+    (All (λ calls. All (Suits plan.width) calls) plan.threads) → length content ≡ plan.width →
+    slice_get (calls_of plan t) (length (stamps t)) ≡ c →
+    begin (shape_of plan) stamps position c ≡ Some b → (t < length plan.threads)
+    × Ready limits (shape_of plan) k w content items None b
 next-ready limits plan stamps position t k w content items None b h n e q = cc
 next-ready limits plan stamps position t k w content items (Some c) b h n e q =
     let within : t < length plan.threads = thread-within plan.threads t (length (stamps t)) c e in
-    let suits : Suits plan.width c = call-suits plan.width (calls_of plan t) (length (stamps t)) c (h t [] within) e in
-    let same : record { machine = start (shape_of plan) (call_of stamps c); first = position } ≡ b = cc in (
+    let suits : Suits plan.width c =
+    call-suits plan.width (calls_of plan t) (length (stamps t)) c (h t [] within) e in
+    let same : record { machine = start (shape_of plan) (call_of stamps c); first = position } ≡ b =
+    cc in (
       within,
       subst (λ (x : Begun). Ready limits (shape_of plan) k w content items None x) same
-          (first-ready limits (shape_of plan) k w content items (call_of stamps c) position (job_in (call_of stamps c)) refl (rw n (suits-job stamps plan.width c suits))),
+          (first-ready limits (shape_of plan) k w content items (call_of stamps c) position
+          (job_in (call_of stamps c)) refl (rw n (suits-job stamps plan.width c suits))),
     )
 
-pub current-ready : (limits : Bounds) (plan : Scripted) (world : World) (t : ℕ) (k w : ℕ) (content items : List ℕ) (slot : Option Begun) (b : Begun) → (All (λ calls. All (Suits plan.width) calls) plan.threads) → length content ≡ plan.width → length world.begun ≡ length plan.threads → slice_index_or world.begun t None ≡ slot → IsOf (shape_of plan) slot → FitsIn limits k w content items (doing_in slot) → current_of plan (λ x. stamps_of x world.entries) world.position t slot ≡ Some b → (t < length world.begun) × Ready limits (shape_of plan) k w content items slot b
+pub current-ready : (limits : Bounds) (plan : Scripted) (world : World) (t : ℕ) (k w : ℕ)
+    (content items : List ℕ) (slot : Option Begun) (b : Begun) →
+    (All (λ calls. All (Suits plan.width) calls) plan.threads) → length content ≡ plan.width →
+    length world.begun ≡ length plan.threads → slice_index_or world.begun t None ≡ slot →
+    IsOf (shape_of plan) slot → FitsIn limits k w content items (doing_in slot) →
+    current_of plan (λ x. stamps_of x world.entries) world.position t slot ≡ Some b →
+    (t < length world.begun) × Ready limits (shape_of plan) k w content items slot b
 current-ready limits plan world t k w content items (Some d) b h n l at o f e =
     let same : d ≡ b = cc in (
       slot-within world.begun t d at,
-      subst (λ (x : Begun). Ready limits (shape_of plan) k w content items (Some d) x) same (record { of = o; reads = refl; writes = refl; fits = f; lock = λ q. q }),
+      subst (λ (x : Begun). Ready limits (shape_of plan) k w content items (Some d) x) same
+          (record { of = o; reads = refl; writes = refl; fits = f; lock = λ q. q }),
     )
 current-ready limits plan world t k w content items None b h n l at o f e =
-    let r = next-ready limits plan (λ x. stamps_of x world.entries) world.position t k w content items (slice_get (calls_of plan t) (length (stamps_of t world.entries))) b h n refl e in
+    let r = next-ready limits plan (λ x. stamps_of x world.entries) world.position t k w content
+    items (slice_get (calls_of plan t) (length (stamps_of t world.entries))) b h n refl e in
     (rw l r.0, r.1)

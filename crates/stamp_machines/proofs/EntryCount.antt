@@ -1,5 +1,7 @@
 -- A thread finishes no more calls than it has, so there are no more entries than a record may have.
-use Rattle.std.proofs.Common.{◌≡◌, ℕ, ◌+◌, ◌*◌, ◌<◌, ◌≤◌, ◌==◌, ◌&&◌, nat_lt, Bool, true, false, List, [], ◌∷◌, ◌++◌, length, Option, Some, None, zero, suc, if◌then◌else◌, refl, sym, ◌∙◌, ap, subst, arith, inl}
+use Rattle.std.proofs.Common.{◌≡◌, ℕ, ◌+◌, ◌*◌, ◌<◌, ◌≤◌, ◌==◌, ◌&&◌, nat_lt, Bool, true, false}
+use Rattle.std.proofs.Common.{List, [], ◌∷◌, ◌++◌, length, Option, Some, None, zero, suc}
+use Rattle.std.proofs.Common.{if◌then◌else◌, refl, sym, ◌∙◌, ap, subst, arith, inl}
 use Rattle.std.specs.Prelude.{slice_index_or, slice_get, fold, IsTrue, map, filter}
 use Rattle.std.specs.List.{All}
 use Rattle.std.proofs.lemmas.Bool.Decides.{nat_tests}
@@ -12,7 +14,16 @@ use Rattle.stamp_core.specs.Decision.{stamp_in}
 use Rattle.stamp_core.specs.declared.entry.Entry.{Entry}
 use Rattle.stamp_core.specs.declared.call.Call.{Call}
 use Rattle.stamp_machines.specs.declared.script.ScriptCall.{ScriptCall}
-use Rattle.stamp_machines.specs.declared.script.ScriptCall.TheVariants.{TryWrite, TryRead, WriteLock, ReadLock, Optimistic, Validate, UnlockWrite, UnlockRead, Unlock, ToWrite, ToRead, ToOptimistic, TryUnlockWrite, TryUnlockRead, IsWriteLocked, IsReadLocked, ReadCount, Get, Put, PutIf}
+use Rattle.stamp_machines.specs.declared.script.ScriptCall.TheVariants.{TryWrite, TryRead}
+use Rattle.stamp_machines.specs.declared.script.ScriptCall.TheVariants.{WriteLock, ReadLock}
+use Rattle.stamp_machines.specs.declared.script.ScriptCall.TheVariants.{Optimistic, Validate}
+use Rattle.stamp_machines.specs.declared.script.ScriptCall.TheVariants.{UnlockWrite, UnlockRead}
+use Rattle.stamp_machines.specs.declared.script.ScriptCall.TheVariants.{Unlock, ToWrite, ToRead}
+use Rattle.stamp_machines.specs.declared.script.ScriptCall.TheVariants.{ToOptimistic}
+use Rattle.stamp_machines.specs.declared.script.ScriptCall.TheVariants.{TryUnlockWrite}
+use Rattle.stamp_machines.specs.declared.script.ScriptCall.TheVariants.{TryUnlockRead}
+use Rattle.stamp_machines.specs.declared.script.ScriptCall.TheVariants.{IsWriteLocked, IsReadLocked}
+use Rattle.stamp_machines.specs.declared.script.ScriptCall.TheVariants.{ReadCount, Get, Put, PutIf}
 use Rattle.stamp_machines.specs.declared.state.Begun.{Begun}
 use Rattle.stamp_machines.specs.declared.machine.Turn.{Turn}
 use Rattle.stamp_machines.specs.declared.machine.Turn.TheVariants.{Going, Done}
@@ -24,7 +35,9 @@ use Rattle.stamp_machines.specs.RecordPhase.{PlaceTurn}
 use Rattle.stamp_machines.specs.MachineState.{MachineState, Phase, OnLock, OnRecord, start}
 use Rattle.stamp_machines.specs.Machine.{after_access, after_in, lock_turn, record_turn}
 use Rattle.stamp_machines.specs.Script.{Scripted, IsSound, Suits, calls_of}
-use Rattle.stamp_machines.specs.World.{World, opening, current, current_of, begin, shape_of, stamps_of, is_of, call_of, landed, stepped, step, entry_of, execution_of, completed_calls}
+use Rattle.stamp_machines.specs.World.{World, opening, current, current_of, begin, shape_of}
+use Rattle.stamp_machines.specs.World.{stamps_of, is_of, call_of, landed, stepped, step, entry_of}
+use Rattle.stamp_machines.specs.World.{execution_of, completed_calls}
 use Rattle.stamp_machines.proofs.CurrentCall.{thread-within, call-suits}
 use Rattle.stamp_machines.proofs.EntryOrder.{each_slot, slot_none}
 use Rattle.stamp_machines.proofs.StateSteps.{stamps_of-append}
@@ -42,7 +55,8 @@ total_zero : (n : ℕ) → total n (λ t. 0) ≡ 0
 total_zero zero = refl
 total_zero (suc n) = omega (arith, total_zero n)
 
-total_same : (n : ℕ) (f g : ℕ → ℕ) (k : ℕ) → ((t : ℕ) → f t ≡ g t + one_where (t == k)) → n ≤ k → total n f ≡ total n g
+total_same : (n : ℕ) (f g : ℕ → ℕ) (k : ℕ) → ((t : ℕ) → f t ≡ g t + one_where (t == k)) → n ≤ k →
+    total n f ≡ total n g
 total_same zero f g k each below = refl
 total_same (suc n) f g k each below =
     let other : (n == k) ≡ false = grind (arith, nat_tests) in
@@ -50,11 +64,13 @@ total_same (suc n) f g k each below =
     omega (arith, at, total_same n f g k each (omega (arith, below)))
 
 -- one more at one place below n is one more in all
-total_more : (n : ℕ) (f g : ℕ → ℕ) (k : ℕ) → ((t : ℕ) → f t ≡ g t + one_where (t == k)) → k < n → total n f ≡ total n g + 1
+total_more : (n : ℕ) (f g : ℕ → ℕ) (k : ℕ) → ((t : ℕ) → f t ≡ g t + one_where (t == k)) → k < n →
+    total n f ≡ total n g + 1
 total_more zero f g k each lt = absurd (omega (arith, lt))
 total_more (suc n) f g k each lt = by (total_more n f g k each) (n == k) refl
   where
-    by : (k < n → total n f ≡ total n g + 1) → (b : Bool) → (n == k) ≡ b → total n f + f n ≡ total n g + g n + 1
+    by : (k < n → total n f ≡ total n g + 1) → (b : Bool) → (n == k) ≡ b →
+        total n f + f n ≡ total n g + g n + 1
     by below true e =
         let same : n ≡ k = grind (arith, e) in
         let at : f n ≡ g n + 1 = each n ∙ ap (λ (b : Bool). g n + one_where b) e in
@@ -67,34 +83,42 @@ total_more (suc n) f g k each lt = by (total_more n f g k each) (n == k) refl
 
 total_few : (n m : ℕ) (f : ℕ → ℕ) → ((t : ℕ) → f t ≤ m) → total n f ≤ n * m
 total_few zero m f each = omega arith
-total_few (suc n) m f each = let rest = total_few n m f each in let here = each n in grind (arith, rest, here)
+total_few (suc n) m f each = let rest = total_few n m f each in let here = each n in
+    grind (arith, rest, here)
 
 -- how many entries a thread has
 abbrev pub count_of : List Entry → ℕ → ℕ
 count_of entries t = length (stamps_of t entries)
 
-count_first : (e : Entry) (entries : List Entry) (t : ℕ) → count_of (e ∷ entries) t ≡ count_of entries t + one_where (t == e.thread)
+count_first : (e : Entry) (entries : List Entry) (t : ℕ) →
+    count_of (e ∷ entries) t ≡ count_of entries t + one_where (t == e.thread)
 count_first e entries t = by (t == e.thread)
   where
-    by : (b : Bool) → length (map (λ (x : Entry). stamp_in x.reply) (if b then e ∷ filter (is_of t) entries else filter (is_of t) entries)) ≡ count_of entries t + one_where b
+    by : (b : Bool) →
+        length (map (λ (x : Entry). stamp_in x.reply) (if b then e ∷ filter (is_of t) entries
+        else filter (is_of t) entries)) ≡ count_of entries t + one_where b
     by true = omega arith
     by false = omega arith
 
 -- each entry is one of the threads below n
-pub counted : (n : ℕ) (entries : List Entry) → All (λ (e : Entry). e.thread < n) entries → total n (count_of entries) ≡ length entries
+pub counted : (n : ℕ) (entries : List Entry) → All (λ (e : Entry). e.thread < n) entries →
+    total n (count_of entries) ≡ length entries
 counted n [] named = total_zero n
 counted n (e ∷ entries) named =
-    let more = total_more n (count_of (e ∷ entries)) (count_of entries) e.thread (count_first e entries) (All-head (λ (x : Entry). x.thread < n) e entries named) in
+    let more = total_more n (count_of (e ∷ entries)) (count_of entries) e.thread
+    (count_first e entries) (All-head (λ (x : Entry). x.thread < n) e entries named) in
     omega (arith, more, counted n entries (All-tail (λ (x : Entry). x.thread < n) e entries named))
 
 -- the call of a script's thread, resolved, suits the width as the script's does
 words_suit : (width a : ℕ) → 0 < width → a ≡ width → (nat_lt 0 width && (a == width)) ≡ true
 words_suit width a some same = grind (arith, nat_tests, some, same)
 
-both_suit : (width a b : ℕ) → 0 < width → a ≡ width → b ≡ width → (nat_lt 0 width && (a == width) && (b == width)) ≡ true
+both_suit : (width a b : ℕ) → 0 < width → a ≡ width → b ≡ width →
+    (nat_lt 0 width && (a == width) && (b == width)) ≡ true
 both_suit width a b some same also = grind (arith, nat_tests, some, same, also)
 
-resolved-suits : (stamps : ℕ → List ℕ) (width : ℕ) (c : ScriptCall) → Suits width c → IsTrue (call_suits width (call_of stamps c))
+resolved-suits : (stamps : ℕ → List ℕ) (width : ℕ) (c : ScriptCall) → Suits width c →
+    IsTrue (call_suits width (call_of stamps c))
 resolved-suits stamps width TryWrite s = refl
 resolved-suits stamps width TryRead s = refl
 resolved-suits stamps width WriteLock s = refl
@@ -119,46 +143,72 @@ resolved-suits stamps width (PutIf a b) s = both_suit width (length a) (length b
 -- a call that has begun is one of its thread's, and so not yet among those that have ended
 abbrev pub IsOneOf : Scripted → List Entry → ℕ → Option Begun → Type 0
 IsOneOf plan entries t None = count_of entries t ≤ length (calls_of plan t)
-IsOneOf plan entries t (Some b) = (t < length plan.threads) × (count_of entries t < length (calls_of plan t)) × IsTrue (call_suits plan.width b.machine.call)
+IsOneOf plan entries t (Some b) =
+    (t < length plan.threads) × (count_of entries t < length (calls_of plan t))
+    × IsTrue (call_suits plan.width b.machine.call)
 
 pub record IsCounted (plan : Scripted) (world : World) : Type 0 where
   pub named : All (λ (e : Entry). e.thread < length plan.threads) world.entries
   pub suits : All (λ (e : Entry). IsTrue (call_suits plan.width e.call)) world.entries
   pub begun : (t : ℕ) → IsOneOf plan world.entries t (slice_index_or world.begun t None)
 
-current-one : (plan : Scripted) (world : World) (t : ℕ) (b : Begun) → IsSound plan → IsCounted plan world → current plan world t ≡ Some b → IsOneOf plan world.entries t (Some b)
+current-one : (plan : Scripted) (world : World) (t : ℕ) (b : Begun) → IsSound plan →
+    IsCounted plan world → current plan world t ≡ Some b → IsOneOf plan world.entries t (Some b)
 current-one plan world t b sound counts = by (slice_index_or world.begun t None) refl
   where
-    begins : (c : Option ScriptCall) → slice_get (calls_of plan t) (count_of world.entries t) ≡ c → begin (shape_of plan) (λ k. stamps_of k world.entries) world.position c ≡ Some b → IsOneOf plan world.entries t (Some b)
+    begins : (c : Option ScriptCall) → slice_get (calls_of plan t) (count_of world.entries t) ≡ c →
+        begin (shape_of plan) (λ k. stamps_of k world.entries) world.position c ≡ Some b →
+        IsOneOf plan world.entries t (Some b)
     begins None at e = cc
     begins (Some c) at e =
-        let within : t < length plan.threads = thread-within plan.threads t (count_of world.entries t) c at in
-        let suits : Suits plan.width c = call-suits plan.width (calls_of plan t) (count_of world.entries t) c (sound.suited t [] within) at in
-        let same : record { machine = start (shape_of plan) (call_of (λ k. stamps_of k world.entries) c); first = world.position } ≡ b = cc in
-        (within, slice_get_within (calls_of plan t) (count_of world.entries t) c at, subst (λ (x : Begun). IsTrue (call_suits plan.width x.machine.call)) same (resolved-suits (λ k. stamps_of k world.entries) plan.width c suits))
+        let within : t < length plan.threads =
+        thread-within plan.threads t (count_of world.entries t) c at in
+        let suits : Suits plan.width c =
+        call-suits plan.width (calls_of plan t) (count_of world.entries t) c
+        (sound.suited t [] within) at in
+        let same : record {
+          machine = start (shape_of plan)
+              (call_of (λ k. stamps_of k world.entries) c);
+          first = world.position;
+        } ≡ b = cc in (
+          within,
+          slice_get_within (calls_of plan t) (count_of world.entries t) c at,
+          subst (λ (x : Begun). IsTrue (call_suits plan.width x.machine.call)) same
+              (resolved-suits (λ k. stamps_of k world.entries) plan.width c suits),
+        )
 
-    by : (slot : Option Begun) → slice_index_or world.begun t None ≡ slot → current_of plan (λ k. stamps_of k world.entries) world.position t slot ≡ Some b → IsOneOf plan world.entries t (Some b)
+    by : (slot : Option Begun) → slice_index_or world.begun t None ≡ slot →
+        current_of plan (λ k. stamps_of k world.entries) world.position t slot ≡ Some b →
+        IsOneOf plan world.entries t (Some b)
     by None at e = begins (slice_get (calls_of plan t) (count_of world.entries t)) refl e
-    by (Some c) at e = let same : c ≡ b = cc in subst (λ (x : Begun). IsOneOf plan world.entries t (Some x)) same (subst (IsOneOf plan world.entries t) at (counts.begun t))
+    by (Some c) at e = let same : c ≡ b =
+        cc in subst (λ (x : Begun). IsOneOf plan world.entries t (Some x)) same
+        (subst (IsOneOf plan world.entries t) at (counts.begun t))
 
-at_most : (plan : Scripted) (entries : List Entry) (t : ℕ) (slot : Option Begun) → IsOneOf plan entries t slot → count_of entries t ≤ length (calls_of plan t)
+at_most : (plan : Scripted) (entries : List Entry) (t : ℕ) (slot : Option Begun) →
+    IsOneOf plan entries t slot → count_of entries t ≤ length (calls_of plan t)
 at_most plan entries t None one = one
 at_most plan entries t (Some b) one = omega (arith, one.1)
 
-count_last : (entries : List Entry) (e : Entry) (t : ℕ) → count_of (entries ++ e ∷ []) t ≡ count_of entries t + one_where (t == e.thread)
+count_last : (entries : List Entry) (e : Entry) (t : ℕ) →
+    count_of (entries ++ e ∷ []) t ≡ count_of entries t + one_where (t == e.thread)
 count_last entries e t = ap length (stamps_of-append t entries e) ∙ by (t == e.thread)
   where
-    by : (b : Bool) → length (if b then stamps_of t entries ++ stamp_in e.reply ∷ [] else stamps_of t entries) ≡ count_of entries t + one_where b
+    by : (b : Bool) →
+        length (if b then stamps_of t entries ++ stamp_in e.reply ∷ [] else stamps_of t entries)
+        ≡ count_of entries t + one_where b
     by true = length-append (stamps_of t entries) (stamp_in e.reply ∷ [])
     by false = omega arith
 
-other-one : (plan : Scripted) (entries : List Entry) (e : Entry) (t : ℕ) (slot : Option Begun) → (t == e.thread) ≡ false → IsOneOf plan entries t slot → IsOneOf plan (entries ++ e ∷ []) t slot
+other-one : (plan : Scripted) (entries : List Entry) (e : Entry) (t : ℕ) (slot : Option Begun) →
+    (t == e.thread) ≡ false → IsOneOf plan entries t slot → IsOneOf plan (entries ++ e ∷ []) t slot
 other-one plan entries e t slot n one = by slot one
   where
     same : count_of (entries ++ e ∷ []) t ≡ count_of entries t + 0
     same = count_last entries e t ∙ ap (λ (b : Bool). count_of entries t + one_where b) n
 
-    by : (slot : Option Begun) → IsOneOf plan entries t slot → IsOneOf plan (entries ++ e ∷ []) t slot
+    by : (slot : Option Begun) → IsOneOf plan entries t slot →
+        IsOneOf plan (entries ++ e ∷ []) t slot
     by None one = omega (arith, same, one)
     by (Some b) one = (one.0, omega (arith, same, one.1), one.2)
 
@@ -171,7 +221,8 @@ lock_same : (shape : Shape) (call : Call) (p : PhaseTurn) → IsStillOf call (lo
 lock_same shape call (Still seen) = refl
 lock_same shape call (Ended r) = tt
 
-record_same : (shape : Shape) (call : Call) (job : Job) (p : PlaceTurn) → IsStillOf call (record_turn shape call job p)
+record_same : (shape : Shape) (call : Call) (job : Job) (p : PlaceTurn) →
+    IsStillOf call (record_turn shape call job p)
 record_same shape call job (places.Going place) = refl
 record_same shape call job (places.Done r) = tt
 
@@ -182,29 +233,43 @@ after_same s seen = by s.phase
     by (OnLock last) = lock_same s.shape s.call _
     by (OnRecord job place) = record_same s.shape s.call job _
 
-lands-counted : (plan : Scripted) (world : World) (t : ℕ) (b : Begun) (words : List ℕ) (turned : Turn) → IsCounted plan world → IsOneOf plan world.entries t (Some b) → IsStillOf b.machine.call turned → IsCounted plan (landed world t b words turned)
+lands-counted : (plan : Scripted) (world : World) (t : ℕ) (b : Begun) (words : List ℕ)
+    (turned : Turn) → IsCounted plan world → IsOneOf plan world.entries t (Some b) →
+    IsStillOf b.machine.call turned → IsCounted plan (landed world t b words turned)
 lands-counted plan world t b words (Going m) counts one same = record {
   named = counts.named;
   suits = counts.suits;
-  begun = each_slot (IsOneOf plan world.entries) world.begun t (Some (record { machine = m; first = b.first })) (λ k n. counts.begun k) (one.0, one.1, subst (λ (x : Call). IsTrue (call_suits plan.width x)) (sym same) one.2) (at_most plan world.entries t (Some b) one);
+  begun = each_slot (IsOneOf plan world.entries) world.begun t
+      (Some (record { machine = m; first = b.first })) (λ k n. counts.begun k)
+      (one.0, one.1, subst (λ (x : Call). IsTrue (call_suits plan.width x)) (sym same) one.2)
+      (at_most plan world.entries t (Some b) one);
 }
 lands-counted plan world t b words (Done r) counts one same =
     let x : Entry = entry_of world t b r in
     let itself : (t == t) ≡ true = grind arith in
-    let more : count_of (world.entries ++ x ∷ []) t ≡ count_of world.entries t + 1 = count_last world.entries x t ∙ ap (λ (b : Bool). count_of world.entries t + one_where b) itself in
-    let room : count_of (world.entries ++ x ∷ []) t ≤ length (calls_of plan t) = omega (arith, more, one.1) in
+    let more : count_of (world.entries ++ x ∷ []) t ≡ count_of world.entries t + 1 =
+    count_last world.entries x t
+    ∙ ap (λ (b : Bool). count_of world.entries t + one_where b) itself in
+    let room : count_of (world.entries ++ x ∷ []) t ≤ length (calls_of plan t) =
+    omega (arith, more, one.1) in
     record {
-      named = All-push (λ (y : Entry). y.thread < length plan.threads) world.entries x counts.named one.0;
-      suits = All-push (λ (y : Entry). IsTrue (call_suits plan.width y.call)) world.entries x counts.suits one.2;
-      begun = each_slot (IsOneOf plan (world.entries ++ x ∷ [])) world.begun t None (λ k n. other-one plan world.entries x k _ n (counts.begun k)) room room;
+      named = All-push (λ (y : Entry). y.thread < length plan.threads) world.entries x counts.named
+          one.0;
+      suits = All-push (λ (y : Entry). IsTrue (call_suits plan.width y.call)) world.entries x
+          counts.suits one.2;
+      begun = each_slot (IsOneOf plan (world.entries ++ x ∷ [])) world.begun t None
+          (λ k n. other-one plan world.entries x k _ n (counts.begun k)) room room;
     }
 
-step-counted : (plan : Scripted) (world : World) (t : ℕ) → IsSound plan → IsCounted plan world → IsCounted plan (step plan world t)
+step-counted : (plan : Scripted) (world : World) (t : ℕ) → IsSound plan → IsCounted plan world →
+    IsCounted plan (step plan world t)
 step-counted plan world t sound counts = by (current plan world t) refl
   where
     by : (c : Option Begun) → current plan world t ≡ c → IsCounted plan (stepped world t c)
     by None e = record { named = counts.named; suits = counts.suits; begun = counts.begun }
-    by (Some b) e = lands-counted plan world t b _ _ counts (current-one plan world t b sound counts e) (after_same b.machine _)
+    by (Some b) e =
+        lands-counted plan world t b _ _ counts (current-one plan world t b sound counts e)
+        (after_same b.machine _)
 
 opening-counted : (plan : Scripted) → IsCounted plan (opening plan)
 opening-counted plan = record {
@@ -213,30 +278,52 @@ opening-counted plan = record {
   begun = λ t. rw (slot_none (length plan.threads) t) (omega arith);
 }
 
-steps-counted : (plan : Scripted) (world : World) (names : List ℕ) → IsSound plan → IsCounted plan world → IsCounted plan (fold (step plan) world names)
+steps-counted : (plan : Scripted) (world : World) (names : List ℕ) → IsSound plan →
+    IsCounted plan world → IsCounted plan (fold (step plan) world names)
 steps-counted plan world [] sound counts = counts
-steps-counted plan world (t ∷ names) sound counts = steps-counted plan (step plan world t) names sound (step-counted plan world t sound counts)
+steps-counted plan world (t ∷ names) sound counts =
+    steps-counted plan (step plan world t) names sound (step-counted plan world t sound counts)
 
-always-counted : (plan : Scripted) (names : List ℕ) → IsSound plan → IsCounted plan (execution_of plan names)
+always-counted : (plan : Scripted) (names : List ℕ) → IsSound plan →
+    IsCounted plan (execution_of plan names)
 unfolding execution_of
-always-counted plan names sound = steps-counted plan (opening plan) names sound (opening-counted plan)
+always-counted plan names sound =
+    steps-counted plan (opening plan) names sound (opening-counted plan)
 
-calls_few : (threads : List (List ScriptCall)) (t : ℕ) → All (λ calls. length calls ≤ 10000) threads → length (slice_index_or threads t []) ≤ 10000
+calls_few : (threads : List (List ScriptCall)) (t : ℕ) →
+    All (λ calls. length calls ≤ 10000) threads → length (slice_index_or threads t []) ≤ 10000
 calls_few [] t short = omega arith
-calls_few (x ∷ threads) zero short = All-head (λ (calls : List ScriptCall). length calls ≤ 10000) x threads short
-calls_few (x ∷ threads) (suc t) short = calls_few threads t (All-tail (λ (calls : List ScriptCall). length calls ≤ 10000) x threads short)
+calls_few (x ∷ threads) zero short =
+    All-head (λ (calls : List ScriptCall). length calls ≤ 10000) x threads short
+calls_few (x ∷ threads) (suc t) short =
+    calls_few threads t
+    (All-tail (λ (calls : List ScriptCall). length calls ≤ 10000) x threads short)
 
 -- what a schedule finishes can stand in a record
-pub completed-recorded : (plan : Scripted) (names : List ℕ) → IsSound plan → IsRecorded (record { limits = plan.limits; width = plan.width; entries = completed_calls plan names; report = [] })
+pub completed-recorded : (plan : Scripted) (names : List ℕ) → IsSound plan →
+    IsRecorded (record {
+      limits = plan.limits;
+      width = plan.width;
+      entries = completed_calls plan names;
+      report = [];
+    })
 completed-recorded plan names sound =
     let world : World = execution_of plan names in
     let counts : IsCounted plan world = always-counted plan names sound in
-    let all : total (length plan.threads) (count_of world.entries) ≡ length world.entries = counted (length plan.threads) world.entries counts.named in
-    let few : total (length plan.threads) (count_of world.entries) ≤ length plan.threads * 10000 = total_few (length plan.threads) 10000 (count_of world.entries) (λ t. let a = at_most plan world.entries t _ (counts.begun t) in let b = calls_few plan.threads t sound.short in omega (arith, a, b)) in
+    let all : total (length plan.threads) (count_of world.entries) ≡ length world.entries =
+    counted (length plan.threads) world.entries counts.named in
+    let few : total (length plan.threads) (count_of world.entries) ≤ length plan.threads * 10000 =
+    total_few (length plan.threads) 10000 (count_of world.entries)
+    (λ t. let a = at_most plan world.entries t _ (counts.begun t) in
+    let b = calls_few plan.threads t sound.short in omega (arith, a, b)) in
     let threads = sound.threads in
     record {
       width = sound.width;
       entries = omega (arith, all, few, threads);
       report = inl refl;
-      suit = λ k d lt. record { thread = let n = counts.named k d lt in omega (arith, n, threads); call = counts.suits k d lt };
+      suit = λ k d lt. record {
+        thread = let n = counts.named k d lt in
+            omega (arith, n, threads);
+        call = counts.suits k d lt;
+      };
     }

@@ -1,5 +1,8 @@
--- The entries of a schedule come in the order of their last steps, and those of a thread one after the other.
-use Rattle.std.proofs.Common.{◌≡◌, ◌⊎◌, ℕ, ◌+◌, ◌-◌, ◌<◌, ◌≤◌, ◌==◌, Bool, true, false, List, [], ◌∷◌, ◌++◌, length, Option, Some, None, zero, suc, refl, sym, ap, subst, arith, inl, inr}
+-- The entries of a schedule come in the order of their last steps, and those of a thread one after
+-- the other.
+use Rattle.std.proofs.Common.{◌≡◌, ◌⊎◌, ℕ, ◌+◌, ◌-◌, ◌<◌, ◌≤◌, ◌==◌, Bool, true, false, List, []}
+use Rattle.std.proofs.Common.{◌∷◌, ◌++◌, length, Option, Some, None, zero, suc, refl, sym, ap}
+use Rattle.std.proofs.Common.{subst, arith, inl, inr}
 use Rattle.std.specs.Prelude.{slice_index_or, slice_set, slice_get, replicate, fold}
 use Rattle.std.specs.List.{All}
 use Rattle.std.proofs.lemmas.List.Elements.{All-push, All-nil}
@@ -19,22 +22,27 @@ use Rattle.stamp_machines.specs.declared.state.Begun.{Begun}
 use Rattle.stamp_machines.specs.declared.machine.Turn.{Turn}
 use Rattle.stamp_machines.specs.declared.machine.Turn.TheVariants.{Going, Done}
 use Rattle.stamp_machines.specs.Script.{Scripted, calls_of}
-use Rattle.stamp_machines.specs.World.{World, opening, current, current_of, begin, shape_of, stamps_of, landed, stepped, step, entry_of, execution_of}
+use Rattle.stamp_machines.specs.World.{World, opening, current, current_of, begin, shape_of}
+use Rattle.stamp_machines.specs.World.{stamps_of, landed, stepped, step, entry_of, execution_of}
 
 -- the list with one slot set
-pub slot_other : (xs : List (Option Begun)) (i k : ℕ) (v : Option Begun) → (k == i) ≡ false → slice_index_or (slice_set xs i v) k None ≡ slice_index_or xs k None
+pub slot_other : (xs : List (Option Begun)) (i k : ℕ) (v : Option Begun) → (k == i) ≡ false →
+    slice_index_or (slice_set xs i v) k None ≡ slice_index_or xs k None
 slot_other [] i k v n = refl
 slot_other (x ∷ xs) zero zero v n = cc
 slot_other (x ∷ xs) zero (suc k) v n = refl
 slot_other (x ∷ xs) (suc i) zero v n = refl
 slot_other (x ∷ xs) (suc i) (suc k) v n = slot_other xs i k v (grind arith)
 
-pub slot_emptied : (xs : List (Option Begun)) (i : ℕ) → slice_index_or (slice_set xs i None) i None ≡ None
+pub slot_emptied : (xs : List (Option Begun)) (i : ℕ) →
+    slice_index_or (slice_set xs i None) i None ≡ None
 slot_emptied [] i = refl
 slot_emptied (x ∷ xs) zero = refl
 slot_emptied (x ∷ xs) (suc i) = slot_emptied xs i
 
-pub slot_set : (xs : List (Option Begun)) (i : ℕ) (v : Option Begun) → (slice_index_or (slice_set xs i v) i None ≡ v) ⊎ (slice_index_or (slice_set xs i v) i None ≡ None)
+pub slot_set : (xs : List (Option Begun)) (i : ℕ) (v : Option Begun) →
+    (slice_index_or (slice_set xs i v) i None ≡ v)
+    ⊎ (slice_index_or (slice_set xs i v) i None ≡ None)
 slot_set [] i v = inr refl
 slot_set (x ∷ xs) zero v = inl refl
 slot_set (x ∷ xs) (suc i) v = slot_set xs i v
@@ -45,14 +53,17 @@ slot_none (suc n) zero = refl
 slot_none (suc n) (suc k) = slot_none n k
 
 -- a fact of each slot, after one was set
-pub each_slot : (P : ℕ → Option Begun → Type 0) (xs : List (Option Begun)) (i : ℕ) (v : Option Begun) → ((k : ℕ) → (k == i) ≡ false → P k (slice_index_or xs k None)) → P i v → P i None → (k : ℕ) → P k (slice_index_or (slice_set xs i v) k None)
+pub each_slot : (P : ℕ → Option Begun → Type 0) (xs : List (Option Begun)) (i : ℕ)
+    (v : Option Begun) → ((k : ℕ) → (k == i) ≡ false → P k (slice_index_or xs k None)) → P i v →
+    P i None → (k : ℕ) → P k (slice_index_or (slice_set xs i v) k None)
 each_slot P xs i v others set none k = by (k == i) refl
   where
     by : (b : Bool) → (k == i) ≡ b → P k (slice_index_or (slice_set xs i v) k None)
     by false n = subst (P k) (sym (slot_other xs i k v n)) (others k n)
     by true e =
         let same : k ≡ i = grind (arith, e) in
-        rw same (elim (slot_set xs i v) [ inl h ↦ subst (P i) (sym h) set | inr h ↦ subst (P i) (sym h) none ])
+        rw same (elim (slot_set xs i v)
+        [ inl h ↦ subst (P i) (sym h) set | inr h ↦ subst (P i) (sym h) none ])
 
 -- the entries of this thread had ended before
 abbrev pub HasEnded : ℕ → ℕ → List Entry → Type 0
@@ -70,10 +81,13 @@ pub record InOrder (plan : Scripted) (world : World) : Type 0 where
   pub begun : (t : ℕ) → IsSince world.position world.entries t (slice_index_or world.begun t None)
 
 -- the call that a thread is in
-current-since : (plan : Scripted) (world : World) (t : ℕ) (b : Begun) → InOrder plan world → current plan world t ≡ Some b → IsSince world.position world.entries t (Some b)
+current-since : (plan : Scripted) (world : World) (t : ℕ) (b : Begun) → InOrder plan world →
+    current plan world t ≡ Some b → IsSince world.position world.entries t (Some b)
 current-since plan world t b o = by (slice_index_or world.begun t None) refl
   where
-    begins : (c : Option ScriptCall) → begin (shape_of plan) (λ k. stamps_of k world.entries) world.position c ≡ Some b → IsSince world.position world.entries t (Some b)
+    begins : (c : Option ScriptCall) →
+        begin (shape_of plan) (λ k. stamps_of k world.entries) world.position c ≡ Some b →
+        IsSince world.position world.entries t (Some b)
     begins None e = cc
     begins (Some c) e =
         let first : world.position ≡ b.first = ap first_of e in
@@ -83,34 +97,60 @@ current-since plan world t b o = by (slice_index_or world.begun t None) refl
         first_of None = 0
         first_of (Some x) = x.first
 
-    by : (slot : Option Begun) → slice_index_or world.begun t None ≡ slot → current_of plan (λ k. stamps_of k world.entries) world.position t slot ≡ Some b → IsSince world.position world.entries t (Some b)
+    by : (slot : Option Begun) → slice_index_or world.begun t None ≡ slot →
+        current_of plan (λ k. stamps_of k world.entries) world.position t slot ≡ Some b →
+        IsSince world.position world.entries t (Some b)
     by None at e = begins (slice_get (calls_of plan t) (length (stamps_of t world.entries))) e
-    by (Some c) at e = let same : c ≡ b = cc in subst (λ (x : Begun). IsSince world.position world.entries t (Some x)) same (subst (IsSince world.position world.entries t) at (o.begun t))
+    by (Some c) at e = let same : c ≡ b =
+        cc in subst (λ (x : Begun). IsSince world.position world.entries t (Some x)) same
+        (subst (IsSince world.position world.entries t) at (o.begun t))
 
-later : (position : ℕ) (entries : List Entry) (t : ℕ) (slot : Option Begun) → IsSince position entries t slot → IsSince (position + 1) entries t slot
+later : (position : ℕ) (entries : List Entry) (t : ℕ) (slot : Option Begun) →
+    IsSince position entries t slot → IsSince (position + 1) entries t slot
 later position entries t None since = tt
 later position entries t (Some b) since = (omega (arith, since.0), since.1)
 
 -- another thread's entry is of no account
-other-since : (position : ℕ) (entries : List Entry) (e : Entry) (t : ℕ) (slot : Option Begun) → (t == e.thread) ≡ false → IsSince position entries t slot → IsSince (position + 1) (entries ++ e ∷ []) t slot
+other-since : (position : ℕ) (entries : List Entry) (e : Entry) (t : ℕ) (slot : Option Begun) →
+    (t == e.thread) ≡ false → IsSince position entries t slot →
+    IsSince (position + 1) (entries ++ e ∷ []) t slot
 other-since position entries e t None n since = tt
-other-since position entries e t (Some b) n since =
-    (omega (arith, since.0), All-push (λ (d : Entry). d.thread ≡ t → d.last < b.first) entries e since.1 (λ same. absurd (grind (arith, n, same))))
+other-since position entries e t (Some b) n since = (
+  omega (arith, since.0),
+  All-push (λ (d : Entry). d.thread ≡ t → d.last < b.first) entries e since.1
+      (λ same. absurd (grind (arith, n, same))),
+)
 
-going-order : (plan : Scripted) (world : World) (t : ℕ) (words : List ℕ) (now : Option Begun) → InOrder plan world → IsSince world.position world.entries t now → InOrder plan (record { words = words; begun = slice_set world.begun t now; entries = world.entries; position = world.position + 1 })
+going-order : (plan : Scripted) (world : World) (t : ℕ) (words : List ℕ) (now : Option Begun) →
+    InOrder plan world → IsSince world.position world.entries t now →
+    InOrder plan
+    (record {
+      words = words;
+      begun = slice_set world.begun t now;
+      entries = world.entries;
+      position = world.position + 1;
+    })
 going-order plan world t words now o since = record {
   linearized = o.linearized;
   points = o.points;
   ended = λ k d lt. let h = o.ended k d lt in omega (arith, h);
-  begun = each_slot (IsSince (world.position + 1) world.entries) world.begun t now (λ k n. later world.position world.entries k _ (o.begun k)) (later world.position world.entries t now since) tt;
+  begun = each_slot (IsSince (world.position + 1) world.entries) world.begun t now
+      (λ k n. later world.position world.entries k _ (o.begun k))
+      (later world.position world.entries t now since) tt;
 }
 
 -- in a legal history the last entry is answered after those before it
-last-answered : (limits : Bounds) (width : ℕ) (entries : List Entry) (e : Entry) → IsLegal limits width (history_of (entries ++ e ∷ [])) → IsAnswered limits width entries e
-last-answered limits width entries e legal = (legal_rest limits [] (zeros width) (history_of entries) ((e.call, e.reply) ∷ []) (subst (λ (h : History). IsLegal limits width h) (history_more entries e) legal)).0
+last-answered : (limits : Bounds) (width : ℕ) (entries : List Entry) (e : Entry) →
+    IsLegal limits width (history_of (entries ++ e ∷ [])) → IsAnswered limits width entries e
+last-answered limits width entries e legal =
+    (legal_rest limits [] (zeros width) (history_of entries) ((e.call, e.reply) ∷ [])
+    (subst (λ (h : History). IsLegal limits width h) (history_more entries e) legal)).0
 
 -- the entry fits after those before it
-entry-fits : (plan : Scripted) (world : World) (t : ℕ) (b : Begun) (r : Reply) → InOrder plan world → IsSince world.position world.entries t (Some b) → IsAnswered plan.limits plan.width world.entries (entry_of world t b r) → Fits plan.limits plan.width world.entries (entry_of world t b r)
+entry-fits : (plan : Scripted) (world : World) (t : ℕ) (b : Begun) (r : Reply) →
+    InOrder plan world → IsSince world.position world.entries t (Some b) →
+    IsAnswered plan.limits plan.width world.entries (entry_of world t b r) →
+    Fits plan.limits plan.width world.entries (entry_of world t b r)
 entry-fits plan world t b r o since answered = record {
   within = record { begun = since.0; ended = omega arith };
   rises = λ d some.
@@ -123,25 +163,41 @@ entry-fits plan world t b r o since answered = record {
   answered = answered;
 }
 
-done-order : (plan : Scripted) (world : World) (t : ℕ) (b : Begun) (words : List ℕ) (r : Reply) → InOrder plan world → IsSince world.position world.entries t (Some b) → IsLegal plan.limits plan.width (history_of (world.entries ++ entry_of world t b r ∷ [])) → InOrder plan (landed world t b words (Done r))
+done-order : (plan : Scripted) (world : World) (t : ℕ) (b : Begun) (words : List ℕ) (r : Reply) →
+    InOrder plan world → IsSince world.position world.entries t (Some b) →
+    IsLegal plan.limits plan.width (history_of (world.entries ++ entry_of world t b r ∷ [])) →
+    InOrder plan (landed world t b words (Done r))
 done-order plan world t b words r o since legal =
     let e : Entry = entry_of world t b r in
     record {
-      linearized = linearized_more plan.limits plan.width world.entries e o.linearized (entry-fits plan world t b r o since (last-answered plan.limits plan.width world.entries e legal));
+      linearized =
+          linearized_more plan.limits plan.width world.entries e o.linearized
+          (entry-fits plan world t b r o since
+          (last-answered plan.limits plan.width world.entries e legal));
       points = All-push (λ (d : Entry). d.point ≡ d.last) world.entries e o.points refl;
-      ended = All-push (λ (d : Entry). d.last < world.position + 1) world.entries e (λ k d lt. let h = o.ended k d lt in omega (arith, h)) (omega arith);
-      begun = each_slot (IsSince (world.position + 1) (world.entries ++ e ∷ [])) world.begun t None (λ k n. other-since world.position world.entries e k _ n (o.begun k)) tt tt;
+      ended = All-push (λ (d : Entry). d.last < world.position + 1) world.entries e
+          (λ k d lt. let h = o.ended k d lt in omega (arith, h)) (omega arith);
+      begun = each_slot (IsSince (world.position + 1) (world.entries ++ e ∷ [])) world.begun t None
+          (λ k n. other-since world.position world.entries e k _ n (o.begun k)) tt tt;
     }
 
 -- one step
-step-order : (plan : Scripted) (world : World) (t : ℕ) → InOrder plan world → IsLegal plan.limits plan.width (history_of (step plan world t).entries) → InOrder plan (step plan world t)
+step-order : (plan : Scripted) (world : World) (t : ℕ) → InOrder plan world →
+    IsLegal plan.limits plan.width (history_of (step plan world t).entries) →
+    InOrder plan (step plan world t)
 step-order plan world t o legal = by (current plan world t) refl legal
   where
-    lands : (b : Begun) (words : List ℕ) (turned : Turn) → IsSince world.position world.entries t (Some b) → IsLegal plan.limits plan.width (history_of (landed world t b words turned).entries) → InOrder plan (landed world t b words turned)
-    lands b words (Going m) since legal = going-order plan world t words (Some (record { machine = m; first = b.first })) o since
+    lands : (b : Begun) (words : List ℕ) (turned : Turn) →
+        IsSince world.position world.entries t (Some b) →
+        IsLegal plan.limits plan.width (history_of (landed world t b words turned).entries) →
+        InOrder plan (landed world t b words turned)
+    lands b words (Going m) since legal =
+        going-order plan world t words (Some (record { machine = m; first = b.first })) o since
     lands b words (Done r) since legal = done-order plan world t b words r o since legal
 
-    by : (c : Option Begun) → current plan world t ≡ c → IsLegal plan.limits plan.width (history_of (stepped world t c).entries) → InOrder plan (stepped world t c)
+    by : (c : Option Begun) → current plan world t ≡ c →
+        IsLegal plan.limits plan.width (history_of (stepped world t c).entries) →
+        InOrder plan (stepped world t c)
     by None e legal = record {
       linearized = o.linearized;
       points = o.points;
@@ -158,12 +214,20 @@ opening-order plan = record {
   begun = λ k. rw (slot_none (length plan.threads) k) tt;
 }
 
-steps-order : (plan : Scripted) (world : World) (names : List ℕ) → Kept plan world → IsSound plan → world.position + length names ≤ 1000000 → InOrder plan world → InOrder plan (fold (step plan) world names)
+steps-order : (plan : Scripted) (world : World) (names : List ℕ) → Kept plan world → IsSound plan →
+    world.position + length names ≤ 1000000 → InOrder plan world →
+    InOrder plan (fold (step plan) world names)
 steps-order plan world [] k sound room o = o
 steps-order plan world (t ∷ names) k sound room o =
-    let kept : Kept plan (step plan world t) = step-kept plan world t k sound (omega (arith, room)) in
-    steps-order plan (step plan world t) names kept sound (rw (position-step plan world t) (omega (arith, room))) (step-order plan world t o kept.legal)
+    let kept : Kept plan (step plan world t) =
+    step-kept plan world t k sound (omega (arith, room)) in
+    steps-order plan (step plan world t) names kept sound
+    (rw (position-step plan world t) (omega (arith, room)))
+    (step-order plan world t o kept.legal)
 
-pub always-in-order : (plan : Scripted) (names : List ℕ) → IsSound plan → length names ≤ 1000000 → InOrder plan (execution_of plan names)
+pub always-in-order : (plan : Scripted) (names : List ℕ) → IsSound plan → length names ≤ 1000000 →
+    InOrder plan (execution_of plan names)
 unfolding execution_of
-always-in-order plan names sound few = steps-order plan (opening plan) names (opening-kept plan sound) sound (omega (arith, few)) (opening-order plan)
+always-in-order plan names sound few =
+    steps-order plan (opening plan) names (opening-kept plan sound) sound (omega (arith, few))
+    (opening-order plan)

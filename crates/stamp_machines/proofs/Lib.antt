@@ -13,9 +13,9 @@ pub mod EntryLaws
 pub mod CommonWords
 pub mod CurrentCall
 pub mod StepsKeep
-pub mod EndedErrand
 pub mod AccessesAreSafe
 pub mod StateSteps
 pub mod WorkerStamps
+pub mod WorkersLanded
 pub mod RunFacts
 pub mod ScriptsAreSound

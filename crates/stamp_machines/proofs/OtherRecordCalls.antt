@@ -1,57 +1,92 @@
 -- What the other calls rely on stays.
-use Rattle.std.proofs.Common.{◌≡◌, ℕ, ◌+◌, ◌<◌, ◌≤◌, ◌==◌, Bool, true, false, List, [], ◌∷◌, length, Option, Some, None, refl, sym, ◌∙◌, arith, ◌⊎◌, inl, inr, zero, suc}
+use Rattle.std.proofs.Common.{◌≡◌, ℕ, ◌+◌, ◌<◌, ◌≤◌, ◌==◌, Bool, true, false, List, [], ◌∷◌, length}
+use Rattle.std.proofs.Common.{Option, Some, None, refl, sym, ◌∙◌, arith, ◌⊎◌, inl, inr, zero, suc}
 use Rattle.std.specs.Prelude.{slice_index_or, slice_set}
 use Rattle.std.specs.List.{sum_by}
 use Rattle.std.proofs.lemmas.List.Sums.{sum_by-set, sum_by-cons}
 use Rattle.stamp_core.specs.Limits.{Bounds}
 use Rattle.stamp_machines.specs.LockNumber.{counts_at}
 use Rattle.stamp_machines.specs.Job.{Job}
-use Rattle.stamp_machines.specs.RecordPhase.{Place, Glancing, Copying, Locking, Reading, Checking, Storing, Releasing, ToShare, ToLeave, ToRefuse, ToUpgrade, ToRetreat, ToClaim}
-use Rattle.stamp_machines.specs.RecordKept.{read_by, written_by, Fits, FitsIn, Doing, read_in, written_in, RecordKept, Moved, SameFor, AloneFor}
+use Rattle.stamp_machines.specs.RecordPhase.{Place, Glancing, Copying, Locking, Reading, Checking}
+use Rattle.stamp_machines.specs.RecordPhase.{Storing, Releasing, ToShare, ToLeave, ToRefuse}
+use Rattle.stamp_machines.specs.RecordPhase.{ToUpgrade, ToRetreat, ToClaim}
+use Rattle.stamp_machines.specs.RecordKept.{read_by, written_by, Fits, FitsIn, Doing, read_in}
+use Rattle.stamp_machines.specs.RecordKept.{written_in, RecordKept, Moved, SameFor, AloneFor}
 
-pub le_sum : (f : Option Doing → ℕ) (xs : List (Option Doing)) (j : ℕ) → f None ≡ 0 → f (slice_index_or xs j None) ≤ sum_by f xs
+pub le_sum : (f : Option Doing → ℕ) (xs : List (Option Doing)) (j : ℕ) → f None ≡ 0 →
+    f (slice_index_or xs j None) ≤ sum_by f xs
 le_sum f [] j z = omega (arith, z)
 le_sum f (x ∷ xs) zero z = omega (arith, sum_by-cons f x xs)
 le_sum f (x ∷ xs) (suc j) z = omega (arith, sum_by-cons f x xs, le_sum f xs j z)
 
 -- where one place has the whole sum, each other has nothing of it
-zero_elsewhere : (f : Option Doing → ℕ) (xs : List (Option Doing)) (i j : ℕ) → f None ≡ 0 → sum_by f xs ≡ f (slice_index_or xs i None) → (i == j) ≡ false → f (slice_index_or xs j None) ≡ 0
+zero_elsewhere : (f : Option Doing → ℕ) (xs : List (Option Doing)) (i j : ℕ) → f None ≡ 0 →
+    sum_by f xs ≡ f (slice_index_or xs i None) → (i == j) ≡ false → f (slice_index_or xs j None) ≡ 0
 zero_elsewhere f [] i j z h n = z
 zero_elsewhere f (x ∷ xs) zero zero z h n = cc
 zero_elsewhere f (x ∷ xs) zero (suc j) z h n = omega (arith, sum_by-cons f x xs, le_sum f xs j z)
 zero_elsewhere f (x ∷ xs) (suc i) zero z h n = omega (arith, sum_by-cons f x xs, le_sum f xs i z)
-zero_elsewhere f (x ∷ xs) (suc i) (suc j) z h n = zero_elsewhere f xs i j z (omega (arith, sum_by-cons f x xs, le_sum f xs i z)) (grind arith)
+zero_elsewhere f (x ∷ xs) (suc i) (suc j) z h n =
+    zero_elsewhere f xs i j z (omega (arith, sum_by-cons f x xs, le_sum f xs i z)) (grind arith)
 
-quiet-fits : (limits : Bounds) (k w k' w' : ℕ) (content content' items items' : List ℕ) (job : Job) (place : Place) → length content' ≡ length content → read_by place ≡ 0 → written_by place ≡ 0 → (k' ≡ k + 1) ⊎ ((w ≡ 1) × (k' ≡ k)) → Fits limits k w content items job place → Fits limits k' w' content' items' job place
+quiet-fits : (limits : Bounds) (k w k' w' : ℕ) (content content' items items' : List ℕ) (job : Job)
+    (place : Place) → length content' ≡ length content → read_by place ≡ 0 → written_by place ≡ 0 →
+    (k' ≡ k + 1) ⊎ ((w ≡ 1) × (k' ≡ k)) → Fits limits k w content items job place →
+    Fits limits k' w' content' items' job place
 quiet-fits limits k w k' w' content content' items items' job Glancing l r s e h = h
-quiet-fits limits k w k' w' content content' items items' job (Copying first loaded) l r s e h = (h.0, grind (arith, h.1, e), omega (arith, h.2), λ q. absurd (elim e [ inl p ↦ omega (arith, h.1) | inr p ↦ late p q ]))
+quiet-fits limits k w k' w' content content' items items' job (Copying first loaded) l r s e h = (
+  h.0,
+  grind (arith, h.1, e),
+  omega (arith, h.2),
+  λ q. absurd (elim e [ inl p ↦ omega (arith, h.1) | inr p ↦ late p q ]),
+)
   where
     late : (w ≡ 1) × (k' ≡ k) → (counts_at limits first).write_count ≡ k' → ⊥
     late p q = let z = h.3 (q ∙ p.1) in omega (arith, p.0, z.0)
 quiet-fits limits k w k' w' content content' items items' job (Locking ToShare seen) l r s e h = tt
-quiet-fits limits k w k' w' content content' items items' job (Locking (ToLeave t loaded) seen) l r s e h = absurd (omega arith)
-quiet-fits limits k w k' w' content content' items items' job (Locking (ToRefuse t) seen) l r s e h = absurd (omega arith)
-quiet-fits limits k w k' w' content content' items items' job (Locking (ToUpgrade t) seen) l r s e h = absurd (omega arith)
-quiet-fits limits k w k' w' content content' items items' job (Locking (ToRetreat t) seen) l r s e h = absurd (omega arith)
+quiet-fits limits k w k' w' content content' items items' job (Locking (ToLeave t loaded) seen) l r
+    s e h = absurd (omega arith)
+quiet-fits limits k w k' w' content content' items items' job (Locking (ToRefuse t) seen) l r s e
+    h = absurd (omega arith)
+quiet-fits limits k w k' w' content content' items items' job (Locking (ToUpgrade t) seen) l r s e
+    h = absurd (omega arith)
+quiet-fits limits k w k' w' content content' items items' job (Locking (ToRetreat t) seen) l r s e
+    h = absurd (omega arith)
 quiet-fits limits k w k' w' content content' items items' job (Locking ToClaim seen) l r s e h = h
-quiet-fits limits k w k' w' content content' items items' job (Reading t loaded) l r s e h = absurd (omega arith)
-quiet-fits limits k w k' w' content content' items items' job (Checking t loaded) l r s e h = absurd (omega arith)
-quiet-fits limits k w k' w' content content' items items' job (Storing t i) l r s e h = absurd (omega arith)
-quiet-fits limits k w k' w' content content' items items' job (Releasing t a) l r s e h = absurd (omega arith)
+quiet-fits limits k w k' w' content content' items items' job (Reading t loaded) l r s e h =
+    absurd (omega arith)
+quiet-fits limits k w k' w' content content' items items' job (Checking t loaded) l r s e h =
+    absurd (omega arith)
+quiet-fits limits k w k' w' content content' items items' job (Storing t i) l r s e h =
+    absurd (omega arith)
+quiet-fits limits k w k' w' content content' items items' job (Releasing t a) l r s e h =
+    absurd (omega arith)
 
-quiet-fits_in : (limits : Bounds) (k w k' w' : ℕ) (content content' items items' : List ℕ) (d : Option Doing) → length content' ≡ length content → read_in d ≡ 0 → written_in d ≡ 0 → (k' ≡ k + 1) ⊎ ((w ≡ 1) × (k' ≡ k)) → FitsIn limits k w content items d → FitsIn limits k' w' content' items' d
+quiet-fits_in : (limits : Bounds) (k w k' w' : ℕ) (content content' items items' : List ℕ)
+    (d : Option Doing) → length content' ≡ length content → read_in d ≡ 0 → written_in d ≡ 0 →
+    (k' ≡ k + 1) ⊎ ((w ≡ 1) × (k' ≡ k)) → FitsIn limits k w content items d →
+    FitsIn limits k' w' content' items' d
 quiet-fits_in limits k w k' w' content content' items items' None l r s e h = tt
-quiet-fits_in limits k w k' w' content content' items items' (Some d) l r s e h = (rw l h.0, rw l h.1, quiet-fits limits k w k' w' content content' items items' d.job d.place l r s e h.2)
+quiet-fits_in limits k w k' w' content content' items items' (Some d) l r s e h = (
+  rw l h.0,
+  rw l h.1,
+  quiet-fits limits k w k' w' content content' items items' d.job d.place l r
+      s e h.2,
+)
 
-same-fits_in : (limits : Bounds) (k w k' w' : ℕ) (content content' items items' : List ℕ) (d : Option Doing) → (k' ≡ k) × (w' ≡ w) × (content' ≡ content) × (items' ≡ items) → FitsIn limits k w content items d → FitsIn limits k' w' content' items' d
+same-fits_in : (limits : Bounds) (k w k' w' : ℕ) (content content' items items' : List ℕ)
+    (d : Option Doing) → (k' ≡ k) × (w' ≡ w) × (content' ≡ content) × (items' ≡ items) →
+    FitsIn limits k w content items d → FitsIn limits k' w' content' items' d
 same-fits_in limits k w k' w' content content' items items' d e h = rw (e.0, e.1, e.2, e.3) h
 
-at_set_same : (xs : List (Option Doing)) (i : ℕ) (v : Option Doing) → i < length xs → slice_index_or (slice_set xs i v) i None ≡ v
+at_set_same : (xs : List (Option Doing)) (i : ℕ) (v : Option Doing) → i < length xs →
+    slice_index_or (slice_set xs i v) i None ≡ v
 at_set_same [] i v h = absurd (omega arith)
 at_set_same (x ∷ xs) zero v h = refl
 at_set_same (x ∷ xs) (suc i) v h = at_set_same xs i v (omega arith)
 
-at_set_other : (xs : List (Option Doing)) (i j : ℕ) (v : Option Doing) → (i == j) ≡ false → slice_index_or (slice_set xs i v) j None ≡ slice_index_or xs j None
+at_set_other : (xs : List (Option Doing)) (i j : ℕ) (v : Option Doing) → (i == j) ≡ false →
+    slice_index_or (slice_set xs i v) j None ≡ slice_index_or xs j None
 at_set_other [] i j v n = refl
 at_set_other (x ∷ xs) zero zero v n = cc
 at_set_other (x ∷ xs) zero (suc j) v n = refl
@@ -59,7 +94,13 @@ at_set_other (x ∷ xs) (suc i) zero v n = refl
 at_set_other (x ∷ xs) (suc i) (suc j) v n = at_set_other xs i j v (grind arith)
 
 -- one access keeps what holds of the record
-pub moved-kept : (limits : Bounds) (lock : ℕ) (items content : List ℕ) (doing : List (Option Doing)) (t : ℕ) (before : Place) (lock' : ℕ) (items' content' : List ℕ) (now : Option Doing) → RecordKept limits lock items content doing → t < length doing → read_in (slice_index_or doing t None) ≡ read_by before → written_in (slice_index_or doing t None) ≡ written_by before → Moved limits before lock items content lock' items' content' now → RecordKept limits lock' items' content' (slice_set doing t now)
+pub moved-kept : (limits : Bounds) (lock : ℕ) (items content : List ℕ) (doing : List (Option Doing))
+    (t : ℕ) (before : Place) (lock' : ℕ) (items' content' : List ℕ) (now : Option Doing) →
+    RecordKept limits lock items content doing → t < length doing →
+    read_in (slice_index_or doing t None) ≡ read_by before →
+    written_in (slice_index_or doing t None) ≡ written_by before →
+    Moved limits before lock items content lock' items' content' now →
+    RecordKept limits lock' items' content' (slice_set doing t now)
 moved-kept limits lock items content doing t before lock' items' content' now k h r w m =
     record {
       admitted = m.admitted;
@@ -70,14 +111,20 @@ moved-kept limits lock items content doing t before lock' items' content' now k 
       fits = λ j. go j (t == j) refl;
     }
   where
-    others : (j : ℕ) → (t == j) ≡ false → SameFor limits lock items content lock' items' content' ⊎ AloneFor limits before lock lock' → FitsIn limits (counts_at limits lock').write_count (counts_at limits lock').writers content' items' (slice_index_or doing j None)
+    others : (j : ℕ) → (t == j) ≡ false → SameFor limits lock items content lock' items' content'
+        ⊎ AloneFor limits before lock lock' →
+        FitsIn limits (counts_at limits lock').write_count (counts_at limits lock').writers content'
+        items' (slice_index_or doing j None)
     others j n (inl e) = same-fits_in limits _ _ _ _ content content' items items' _ e (k.fits j)
     others j n (inr e) =
-        quiet-fits_in limits (counts_at limits lock).write_count (counts_at limits lock).writers _ _ content content' items items' _ m.same_width
+        quiet-fits_in limits (counts_at limits lock).write_count (counts_at limits lock).writers _ _
+        content content' items items' _ m.same_width
         (zero_elsewhere read_in doing t j refl (k.readers ∙ e.1 ∙ sym r) n)
         (zero_elsewhere written_in doing t j refl (k.writers ∙ e.0 ∙ sym w) n)
         e.2 (k.fits j)
 
-    go : (j : ℕ) (b : Bool) → (t == j) ≡ b → FitsIn limits (counts_at limits lock').write_count (counts_at limits lock').writers content' items' (slice_index_or (slice_set doing t now) j None)
+    go : (j : ℕ) (b : Bool) → (t == j) ≡ b →
+        FitsIn limits (counts_at limits lock').write_count (counts_at limits lock').writers content'
+        items' (slice_index_or (slice_set doing t now) j None)
     go j true q = let same : j ≡ t = grind (arith, q) in rw (same, at_set_same doing t now h) m.fits
     go j false q = rw (at_set_other doing t j now q) (others j q m.effect)

@@ -1,5 +1,6 @@
 -- What a run keeps to, after a step.
-use Rattle.std.proofs.Common.{◌≡◌, ℕ, ◌+◌, ◌<◌, List, [], ◌∷◌, ◌++◌, length, sym, ◌∙◌, ap, subst, arith, inr}
+use Rattle.std.proofs.Common.{◌≡◌, ℕ, ◌+◌, ◌<◌, List, [], ◌∷◌, ◌++◌, length, sym, ◌∙◌, ap, subst}
+use Rattle.std.proofs.Common.{arith, inr}
 use Rattle.std.specs.Prelude.{slice_index}
 use Rattle.std.proofs.Common.{get_or}
 use Rattle.std.proofs.lemmas.List.{length-append}
@@ -24,37 +25,72 @@ run-kept r h = rw h.world (always-kept r.script.now r.steps.items h.sound h.few)
 same_world : (old new : State) (n : ℕ) → SameState old new → world_at new n ≡ world_at old n
 same_world old new n s = simp (s.words, s.begun, s.entries)
 
-pub world-more : (plan : Scripted) (old mid new : State) (names names' : List ℕ) (t : ℕ) → world_at old (length names) ≡ execution_of plan names → SameState old mid → world_at new (length names + 1) ≡ step plan (world_at mid (length names)) t → names' ≡ names ++ t ∷ [] → world_at new (length names') ≡ execution_of plan names'
+pub world-more : (plan : Scripted) (old mid new : State) (names names' : List ℕ) (t : ℕ) →
+    world_at old (length names) ≡ execution_of plan names → SameState old mid →
+    world_at new (length names + 1) ≡ step plan (world_at mid (length names)) t →
+    names' ≡ names ++ t ∷ [] → world_at new (length names') ≡ execution_of plan names'
 world-more plan old mid new names names' t w s n e =
-    rw (e, length-append) (n ∙ ap (λ x. step plan x t) (same_world old mid (length names) s ∙ w) ∙ sym (execution_of-more plan names t))
+    rw (e, length-append) (n ∙ ap (λ x. step plan x t) (same_world old mid (length names) s ∙ w)
+    ∙ sym (execution_of-more plan names t))
 
-pub same-kept : (plan : Scripted) (old mid : State) (n : ℕ) → SameState old mid → Kept plan (world_at old n) → Kept plan (world_at mid n)
+pub same-kept : (plan : Scripted) (old mid : State) (n : ℕ) → SameState old mid →
+    Kept plan (world_at old n) → Kept plan (world_at mid n)
 same-kept plan old mid n s k = rw (same_world old mid n s) k
 
 pub run-memory : (r : Inside) → IsAt r → 0 < length r.state.words.items
 run-memory r h = let k = run-kept r h in omega (arith, k.memory)
 
-pub run-in-order : (r : Inside) → IsAt r → InOrder r.script.now (world_at r.state (length r.steps.items))
+pub run-in-order : (r : Inside) → IsAt r →
+    InOrder r.script.now (world_at r.state (length r.steps.items))
 run-in-order r h = rw h.world (always-in-order r.script.now r.steps.items h.sound h.few)
 
-pub run-recorded : (r : Inside) → IsAt r → IsRecorded (record { limits = r.script.now.limits; width = r.script.now.width; entries = r.state.entries.items; report = [] })
+pub run-recorded : (r : Inside) → IsAt r →
+    IsRecorded (record {
+      limits = r.script.now.limits;
+      width = r.script.now.width;
+      entries = r.state.entries.items;
+      report = [];
+    })
 run-recorded r h =
-    let same : (execution_of r.script.now r.steps.items).entries ≡ r.state.entries.items = ap (λ (w : World). w.entries) (sym h.world) in
+    let same : (execution_of r.script.now r.steps.items).entries ≡ r.state.entries.items =
+    ap (λ (w : World). w.entries) (sym h.world) in
     rw (← same) (completed-recorded r.script.now r.steps.items h.sound)
 
-pub run-reported : (r : Inside) → IsAt r → (report : List (ℕ × ℕ)) → length report ≡ length (completed_calls r.script.now r.steps.items) → IsRecorded (record { limits = r.script.now.limits; width = r.script.now.width; entries = r.state.entries.items; report = report })
+pub run-reported : (r : Inside) → IsAt r → (report : List (ℕ × ℕ)) →
+    length report ≡ length (completed_calls r.script.now r.steps.items) →
+    IsRecorded (record {
+      limits = r.script.now.limits;
+      width = r.script.now.width;
+      entries = r.state.entries.items;
+      report = report;
+    })
 run-reported r h report each =
-    let same : completed_calls r.script.now r.steps.items ≡ r.state.entries.items = ap (λ (w : World). w.entries) (sym h.world) in
+    let same : completed_calls r.script.now r.steps.items ≡ r.state.entries.items =
+    ap (λ (w : World). w.entries) (sym h.world) in
     let known = run-recorded r h in
-    record { width = known.width; entries = known.entries; report = inr (each ∙ ap length same); suit = known.suit }
+    record {
+      width = known.width;
+      entries = known.entries;
+      report = inr (each ∙ ap length same);
+      suit = known.suit;
+    }
 
 -- the word as it stands represents what the names so far have finished
-pub run-represented : (r : Inside) → IsAt r → Represents r.script.now.limits (word_at r.script.now.limits (slice_index r.state.words.items 0)) (events_of r.script.now.limits (history_of (completed_calls r.script.now r.steps.items)))
+pub run-represented : (r : Inside) → IsAt r →
+    Represents r.script.now.limits (word_at r.script.now.limits (slice_index r.state.words.items 0))
+    (events_of r.script.now.limits (history_of (completed_calls r.script.now r.steps.items)))
 run-represented r h =
-    subst (λ (w : World). Represents r.script.now.limits (word_at r.script.now.limits (slice_index r.state.words.items 0)) (events_of r.script.now.limits (history_of w.entries))) h.world (run-kept r h).represented
+    subst (λ (w : World). Represents r.script.now.limits
+    (word_at r.script.now.limits (slice_index r.state.words.items 0))
+    (events_of r.script.now.limits (history_of w.entries))) h.world (run-kept r h).represented
 
-pub run-admitted : (r : Inside) → IsAt r → IsAdmitted r.script.now.limits (word_at r.script.now.limits (slice_index r.state.words.items 0))
-run-admitted r h = record { events = events_in r.script.now (world_at r.state (length r.steps.items)); represented = (run-kept r h).represented }
+pub run-admitted : (r : Inside) → IsAt r →
+    IsAdmitted r.script.now.limits (word_at r.script.now.limits (slice_index r.state.words.items 0))
+run-admitted r h =
+    record {
+      events = events_in r.script.now (world_at r.state (length r.steps.items));
+      represented = (run-kept r h).represented;
+    }
 
 pub first-word : (xs : List ℕ) (r : ℕ) → 0 < length xs → r ≡ get_or xs 0 r → r ≡ slice_index xs 0
 first-word [] r h e = absurd (omega arith)

@@ -11,19 +11,24 @@ use Rattle.stamp_machines.specs.declared.script.Script.TheInside.{Inside}
 use Rattle.stamp_core.specs.Limits.{AreInRange}
 use Rattle.stamp_machines.specs.ScriptFault.{calls_in, AreSuited, AreShort}
 
-pub suited-calls : (width : ℕ) (threads : List (Vec ScriptCall Global)) → AreSuited width threads → All (λ (calls : List ScriptCall). All (Suits width) calls) (map calls_in threads)
+pub suited-calls : (width : ℕ) (threads : List (Vec ScriptCall Global)) → AreSuited width threads →
+    All (λ (calls : List ScriptCall). All (Suits width) calls) (map calls_in threads)
 suited-calls width [] h = All-nil (λ (calls : List ScriptCall). All (Suits width) calls)
 suited-calls width (v ∷ threads) h =
-    All-cons (λ (calls : List ScriptCall). All (Suits width) calls) (calls_in v) (map calls_in threads)
+    All-cons (λ (calls : List ScriptCall). All (Suits width) calls) (calls_in v)
+    (map calls_in threads)
     (All-head (λ (calls : Vec ScriptCall Global). All (Suits width) calls.items) v threads h)
-    (suited-calls width threads (All-tail (λ (calls : Vec ScriptCall Global). All (Suits width) calls.items) v threads h))
+    (suited-calls width threads
+    (All-tail (λ (calls : Vec ScriptCall Global). All (Suits width) calls.items) v threads h))
 
-pub short-calls : (threads : List (Vec ScriptCall Global)) → AreShort threads → All (λ (calls : List ScriptCall). length calls ≤ 10000) (map calls_in threads)
+pub short-calls : (threads : List (Vec ScriptCall Global)) → AreShort threads →
+    All (λ (calls : List ScriptCall). length calls ≤ 10000) (map calls_in threads)
 short-calls [] h = All-nil (λ (calls : List ScriptCall). length calls ≤ 10000)
 short-calls (v ∷ threads) h =
     All-cons (λ (calls : List ScriptCall). length calls ≤ 10000) (calls_in v) (map calls_in threads)
     (All-head (λ (calls : Vec ScriptCall Global). length calls.items ≤ 10000) v threads h)
-    (short-calls threads (All-tail (λ (calls : Vec ScriptCall Global). length calls.items ≤ 10000) v threads h))
+    (short-calls threads
+    (All-tail (λ (calls : Vec ScriptCall Global). length calls.items ≤ 10000) v threads h))
 
 pub sound : (s : Inside) → AreInRange s.limits → IsWithin s → IsSound (scripted_of s)
 sound s range within = record {

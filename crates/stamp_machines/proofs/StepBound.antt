@@ -1,8 +1,12 @@
 -- How many steps a call makes that never waits.
-use Rattle.std.proofs.Common.{◌≡◌, ◌≢◌, ℕ, ◌+◌, ◌<◌, ◌≤◌, ◌==◌, Bool, true, false, List, [], ◌∷◌, ◌++◌, length, take, drop, Option, Some, None, refl, sym, ◌∙◌, ap, subst, arith, ⊎_elim, if◌then◌else◌, append_assoc}
-use Rattle.std.specs.Prelude.{not, All, count_by, fold, slice_index, slice_index_or, slice_set, slice_get}
+use Rattle.std.proofs.Common.{◌≡◌, ◌≢◌, ℕ, ◌+◌, ◌<◌, ◌≤◌, ◌==◌, Bool, true, false, List, [], ◌∷◌}
+use Rattle.std.proofs.Common.{◌++◌, length, take, drop, Option, Some, None, refl, sym, ◌∙◌, ap}
+use Rattle.std.proofs.Common.{subst, arith, ⊎_elim, if◌then◌else◌, append_assoc}
+use Rattle.std.specs.Prelude.{not, All, count_by, fold, slice_index, slice_index_or, slice_set}
+use Rattle.std.specs.Prelude.{slice_get}
 use Rattle.std.proofs.lemmas.Grind.{fold-append}
-use Rattle.std.proofs.lemmas.List.{length-append, take-append-drop, take-append-le, drop-append-le, drop_all, append-nil}
+use Rattle.std.proofs.lemmas.List.{length-append, take-append-drop, take-append-le, drop-append-le}
+use Rattle.std.proofs.lemmas.List.{drop_all, append-nil}
 use Rattle.std.proofs.lemmas.List.Sums.{sum_by-append}
 use Rattle.std.proofs.lemmas.List.Elements.{All-push, All-nil}
 use Rattle.std.proofs.Math.Seq.{take-length}
@@ -17,11 +21,16 @@ use Rattle.stamp_core.specs.declared.decision.Decision.{Decision}
 use Rattle.stamp_core.specs.declared.decision.Decision.TheVariants.{Answer, Change, Wait}
 use Rattle.stamp_core.proofs.Deciding.{only_locking_waits}
 use Rattle.stamp_machines.specs.LockNumber.{IsAdmittedAt}
-use Rattle.stamp_machines.specs.LockPhase.{PhaseTurn, Still, Ended, judged, tried, phase_after, phase_next}
+use Rattle.stamp_machines.specs.LockPhase.{PhaseTurn, Still, Ended, judged, tried, phase_after}
+use Rattle.stamp_machines.specs.LockPhase.{phase_next}
 use Rattle.stamp_machines.specs.MachineState.{Phase, OnLock, OnRecord, start, first_phase}
 use Rattle.stamp_machines.specs.Script.{Scripted, IsSound, calls_of}
-use Rattle.stamp_machines.specs.World.{World, current, current_of, begin, shape_of, stamps_of, call_of, landed, stepped, step, entry_of, execution_of, completed_calls}
-use Rattle.stamp_machines.specs.Interference.{lock_word, interferes, changes_by_others, own_since, changes_since, own_steps, interference, NeverWaits, StepsBoundedAlways}
+use Rattle.stamp_machines.specs.World.{World, current, current_of, begin, shape_of, stamps_of}
+use Rattle.stamp_machines.specs.World.{call_of, landed, stepped, step, entry_of, execution_of}
+use Rattle.stamp_machines.specs.World.{completed_calls}
+use Rattle.stamp_machines.specs.Interference.{lock_word, interferes, changes_by_others, own_since}
+use Rattle.stamp_machines.specs.Interference.{changes_since, own_steps, interference, NeverWaits}
+use Rattle.stamp_machines.specs.Interference.{StepsBoundedAlways}
 use Rattle.stamp_machines.specs.declared.script.ScriptCall.{ScriptCall}
 use Rattle.stamp_machines.specs.declared.shape.Shape.{Shape}
 use Rattle.stamp_machines.specs.declared.state.Begun.{Begun}
@@ -29,7 +38,8 @@ use Rattle.stamp_machines.specs.declared.machine.Turn.{Turn}
 use Rattle.stamp_machines.specs.declared.machine.Turn.TheVariants.{Going, Done}
 use Rattle.stamp_machines.specs.Access.{words_after, seen_by}
 use Rattle.stamp_machines.specs.Job.{job_in}
-use Rattle.stamp_machines.specs.LocalAccess.{LocalAccess, LoadLock, CasLock, LoadItem, StoreItem, with_lock, lock_after, local_seen}
+use Rattle.stamp_machines.specs.LocalAccess.{LocalAccess, LoadLock, CasLock, LoadItem, StoreItem}
+use Rattle.stamp_machines.specs.LocalAccess.{with_lock, lock_after, local_seen}
 use Rattle.stamp_machines.specs.Machine.{next_access, after_access, lock_turn}
 use Rattle.stamp_machines.specs.Kept.{Kept, IsOf, events_in, job_at}
 use Rattle.stamp_machines.proofs.LockCallSteps.{decided}
@@ -38,7 +48,8 @@ use Rattle.stamp_machines.proofs.LockPhaseSteps.{PhaseLanded, phase-landed}
 use Rattle.stamp_machines.proofs.CommonWords.{IsToLock, lock-moves, phase-to_lock}
 use Rattle.stamp_machines.proofs.EntryOrder.{each_slot, slot_none}
 use Rattle.stamp_machines.proofs.EntryCount.{IsStillOf, after_same}
-use Rattle.stamp_machines.proofs.StepsKeep.{execution-position, execution_of-more, always-kept, current-of}
+use Rattle.stamp_machines.proofs.StepsKeep.{execution-position, execution_of-more, always-kept}
+use Rattle.stamp_machines.proofs.StepsKeep.{current-of}
 
 -- the word that was seen is one that the call changes
 abbrev pub IsChange : Decision → Type 0
@@ -46,48 +57,68 @@ IsChange (Answer r) = ⊥
 IsChange (Change new r) = Unit {0}
 IsChange Wait = ⊥
 
--- own steps and others' changes since the call began: one step more than changes, and no more than those where the word is not the one seen last
+-- own steps and others' changes since the call began: one step more than changes, and no more than
+-- those where the word is not the one seen last
 abbrev pub BoundedPhase : Bounds → Call → ℕ → ℕ → ℕ → Phase → Type 0
 BoundedPhase limits call word own changes (OnLock None) = own ≡ 0
-BoundedPhase limits call word own changes (OnLock (Some w)) = (own ≤ changes + 1) × (word ≢ w → own ≤ changes) × IsChange (decision limits w call)
+BoundedPhase limits call word own changes (OnLock (Some w)) =
+    (own ≤ changes + 1) × (word ≢ w → own ≤ changes) × IsChange (decision limits w call)
 BoundedPhase limits call word own changes (OnRecord job place) = Unit {0}
 
 -- the same once the access is made
 abbrev pub BoundedTurn : Bounds → Call → ℕ → ℕ → ℕ → PhaseTurn → Type 0
-BoundedTurn limits call word own changes (Still seen) = BoundedPhase limits call word own changes (OnLock seen)
+BoundedTurn limits call word own changes (Still seen) =
+    BoundedPhase limits call word own changes (OnLock seen)
 BoundedTurn limits call word own changes (Ended r) = own ≤ changes + 2
 
-never_waits : (limits : Bounds) (call : Call) (word : ℕ) → AreInRange limits → IsAdmittedAt limits word → NeverWaits call → decision limits word call ≡ Wait → ⊥
+never_waits : (limits : Bounds) (call : Call) (word : ℕ) → AreInRange limits →
+    IsAdmittedAt limits word → NeverWaits call → decision limits word call ≡ Wait → ⊥
 never_waits limits call word range a never waits =
-    let none : Decides limits (word_at limits word) call Wait = decided limits call word Wait range waits in
-    ⊎_elim never.no_write_lock never.no_read_lock (only_locking_waits limits a.events call never.lock (none a.events a.represented))
+    let none : Decides limits (word_at limits word) call Wait =
+    decided limits call word Wait range waits in
+    ⊎_elim never.no_write_lock never.no_read_lock
+    (only_locking_waits limits a.events call never.lock (none a.events a.represented))
 
-judged-bound : (limits : Bounds) (call : Call) (word own changes : ℕ) (d : Decision) → decision limits word call ≡ d → (d ≡ Wait → ⊥) → own ≤ changes + 1 → BoundedTurn limits call word own changes (judged word d)
+judged-bound : (limits : Bounds) (call : Call) (word own changes : ℕ) (d : Decision) →
+    decision limits word call ≡ d → (d ≡ Wait → ⊥) → own ≤ changes + 1 →
+    BoundedTurn limits call word own changes (judged word d)
 judged-bound limits call word own changes (Answer r) e n h = omega (arith, h)
 judged-bound limits call word own changes (Change new r) e n h = (h, λ q. absurd (q refl), rw e tt)
 judged-bound limits call word own changes Wait e n h = absurd (n refl)
 
 -- a step of one's own
-pub own-bound : (limits : Bounds) (call : Call) (word own changes : ℕ) (seen : Option ℕ) → (decision limits word call ≡ Wait → ⊥) → BoundedPhase limits call word own changes (OnLock seen) → BoundedTurn limits call word (own + 1) changes (phase_after limits call seen word)
-own-bound limits call word own changes None n b = judged-bound limits call word (own + 1) changes (decision limits word call) refl n (omega (arith, b))
-own-bound limits call word own changes (Some old) n b = on (decision limits old call) b.2 (word == old) refl
+pub own-bound : (limits : Bounds) (call : Call) (word own changes : ℕ) (seen : Option ℕ) →
+    (decision limits word call ≡ Wait → ⊥) →
+    BoundedPhase limits call word own changes (OnLock seen) →
+    BoundedTurn limits call word (own + 1) changes (phase_after limits call seen word)
+own-bound limits call word own changes None n b =
+    judged-bound limits call word (own + 1) changes (decision limits word call) refl n
+    (omega (arith, b))
+own-bound limits call word own changes (Some old) n b =
+    on (decision limits old call) b.2 (word == old) refl
   where
     lost : (word == old) ≡ false → own ≤ changes
     lost q = b.1 (λ e. absurd (grind (arith, q, e)))
 
-    on : (d : Decision) → IsChange d → (x : Bool) → (word == old) ≡ x → BoundedTurn limits call word (own + 1) changes (tried limits call old word d)
+    on : (d : Decision) → IsChange d → (x : Bool) → (word == old) ≡ x →
+        BoundedTurn limits call word (own + 1) changes (tried limits call old word d)
     on (Answer r) change x q = absurd change
     on (Change new r) change true q = rw q (let h = b.0 in omega (arith, h))
-    on (Change new r) change false q = rw q (judged-bound limits call word (own + 1) changes (decision limits word call) refl n (let h = lost q in omega (arith, h)))
+    on (Change new r) change false q =
+        rw q (judged-bound limits call word (own + 1) changes (decision limits word call) refl n
+        (let h = lost q in omega (arith, h)))
     on Wait change x q = absurd change
 
 -- a step of another
-pub other-bound : (limits : Bounds) (call : Call) (word now own changes : ℕ) (phase : Phase) → BoundedPhase limits call word own changes phase → BoundedPhase limits call now own (changes + (if not (now == word) then 1 else 0)) phase
+pub other-bound : (limits : Bounds) (call : Call) (word now own changes : ℕ) (phase : Phase) →
+    BoundedPhase limits call word own changes phase →
+    BoundedPhase limits call now own (changes + (if not (now == word) then 1 else 0)) phase
 other-bound limits call word now own changes (OnLock None) b = b
 other-bound limits call word now own changes (OnRecord job place) b = tt
 other-bound limits call word now own changes (OnLock (Some w)) b = on (now == word) refl
   where
-    on : (x : Bool) → (now == word) ≡ x → BoundedPhase limits call now own (changes + (if not x then 1 else 0)) (OnLock (Some w))
+    on : (x : Bool) → (now == word) ≡ x →
+        BoundedPhase limits call now own (changes + (if not x then 1 else 0)) (OnLock (Some w))
     on true q =
         let same : now ≡ word = grind (arith, q) in
         let h = b.0 in
@@ -95,39 +126,64 @@ other-bound limits call word now own changes (OnLock (Some w)) b = on (now == wo
     on false q = let h = b.0 in (omega (arith, h), λ apart. omega (arith, h), b.2)
 
 -- the steps since a position, with one more
-pub own_since-more : (names : List ℕ) (n t first : ℕ) → first ≤ length names → own_since (names ++ n ∷ []) t first ≡ own_since names t first + (if n == t then 1 else 0)
-own_since-more names n t first within = rw (drop-append-le first names (n ∷ []) within) (by (n == t) refl)
+pub own_since-more : (names : List ℕ) (n t first : ℕ) → first ≤ length names →
+    own_since (names ++ n ∷ []) t first ≡ own_since names t first + (if n == t then 1 else 0)
+own_since-more names n t first within =
+    rw (drop-append-le first names (n ∷ []) within) (by (n == t) refl)
   where
-    split : count_by (λ name. name == t) (drop first names ++ n ∷ []) ≡ count_by (λ name. name == t) (drop first names) + count_by (λ name. name == t) (n ∷ [])
+    split : count_by (λ name. name == t) (drop first names ++ n ∷ [])
+        ≡ count_by (λ name. name == t) (drop first names) + count_by (λ name. name == t) (n ∷ [])
     split = sum_by-append _ (drop first names) (n ∷ [])
 
-    by : (b : Bool) → (n == t) ≡ b → count_by (λ name. name == t) (drop first names ++ n ∷ []) ≡ own_since names t first + (if b then 1 else 0)
+    by : (b : Bool) → (n == t) ≡ b →
+        count_by (λ name. name == t) (drop first names ++ n ∷ []) ≡ own_since names t first
+        + (if b then 1 else 0)
     by true e = grind (arith, split, e)
     by false e = grind (arith, split, e)
 
-changes-append : (plan : Scripted) (t : ℕ) (world : World) (names : List ℕ) (n : ℕ) → changes_by_others plan t world (names ++ n ∷ []) ≡ changes_by_others plan t world names + (if interferes plan t (fold (step plan) world names) n then 1 else 0)
+changes-append : (plan : Scripted) (t : ℕ) (world : World) (names : List ℕ) (n : ℕ) →
+    changes_by_others plan t world (names ++ n ∷ []) ≡ changes_by_others plan t world names
+    + (if interferes plan t (fold (step plan) world names) n then 1 else 0)
 changes-append plan t world [] n = omega arith
-changes-append plan t world (x ∷ names) n = let rest = changes-append plan t (step plan world x) names n in omega (arith, rest)
+changes-append plan t world (x ∷ names) n = let rest =
+    changes-append plan t (step plan world x) names n in omega (arith, rest)
 
-pub execution-rest : (plan : Scripted) (names : List ℕ) (first : ℕ) → fold (step plan) (execution_of plan (take first names)) (drop first names) ≡ execution_of plan names
+pub execution-rest : (plan : Scripted) (names : List ℕ) (first : ℕ) →
+    fold (step plan) (execution_of plan (take first names)) (drop first names)
+    ≡ execution_of plan names
 unfolding execution_of
-execution-rest plan names first = sym (fold-append (step plan) _ (take first names) (drop first names)) ∙ ap (λ (xs : List ℕ). fold (step plan) _ xs) (take-append-drop first names)
+execution-rest plan names first =
+    sym (fold-append (step plan) _ (take first names) (drop first names))
+    ∙ ap (λ (xs : List ℕ). fold (step plan) _ xs) (take-append-drop first names)
 
-pub changes_since-more : (plan : Scripted) (names : List ℕ) (n t first : ℕ) → first ≤ length names → changes_since plan (names ++ n ∷ []) t first ≡ changes_since plan names t first + (if interferes plan t (execution_of plan names) n then 1 else 0)
+pub changes_since-more : (plan : Scripted) (names : List ℕ) (n t first : ℕ) → first ≤ length names →
+    changes_since plan (names ++ n ∷ []) t first ≡ changes_since plan names t first
+    + (if interferes plan t (execution_of plan names) n then 1 else 0)
 changes_since-more plan names n t first within =
-    rw (drop-append-le first names (n ∷ []) within, take-append-le first names (n ∷ []) within, ← execution-rest plan names first)
+    rw (
+      drop-append-le first names (n ∷ []) within,
+      take-append-le first names (n ∷ []) within,
+      ← execution-rest plan names first,
+    )
     (changes-append plan t (execution_of plan (take first names)) (drop first names) n)
 
 -- a call that has begun, and an entry
 abbrev pub BoundedSlot : Scripted → List ℕ → ℕ → Option Begun → Type 0
 BoundedSlot plan names t None = Unit {0}
-BoundedSlot plan names t (Some b) = (b.first ≤ length names) × (NeverWaits b.machine.call → BoundedPhase plan.limits b.machine.call (lock_word (execution_of plan names)) (own_since names t b.first) (changes_since plan names t b.first) b.machine.phase)
+BoundedSlot plan names t (Some b) =
+    (b.first ≤ length names)
+    × (NeverWaits b.machine.call →
+    BoundedPhase plan.limits b.machine.call (lock_word (execution_of plan names))
+    (own_since names t b.first) (changes_since plan names t b.first) b.machine.phase)
 
 abbrev pub BoundedEntry : Scripted → List ℕ → Entry → Type 0
-BoundedEntry plan names e = (e.first ≤ e.last) × (e.last < length names) × (NeverWaits e.call → own_steps names e ≤ interference plan names e + 2)
+BoundedEntry plan names e =
+    (e.first ≤ e.last) × (e.last < length names)
+    × (NeverWaits e.call → own_steps names e ≤ interference plan names e + 2)
 
 pub record AreBounded (plan : Scripted) (names : List ℕ) : Type 0 where
-  pub slots : (t : ℕ) → BoundedSlot plan names t (slice_index_or (execution_of plan names).begun t None)
+  pub slots : (t : ℕ) →
+      BoundedSlot plan names t (slice_index_or (execution_of plan names).begun t None)
   pub entries : All (BoundedEntry plan names) (completed_calls plan names)
 
 pub one_more : (names : List ℕ) (n : ℕ) → length (names ++ n ∷ []) ≡ length names + 1
@@ -137,57 +193,93 @@ pub flip : (n k : ℕ) → (k == n) ≡ false → (n == k) ≡ false
 flip n k apart = grind (arith, apart)
 
 -- another thread's step
-other-slot : (plan : Scripted) (names : List ℕ) (n t : ℕ) (slot : Option Begun) → (n == t) ≡ false → BoundedSlot plan names t slot → BoundedSlot plan (names ++ n ∷ []) t slot
+other-slot : (plan : Scripted) (names : List ℕ) (n t : ℕ) (slot : Option Begun) → (n == t) ≡ false →
+    BoundedSlot plan names t slot → BoundedSlot plan (names ++ n ∷ []) t slot
 other-slot plan names n t None e bounded = tt
 other-slot plan names n t (Some b) e bounded =
     let longer = one_more names n in
     let within = bounded.0 in
-    let own : own_since (names ++ n ∷ []) t b.first ≡ own_since names t b.first = own_since-more names n t b.first within ∙ rw e (omega arith) in
-    let changes : changes_since plan (names ++ n ∷ []) t b.first ≡ changes_since plan names t b.first + (if not (lock_word (step plan (execution_of plan names) n) == lock_word (execution_of plan names)) then 1 else 0) = changes_since-more plan names n t b.first within ∙ rw e refl in
-    (omega (arith, longer, within), λ never. rw (own, changes, execution_of-more plan names n) (other-bound plan.limits b.machine.call _ _ _ _ b.machine.phase (bounded.1 never)))
+    let own : own_since (names ++ n ∷ []) t b.first ≡ own_since names t b.first =
+    own_since-more names n t b.first within ∙ rw e (omega arith) in
+    let changes : changes_since plan (names ++ n ∷ []) t b.first
+    ≡ changes_since plan names t b.first
+    + (if not (lock_word (step plan (execution_of plan names) n) == lock_word
+    (execution_of plan names)) then 1 else 0) =
+    changes_since-more plan names n t b.first within ∙ rw e refl in (
+      omega (arith, longer, within),
+      λ never. rw (own, changes, execution_of-more plan names n)
+          (other-bound plan.limits b.machine.call _ _ _ _ b.machine.phase (bounded.1 never)),
+    )
 
-older : (plan : Scripted) (names : List ℕ) (n : ℕ) (e : Entry) → BoundedEntry plan names e → BoundedEntry plan (names ++ n ∷ []) e
+older : (plan : Scripted) (names : List ℕ) (n : ℕ) (e : Entry) → BoundedEntry plan names e →
+    BoundedEntry plan (names ++ n ∷ []) e
 older plan names n e bounded =
     let longer = one_more names n in
     let whole = bounded.0 in
     let ended = bounded.1 in
-    let last : take (e.last + 1) (names ++ n ∷ []) ≡ take (e.last + 1) names = take-append-le (e.last + 1) names (n ∷ []) (omega (arith, ended)) in
-    let first : take e.first (names ++ n ∷ []) ≡ take e.first names = take-append-le e.first names (n ∷ []) (omega (arith, whole, ended)) in
+    let last : take (e.last + 1) (names ++ n ∷ []) ≡ take (e.last + 1) names =
+    take-append-le (e.last + 1) names (n ∷ []) (omega (arith, ended)) in
+    let first : take e.first (names ++ n ∷ []) ≡ take e.first names =
+    take-append-le e.first names (n ∷ []) (omega (arith, whole, ended)) in
     (whole, omega (arith, longer, ended), λ never. rw (last, first) (bounded.2 never))
 
-all-older : (plan : Scripted) (names : List ℕ) (n : ℕ) (entries : List Entry) → All (BoundedEntry plan names) entries → All (BoundedEntry plan (names ++ n ∷ [])) entries
-all-older plan names n entries all = λ k d lt. older plan names n (slice_index_or entries k d) (all k d lt)
+all-older : (plan : Scripted) (names : List ℕ) (n : ℕ) (entries : List Entry) →
+    All (BoundedEntry plan names) entries → All (BoundedEntry plan (names ++ n ∷ [])) entries
+all-older plan names n entries all =
+    λ k d lt. older plan names n (slice_index_or entries k d) (all k d lt)
 
 -- the call that a thread is in
-current-bounded : (plan : Scripted) (names : List ℕ) (n : ℕ) (b : Begun) → AreBounded plan names → current plan (execution_of plan names) n ≡ Some b → BoundedSlot plan names n (Some b)
+current-bounded : (plan : Scripted) (names : List ℕ) (n : ℕ) (b : Begun) → AreBounded plan names →
+    current plan (execution_of plan names) n ≡ Some b → BoundedSlot plan names n (Some b)
 current-bounded plan names n b all = by (slice_index_or (execution_of plan names).begun n None) refl
   where
     here : (execution_of plan names).position ≡ length names
     here = execution-position plan names
 
-    fresh : (call : Call) → NeverWaits call → BoundedPhase plan.limits call (lock_word (execution_of plan names)) (own_since names n (length names)) (changes_since plan names n (length names)) (first_phase (job_in call))
+    fresh : (call : Call) → NeverWaits call →
+        BoundedPhase plan.limits call (lock_word (execution_of plan names))
+        (own_since names n (length names)) (changes_since plan names n (length names))
+        (first_phase (job_in call))
     fresh call never =
         let lock : job_in call ≡ None = lock_none call never.lock in
         let none : drop (length names) names ≡ [] = drop_all (length names) names (omega arith) in
         rw (lock, none) refl
 
-    begins : (c : Option ScriptCall) → begin (shape_of plan) (λ k. stamps_of k (execution_of plan names).entries) (execution_of plan names).position c ≡ Some b → BoundedSlot plan names n (Some b)
+    begins : (c : Option ScriptCall) →
+        begin (shape_of plan) (λ k. stamps_of k (execution_of plan names).entries)
+        (execution_of plan names).position c ≡ Some b → BoundedSlot plan names n (Some b)
     begins None e = cc
     begins (Some c) e =
-        let same : record { machine = start (shape_of plan) (call_of (λ k. stamps_of k (execution_of plan names).entries) c); first = (execution_of plan names).position } ≡ b = cc in
-        subst (λ (x : Begun). BoundedSlot plan names n (Some x)) same (rw here (omega arith, λ never. fresh _ never))
+        let same : record {
+          machine = start (shape_of plan)
+              (call_of (λ k. stamps_of k (execution_of plan names).entries) c);
+          first = (execution_of plan names).position;
+        } ≡ b = cc in
+        subst (λ (x : Begun). BoundedSlot plan names n (Some x)) same
+        (rw here (omega arith, λ never. fresh _ never))
 
-    by : (slot : Option Begun) → slice_index_or (execution_of plan names).begun n None ≡ slot → current_of plan (λ k. stamps_of k (execution_of plan names).entries) (execution_of plan names).position n slot ≡ Some b → BoundedSlot plan names n (Some b)
-    by None at e = begins (slice_get (calls_of plan n) (length (stamps_of n (execution_of plan names).entries))) e
-    by (Some c) at e = let same : c ≡ b = cc in subst (λ (x : Begun). BoundedSlot plan names n (Some x)) same (subst (BoundedSlot plan names n) at (all.slots n))
+    by : (slot : Option Begun) → slice_index_or (execution_of plan names).begun n None ≡ slot →
+        current_of plan (λ k. stamps_of k (execution_of plan names).entries)
+        (execution_of plan names).position n slot ≡ Some b → BoundedSlot plan names n (Some b)
+    by None at e =
+        begins (slice_get (calls_of plan n)
+        (length (stamps_of n (execution_of plan names).entries))) e
+    by (Some c) at e = let same : c ≡ b =
+        cc in subst (λ (x : Begun). BoundedSlot plan names n (Some x)) same
+        (subst (BoundedSlot plan names n) at (all.slots n))
 
 -- what its step leads to
 abbrev pub BoundedMachine : Bounds → Call → ℕ → ℕ → ℕ → Turn → Type 0
-BoundedMachine limits call word own changes (Going m) = BoundedPhase limits call word own changes m.phase
+BoundedMachine limits call word own changes (Going m) =
+    BoundedPhase limits call word own changes m.phase
 BoundedMachine limits call word own changes (Done r) = own ≤ changes + 2
 
-lock-bounded : (limits : Bounds) (shape : Shape) (call : Call) (word now own changes : ℕ) (x : PhaseTurn) → PhaseLanded limits call word now x → BoundedTurn limits call word own changes x → BoundedMachine limits call now own changes (lock_turn shape call x)
-lock-bounded limits shape call word now own changes (Still seen) same bounded = subst (λ (w : ℕ). BoundedPhase limits call w own changes (OnLock seen)) (sym same) bounded
+lock-bounded : (limits : Bounds) (shape : Shape) (call : Call) (word now own changes : ℕ)
+    (x : PhaseTurn) → PhaseLanded limits call word now x →
+    BoundedTurn limits call word own changes x →
+    BoundedMachine limits call now own changes (lock_turn shape call x)
+lock-bounded limits shape call word now own changes (Still seen) same bounded =
+    subst (λ (w : ℕ). BoundedPhase limits call w own changes (OnLock seen)) (sym same) bounded
 lock-bounded limits shape call word now own changes (Ended r) same bounded = bounded
 
 seen-is : (a : LocalAccess) (word : ℕ) → IsToLock a → local_seen a word [] ≡ word
@@ -196,7 +288,14 @@ seen-is (CasLock old new) word h = refl
 seen-is (LoadItem i) word h = absurd h
 seen-is (StoreItem i v) word h = absurd h
 
-turn-bounded : (plan : Scripted) (world : World) (b : Begun) (phase : Phase) (own changes : ℕ) → Kept plan world → IsSound plan → b.machine.shape ≡ shape_of plan → job_in b.machine.call ≡ job_at b.machine.phase → NeverWaits b.machine.call → b.machine.phase ≡ phase → BoundedPhase plan.limits b.machine.call (lock_word world) own changes phase → BoundedMachine plan.limits b.machine.call (slice_index (words_after (next_access b.machine) world.words) 0) (own + 1) changes (after_access b.machine (seen_by (next_access b.machine) world.words))
+turn-bounded : (plan : Scripted) (world : World) (b : Begun) (phase : Phase) (own changes : ℕ) →
+    Kept plan world → IsSound plan → b.machine.shape ≡ shape_of plan →
+    job_in b.machine.call ≡ job_at b.machine.phase → NeverWaits b.machine.call →
+    b.machine.phase ≡ phase →
+    BoundedPhase plan.limits b.machine.call (lock_word world) own changes phase →
+    BoundedMachine plan.limits b.machine.call
+    (slice_index (words_after (next_access b.machine) world.words) 0) (own + 1) changes
+    (after_access b.machine (seen_by (next_access b.machine) world.words))
 turn-bounded plan world b (OnRecord job place) own changes k sound shape kind never at bounded =
     let none : job_in b.machine.call ≡ None = lock_none b.machine.call never.lock in
     let some : job_in b.machine.call ≡ Some job = kind ∙ ap job_at at in
@@ -208,35 +307,64 @@ turn-bounded plan world b (OnLock seen) own changes k sound shape kind never at 
     let word : ℕ = lock_word world in
     let to_lock : IsToLock a = phase-to_lock plan.limits call seen in
     let m = lock-moves world.words plan.width a k.memory to_lock in
-    let admitted : IsAdmittedAt plan.limits word = record { events = events_in plan world; represented = k.represented } in
+    let admitted : IsAdmittedAt plan.limits word =
+    record { events = events_in plan world; represented = k.represented } in
     let found : local_seen a word [] ≡ word = seen-is a word to_lock in
-    let l : PhaseLanded plan.limits call word (lock_after a word) (phase_after plan.limits call seen word) = rw found at (phase-landed plan.limits call word [] seen sound.range admitted) in
-    let t : BoundedTurn plan.limits call word (own + 1) changes (phase_after plan.limits call seen word) = own-bound plan.limits call word own changes seen (never_waits plan.limits call word sound.range admitted never) bounded in
-    let done : BoundedMachine plan.limits call (lock_after a word) (own + 1) changes (lock_turn (shape_of plan) call (phase_after plan.limits call seen word)) = lock-bounded plan.limits (shape_of plan) call word (lock_after a word) (own + 1) changes _ l t in
-    let moved : slice_index (words_after (with_lock 0 a) world.words) 0 ≡ lock_after a word = ap (λ (ws : List ℕ). slice_index ws 0) m.after in
+    let l : PhaseLanded plan.limits call word (lock_after a word)
+    (phase_after plan.limits call seen word) =
+    rw found at (phase-landed plan.limits call word [] seen sound.range admitted) in
+    let t : BoundedTurn plan.limits call word (own + 1) changes
+    (phase_after plan.limits call seen word) =
+    own-bound plan.limits call word own changes seen
+    (never_waits plan.limits call word sound.range admitted never) bounded in
+    let done : BoundedMachine plan.limits call (lock_after a word) (own + 1) changes
+    (lock_turn (shape_of plan) call (phase_after plan.limits call seen word)) =
+    lock-bounded plan.limits (shape_of plan) call word (lock_after a word) (own + 1) changes _ l
+    t in
+    let moved : slice_index (words_after (with_lock 0 a) world.words) 0 ≡ lock_after a word =
+    ap (λ (ws : List ℕ). slice_index ws 0) m.after in
     rw (at, shape, moved, m.seen, found) done
 
 -- where the step of a thread leaves its call
 itself : (n : ℕ) → (n == n) ≡ true
 itself n = grind arith
 
-pub own-more : (names : List ℕ) (n first : ℕ) → first ≤ length names → own_since (names ++ n ∷ []) n first ≡ own_since names n first + 1
+pub own-more : (names : List ℕ) (n first : ℕ) → first ≤ length names →
+    own_since (names ++ n ∷ []) n first ≡ own_since names n first + 1
 own-more names n first within = own_since-more names n n first within ∙ rw (itself n) refl
 
-pub changes-same : (plan : Scripted) (names : List ℕ) (n first : ℕ) → first ≤ length names → changes_since plan (names ++ n ∷ []) n first ≡ changes_since plan names n first
-changes-same plan names n first within = changes_since-more plan names n n first within ∙ rw (itself n) (omega arith)
+pub changes-same : (plan : Scripted) (names : List ℕ) (n first : ℕ) → first ≤ length names →
+    changes_since plan (names ++ n ∷ []) n first ≡ changes_since plan names n first
+changes-same plan names n first within =
+    changes_since-more plan names n n first within ∙ rw (itself n) (omega arith)
 
 -- the entry's steps are those since its first one
-entry-bounded : (plan : Scripted) (names : List ℕ) (n : ℕ) (b : Begun) (r : Reply) → b.first ≤ length names → (NeverWaits b.machine.call → own_since names n b.first + 1 ≤ changes_since plan names n b.first + 2) → BoundedEntry plan (names ++ n ∷ []) (entry_of (execution_of plan names) n b r)
+entry-bounded : (plan : Scripted) (names : List ℕ) (n : ℕ) (b : Begun) (r : Reply) →
+    b.first ≤ length names →
+    (NeverWaits b.machine.call → own_since names n b.first + 1 ≤ changes_since plan names n b.first
+    + 2) → BoundedEntry plan (names ++ n ∷ []) (entry_of (execution_of plan names) n b r)
 entry-bounded plan names n b r within few =
     let here : (execution_of plan names).position ≡ length names = execution-position plan names in
     let longer = one_more names n in
-    let whole : take ((execution_of plan names).position + 1) (names ++ n ∷ []) ≡ names ++ n ∷ [] = ap (λ (k : ℕ). take k (names ++ n ∷ [])) (ap (λ (k : ℕ). k + 1) here ∙ sym longer) ∙ take-length (names ++ n ∷ []) in
+    let whole : take ((execution_of plan names).position + 1) (names ++ n ∷ []) ≡ names ++ n ∷ [] =
+    ap (λ (k : ℕ). take k (names ++ n ∷ [])) (ap (λ (k : ℕ). k + 1) here ∙ sym longer)
+    ∙ take-length (names ++ n ∷ []) in
     let own = own-more names n b.first within in
-    let changes = changes-same plan names n b.first within in
-    (omega (arith, within, here), omega (arith, longer, here), λ never. let h = few never in rw whole (omega (arith, own, changes, h)))
+    let changes = changes-same plan names n b.first within in (
+      omega (arith, within, here),
+      omega (arith, longer, here),
+      λ never. let h = few never in
+          rw whole (omega (arith, own, changes, h)),
+    )
 
-lands-bounded : (plan : Scripted) (names : List ℕ) (n : ℕ) (b : Begun) (words : List ℕ) (turned : Turn) → AreBounded plan names → BoundedSlot plan names n (Some b) → execution_of plan (names ++ n ∷ []) ≡ landed (execution_of plan names) n b words turned → IsStillOf b.machine.call turned → (NeverWaits b.machine.call → BoundedMachine plan.limits b.machine.call (slice_index words 0) (own_since names n b.first + 1) (changes_since plan names n b.first) turned) → AreBounded plan (names ++ n ∷ [])
+lands-bounded : (plan : Scripted) (names : List ℕ) (n : ℕ) (b : Begun) (words : List ℕ)
+    (turned : Turn) → AreBounded plan names → BoundedSlot plan names n (Some b) →
+    execution_of plan (names ++ n ∷ []) ≡ landed (execution_of plan names) n b words turned →
+    IsStillOf b.machine.call turned →
+    (NeverWaits b.machine.call →
+    BoundedMachine plan.limits b.machine.call (slice_index words 0)
+    (own_since names n b.first + 1) (changes_since plan names n b.first) turned) →
+    AreBounded plan (names ++ n ∷ [])
 lands-bounded plan names n b words (Going m) all bounded now same turn =
     let names' : List ℕ = names ++ n ∷ [] in
     let longer = one_more names n in
@@ -244,31 +372,50 @@ lands-bounded plan names n b words (Going m) all bounded now same turn =
     let own = own-more names n b.first within in
     let changes = changes-same plan names n b.first within in
     let word : lock_word (execution_of plan names') ≡ slice_index words 0 = ap lock_word now in
-    let begun : (execution_of plan names').begun ≡ slice_set (execution_of plan names).begun n (Some (record { machine = m; first = b.first })) = ap (λ (w : World). w.begun) now in
-    let slot : BoundedSlot plan names' n (Some (record { machine = m; first = b.first })) = (omega (arith, longer, within), λ never. rw (word, own, changes, same) (turn (subst NeverWaits same never))) in
+    let begun : (execution_of plan names').begun
+    ≡ slice_set (execution_of plan names).begun n
+    (Some (record { machine = m; first = b.first })) = ap (λ (w : World). w.begun) now in
+    let slot : BoundedSlot plan names' n (Some (record { machine = m; first = b.first })) = (
+      omega (arith, longer, within),
+      λ never. rw (word, own, changes, same) (turn (subst NeverWaits same never)),
+    ) in
     record {
-      slots = λ t. rw begun (each_slot (BoundedSlot plan names') (execution_of plan names).begun n (Some (record { machine = m; first = b.first })) (λ k apart. other-slot plan names n k _ (flip n k apart) (all.slots k)) slot tt t);
-      entries = rw (ap (λ (w : World). w.entries) now) (all-older plan names n (completed_calls plan names) all.entries);
+      slots = λ t. rw begun
+          (each_slot (BoundedSlot plan names') (execution_of plan names).begun n
+          (Some (record { machine = m; first = b.first }))
+          (λ k apart. other-slot plan names n k _ (flip n k apart) (all.slots k)) slot tt t);
+      entries = rw (ap (λ (w : World). w.entries) now)
+          (all-older plan names n (completed_calls plan names) all.entries);
     }
 lands-bounded plan names n b words (Done r) all bounded now same turn =
     let names' : List ℕ = names ++ n ∷ [] in
-    let begun : (execution_of plan names').begun ≡ slice_set (execution_of plan names).begun n None = ap (λ (w : World). w.begun) now in
+    let begun : (execution_of plan names').begun
+    ≡ slice_set (execution_of plan names).begun n None = ap (λ (w : World). w.begun) now in
     let e : Entry = entry_of (execution_of plan names) n b r in
-    let entries : (execution_of plan names').entries ≡ completed_calls plan names ++ e ∷ [] = ap (λ (w : World). w.entries) now in
+    let entries : (execution_of plan names').entries ≡ completed_calls plan names ++ e ∷ [] =
+    ap (λ (w : World). w.entries) now in
     record {
-      slots = λ t. rw begun (each_slot (BoundedSlot plan names') (execution_of plan names).begun n None (λ k apart. other-slot plan names n k _ (flip n k apart) (all.slots k)) tt tt t);
-      entries = rw entries (All-push (BoundedEntry plan names') (completed_calls plan names) e (all-older plan names n (completed_calls plan names) all.entries) (entry-bounded plan names n b r bounded.0 turn));
+      slots = λ t. rw begun
+          (each_slot (BoundedSlot plan names') (execution_of plan names).begun n None
+          (λ k apart. other-slot plan names n k _ (flip n k apart) (all.slots k)) tt tt t);
+      entries = rw entries
+          (All-push (BoundedEntry plan names') (completed_calls plan names) e
+          (all-older plan names n (completed_calls plan names) all.entries)
+          (entry-bounded plan names n b r bounded.0 turn));
     }
 
 -- a thread with no call left has begun none
-pub idle-slot : (plan : Scripted) (world : World) (n : ℕ) → current plan world n ≡ None → slice_index_or world.begun n None ≡ None
+pub idle-slot : (plan : Scripted) (world : World) (n : ℕ) → current plan world n ≡ None →
+    slice_index_or world.begun n None ≡ None
 idle-slot plan world n = by (slice_index_or world.begun n None)
   where
-    by : (slot : Option Begun) → current_of plan (λ k. stamps_of k world.entries) world.position n slot ≡ None → slot ≡ None
+    by : (slot : Option Begun) →
+        current_of plan (λ k. stamps_of k world.entries) world.position n slot ≡ None → slot ≡ None
     by None e = refl
     by (Some b) e = e
 
-step-bounded : (plan : Scripted) (names : List ℕ) (n : ℕ) → IsSound plan → length names ≤ 1000000 → AreBounded plan names → AreBounded plan (names ++ n ∷ [])
+step-bounded : (plan : Scripted) (names : List ℕ) (n : ℕ) → IsSound plan → length names ≤ 1000000 →
+    AreBounded plan names → AreBounded plan (names ++ n ∷ [])
 step-bounded plan names n sound few all = by (current plan world n) refl
   where
     world : World
@@ -279,34 +426,46 @@ step-bounded plan names n sound few all = by (current plan world n) refl
 
     by : (c : Option Begun) → current plan world n ≡ c → AreBounded plan (names ++ n ∷ [])
     by None e =
-        let now : execution_of plan (names ++ n ∷ []) ≡ stepped world n None = execution_of-more plan names n ∙ ap (stepped world n) e in
+        let now : execution_of plan (names ++ n ∷ []) ≡ stepped world n None =
+        execution_of-more plan names n ∙ ap (stepped world n) e in
         record {
           slots = λ t. rw (ap (λ (w : World). w.begun) now) (idle t e);
-          entries = rw (ap (λ (w : World). w.entries) now) (all-older plan names n (completed_calls plan names) all.entries);
+          entries = rw (ap (λ (w : World). w.entries) now)
+              (all-older plan names n (completed_calls plan names) all.entries);
         }
       where
-        idle : (t : ℕ) → current plan world n ≡ None → BoundedSlot plan (names ++ n ∷ []) t (slice_index_or world.begun t None)
+        idle : (t : ℕ) → current plan world n ≡ None →
+            BoundedSlot plan (names ++ n ∷ []) t (slice_index_or world.begun t None)
         idle t e = on (n == t) refl
           where
-            on : (x : Bool) → (n == t) ≡ x → BoundedSlot plan (names ++ n ∷ []) t (slice_index_or world.begun t None)
+            on : (x : Bool) → (n == t) ≡ x →
+                BoundedSlot plan (names ++ n ∷ []) t (slice_index_or world.begun t None)
             on false apart = other-slot plan names n t _ apart (all.slots t)
             on true q =
                 let same : t ≡ n = grind (arith, q) in
-                let none : slice_index_or world.begun t None ≡ None = rw same (idle-slot plan world n e) in
+                let none : slice_index_or world.begun t None ≡ None =
+                rw same (idle-slot plan world n e) in
                 rw none tt
     by (Some b) e =
         let of : IsOf (shape_of plan) (Some b) = current-of plan world n b k sound e in
         let bounded : BoundedSlot plan names n (Some b) = current-bounded plan names n b all e in
-        let now : execution_of plan (names ++ n ∷ []) ≡ stepped world n (Some b) = execution_of-more plan names n ∙ ap (stepped world n) e in
-        lands-bounded plan names n b (words_after (next_access b.machine) world.words) (after_access b.machine (seen_by (next_access b.machine) world.words)) all bounded now (after_same b.machine _)
-        (λ never. turn-bounded plan world b b.machine.phase _ _ k sound of.0 of.1 never refl (bounded.1 never))
+        let now : execution_of plan (names ++ n ∷ []) ≡ stepped world n (Some b) =
+        execution_of-more plan names n ∙ ap (stepped world n) e in
+        lands-bounded plan names n b (words_after (next_access b.machine) world.words)
+        (after_access b.machine (seen_by (next_access b.machine) world.words)) all bounded now
+        (after_same b.machine _)
+        (λ never. turn-bounded plan world b b.machine.phase _ _ k sound of.0 of.1 never refl
+        (bounded.1 never))
 
-steps-bounded : (plan : Scripted) (names rest : List ℕ) → IsSound plan → length names + length rest ≤ 1000000 → AreBounded plan names → AreBounded plan (names ++ rest)
+steps-bounded : (plan : Scripted) (names rest : List ℕ) → IsSound plan →
+    length names + length rest ≤ 1000000 → AreBounded plan names → AreBounded plan (names ++ rest)
 steps-bounded plan names [] sound few all = rw (append-nil names) all
 steps-bounded plan names (n ∷ rest) sound few all =
     let longer = one_more names n in
     let whole : (names ++ n ∷ []) ++ rest ≡ names ++ n ∷ rest = append_assoc names (n ∷ []) rest in
-    subst (AreBounded plan) whole (steps-bounded plan (names ++ n ∷ []) rest sound (omega (arith, longer, few)) (step-bounded plan names n sound (omega (arith, few)) all))
+    subst (AreBounded plan) whole
+    (steps-bounded plan (names ++ n ∷ []) rest sound (omega (arith, longer, few))
+    (step-bounded plan names n sound (omega (arith, few)) all))
 
 none-bounded : (plan : Scripted) → AreBounded plan []
 unfolding execution_of
@@ -316,4 +475,7 @@ none-bounded plan = record {
 }
 
 pub steps_are_bounded : StepsBoundedAlways
-steps_are_bounded plan names sound few = λ k d lt never. ((steps-bounded plan [] names sound (omega (arith, few)) (none-bounded plan)).entries k d lt).2 never
+steps_are_bounded plan names sound few =
+    λ k d lt never.
+    ((steps-bounded plan [] names sound (omega (arith, few)) (none-bounded plan)).entries k d lt).2
+    never

@@ -1,5 +1,7 @@
 -- Each step of a schedule keeps what `Kept` says.
-use Rattle.std.proofs.Common.{◌≡◌, ℕ, ◌+◌, ◌<◌, ◌≤◌, ◌==◌, Bool, true, false, List, [], ◌∷◌, ◌++◌, length, drop, Option, Some, None, zero, suc, if◌then◌else◌, refl, sym, ◌∙◌, ap, subst, arith, ◌⊎◌, inl, inr}
+use Rattle.std.proofs.Common.{◌≡◌, ℕ, ◌+◌, ◌<◌, ◌≤◌, ◌==◌, Bool, true, false, List, [], ◌∷◌, ◌++◌}
+use Rattle.std.proofs.Common.{length, drop, Option, Some, None, zero, suc, if◌then◌else◌, refl, sym}
+use Rattle.std.proofs.Common.{◌∙◌, ap, subst, arith, ◌⊎◌, inl, inr}
 use Rattle.std.specs.Prelude.{slice_index, slice_set, slice_index_or, fold, replicate, map}
 use Rattle.std.specs.List.{sum_by}
 use Rattle.std.proofs.lemmas.List.{map-set, length-set, length-replicate, map-append}
@@ -19,7 +21,8 @@ use Rattle.stamp_machines.specs.declared.access.Access.TheVariants.{Load, Cas, S
 use Rattle.stamp_machines.specs.Access.{words_after, seen_by}
 use Rattle.stamp_machines.specs.LockNumber.{RepresentsAt, IsAdmittedAt, counts_at}
 use Rattle.stamp_machines.specs.Job.{Job, job_in, content_with, reply_to}
-use Rattle.stamp_core.specs.History.{IsLegal, History, IsReply, appended_by, content_after, events_of}
+use Rattle.stamp_core.specs.History.{IsLegal, History, IsReply, appended_by, content_after}
+use Rattle.stamp_core.specs.History.{events_of}
 use Rattle.stamp_machines.specs.RecordPhase as record_calls
 use Rattle.stamp_machines.specs.RecordPhase.{Place, PlaceTurn}
 use Rattle.stamp_machines.specs.LockPhase.{Still, Ended, phase_next, phase_after, PhaseTurn}
@@ -28,11 +31,14 @@ use Rattle.stamp_machines.specs.declared.machine.Turn.{Turn as MachineTurn}
 use Rattle.stamp_machines.specs.declared.machine.Turn.TheVariants as machines
 use Rattle.stamp_machines.specs.declared.shape.Shape.{Shape}
 use Rattle.stamp_machines.specs.MachineState.{MachineState, Phase, OnLock, OnRecord, record_limits}
-use Rattle.stamp_machines.specs.Machine.{next_in, after_in, next_access, after_access, lock_turn, record_turn}
+use Rattle.stamp_machines.specs.Machine.{next_in, after_in, next_access, after_access, lock_turn}
+use Rattle.stamp_machines.specs.Machine.{record_turn}
 use Rattle.stamp_machines.specs.Script.{Scripted, IsSound}
 use Rattle.stamp_machines.specs.declared.state.Begun.{Begun}
-use Rattle.stamp_machines.specs.World.{World, opening, opening_word, current, landed, stepped, step, execution_of, entry_of, shape_of}
-use Rattle.stamp_machines.specs.RecordKept.{Doing, RecordKept, Steps, Stands, read_in, written_in, read_by, written_by, FitsIn, SameFor, AloneFor}
+use Rattle.stamp_machines.specs.World.{World, opening, opening_word, current, landed, stepped, step}
+use Rattle.stamp_machines.specs.World.{execution_of, entry_of, shape_of}
+use Rattle.stamp_machines.specs.RecordKept.{Doing, RecordKept, Steps, Stands, read_in, written_in}
+use Rattle.stamp_machines.specs.RecordKept.{read_by, written_by, FitsIn, SameFor, AloneFor}
 use Rattle.stamp_machines.specs.Kept.{Kept, IsOf, doing_in, doing_at, job_at, content_in, events_in}
 use Rattle.stamp_machines.proofs.LockPhaseSteps.{PhaseLanded, phase-landed, counts-of}
 use Rattle.stamp_machines.proofs.OtherRecordCalls.{moved-kept, le_sum}
@@ -47,7 +53,8 @@ use Rattle.stamp_core.proofs.Linearizing.{content_push, events_push, legal_more}
 use Rattle.stamp_core.specs.Linearized.{history_of}
 use Rattle.stamp_core.proofs.WordNumbers.{in_range}
 
-map-index : (xs : List (Option Begun)) (t : ℕ) → slice_index_or (map doing_in xs) t None ≡ doing_in (slice_index_or xs t None)
+map-index : (xs : List (Option Begun)) (t : ℕ) →
+    slice_index_or (map doing_in xs) t None ≡ doing_in (slice_index_or xs t None)
 map-index [] t = refl
 map-index (x ∷ xs) zero = refl
 map-index (x ∷ xs) (suc t) = map-index xs t
@@ -56,12 +63,15 @@ length-map : (xs : List (Option Begun)) → length (map doing_in xs) ≡ length 
 length-map [] = refl
 length-map (x ∷ xs) = ap suc (length-map xs)
 
-set-none : (xs : List (Option Doing)) (i : ℕ) → slice_index_or xs i None ≡ None → slice_set xs i None ≡ xs
+set-none : (xs : List (Option Doing)) (i : ℕ) → slice_index_or xs i None ≡ None →
+    slice_set xs i None ≡ xs
 set-none [] i h = refl
 set-none (x ∷ xs) zero h = ap (λ (y : Option Doing). y ∷ xs) (sym h)
 set-none (x ∷ xs) (suc i) h = ap (λ (ys : List (Option Doing)). x ∷ ys) (set-none xs i h)
 
-each_after_set : (P : Option Begun → Type 0) (xs : List (Option Begun)) (i : ℕ) (v : Option Begun) → ((k : ℕ) → P (slice_index_or xs k None)) → P v → (k : ℕ) → P (slice_index_or (slice_set xs i v) k None)
+each_after_set : (P : Option Begun → Type 0) (xs : List (Option Begun)) (i : ℕ) (v : Option Begun) →
+    ((k : ℕ) → P (slice_index_or xs k None)) → P v → (k : ℕ) →
+    P (slice_index_or (slice_set xs i v) k None)
 each_after_set P [] i v h p k = h k
 each_after_set P (x ∷ xs) zero v h p zero = p
 each_after_set P (x ∷ xs) zero v h p (suc k) = h (suc k)
@@ -72,9 +82,18 @@ record_range : (l : Layout) → AreInRange (widest l)
 record_range l = in_range l _ _ refl refl
 
 record_room : (l : Layout) → 1000000 < (widest l).versions
-record_room l = elim (either_layout l) [ inl h ↦ rw h.3 (omega arith) | inr h ↦ rw h.3 (omega arith) ]
+record_room l =
+    elim (either_layout l) [ inl h ↦ rw h.3 (omega arith) | inr h ↦ rw h.3 (omega arith) ]
 
-going-kept : (plan : Scripted) (world : World) (t : ℕ) (b : Begun) (words : List ℕ) (m : MachineState) → Kept plan world → IsOf (shape_of plan) (Some (record { machine = m; first = b.first })) → length words ≡ 2 + plan.width → slice_index words 0 ≡ slice_index world.words 0 → RecordKept (record_limits (shape_of plan)) (slice_index words 1) (drop 2 words) (content_in plan world) (map doing_in (slice_set world.begun t (Some (record { machine = m; first = b.first })))) → (counts_at (record_limits (shape_of plan)) (slice_index words 1)).write_count ≤ world.position + 1 → Kept plan (landed world t b words (machines.Going m))
+going-kept : (plan : Scripted) (world : World) (t : ℕ) (b : Begun) (words : List ℕ)
+    (m : MachineState) → Kept plan world →
+    IsOf (shape_of plan) (Some (record { machine = m; first = b.first })) →
+    length words ≡ 2 + plan.width → slice_index words 0 ≡ slice_index world.words 0 →
+    RecordKept (record_limits (shape_of plan)) (slice_index words 1) (drop 2 words)
+    (content_in plan world)
+    (map doing_in (slice_set world.begun t (Some (record { machine = m; first = b.first })))) →
+    (counts_at (record_limits (shape_of plan)) (slice_index words 1)).write_count ≤ world.position
+    + 1 → Kept plan (landed world t b words (machines.Going m))
 going-kept plan world t b words m k o n s r f =
     record {
       legal = k.legal;
@@ -83,26 +102,43 @@ going-kept plan world t b words m k o n s r f =
       width = k.width;
       memory = n;
       threads = length-set world.begun t _ ∙ k.threads;
-      begun = each_after_set (IsOf (shape_of plan)) world.begun t (Some (record { machine = m; first = b.first })) k.begun o;
+      begun = each_after_set (IsOf (shape_of plan)) world.begun t
+          (Some (record { machine = m; first = b.first })) k.begun o;
       few = f;
     }
 
-pub history_more : (entries : List Entry) (e : Entry) → history_of (entries ++ e ∷ []) ≡ history_of entries ++ (e.call, e.reply) ∷ []
+pub history_more : (entries : List Entry) (e : Entry) →
+    history_of (entries ++ e ∷ []) ≡ history_of entries ++ (e.call, e.reply) ∷ []
 history_more entries e = map-append (λ (x : Entry). (x.call, x.reply)) entries (e ∷ [])
 
 -- what a finished call makes of the history
-pub record Ends (plan : Scripted) (world : World) (call : Call) (r : Reply) (events : List LockEvent) (content : List ℕ) : Type 0 where
+pub record Ends (plan : Scripted) (world : World) (call : Call) (r : Reply)
+    (events : List LockEvent) (content : List ℕ) : Type 0 where
   pub answered : IsReply plan.limits (events_in plan world) (content_in plan world) call r
-  pub events_are : events_in plan world ++ appended_by (transition plan.limits (events_in plan world) call) ≡ events
+  pub events_are : events_in plan world
+      ++ appended_by (transition plan.limits (events_in plan world) call) ≡ events
   pub content_is : content_next (content_in plan world) call r ≡ content
 
-done-kept : (plan : Scripted) (world : World) (t : ℕ) (b : Begun) (words : List ℕ) (r : Reply) (events : List LockEvent) (content : List ℕ) → Kept plan world → Ends plan world b.machine.call r events content → RepresentsAt plan.limits (slice_index words 0) events → RecordKept (record_limits (shape_of plan)) (slice_index words 1) (drop 2 words) content (map doing_in (slice_set world.begun t None)) → length content ≡ plan.width → length words ≡ 2 + plan.width → (counts_at (record_limits (shape_of plan)) (slice_index words 1)).write_count ≤ world.position + 1 → Kept plan (landed world t b words (machines.Done r))
+done-kept : (plan : Scripted) (world : World) (t : ℕ) (b : Begun) (words : List ℕ) (r : Reply)
+    (events : List LockEvent) (content : List ℕ) → Kept plan world →
+    Ends plan world b.machine.call r events content →
+    RepresentsAt plan.limits (slice_index words 0) events →
+    RecordKept (record_limits (shape_of plan)) (slice_index words 1) (drop 2 words) content
+    (map doing_in (slice_set world.begun t None)) → length content ≡ plan.width →
+    length words ≡ 2 + plan.width →
+    (counts_at (record_limits (shape_of plan)) (slice_index words 1)).write_count ≤ world.position
+    + 1 → Kept plan (landed world t b words (machines.Done r))
 done-kept plan world t b words r events content k ends s rk w n f =
     let e : Entry = entry_of world t b r in
-    let events_now : events_of plan.limits (history_of (world.entries ++ e ∷ [])) ≡ events = events_push plan.limits world.entries e ∙ ends.events_are in
-    let content_now : content_after plan.width (history_of (world.entries ++ e ∷ [])) ≡ content = content_push plan.width world.entries e ∙ ends.content_is in
+    let events_now : events_of plan.limits (history_of (world.entries ++ e ∷ [])) ≡ events =
+    events_push plan.limits world.entries e ∙ ends.events_are in
+    let content_now : content_after plan.width (history_of (world.entries ++ e ∷ [])) ≡ content =
+    content_push plan.width world.entries e ∙ ends.content_is in
     record {
-      legal = subst (λ (h : History). IsLegal plan.limits plan.width h) (sym (history_more world.entries e)) (legal_more plan.limits [] (zeros plan.width) (history_of world.entries) (e.call, e.reply) k.legal ends.answered);
+      legal = subst (λ (h : History). IsLegal plan.limits plan.width h)
+          (sym (history_more world.entries e))
+          (legal_more plan.limits [] (zeros plan.width) (history_of world.entries) (e.call, e.reply)
+          k.legal ends.answered);
       represented = rw events_now s;
       record_kept = rw content_now rk;
       width = rw content_now w;
@@ -113,44 +149,97 @@ done-kept plan world t b words r events content k ends s rk w n f =
     }
 
 -- a call of the lock whose transition was taken
-lock-ends : (plan : Scripted) (world : World) (call : Call) (r : Reply) (taken : Transition) → job_in call ≡ None → transition plan.limits (events_in plan world) call ≡ Some taken → taken.reply ≡ r → Ends plan world call r (events_in plan world ++ taken.appended) (content_in plan world)
+lock-ends : (plan : Scripted) (world : World) (call : Call) (r : Reply) (taken : Transition) →
+    job_in call ≡ None → transition plan.limits (events_in plan world) call ≡ Some taken →
+    taken.reply ≡ r →
+    Ends plan world call r (events_in plan world ++ taken.appended) (content_in plan world)
 lock-ends plan world call r taken j e q =
     let of : OfLock call = of_lock call j in
-    record { answered = rw (of.lock, e) q; events_are = rw e refl; content_is = of.content (content_in plan world) r }
+    record {
+      answered = rw (of.lock, e) q;
+      events_are = rw e refl;
+      content_is = of.content (content_in plan world) r;
+    }
 
 -- a call of the record
-record-ends : (plan : Scripted) (world : World) (call : Call) (job : Job) (r : Reply) → job_in call ≡ Some job → r ≡ reply_to (content_in plan world) job → Ends plan world call r (events_in plan world) (content_with (content_in plan world) job)
+record-ends : (plan : Scripted) (world : World) (call : Call) (job : Job) (r : Reply) →
+    job_in call ≡ Some job → r ≡ reply_to (content_in plan world) job →
+    Ends plan world call r (events_in plan world) (content_with (content_in plan world) job)
 record-ends plan world call job r j e =
     let of : OfRecord call job = of_record call job j in
-    rw e (record { answered = of.answered plan.limits (events_in plan world) (content_in plan world); events_are = of.events plan.limits (events_in plan world); content_is = of.content (content_in plan world) })
+    rw e (record {
+      answered = of.answered plan.limits (events_in plan world)
+          (content_in plan world);
+      events_are = of.events plan.limits (events_in plan world);
+      content_is = of.content (content_in plan world);
+    })
 
 -- a step of a lock call
-lock-step : (plan : Scripted) (world : World) (t : ℕ) (b : Begun) (now : ℕ) (words : List ℕ) (p : PhaseTurn) → Kept plan world → IsSound plan → b.machine.shape ≡ shape_of plan → job_in b.machine.call ≡ None → doing_in (slice_index_or world.begun t None) ≡ None → words ≡ now ∷ slice_index world.words 1 ∷ drop 2 world.words → length words ≡ 2 + plan.width → PhaseLanded plan.limits b.machine.call (slice_index world.words 0) now p → Kept plan (landed world t b words (lock_turn b.machine.shape b.machine.call p))
+lock-step : (plan : Scripted) (world : World) (t : ℕ) (b : Begun) (now : ℕ) (words : List ℕ)
+    (p : PhaseTurn) → Kept plan world → IsSound plan → b.machine.shape ≡ shape_of plan →
+    job_in b.machine.call ≡ None → doing_in (slice_index_or world.begun t None) ≡ None →
+    words ≡ now ∷ slice_index world.words 1 ∷ drop 2 world.words → length words ≡ 2 + plan.width →
+    PhaseLanded plan.limits b.machine.call (slice_index world.words 0) now p →
+    Kept plan (landed world t b words (lock_turn b.machine.shape b.machine.call p))
 lock-step plan world t b now words (Still seen) k sound o j z w n l =
     going-kept plan world t b words (record b.machine { phase = OnLock seen }) k (o, j) n (rw w l)
-    (rw (w, map-set doing_in world.begun t (Some (record { machine = record b.machine { phase = OnLock seen }; first = b.first })), set-none (map doing_in world.begun) t (map-index world.begun t ∙ z)) k.record_kept)
+    (rw (
+      w,
+      map-set doing_in world.begun t
+          (Some (record { machine = record b.machine { phase = OnLock seen }; first = b.first })),
+      set-none (map doing_in world.begun) t (map-index world.begun t ∙ z),
+    ) k.record_kept)
     (rw w (let f = k.few in omega (arith, f)))
 lock-step plan world t b now words (Ended r) k sound o j z w n l =
-    let same = counts-of plan.limits (slice_index world.words 0) (events_in plan world) sound.range k.represented in
-    let e : transition plan.limits (events_in plan world) b.machine.call ≡ Some l.taken = rw same at l.transition in
-    done-kept plan world t b words r _ _ k (lock-ends plan world b.machine.call r l.taken j e l.reply)
+    let same = counts-of plan.limits (slice_index world.words 0) (events_in plan world) sound.range
+    k.represented in
+    let e : transition plan.limits (events_in plan world) b.machine.call ≡ Some l.taken =
+    rw same at l.transition in
+    done-kept plan world t b words r _ _ k
+    (lock-ends plan world b.machine.call r l.taken j e l.reply)
     (rw w (l.represented (events_in plan world) k.represented))
-    (rw (w, map-set doing_in world.begun t None, set-none (map doing_in world.begun) t (map-index world.begun t ∙ z)) k.record_kept)
+    (rw (
+      w,
+      map-set doing_in world.begun t None,
+      set-none (map doing_in world.begun) t (map-index world.begun t ∙ z),
+    ) k.record_kept)
     k.width n
     (rw w (let f = k.few in omega (arith, f)))
 
 -- a step of a call of the record
-record-step : (plan : Scripted) (world : World) (t : ℕ) (b : Begun) (job : Job) (place : Place) (lock : ℕ) (items words : List ℕ) (turned : PlaceTurn) → Kept plan world → t < length world.begun → b.machine.shape ≡ shape_of plan → job_in b.machine.call ≡ Some job → read_in (doing_in (slice_index_or world.begun t None)) ≡ read_by place → written_in (doing_in (slice_index_or world.begun t None)) ≡ written_by place → words ≡ slice_index world.words 0 ∷ lock ∷ items → length words ≡ 2 + plan.width → (counts_at (record_limits (shape_of plan)) lock).write_count ≤ world.position + 1 → Steps (record_limits (shape_of plan)) job place (slice_index world.words 1) (drop 2 world.words) (content_in plan world) lock items turned → Kept plan (landed world t b words (record_turn b.machine.shape b.machine.call job turned))
-record-step plan world t b job place lock items words (record_calls.Going to) k h o j rd wr w n f s =
-    going-kept plan world t b words (record b.machine { phase = OnRecord job to }) k (o, j) n (rw w refl)
-    (rw (w, map-set doing_in world.begun t (Some (record { machine = record b.machine { phase = OnRecord job to }; first = b.first })))
-    (moved-kept _ _ _ _ (map doing_in world.begun) t place _ _ _ _ k.record_kept (rw (length-map world.begun) h) (rw (map-index world.begun t) rd) (rw (map-index world.begun t) wr) s.0))
+record-step : (plan : Scripted) (world : World) (t : ℕ) (b : Begun) (job : Job) (place : Place)
+    (lock : ℕ) (items words : List ℕ) (turned : PlaceTurn) → Kept plan world →
+    t < length world.begun → b.machine.shape ≡ shape_of plan → job_in b.machine.call ≡ Some job →
+    read_in (doing_in (slice_index_or world.begun t None)) ≡ read_by place →
+    written_in (doing_in (slice_index_or world.begun t None)) ≡ written_by place →
+    words ≡ slice_index world.words 0 ∷ lock ∷ items → length words ≡ 2 + plan.width →
+    (counts_at (record_limits (shape_of plan)) lock).write_count ≤ world.position + 1 →
+    Steps (record_limits (shape_of plan)) job place (slice_index world.words 1) (drop 2 world.words)
+    (content_in plan world) lock items turned →
+    Kept plan (landed world t b words (record_turn b.machine.shape b.machine.call job turned))
+record-step plan world t b job place lock items words (record_calls.Going to) k h o j rd wr w n f
+    s =
+    going-kept plan world t b words (record b.machine { phase = OnRecord job to }) k (o, j) n
+    (rw w refl)
+    (rw (
+      w,
+      map-set doing_in world.begun t
+          (Some (record {
+            machine = record b.machine { phase = OnRecord job to };
+            first = b.first;
+          })),
+    )
+    (moved-kept _ _ _ _ (map doing_in world.begun) t place _ _ _ _ k.record_kept
+    (rw (length-map world.begun) h) (rw (map-index world.begun t) rd)
+    (rw (map-index world.begun t) wr) s.0))
     (rw w f)
 record-step plan world t b job place lock items words (record_calls.Done r) k h o j rd wr w n f s =
     done-kept plan world t b words r _ _ k (record-ends plan world b.machine.call job r j s.1)
     (rw w k.represented)
     (rw (w, map-set doing_in world.begun t None)
-    (moved-kept _ _ _ _ (map doing_in world.begun) t place _ _ _ _ k.record_kept (rw (length-map world.begun) h) (rw (map-index world.begun t) rd) (rw (map-index world.begun t) wr) s.0))
+    (moved-kept _ _ _ _ (map doing_in world.begun) t place _ _ _ _ k.record_kept
+    (rw (length-map world.begun) h) (rw (map-index world.begun t) rd)
+    (rw (map-index world.begun t) wr) s.0))
     (s.0.same_width ∙ k.width) n
     (rw w f)
 
@@ -163,18 +252,34 @@ length-words_after (Cas i old new) words = go (slice_index words i == old)
     go false = refl
 length-words_after (Store i value) words = length-set words i value
 
-at_most_one_more : (limits : Bounds) (before : Place) (lock lock' : ℕ) (items content items' content' : List ℕ) → SameFor limits lock items content lock' items' content' ⊎ AloneFor limits before lock lock' → (counts_at limits lock').write_count ≤ (counts_at limits lock).write_count + 1
+at_most_one_more : (limits : Bounds) (before : Place) (lock lock' : ℕ)
+    (items content items' content' : List ℕ) →
+    SameFor limits lock items content lock' items' content' ⊎ AloneFor limits before lock lock' →
+    (counts_at limits lock').write_count ≤ (counts_at limits lock).write_count + 1
 at_most_one_more limits before lock lock' items content items' content' (inl e) = omega (arith, e.0)
-at_most_one_more limits before lock lock' items content items' content' (inr e) = elim e.2 [ inl p ↦ omega (arith, p) | inr p ↦ omega (arith, p.1) ]
+at_most_one_more limits before lock lock' items content items' content' (inr e) =
+    elim e.2 [ inl p ↦ omega (arith, p) | inr p ↦ omega (arith, p.1) ]
 
 -- what a call of the record may rely on where it stands
-pub record-stands : (plan : Scripted) (world : World) (t : ℕ) (b : Begun) (job : Job) (place : Place) → Kept plan world → world.position < 1000000 → Ready (record_limits (shape_of plan)) (shape_of plan) (counts_at (record_limits (shape_of plan)) (slice_index world.words 1)).write_count (counts_at (record_limits (shape_of plan)) (slice_index world.words 1)).writers (content_in plan world) (drop 2 world.words) (slice_index_or world.begun t None) b → b.machine.phase ≡ OnRecord job place → Stands (record_limits (shape_of plan)) job place (slice_index world.words 1) (drop 2 world.words) (content_in plan world)
+pub record-stands : (plan : Scripted) (world : World) (t : ℕ) (b : Begun) (job : Job)
+    (place : Place) → Kept plan world → world.position < 1000000 →
+    Ready (record_limits (shape_of plan)) (shape_of plan)
+    (counts_at (record_limits (shape_of plan)) (slice_index world.words 1)).write_count
+    (counts_at (record_limits (shape_of plan)) (slice_index world.words 1)).writers
+    (content_in plan world) (drop 2 world.words) (slice_index_or world.begun t None) b →
+    b.machine.phase ≡ OnRecord job place →
+    Stands (record_limits (shape_of plan)) job place (slice_index world.words 1)
+    (drop 2 world.words) (content_in plan world)
 record-stands plan world t b job place k room ready e =
     let limits : Bounds = record_limits (shape_of plan) in
     let d : doing_at b.machine.phase ≡ Some (record { job = job; place = place }) = ap doing_at e in
-    let rd : read_in (doing_in (slice_index_or world.begun t None)) ≡ read_by place = ready.reads ∙ ap read_in d in
-    let wr : written_in (doing_in (slice_index_or world.begun t None)) ≡ written_by place = ready.writes ∙ ap written_in d in
-    let f : FitsIn limits (counts_at limits (slice_index world.words 1)).write_count (counts_at limits (slice_index world.words 1)).writers (content_in plan world) (drop 2 world.words) (Some (record { job = job; place = place })) = rw d at ready.fits in
+    let rd : read_in (doing_in (slice_index_or world.begun t None)) ≡ read_by place =
+    ready.reads ∙ ap read_in d in
+    let wr : written_in (doing_in (slice_index_or world.begun t None)) ≡ written_by place =
+    ready.writes ∙ ap written_in d in
+    let f : FitsIn limits (counts_at limits (slice_index world.words 1)).write_count
+    (counts_at limits (slice_index world.words 1)).writers (content_in plan world)
+    (drop 2 world.words) (Some (record { job = job; place = place })) = rw d at ready.fits in
     let rk = k.record_kept in
     record {
       range = record_range plan.limits.layout;
@@ -183,23 +288,48 @@ record-stands plan world t b job place k room ready e =
       width = rk.width;
       some = f.0;
       free = rk.free;
-      reads = (let at : read_in (slice_index_or (map doing_in world.begun) t None) ≡ read_in (doing_in (slice_index_or world.begun t None)) = ap read_in (map-index world.begun t) in omega (arith, le_sum read_in (map doing_in world.begun) t refl, at, rk.readers, rd));
-      writes = (let at : written_in (slice_index_or (map doing_in world.begun) t None) ≡ written_in (doing_in (slice_index_or world.begun t None)) = ap written_in (map-index world.begun t) in omega (arith, le_sum written_in (map doing_in world.begun) t refl, at, rk.writers, wr));
+      reads = (let at : read_in (slice_index_or (map doing_in world.begun) t None)
+          ≡ read_in (doing_in (slice_index_or world.begun t None)) = ap read_in
+          (map-index world.begun t) in
+          omega (arith, le_sum read_in (map doing_in world.begun) t refl, at, rk.readers, rd));
+      writes = (let at : written_in (slice_index_or (map doing_in world.begun) t None)
+          ≡ written_in (doing_in (slice_index_or world.begun t None)) = ap written_in
+          (map-index world.begun t) in
+          omega (arith, le_sum written_in (map doing_in world.begun) t refl, at, rk.writers, wr));
       words = f.1;
       fits = f.2;
     }
 
 -- one access of a call
-begun-kept : (plan : Scripted) (world : World) (t : ℕ) (b : Begun) (phase : Phase) → Kept plan world → IsSound plan → world.position < 1000000 → t < length world.begun → Ready (record_limits (shape_of plan)) (shape_of plan) (counts_at (record_limits (shape_of plan)) (slice_index world.words 1)).write_count (counts_at (record_limits (shape_of plan)) (slice_index world.words 1)).writers (content_in plan world) (drop 2 world.words) (slice_index_or world.begun t None) b → b.machine.phase ≡ phase → Kept plan (landed world t b (words_after (next_in (shape_of plan) b.machine.call phase) world.words) (after_in (shape_of plan) b.machine.call (seen_by (next_in (shape_of plan) b.machine.call phase) world.words) phase))
+begun-kept : (plan : Scripted) (world : World) (t : ℕ) (b : Begun) (phase : Phase) →
+    Kept plan world → IsSound plan → world.position < 1000000 → t < length world.begun →
+    Ready (record_limits (shape_of plan)) (shape_of plan)
+    (counts_at (record_limits (shape_of plan)) (slice_index world.words 1)).write_count
+    (counts_at (record_limits (shape_of plan)) (slice_index world.words 1)).writers
+    (content_in plan world) (drop 2 world.words) (slice_index_or world.begun t None) b →
+    b.machine.phase ≡ phase →
+    Kept plan (landed world t b
+    (words_after (next_in (shape_of plan) b.machine.call phase) world.words)
+    (after_in (shape_of plan) b.machine.call
+    (seen_by (next_in (shape_of plan) b.machine.call phase) world.words) phase))
 begun-kept plan world t b (OnLock seen) k sound room h ready e =
     let a : LocalAccess = phase_next plan.limits b.machine.call seen in
-    let m = lock-moves world.words plan.width a k.memory (phase-to_lock plan.limits b.machine.call seen) in
-    let w : IsAdmittedAt plan.limits (slice_index world.words 0) = record { events = (events_in plan world); represented = k.represented } in
-    let l = phase-landed plan.limits b.machine.call (slice_index world.words 0) [] seen sound.range w in
+    let m = lock-moves world.words plan.width a k.memory
+    (phase-to_lock plan.limits b.machine.call seen) in
+    let w : IsAdmittedAt plan.limits (slice_index world.words 0) =
+    record { events = (events_in plan world); represented = k.represented } in
+    let l = phase-landed plan.limits b.machine.call (slice_index world.words 0) [] seen sound.range
+    w in
     let j : job_in b.machine.call ≡ None = ready.of.1 ∙ ap job_at e in
     let slot : doing_in (slice_index_or world.begun t None) ≡ None = ready.lock (ap doing_at e) in
-    let n : length (words_after (with_lock 0 a) world.words) ≡ 2 + plan.width = length-words_after (with_lock 0 a) world.words ∙ k.memory in
-    rw m.seen (subst (λ (s : Shape). Kept plan (landed world t b (words_after (with_lock 0 a) world.words) (lock_turn s b.machine.call (phase_after plan.limits b.machine.call seen (local_seen a (slice_index world.words 0) []))))) ready.of.0
+    let n : length (words_after (with_lock 0 a) world.words) ≡ 2 + plan.width =
+    length-words_after (with_lock 0 a) world.words ∙ k.memory in
+    rw m.seen (subst
+    (λ (s : Shape). Kept plan
+    (landed world t b (words_after (with_lock 0 a) world.words)
+    (lock_turn s b.machine.call
+    (phase_after plan.limits b.machine.call seen
+    (local_seen a (slice_index world.words 0) []))))) ready.of.0
     (lock-step plan world t b _ _ _ k sound ready.of.0 j slot m.after n l))
 begun-kept plan world t b (OnRecord job place) k sound room h ready e =
     let limits : Bounds = record_limits (shape_of plan) in
@@ -207,32 +337,76 @@ begun-kept plan world t b (OnRecord job place) k sound room h ready e =
     let m = record-moves world.words plan.width a k.memory in
     let d : doing_at b.machine.phase ≡ Some (record { job = job; place = place }) = ap doing_at e in
     let j : job_in b.machine.call ≡ Some job = ready.of.1 ∙ ap job_at e in
-    let rd : read_in (doing_in (slice_index_or world.begun t None)) ≡ read_by place = ready.reads ∙ ap read_in d in
-    let wr : written_in (doing_in (slice_index_or world.begun t None)) ≡ written_by place = ready.writes ∙ ap written_in d in
+    let rd : read_in (doing_in (slice_index_or world.begun t None)) ≡ read_by place =
+    ready.reads ∙ ap read_in d in
+    let wr : written_in (doing_in (slice_index_or world.begun t None)) ≡ written_by place =
+    ready.writes ∙ ap written_in d in
     let st = record-stands plan world t b job place k room ready e in
-    let s = own-step limits plan.width job place (slice_index world.words 1) (drop 2 world.words) (content_in plan world) st (sym k.width) in
-    let n : length (words_after (with_lock 1 a) world.words) ≡ 2 + plan.width = length-words_after (with_lock 1 a) world.words ∙ k.memory in
-    let few : (counts_at limits (lock_after a (slice_index world.words 1))).write_count ≤ world.position + 1 = (let one = at_most_one_more limits place (slice_index world.words 1) _ (drop 2 world.words) (content_in plan world) _ _ s.0.effect in let f = k.few in omega (arith, one, f)) in
-    rw m.seen (subst (λ (x : Shape). Kept plan (landed world t b (words_after (with_lock 1 a) world.words) (record_turn x b.machine.call job (record_calls.after limits plan.width job place (local_seen a (slice_index world.words 1) (drop 2 world.words)))))) ready.of.0
+    let s = own-step limits plan.width job place (slice_index world.words 1) (drop 2 world.words)
+    (content_in plan world) st (sym k.width) in
+    let n : length (words_after (with_lock 1 a) world.words) ≡ 2 + plan.width =
+    length-words_after (with_lock 1 a) world.words ∙ k.memory in
+    let few : (counts_at limits (lock_after a (slice_index world.words 1))).write_count
+    ≤ world.position + 1 =
+    (let one = at_most_one_more limits place (slice_index world.words 1) _ (drop 2 world.words)
+    (content_in plan world) _ _ s.0.effect in let f = k.few in omega (arith, one, f)) in
+    rw m.seen (subst
+    (λ (x : Shape). Kept plan
+    (landed world t b (words_after (with_lock 1 a) world.words)
+    (record_turn x b.machine.call job
+    (record_calls.after limits plan.width job place
+    (local_seen a (slice_index world.words 1) (drop 2 world.words)))))) ready.of.0
     (record-step plan world t b job place _ _ _ _ k h ready.of.0 j rd wr m.after n few s))
 
 -- a machine of another shape is none of the script's
-of-shape : (plan : Scripted) (world : World) (t : ℕ) (b : Begun) → b.machine.shape ≡ shape_of plan → Kept plan (landed world t b (words_after (next_in (shape_of plan) b.machine.call b.machine.phase) world.words) (after_in (shape_of plan) b.machine.call (seen_by (next_in (shape_of plan) b.machine.call b.machine.phase) world.words) b.machine.phase)) → Kept plan (landed world t b (words_after (next_access b.machine) world.words) (after_access b.machine (seen_by (next_access b.machine) world.words)))
+of-shape : (plan : Scripted) (world : World) (t : ℕ) (b : Begun) → b.machine.shape ≡ shape_of plan →
+    Kept plan (landed world t b
+    (words_after (next_in (shape_of plan) b.machine.call b.machine.phase) world.words)
+    (after_in (shape_of plan) b.machine.call
+    (seen_by (next_in (shape_of plan) b.machine.call b.machine.phase) world.words)
+    b.machine.phase)) →
+    Kept plan (landed world t b (words_after (next_access b.machine) world.words)
+    (after_access b.machine (seen_by (next_access b.machine) world.words)))
 of-shape plan world t b e h =
-    subst (λ (s : Shape). Kept plan (landed world t b (words_after (next_in s b.machine.call b.machine.phase) world.words) (after_in s b.machine.call (seen_by (next_in s b.machine.call b.machine.phase) world.words) b.machine.phase))) (sym e) h
+    subst (λ (s : Shape). Kept plan
+    (landed world t b (words_after (next_in s b.machine.call b.machine.phase) world.words)
+    (after_in s b.machine.call
+    (seen_by (next_in s b.machine.call b.machine.phase) world.words) b.machine.phase)))
+    (sym e) h
 
-stepped-kept : (plan : Scripted) (world : World) (t : ℕ) (c : Option Begun) → Kept plan world → IsSound plan → world.position < 1000000 → current plan world t ≡ c → Kept plan (stepped world t c)
-stepped-kept plan world t None k sound room e = record { legal = k.legal; represented = k.represented; record_kept = k.record_kept; width = k.width; memory = k.memory; threads = k.threads; begun = k.begun; few = (let f = k.few in omega (arith, f)) }
+stepped-kept : (plan : Scripted) (world : World) (t : ℕ) (c : Option Begun) → Kept plan world →
+    IsSound plan → world.position < 1000000 → current plan world t ≡ c →
+    Kept plan (stepped world t c)
+stepped-kept plan world t None k sound room e =
+    record {
+      legal = k.legal;
+      represented = k.represented;
+      record_kept = k.record_kept;
+      width = k.width;
+      memory = k.memory;
+      threads = k.threads;
+      begun = k.begun;
+      few = (let f = k.few in omega (arith, f));
+    }
 stepped-kept plan world t (Some b) k sound room e =
     let limits : Bounds = record_limits (shape_of plan) in
-    let fits : FitsIn limits (counts_at limits (slice_index world.words 1)).write_count (counts_at limits (slice_index world.words 1)).writers (content_in plan world) (drop 2 world.words) (doing_in (slice_index_or world.begun t None)) = rw (map-index world.begun t) at (k.record_kept.fits t) in
-    let r = current-ready limits plan world t _ _ (content_in plan world) (drop 2 world.words) (slice_index_or world.begun t None) b sound.suited k.width k.threads refl (k.begun t) fits e in
-    of-shape plan world t b r.1.of.0 (begun-kept plan world t b b.machine.phase k sound room r.0 r.1 refl)
+    let fits : FitsIn limits (counts_at limits (slice_index world.words 1)).write_count
+    (counts_at limits (slice_index world.words 1)).writers (content_in plan world)
+    (drop 2 world.words) (doing_in (slice_index_or world.begun t None)) =
+    rw (map-index world.begun t) at (k.record_kept.fits t) in
+    let r = current-ready limits plan world t _ _ (content_in plan world) (drop 2 world.words)
+    (slice_index_or world.begun t None) b sound.suited k.width k.threads refl (k.begun t) fits e
+    in
+    of-shape plan world t b r.1.of.0
+    (begun-kept plan world t b b.machine.phase k sound room r.0 r.1 refl)
 
-pub step-kept : (plan : Scripted) (world : World) (t : ℕ) → Kept plan world → IsSound plan → world.position < 1000000 → Kept plan (step plan world t)
-step-kept plan world t k sound room = stepped-kept plan world t (current plan world t) k sound room refl
+pub step-kept : (plan : Scripted) (world : World) (t : ℕ) → Kept plan world → IsSound plan →
+    world.position < 1000000 → Kept plan (step plan world t)
+step-kept plan world t k sound room =
+    stepped-kept plan world t (current plan world t) k sound room refl
 
-none-begun : (shape : Shape) (n k : ℕ) → IsOf shape (slice_index_or (replicate {A = Option Begun} n None) k None)
+none-begun : (shape : Shape) (n k : ℕ) →
+    IsOf shape (slice_index_or (replicate {A = Option Begun} n None) k None)
 none-begun shape zero k = tt
 none-begun shape (suc n) zero = tt
 none-begun shape (suc n) (suc k) = none-begun shape n k
@@ -245,7 +419,8 @@ none-summed : (f : Option Doing → ℕ) (n : ℕ) → f None ≡ 0 → sum_by f
 none-summed f zero z = refl
 none-summed f (suc n) z = omega (arith, sum_by-cons f None (replicate n None), none-summed f n z)
 
-none-fits : (limits : Bounds) (k w : ℕ) (content items : List ℕ) (n t : ℕ) → FitsIn limits k w content items (slice_index_or (replicate n None) t None)
+none-fits : (limits : Bounds) (k w : ℕ) (content items : List ℕ) (n t : ℕ) →
+    FitsIn limits k w content items (slice_index_or (replicate n None) t None)
 none-fits limits k w content items zero t = tt
 none-fits limits k w content items (suc n) zero = tt
 none-fits limits k w content items (suc n) (suc t) = none-fits limits k w content items n t
@@ -278,10 +453,12 @@ opening-kept plan sound =
       few = rw zeros (omega arith);
     }
 
-pub position-step : (plan : Scripted) (world : World) (t : ℕ) → (step plan world t).position ≡ world.position + 1
+pub position-step : (plan : Scripted) (world : World) (t : ℕ) →
+    (step plan world t).position ≡ world.position + 1
 position-step plan world t = go (current plan world t)
   where
-    done : (b : Begun) (words : List ℕ) (turned : MachineTurn) → (landed world t b words turned).position ≡ world.position + 1
+    done : (b : Begun) (words : List ℕ) (turned : MachineTurn) →
+        (landed world t b words turned).position ≡ world.position + 1
     done b words (machines.Going m) = refl
     done b words (machines.Done r) = refl
 
@@ -289,58 +466,103 @@ position-step plan world t = go (current plan world t)
     go None = refl
     go (Some b) = done b _ _
 
-steps-kept : (plan : Scripted) (world : World) (names : List ℕ) → Kept plan world → IsSound plan → world.position + length names ≤ 1000000 → Kept plan (fold (step plan) world names)
+steps-kept : (plan : Scripted) (world : World) (names : List ℕ) → Kept plan world → IsSound plan →
+    world.position + length names ≤ 1000000 → Kept plan (fold (step plan) world names)
 steps-kept plan world [] k sound room = k
 steps-kept plan world (t ∷ names) k sound room =
-    steps-kept plan (step plan world t) names (step-kept plan world t k sound (omega (arith, room))) sound (rw (position-step plan world t) (omega (arith, room)))
+    steps-kept plan (step plan world t) names (step-kept plan world t k sound (omega (arith, room)))
+    sound (rw (position-step plan world t) (omega (arith, room)))
 
 -- the headline, of the definitions
-pub always-kept : (plan : Scripted) (names : List ℕ) → IsSound plan → length names ≤ 1000000 → Kept plan (execution_of plan names)
+pub always-kept : (plan : Scripted) (names : List ℕ) → IsSound plan → length names ≤ 1000000 →
+    Kept plan (execution_of plan names)
 unfolding execution_of
-always-kept plan names sound few = steps-kept plan (opening plan) names (opening-kept plan sound) sound (omega (arith, few))
+always-kept plan names sound few =
+    steps-kept plan (opening plan) names (opening-kept plan sound) sound (omega (arith, few))
 
-phase-safe : (plan : Scripted) (world : World) (call : Call) (phase : Phase) → Kept plan world → FitsIn (record_limits (shape_of plan)) (counts_at (record_limits (shape_of plan)) (slice_index world.words 1)).write_count (counts_at (record_limits (shape_of plan)) (slice_index world.words 1)).writers (content_in plan world) (drop 2 world.words) (doing_at phase) → IsSafeIn (shape_of plan) call phase world.words
-phase-safe plan world call (OnLock seen) k f = lock-safe (shape_of plan) call seen world.words k.memory (record { events = (events_in plan world); represented = k.represented })
-phase-safe plan world call (OnRecord job place) k f = record-safe (shape_of plan) call (record_limits (shape_of plan)) _ _ (content_in plan world) (drop 2 world.words) job place world.words k.memory k.width k.record_kept.admitted f.2
+phase-safe : (plan : Scripted) (world : World) (call : Call) (phase : Phase) → Kept plan world →
+    FitsIn (record_limits (shape_of plan))
+    (counts_at (record_limits (shape_of plan)) (slice_index world.words 1)).write_count
+    (counts_at (record_limits (shape_of plan)) (slice_index world.words 1)).writers
+    (content_in plan world) (drop 2 world.words) (doing_at phase) →
+    IsSafeIn (shape_of plan) call phase world.words
+phase-safe plan world call (OnLock seen) k f =
+    lock-safe (shape_of plan) call seen world.words k.memory
+    (record { events = (events_in plan world); represented = k.represented })
+phase-safe plan world call (OnRecord job place) k f =
+    record-safe (shape_of plan) call (record_limits (shape_of plan)) _ _ (content_in plan world)
+    (drop 2 world.words) job place world.words k.memory k.width k.record_kept.admitted f.2
 
 -- what a thread's step needs
-pub current-safe : (plan : Scripted) (world : World) (t : ℕ) (b : Begun) → Kept plan world → IsSound plan → current plan world t ≡ Some b → IsSafeIn b.machine.shape b.machine.call b.machine.phase world.words
+pub current-safe : (plan : Scripted) (world : World) (t : ℕ) (b : Begun) → Kept plan world →
+    IsSound plan → current plan world t ≡ Some b →
+    IsSafeIn b.machine.shape b.machine.call b.machine.phase world.words
 current-safe plan world t b k sound e =
     let limits : Bounds = record_limits (shape_of plan) in
-    let fits : FitsIn limits (counts_at limits (slice_index world.words 1)).write_count (counts_at limits (slice_index world.words 1)).writers (content_in plan world) (drop 2 world.words) (doing_in (slice_index_or world.begun t None)) = rw (map-index world.begun t) at (k.record_kept.fits t) in
-    let r = current-ready limits plan world t _ _ (content_in plan world) (drop 2 world.words) (slice_index_or world.begun t None) b sound.suited k.width k.threads refl (k.begun t) fits e in
-    subst (λ (s : Shape). IsSafeIn s b.machine.call b.machine.phase world.words) (sym r.1.of.0) (phase-safe plan world b.machine.call b.machine.phase k r.1.fits)
+    let fits : FitsIn limits (counts_at limits (slice_index world.words 1)).write_count
+    (counts_at limits (slice_index world.words 1)).writers (content_in plan world)
+    (drop 2 world.words) (doing_in (slice_index_or world.begun t None)) =
+    rw (map-index world.begun t) at (k.record_kept.fits t) in
+    let r = current-ready limits plan world t _ _ (content_in plan world) (drop 2 world.words)
+    (slice_index_or world.begun t None) b sound.suited k.width k.threads refl (k.begun t) fits e
+    in
+    subst (λ (s : Shape). IsSafeIn s b.machine.call b.machine.phase world.words) (sym r.1.of.0)
+    (phase-safe plan world b.machine.call b.machine.phase k r.1.fits)
 
 -- the exchange that releases finds what it expects
-releases : (plan : Scripted) (world : World) (t : ℕ) (b : Begun) (job : Job) (s : ℕ) (r : Reply) → Kept plan world → IsSound plan → world.position < 1000000 → current plan world t ≡ Some b → b.machine.phase ≡ OnRecord job (record_calls.Releasing s r) → (next_access b.machine ≡ Cas 1 s (s + (units plan.limits).writer)) × (slice_index world.words 1 ≡ s)
+releases : (plan : Scripted) (world : World) (t : ℕ) (b : Begun) (job : Job) (s : ℕ) (r : Reply) →
+    Kept plan world → IsSound plan → world.position < 1000000 → current plan world t ≡ Some b →
+    b.machine.phase ≡ OnRecord job (record_calls.Releasing s r) →
+    (next_access b.machine ≡ Cas 1 s (s + (units plan.limits).writer))
+    × (slice_index world.words 1 ≡ s)
 releases plan world t b job s r k sound room e at =
     let limits : Bounds = record_limits (shape_of plan) in
-    let fits : FitsIn limits (counts_at limits (slice_index world.words 1)).write_count (counts_at limits (slice_index world.words 1)).writers (content_in plan world) (drop 2 world.words) (doing_in (slice_index_or world.begun t None)) = rw (map-index world.begun t) at (k.record_kept.fits t) in
-    let ready = current-ready limits plan world t _ _ (content_in plan world) (drop 2 world.words) (slice_index_or world.begun t None) b sound.suited k.width k.threads refl (k.begun t) fits e in
-    let stands = record-stands plan world t b job (record_calls.Releasing s r) k room ready.1 at in
-    (rw (at, ready.1.of.0) refl, releasing-wins limits job s r (slice_index world.words 1) (drop 2 world.words) (content_in plan world) stands)
+    let fits : FitsIn limits (counts_at limits (slice_index world.words 1)).write_count
+    (counts_at limits (slice_index world.words 1)).writers (content_in plan world)
+    (drop 2 world.words) (doing_in (slice_index_or world.begun t None)) =
+    rw (map-index world.begun t) at (k.record_kept.fits t) in
+    let ready = current-ready limits plan world t _ _ (content_in plan world) (drop 2 world.words)
+    (slice_index_or world.begun t None) b sound.suited k.width k.threads refl (k.begun t) fits e
+    in
+    let stands =
+    record-stands plan world t b job (record_calls.Releasing s r) k room ready.1 at in (
+      rw (at, ready.1.of.0) refl,
+      releasing-wins limits job s r (slice_index world.words 1) (drop 2 world.words)
+          (content_in plan world) stands,
+    )
 
-position-after : (plan : Scripted) (world : World) (names : List ℕ) → (fold (step plan) world names).position ≡ world.position + length names
+position-after : (plan : Scripted) (world : World) (names : List ℕ) →
+    (fold (step plan) world names).position ≡ world.position + length names
 position-after plan world [] = omega arith
-position-after plan world (t ∷ names) = let rest = position-after plan (step plan world t) names in let one = position-step plan world t in omega (arith, rest, one)
+position-after plan world (t ∷ names) = let rest = position-after plan (step plan world t) names in
+    let one = position-step plan world t in omega (arith, rest, one)
 
 pub releases_win : ReleasesWinAlways
 unfolding execution_of
 releases_win plan names t b job s r sound few e at =
     let here = position-after plan (opening plan) names in
-    releases plan (execution_of plan names) t b job s r (always-kept plan names sound (omega (arith, few))) sound (omega (arith, here, few)) e at
+    releases plan (execution_of plan names) t b job s r
+    (always-kept plan names sound (omega (arith, few))) sound (omega (arith, here, few)) e at
 
-pub execution-position : (plan : Scripted) (names : List ℕ) → (execution_of plan names).position ≡ length names
+pub execution-position : (plan : Scripted) (names : List ℕ) →
+    (execution_of plan names).position ≡ length names
 unfolding execution_of
 execution-position plan names = let h = position-after plan (opening plan) names in omega (arith, h)
 
-pub execution_of-more : (plan : Scripted) (names : List ℕ) (t : ℕ) → execution_of plan (names ++ t ∷ []) ≡ step plan (execution_of plan names) t
+pub execution_of-more : (plan : Scripted) (names : List ℕ) (t : ℕ) →
+    execution_of plan (names ++ t ∷ []) ≡ step plan (execution_of plan names) t
 unfolding execution_of
 execution_of-more plan names t = fold-append (step plan) (opening plan) names (t ∷ [])
 
 -- the call that a thread is in is of the script's shape, and its phase is one of its call
-pub current-of : (plan : Scripted) (world : World) (t : ℕ) (b : Begun) → Kept plan world → IsSound plan → current plan world t ≡ Some b → IsOf (shape_of plan) (Some b)
+pub current-of : (plan : Scripted) (world : World) (t : ℕ) (b : Begun) → Kept plan world →
+    IsSound plan → current plan world t ≡ Some b → IsOf (shape_of plan) (Some b)
 current-of plan world t b k sound e =
     let limits : Bounds = record_limits (shape_of plan) in
-    let fits : FitsIn limits (counts_at limits (slice_index world.words 1)).write_count (counts_at limits (slice_index world.words 1)).writers (content_in plan world) (drop 2 world.words) (doing_in (slice_index_or world.begun t None)) = rw (map-index world.begun t) at (k.record_kept.fits t) in
-    (current-ready limits plan world t _ _ (content_in plan world) (drop 2 world.words) (slice_index_or world.begun t None) b sound.suited k.width k.threads refl (k.begun t) fits e).1.of
+    let fits : FitsIn limits (counts_at limits (slice_index world.words 1)).write_count
+    (counts_at limits (slice_index world.words 1)).writers (content_in plan world)
+    (drop 2 world.words) (doing_in (slice_index_or world.begun t None)) =
+    rw (map-index world.begun t) at (k.record_kept.fits t) in
+    (current-ready limits plan world t _ _ (content_in plan world) (drop 2 world.words)
+    (slice_index_or world.begun t None) b sound.suited k.width k.threads refl (k.begun t) fits
+    e).1.of

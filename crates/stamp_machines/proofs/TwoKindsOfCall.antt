@@ -1,5 +1,6 @@
 -- Calls of the lock and calls of the record: what each does in a history.
-use Rattle.std.proofs.Common.{◌≡◌, ℕ, Bool, true, false, List, ◌++◌, Some, None, if◌then◌else◌, refl}
+use Rattle.std.proofs.Common.{◌≡◌, ℕ, Bool, true, false, List, ◌++◌, Some, None, if◌then◌else◌}
+use Rattle.std.proofs.Common.{refl}
 use Rattle.std.specs.Prelude.{IsTrue}
 use Rattle.std.proofs.lemmas.List.{append-nil}
 use Rattle.stamp_core.specs.LockEvent.{LockEvent}
@@ -9,10 +10,17 @@ use Rattle.stamp_core.specs.Content.{content_next, same_words}
 use Rattle.stamp_core.specs.Transition.{transition}
 use Rattle.stamp_core.specs.History.{appended_by, IsReply}
 use Rattle.stamp_core.specs.declared.call.Call.{Call}
-use Rattle.stamp_core.specs.declared.call.Call.TheVariants.{TryWrite, TryRead, WriteLock, ReadLock, Optimistic, Validate, UnlockWrite, UnlockRead, Unlock, ToWrite, ToRead, ToOptimistic, TryUnlockWrite, TryUnlockRead, IsWriteLocked, IsReadLocked, ReadCount, Get, Put, PutIf}
+use Rattle.stamp_core.specs.declared.call.Call.TheVariants.{TryWrite, TryRead, WriteLock, ReadLock}
+use Rattle.stamp_core.specs.declared.call.Call.TheVariants.{Optimistic, Validate, UnlockWrite}
+use Rattle.stamp_core.specs.declared.call.Call.TheVariants.{UnlockRead, Unlock, ToWrite, ToRead}
+use Rattle.stamp_core.specs.declared.call.Call.TheVariants.{ToOptimistic, TryUnlockWrite}
+use Rattle.stamp_core.specs.declared.call.Call.TheVariants.{TryUnlockRead, IsWriteLocked}
+use Rattle.stamp_core.specs.declared.call.Call.TheVariants.{IsReadLocked, ReadCount, Get, Put}
+use Rattle.stamp_core.specs.declared.call.Call.TheVariants.{PutIf}
 use Rattle.stamp_core.specs.declared.reply.Reply.{Reply}
 use Rattle.stamp_core.specs.declared.reply.Reply.TheVariants.{Yes, No}
-use Rattle.stamp_machines.specs.Job.{Job, Getting, Putting, PuttingIf, job_in, content_with, reply_to}
+use Rattle.stamp_machines.specs.Job.{Job, Getting, Putting, PuttingIf, job_in, content_with}
+use Rattle.stamp_machines.specs.Job.{reply_to}
 
 -- a call of the lock leaves the content
 pub record OfLock (call : Call) : Type 0 where
@@ -43,24 +51,44 @@ of_lock (PutIf expected words) e = cc
 
 -- a call of the record leaves the events
 pub record OfRecord (call : Call) (job : Job) : Type 0 where
-  pub answered : (limits : Bounds) (events : List LockEvent) (content : List ℕ) → IsReply limits events content call (reply_to content job)
-  pub content : (content : List ℕ) → content_next content call (reply_to content job) ≡ content_with content job
-  pub events : (limits : Bounds) (events : List LockEvent) → events ++ appended_by (transition limits events call) ≡ events
+  pub answered : (limits : Bounds) (events : List LockEvent) (content : List ℕ) →
+      IsReply limits events content call (reply_to content job)
+  pub content : (content : List ℕ) →
+      content_next content call (reply_to content job) ≡ content_with content job
+  pub events : (limits : Bounds) (events : List LockEvent) →
+      events ++ appended_by (transition limits events call) ≡ events
 
 get_is : OfRecord Get Getting
-get_is = record { answered = λ limits events content. refl; content = λ content. refl; events = λ limits events. append-nil events }
+get_is = record {
+  answered = λ limits events content. refl;
+  content = λ content. refl;
+  events = λ limits events. append-nil events;
+}
 
 put_is : (words : List ℕ) → OfRecord (Put words) (Putting words)
-put_is words = record { answered = λ limits events content. refl; content = λ content. refl; events = λ limits events. append-nil events }
+put_is words =
+    record {
+      answered = λ limits events content. refl;
+      content = λ content. refl;
+      events = λ limits events. append-nil events;
+    }
 
 put_if_is : (expected words : List ℕ) → OfRecord (PutIf expected words) (PuttingIf expected words)
-put_if_is expected words = record { answered = λ limits events content. refl; content = λ content. by content (same_words content expected); events = λ limits events. append-nil events }
+put_if_is expected words =
+    record {
+      answered = λ limits events content. refl;
+      content = λ content. by content (same_words content expected);
+      events = λ limits events. append-nil events;
+    }
   where
-    by : (content : List ℕ) (b : Bool) → content_next content (PutIf expected words) (if b then Yes else No) ≡ (if b then words else content)
+    by : (content : List ℕ) (b : Bool) →
+        content_next content (PutIf expected words) (if b then Yes else No)
+        ≡ (if b then words else content)
     by content true = refl
     by content false = refl
 
-of_some : (call : Call) (job other : Job) → OfRecord call other → Some other ≡ Some job → OfRecord call job
+of_some : (call : Call) (job other : Job) → OfRecord call other → Some other ≡ Some job →
+    OfRecord call job
 of_some call job other is e = let same : other ≡ job = cc in rw (← same) is
 
 pub of_record : (call : Call) (job : Job) → job_in call ≡ Some job → OfRecord call job
@@ -83,7 +111,8 @@ of_record IsReadLocked job e = cc
 of_record ReadCount job e = cc
 of_record Get job e = of_some Get job Getting get_is e
 of_record (Put words) job e = of_some (Put words) job (Putting words) (put_is words) e
-of_record (PutIf expected words) job e = of_some (PutIf expected words) job (PuttingIf expected words) (put_if_is expected words) e
+of_record (PutIf expected words) job e =
+    of_some (PutIf expected words) job (PuttingIf expected words) (put_if_is expected words) e
 
 pub lock_none : (call : Call) → IsTrue (is_lock_call call) → job_in call ≡ None
 lock_none TryWrite lock = refl

@@ -28,7 +28,12 @@ itself : (w : ℕ) → (w == w) ≡ true
 itself w = grind arith
 
 -- the exchange finds the word that was loaded
-wins : (shape : Shape) (call : Call) (w : ℕ) (rest : List ℕ) (events : List LockEvent) (new : LockWord) (r : Rattle.stamp_core.specs.declared.reply.Reply.Reply) → decision shape.limits w call ≡ Change new r → Moves shape.limits events call (word_at shape.limits w) (word_at shape.limits new.bits) r → HasEnded shape.limits events call (alone 1 (w ∷ rest) (Going (record { shape = shape; call = call; phase = OnLock (Some w) })))
+wins : (shape : Shape) (call : Call) (w : ℕ) (rest : List ℕ) (events : List LockEvent)
+    (new : LockWord) (r : Rattle.stamp_core.specs.declared.reply.Reply.Reply) →
+    decision shape.limits w call ≡ Change new r →
+    Moves shape.limits events call (word_at shape.limits w) (word_at shape.limits new.bits) r →
+    HasEnded shape.limits events call
+    (alone 1 (w ∷ rest) (Going (record { shape = shape; call = call; phase = OnLock (Some w) })))
 wins shape call w rest events new r is moves = rw (is, itself w) (record {
   taken = record { appended = moves.appended; reply = r };
   taken_is = moves.transition_is;
@@ -36,7 +41,12 @@ wins shape call w rest events new r is moves = rw (is, itself w) (record {
   represented = moves.represented;
 })
 
-by_decision : (shape : Shape) (call : Call) (w : ℕ) (rest : List ℕ) (events : List LockEvent) (d : Decision) → decision shape.limits w call ≡ d → Decides shape.limits (word_at shape.limits w) call d → Represents shape.limits (word_at shape.limits w) events → transition shape.limits events call ≢ None → HasEnded shape.limits events call (alone 1 (w ∷ rest) (lock_turn shape call (judged w d)))
+by_decision : (shape : Shape) (call : Call) (w : ℕ) (rest : List ℕ) (events : List LockEvent)
+    (d : Decision) → decision shape.limits w call ≡ d →
+    Decides shape.limits (word_at shape.limits w) call d →
+    Represents shape.limits (word_at shape.limits w) events →
+    transition shape.limits events call ≢ None →
+    HasEnded shape.limits events call (alone 1 (w ∷ rest) (lock_turn shape call (judged w d)))
 by_decision shape call w rest events (Answer r) is says represented some = record {
   taken = record { appended = []; reply = r };
   taken_is = says events represented;
@@ -44,10 +54,15 @@ by_decision shape call w rest events (Answer r) is says represented some = recor
   represented = rw (append-nil events) represented;
 }
 by_decision shape call w rest events (Change new r) is says represented some =
-    wins shape call w rest events new r is (by_number shape.limits (word_at shape.limits w) call new r says events represented)
-by_decision shape call w rest events Wait is says represented some = absurd (some (says events represented))
+    wins shape call w rest events new r is
+    (by_number shape.limits (word_at shape.limits w) call new r says events represented)
+by_decision shape call w rest events Wait is says represented some =
+    absurd (some (says events represented))
 
 pub ends_within_two : EndsWithinTwo
-ends_within_two shape call [] events range lock within represented some = absurd (omega (arith, within))
+ends_within_two shape call [] events range lock within represented some =
+    absurd (omega (arith, within))
 ends_within_two shape call (w ∷ rest) events range lock within represented some =
-    rw (lock_none call lock) (by_decision shape call w rest events (decision shape.limits w call) refl (decided shape.limits call w _ range refl) represented some)
+    rw (lock_none call lock)
+    (by_decision shape call w rest events (decision shape.limits w call) refl
+    (decided shape.limits call w _ range refl) represented some)

@@ -1,5 +1,7 @@
--- What a finished call cost: its own steps, and the steps of others that changed the lock's word meanwhile.
-use Rattle.std.specs.Prelude.{ℕ, ◌≢◌, ◌+◌, ◌≤◌, ◌==◌, ◌&&◌, not, Bool, List, [], ◌∷◌, length, take, drop, count_by, All, IsTrue, slice_index, if◌then◌else◌}
+-- What a finished call cost: its own steps, and the steps of others that changed the lock's word
+-- meanwhile.
+use Rattle.std.specs.Prelude.{ℕ, ◌≢◌, ◌+◌, ◌≤◌, ◌==◌, ◌&&◌, not, Bool, List, [], ◌∷◌, length, take}
+use Rattle.std.specs.Prelude.{drop, count_by, All, IsTrue, slice_index, if◌then◌else◌}
 use Rattle.stamp_core.specs.Call.{is_lock_call}
 use Rattle.stamp_core.specs.declared.call.Call.{Call}
 use Rattle.stamp_core.specs.declared.call.Call.TheVariants.{WriteLock, ReadLock}
@@ -12,19 +14,23 @@ lock_word world = slice_index world.words 0
 
 -- the step of this name is another thread's, and changes the lock's word
 abbrev pub interferes : Scripted → ℕ → World → ℕ → Bool
-interferes plan thread world name = not (name == thread) && not (lock_word (step plan world name) == lock_word world)
+interferes plan thread world name =
+    not (name == thread) && not (lock_word (step plan world name) == lock_word world)
 
 -- how many of these steps, made from this world on, are another thread's and change the lock's word
 abbrev pub changes_by_others : Scripted → ℕ → World → List ℕ → ℕ
 changes_by_others plan thread world [] = 0
-changes_by_others plan thread world (name ∷ names) = (if interferes plan thread world name then 1 else 0) + changes_by_others plan thread (step plan world name) names
+changes_by_others plan thread world (name ∷ names) =
+    (if interferes plan thread world name then 1 else 0)
+    + changes_by_others plan thread (step plan world name) names
 
 -- a thread's steps from a position on, and the changes by others since
 abbrev pub own_since : List ℕ → ℕ → ℕ → ℕ
 own_since names thread first = count_by (λ name. name == thread) (drop first names)
 
 abbrev pub changes_since : Scripted → List ℕ → ℕ → ℕ → ℕ
-changes_since plan names thread first = changes_by_others plan thread (execution_of plan (take first names)) (drop first names)
+changes_since plan names thread first =
+    changes_by_others plan thread (execution_of plan (take first names)) (drop first names)
 
 -- the names from the entry's first step to its last
 abbrev pub steps_during : List ℕ → Entry → List ℕ
@@ -34,7 +40,8 @@ abbrev pub own_steps : List ℕ → Entry → ℕ
 own_steps names e = count_by (λ name. name == e.thread) (steps_during names e)
 
 abbrev pub interference : Scripted → List ℕ → Entry → ℕ
-interference plan names e = changes_by_others plan e.thread (execution_of plan (take e.first names)) (steps_during names e)
+interference plan names e =
+    changes_by_others plan e.thread (execution_of plan (take e.first names)) (steps_during names e)
 
 -- both
 abbrev pub cost : Scripted → List ℕ → Entry → ℕ × ℕ
@@ -50,4 +57,5 @@ pub record NeverWaits (call : Call) : Type 0 where
 abbrev pub StepsBoundedAlways : Type 0
 StepsBoundedAlways =
     (plan : Scripted) (names : List ℕ) → IsSound plan → length names ≤ 1000000 →
-    All (λ (e : Entry). NeverWaits e.call → own_steps names e ≤ interference plan names e + 2) (completed_calls plan names)
+    All (λ (e : Entry). NeverWaits e.call → own_steps names e ≤ interference plan names e + 2)
+    (completed_calls plan names)

@@ -21,12 +21,14 @@ job_in _ = None
 abbrev pub content_with : List ℕ → Job → List ℕ
 content_with content Getting = content
 content_with content (Putting words) = words
-content_with content (PuttingIf expected words) = if same_words content expected then words else content
+content_with content (PuttingIf expected words) =
+    if same_words content expected then words else content
 
 abbrev pub reply_to : List ℕ → Job → Reply
 reply_to content Getting = reply.Content content
 reply_to content (Putting words) = reply.Done
-reply_to content (PuttingIf expected words) = if same_words content expected then reply.Yes else reply.No
+reply_to content (PuttingIf expected words) =
+    if same_words content expected then reply.Yes else reply.No
 
 -- the words that it stores
 abbrev pub new_words : Job → List ℕ

@@ -1,5 +1,6 @@
 -- What holds after every step of a schedule, also in the middle of calls.
-use Rattle.std.specs.Prelude.{◌≡◌, ℕ, ◌+◌, ◌≤◌, List, length, drop, map, Option, Some, None, slice_index, slice_index_or}
+use Rattle.std.specs.Prelude.{◌≡◌, ℕ, ◌+◌, ◌≤◌, List, length, drop, map, Option, Some, None}
+use Rattle.std.specs.Prelude.{slice_index, slice_index_or}
 use Rattle.stamp_core.specs.LockEvent.{LockEvent}
 use Rattle.stamp_core.specs.History.{IsLegal, events_of, content_after}
 use Rattle.stamp_core.specs.Linearized.{history_of}
@@ -43,10 +44,12 @@ pub record Kept (plan : Scripted) (world : World) : Type 0 where
   -- the lock word represents the events of this history
   pub represented : RepresentsAt plan.limits (slice_index world.words 0) (events_in plan world)
   -- the record's lock and its words stand for the content of this history
-  pub record_kept : RecordKept (record_limits (shape_of plan)) (slice_index world.words 1) (drop 2 world.words) (content_in plan world) (map doing_in world.begun)
+  pub record_kept : RecordKept (record_limits (shape_of plan)) (slice_index world.words 1)
+      (drop 2 world.words) (content_in plan world) (map doing_in world.begun)
   pub width : length (content_in plan world) ≡ plan.width
   pub memory : length world.words ≡ 2 + plan.width
   pub threads : length world.begun ≡ length plan.threads
   pub begun : (t : ℕ) → IsOf (shape_of plan) (slice_index_or world.begun t None)
   -- write mode of the record's lock is got at most once a step
-  pub few : (counts_at (record_limits (shape_of plan)) (slice_index world.words 1)).write_count ≤ world.position
+  pub few : (counts_at (record_limits (shape_of plan)) (slice_index world.words 1)).write_count
+      ≤ world.position

@@ -8,9 +8,9 @@ pub mod MachineState
 pub mod Machine
 pub mod PhaseState
 pub mod LockCallSteps
-pub mod LockPhaseFields
 pub mod Passage
 pub mod MachineFields
+pub mod MachineTurn
 pub mod Script
 pub mod ScriptFault
 pub mod ScriptFields
@@ -24,4 +24,8 @@ pub mod Laws
 pub mod StateFields
 pub mod Course
 pub mod Stepped
+pub mod Progress
+pub mod Landed
+pub mod StateLanded
 pub mod RunFields
+pub mod RunRecord

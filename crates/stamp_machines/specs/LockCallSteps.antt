@@ -1,4 +1,5 @@
--- What the accesses of a lock call are, whatever events the word represents. Who makes them outside a schedule needs nothing else.
+-- What the accesses of a lock call are, whatever events the word represents. Who makes them outside
+-- a schedule needs nothing else.
 use Rattle.std.specs.Prelude.{ℕ, ◌≡◌, ◌≢◌, ◌⊎◌, Option, Some, None}
 use Rattle.stamp_core.specs.Word.{word_at}
 use Rattle.stamp_core.specs.Decision.{Answers, Changes, HasNone}
@@ -11,11 +12,13 @@ use Rattle.stamp_machines.specs.declared.access.Access.TheVariants.{Load, Cas, S
 use Rattle.stamp_machines.specs.declared.machine.Turn.{Turn}
 use Rattle.stamp_machines.specs.declared.machine.Turn.TheVariants.{Going, Done}
 
--- the call of this phase changes the word of the first number to that of the second, with this reply
+-- the call of this phase changes the word of the first number to that of the second, with this
+-- reply
 abbrev pub Turns : PhaseState → ℕ → ℕ → Reply → Type 0
 Turns p old new reply = Changes p.limits (word_at p.limits old) p.call (word_at p.limits new) reply
 
--- a load where no word is to be changed, and else an exchange of the word seen for the one that the call changes it to
+-- a load where no word is to be changed, and else an exchange of the word seen for the one that the
+-- call changes it to
 abbrev pub Plans : PhaseState → Access → Type 0
 Plans p (Load i) = (i ≡ p.at) × (p.seen ≡ None)
 Plans p (Cas i old new) = (i ≡ p.at) × (p.seen ≡ Some old) × (reply : Reply) × Turns p old new reply
@@ -26,11 +29,14 @@ pub record Ends (p : PhaseState) (found : ℕ) (reply : Reply) : Type 0 where
   pub won : p.seen ≡ Some found → (new : ℕ) × Turns p found new reply
   pub answered : p.seen ≢ Some found → Answers p.limits (word_at p.limits found) p.call reply
 
--- it goes on: to change the word found, or to load again since a call that may wait has no transition on it
+-- it goes on: to change the word found, or to load again since a call that may wait has no
+-- transition on it
 pub record Goes (p : PhaseState) (found : ℕ) (q : PhaseState) : Type 0 where
   pub not_won : p.seen ≢ Some found
   pub same : (q.at ≡ p.at) × (q.limits ≡ p.limits) × (q.call ≡ p.call)
-  pub next : ((q.seen ≡ Some found) × (new : ℕ) × (reply : Reply) × Turns p found new reply) ⊎ ((q.seen ≡ None) × ((p.call ≡ WriteLock) ⊎ (p.call ≡ ReadLock)) × HasNone p.limits (word_at p.limits found) p.call)
+  pub next : ((q.seen ≡ Some found) × (new : ℕ) × (reply : Reply) × Turns p found new reply)
+      ⊎ ((q.seen ≡ None) × ((p.call ≡ WriteLock) ⊎ (p.call ≡ ReadLock))
+      × HasNone p.limits (word_at p.limits found) p.call)
 
 -- the lock phase that the machine of a lock call is: on word 0
 abbrev pub seen_in : Phase → Option ℕ

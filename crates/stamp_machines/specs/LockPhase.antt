@@ -1,4 +1,5 @@
--- A lock call on its way: a load, and then exchanges until one wins or the word found decides the call.
+-- A lock call on its way: a load, and then exchanges until one wins or the word found decides the
+-- call.
 use Rattle.std.specs.Prelude.{ℕ, ◌==◌, Option, Some, None, if◌then◌else◌}
 use Rattle.stamp_core.specs.Limits.{Bounds}
 use Rattle.stamp_core.specs.CountedDecision.{decision}
@@ -8,7 +9,8 @@ use Rattle.stamp_core.specs.declared.decision.Decision.{Decision}
 use Rattle.stamp_core.specs.declared.decision.Decision.TheVariants.{Answer, Change, Wait}
 use Rattle.stamp_machines.specs.LocalAccess.{LocalAccess, LoadLock, CasLock}
 
--- it goes on with the word that it decided to change, or with none, which is to be loaded; or it has ended
+-- it goes on with the word that it decided to change, or with none, which is to be loaded; or it
+-- has ended
 pub data PhaseTurn : Type 0 where
   Still : Option ℕ → PhaseTurn
   Ended : Reply → PhaseTurn
@@ -30,7 +32,8 @@ judged word Wait = Still None
 
 abbrev pub tried : Bounds → Call → ℕ → ℕ → Decision → PhaseTurn
 tried limits call old found (Answer reply) = judged found (decision limits found call)
-tried limits call old found (Change new reply) = if found == old then Ended reply else judged found (decision limits found call)
+tried limits call old found (Change new reply) =
+    if found == old then Ended reply else judged found (decision limits found call)
 tried limits call old found Wait = judged found (decision limits found call)
 
 -- where it is after an access has found this word

@@ -16,22 +16,27 @@ use Rattle.stamp_machines.specs.declared.access.Access.{Access}
 -- a lock phase is on word 0; a call of the record has its lock at word 1
 abbrev pub next_in : Shape → Call → Phase → Access
 next_in shape call (OnLock seen) = with_lock 0 (phase_next shape.limits call seen)
-next_in shape call (OnRecord job place) = with_lock 1 (record_calls.next (record_limits shape) shape.width job place)
+next_in shape call (OnRecord job place) =
+    with_lock 1 (record_calls.next (record_limits shape) shape.width job place)
 
 abbrev pub next_access : MachineState → Access
 next_access s = next_in s.shape s.call s.phase
 
 abbrev pub lock_turn : Shape → Call → PhaseTurn → Turn
-lock_turn shape call (Still seen) = Going (record { shape = shape; call = call; phase = OnLock seen })
+lock_turn shape call (Still seen) =
+    Going (record { shape = shape; call = call; phase = OnLock seen })
 lock_turn shape call (Ended r) = Done r
 
 abbrev pub record_turn : Shape → Call → Job → PlaceTurn → Turn
-record_turn shape call job (record_calls.Going place) = Going (record { shape = shape; call = call; phase = OnRecord job place })
+record_turn shape call job (record_calls.Going place) =
+    Going (record { shape = shape; call = call; phase = OnRecord job place })
 record_turn shape call job (record_calls.Done r) = Done r
 
 abbrev pub after_in : Shape → Call → ℕ → Phase → Turn
-after_in shape call seen (OnLock last) = lock_turn shape call (phase_after shape.limits call last seen)
-after_in shape call seen (OnRecord job place) = record_turn shape call job (record_calls.after (record_limits shape) shape.width job place seen)
+after_in shape call seen (OnLock last) =
+    lock_turn shape call (phase_after shape.limits call last seen)
+after_in shape call seen (OnRecord job place) =
+    record_turn shape call job (record_calls.after (record_limits shape) shape.width job place seen)
 
 -- where the call stands after its access has seen this, or its reply
 abbrev pub after_access : MachineState → ℕ → Turn
@@ -40,7 +45,8 @@ after_access s seen = after_in s.shape s.call seen s.phase
 -- what is read as a lock's word is one that the lock's limits admit
 abbrev pub IsFoundAt : Shape → Place → ℕ → Type 0
 IsFoundAt shape record_calls.Glancing found = IsAdmittedAt (record_limits shape) found
-IsFoundAt shape (record_calls.Copying first loaded) found = shape.width ≤ length loaded → IsAdmittedAt (record_limits shape) found
+IsFoundAt shape (record_calls.Copying first loaded) found =
+    shape.width ≤ length loaded → IsAdmittedAt (record_limits shape) found
 IsFoundAt shape (record_calls.Locking e seen) found = IsAdmittedAt (record_limits shape) found
 IsFoundAt shape (record_calls.Reading s loaded) found = Unit {0}
 IsFoundAt shape (record_calls.Checking s loaded) found = Unit {0}

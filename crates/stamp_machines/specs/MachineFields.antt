@@ -1,17 +1,29 @@
 -- How a machine's fields are read as a call on its way.
-use Rattle.std.specs.Prelude.{◌≡◌, ◌⊎◌, ◌<◌, ◌≤◌, ◌^◌, true, false, length, Option, Some, None}
-use Rattle.stamp_core.specs.Word.{IsAdmitted}
+use Rattle.std.specs.Prelude.{◌≡◌, ◌⊎◌, ◌<◌, ◌≤◌, ◌^◌, ℕ, Bool, true, false, List, length, Option}
+use Rattle.std.specs.Prelude.{Some, None, if◌then◌else◌}
 use Rattle.stamp_core.specs.Call.{is_lock_call}
 use Rattle.stamp_core.specs.declared.call.Call.{Call}
-use Rattle.stamp_machines.specs.Job.{Job, Getting, job_in, is_get, new_words}
+use Rattle.stamp_core.specs.declared.reply.Reply.{Reply}
+use Rattle.stamp_core.specs.declared.reply.Reply.TheVariants.{No}
+use Rattle.stamp_machines.specs.LockNumber.{IsAdmittedAt}
+use Rattle.stamp_machines.specs.Passage.{IsChanging}
+use Rattle.stamp_machines.specs.Job.{Job, Getting, job_in, is_get, new_words, stored_reply}
 use Rattle.stamp_machines.specs.RecordPhase as places
 use Rattle.stamp_machines.specs.RecordPhase.{call_for}
 use Rattle.stamp_machines.specs.MachineState.{MachineState, Phase, OnLock, OnRecord, record_limits}
 use Rattle.stamp_machines.specs.declared.shape.Shape.{Shape}
 use Rattle.stamp_machines.specs.declared.stage.Stage.{Stage}
-use Rattle.stamp_machines.specs.declared.stage.Stage.TheVariants.{Public, Glancing, Copying, Locking, Reading, Checking, Storing, Releasing}
+use Rattle.stamp_machines.specs.declared.stage.Stage.TheVariants.{Public, Glancing, Copying}
+use Rattle.stamp_machines.specs.declared.stage.Stage.TheVariants.{Locking, Reading, Checking}
+use Rattle.stamp_machines.specs.declared.stage.Stage.TheVariants.{Storing, Releasing}
 use Rattle.stamp_machines.specs.declared.stage.Errand.{Errand}
-use Rattle.stamp_machines.specs.declared.stage.Errand.TheVariants.{Share, Leave, Refuse, Upgrade, Retreat, Claim}
+use Rattle.stamp_machines.specs.declared.stage.Errand.TheVariants.{Share, Leave, Refuse, Upgrade}
+use Rattle.stamp_machines.specs.declared.stage.Errand.TheVariants.{Retreat, Claim}
+use Rattle.stamp_machines.specs.declared.stage.Next.{Next}
+use Rattle.stamp_machines.specs.declared.stage.Next.TheVariants.{To, Done}
+use Rattle.stamp_machines.specs.declared.machine.Turn.{Turn}
+use Rattle.stamp_machines.specs.declared.machine.Turn.TheVariants.{Going}
+use Rattle.stamp_machines.specs.declared.machine.Turn.TheVariants as turned
 use Rattle.stamp_machines.specs.declared.machine.Machine.TheInside.{Inside}
 
 abbrev pub job_or : Option Job → Job
@@ -21,52 +33,86 @@ job_or (Some job) = job
 abbrev pub job_of : Call → Job
 job_of call = job_or (job_in call)
 
-abbrev pub errand_in : Errand → places.Errand
-errand_in Share = places.ToShare
-errand_in (Leave stamp words) = places.ToLeave stamp words
-errand_in (Refuse stamp) = places.ToRefuse stamp
-errand_in (Upgrade stamp) = places.ToUpgrade stamp
-errand_in (Retreat stamp) = places.ToRetreat stamp
-errand_in Claim = places.ToClaim
+-- with these words loaded
+abbrev pub errand_in : List ℕ → Errand → places.Errand
+errand_in loaded Share = places.ToShare
+errand_in loaded (Leave stamp) = places.ToLeave stamp loaded
+errand_in loaded (Refuse stamp) = places.ToRefuse stamp
+errand_in loaded (Upgrade stamp) = places.ToUpgrade stamp
+errand_in loaded (Retreat stamp) = places.ToRetreat stamp
+errand_in loaded Claim = places.ToClaim
 
-abbrev pub phase_at : Call → Stage → Phase
-phase_at call (Public phase) = OnLock phase.seen
-phase_at call Glancing = OnRecord (job_of call) places.Glancing
-phase_at call (Copying first loaded) = OnRecord (job_of call) (places.Copying first.bits loaded)
-phase_at call (Locking errand phase) = OnRecord (job_of call) (places.Locking (errand_in errand) phase.seen)
-phase_at call (Reading stamp loaded) = OnRecord (job_of call) (places.Reading stamp loaded)
-phase_at call (Checking stamp loaded) = OnRecord (job_of call) (places.Checking stamp loaded)
-phase_at call (Storing stamp stored) = OnRecord (job_of call) (places.Storing stamp stored)
-phase_at call (Releasing stamp reply) = OnRecord (job_of call) (places.Releasing stamp reply)
+-- its reply once its write lock is released
+abbrev pub released_reply : Job → Bool → Reply
+released_reply job is_stored = if is_stored then stored_reply job else No
+
+abbrev pub phase_at : Call → List ℕ → Stage → Phase
+phase_at call loaded (Public seen) = OnLock seen
+phase_at call loaded Glancing = OnRecord (job_of call) places.Glancing
+phase_at call loaded (Copying first) = OnRecord (job_of call) (places.Copying first loaded)
+phase_at call loaded (Locking errand seen) =
+    OnRecord (job_of call) (places.Locking (errand_in loaded errand) seen)
+phase_at call loaded (Reading stamp) = OnRecord (job_of call) (places.Reading stamp loaded)
+phase_at call loaded (Checking stamp) = OnRecord (job_of call) (places.Checking stamp loaded)
+phase_at call loaded (Storing stamp stored) = OnRecord (job_of call) (places.Storing stamp stored)
+phase_at call loaded (Releasing stamp is_stored) =
+    OnRecord (job_of call) (places.Releasing stamp (released_reply (job_of call) is_stored))
 
 abbrev pub state_in : Inside → MachineState
-state_in m = record { shape = m.shape; call = m.call; phase = phase_at m.call m.stage }
+state_in m = record { shape = m.shape; call = m.call; phase = phase_at m.call m.loaded m.stage }
+
+-- a call that has these words loaded goes on at this stage
+abbrev pub going_at : Shape → Call → List ℕ → Stage → Turn
+going_at shape call loaded stage =
+    Going (record { shape = shape; call = call; phase = phase_at call loaded stage })
+
+-- the turn of a call that has these words loaded, with this reply
+abbrev pub turn_in : Shape → Call → List ℕ → Reply → Next → Turn
+turn_in shape call loaded reply (To stage) = going_at shape call loaded stage
+turn_in shape call loaded reply Done = turned.Done reply
 
 -- a call of the record has the record's width
 abbrev pub IsRecordCall : Shape → Call → Type 0
-IsRecordCall shape call = (is_lock_call call ≡ false) × (0 < shape.width) × (shape.width ≤ 16) × ((is_get (job_of call) ≡ true) ⊎ (length (new_words (job_of call)) ≡ shape.width))
+IsRecordCall shape call =
+    (is_lock_call call ≡ false) × (0 < shape.width) × (shape.width ≤ 16)
+    × ((is_get (job_of call) ≡ true) ⊎ (length (new_words (job_of call)) ≡ shape.width))
 
 -- a call that changes the record
 abbrev pub IsWriter : Shape → Call → Type 0
-IsWriter shape call = (is_lock_call call ≡ false) × (0 < shape.width) × (shape.width ≤ 16) × (is_get (job_of call) ≡ false) × (length (new_words (job_of call)) ≡ shape.width)
+IsWriter shape call =
+    (is_lock_call call ≡ false) × (0 < shape.width) × (shape.width ≤ 16)
+    × (is_get (job_of call) ≡ false) × (length (new_words (job_of call)) ≡ shape.width)
 
-abbrev pub IsErrand : Shape → Call → Errand → Type 0
-IsErrand shape call Share = IsRecordCall shape call
-IsErrand shape call (Leave stamp words) = IsRecordCall shape call
-IsErrand shape call (Refuse stamp) = IsRecordCall shape call
-IsErrand shape call (Upgrade stamp) = IsWriter shape call
-IsErrand shape call (Retreat stamp) = IsWriter shape call
-IsErrand shape call Claim = IsWriter shape call
+abbrev pub IsErrand : Shape → Call → List ℕ → Errand → Type 0
+IsErrand shape call loaded Share = IsRecordCall shape call
+IsErrand shape call loaded (Leave stamp) = IsRecordCall shape call × (1 ≤ length loaded)
+IsErrand shape call loaded (Refuse stamp) = IsRecordCall shape call
+IsErrand shape call loaded (Upgrade stamp) = IsWriter shape call
+IsErrand shape call loaded (Retreat stamp) = IsWriter shape call
+IsErrand shape call loaded Claim = IsWriter shape call
 
-abbrev pub IsStage : Shape → Call → Stage → Type 0
-IsStage shape call (Public phase) = (phase.at ≡ 0) × (phase.limits ≡ shape.limits) × (phase.call ≡ call)
-IsStage shape call Glancing = IsRecordCall shape call
-IsStage shape call (Copying first loaded) = IsRecordCall shape call × IsAdmitted (record_limits shape) first × (length loaded ≤ shape.width)
-IsStage shape call (Locking errand phase) = IsErrand shape call errand × (phase.at ≡ 1) × (phase.limits ≡ record_limits shape) × (phase.call ≡ call_for (errand_in errand))
-IsStage shape call (Reading stamp loaded) = IsRecordCall shape call × (length loaded < shape.width)
-IsStage shape call (Checking stamp loaded) = IsWriter shape call × (length loaded < shape.width) × (stamp < 2 ^ 63)
-IsStage shape call (Storing stamp stored) = IsWriter shape call × (stored < shape.width) × (stamp < 2 ^ 63)
-IsStage shape call (Releasing stamp reply) = (is_lock_call call ≡ false) × (stamp < 2 ^ 63)
+abbrev pub IsStage : Shape → Call → List ℕ → Stage → Type 0
+IsStage shape call loaded (Public seen) =
+    (is_lock_call call ≡ true) × IsChanging shape.limits call seen
+IsStage shape call loaded Glancing = IsRecordCall shape call
+IsStage shape call loaded (Copying first) =
+    IsRecordCall shape call × IsAdmittedAt (record_limits shape) first
+    × (length loaded ≤ shape.width)
+IsStage shape call loaded (Locking errand seen) =
+    IsErrand shape call loaded errand
+    × IsChanging (record_limits shape) (call_for (errand_in loaded errand)) seen
+IsStage shape call loaded (Reading stamp) = IsRecordCall shape call × (length loaded < shape.width)
+IsStage shape call loaded (Checking stamp) =
+    IsWriter shape call × (length loaded < shape.width) × (stamp < 2 ^ 63)
+IsStage shape call loaded (Storing stamp stored) =
+    IsWriter shape call × (stored < shape.width) × (stamp < 2 ^ 63)
+IsStage shape call loaded (Releasing stamp is_stored) =
+    (is_lock_call call ≡ false) × (stamp < 2 ^ 63)
+
+-- where it goes on with the words now loaded; the end of a call leaves them as they were
+abbrev pub IsNext : Shape → Call → List ℕ → List ℕ → Next → Type 0
+IsNext shape call before loaded (To stage) = IsStage shape call loaded stage
+IsNext shape call before loaded Done = loaded ≡ before
 
 abbrev pub IsSound : Inside → Type 0
-IsSound m = IsStage m.shape m.call m.stage
+IsSound m = IsStage m.shape m.call m.loaded m.stage

@@ -1,11 +1,16 @@
--- Where a record call may stand while the lock has these counts, the content is this, and the words are these.
-use Rattle.std.specs.Prelude.{◌≡◌, ◌⊎◌, ℕ, ◌+◌, ◌<◌, ◌≤◌, true, false, List, ◌++◌, length, take, drop, Option, Some, None, slice_index_or}
+-- Where a record call may stand while the lock has these counts, the content is this, and the words
+-- are these.
+use Rattle.std.specs.Prelude.{◌≡◌, ◌⊎◌, ℕ, ◌+◌, ◌<◌, ◌≤◌, true, false, List, ◌++◌, length, take}
+use Rattle.std.specs.Prelude.{drop, Option, Some, None, slice_index_or}
 use Rattle.std.specs.List.{sum_by}
 use Rattle.stamp_core.specs.Limits.{Bounds, units, AreInRange}
 use Rattle.stamp_core.specs.Stamp.{write_stamp, read_stamp}
 use Rattle.stamp_machines.specs.LockNumber.{IsAdmittedAt, counts_at}
 use Rattle.stamp_machines.specs.Job.{Job, content_with, reply_to, new_words, expects, is_get}
-use Rattle.stamp_machines.specs.RecordPhase.{Going, Done, Place, Glancing, Copying, Locking, Reading, Checking, Storing, Releasing, ToShare, ToLeave, ToRefuse, ToUpgrade, ToRetreat, ToClaim, PlaceTurn}
+use Rattle.stamp_machines.specs.RecordPhase.{Going, Done, Place, Glancing, Copying, Locking}
+use Rattle.stamp_machines.specs.RecordPhase.{Reading, Checking, Storing, Releasing, ToShare}
+use Rattle.stamp_machines.specs.RecordPhase.{ToLeave, ToRefuse, ToUpgrade, ToRetreat, ToClaim}
+use Rattle.stamp_machines.specs.RecordPhase.{PlaceTurn}
 
 -- how many read and write locks a call at this place holds
 abbrev pub read_by : Place → ℕ
@@ -37,26 +42,37 @@ Begins loaded content = (length loaded ≤ length content) × (loaded ≡ take (
 
 -- a read stamp of this version
 abbrev pub IsRead : Bounds → ℕ → ℕ → Type 0
-IsRead limits k s = (read_stamp (units limits) k 1 ≤ s) × (s ≤ read_stamp (units limits) k (units limits).readers)
+IsRead limits k s =
+    (read_stamp (units limits) k 1 ≤ s) × (s ≤ read_stamp (units limits) k (units limits).readers)
 
 abbrev pub Fits : Bounds → ℕ → ℕ → List ℕ → List ℕ → Job → Place → Type 0
 Fits limits k w content items job Glancing = is_get job ≡ true
 Fits limits k w content items job (Copying first loaded) =
-    (is_get job ≡ true) × ((counts_at limits first).write_count ≤ k) × (length loaded ≤ length content)
+    (is_get job ≡ true) × ((counts_at limits first).write_count ≤ k)
+    × (length loaded ≤ length content)
     × ((counts_at limits first).write_count ≡ k → (w ≡ 0) × (loaded ≡ take (length loaded) content))
 Fits limits k w content items job (Locking ToShare seen) = Unit {0}
-Fits limits k w content items job (Locking (ToLeave s loaded) seen) = (is_get job ≡ true) × IsRead limits k s × (loaded ≡ content)
-Fits limits k w content items job (Locking (ToRefuse s) seen) = (is_get job ≡ false) × IsRead limits k s × (expects job content ≡ false)
-Fits limits k w content items job (Locking (ToUpgrade s) seen) = (is_get job ≡ false) × IsRead limits k s × (expects job content ≡ true)
-Fits limits k w content items job (Locking (ToRetreat s) seen) = (is_get job ≡ false) × IsRead limits k s
+Fits limits k w content items job (Locking (ToLeave s loaded) seen) =
+    (is_get job ≡ true) × IsRead limits k s × (loaded ≡ content)
+Fits limits k w content items job (Locking (ToRefuse s) seen) =
+    (is_get job ≡ false) × IsRead limits k s × (expects job content ≡ false)
+Fits limits k w content items job (Locking (ToUpgrade s) seen) =
+    (is_get job ≡ false) × IsRead limits k s × (expects job content ≡ true)
+Fits limits k w content items job (Locking (ToRetreat s) seen) =
+    (is_get job ≡ false) × IsRead limits k s
 Fits limits k w content items job (Locking ToClaim seen) = is_get job ≡ false
-Fits limits k w content items job (Reading s loaded) = IsRead limits k s × Begins loaded content × (length loaded < length content)
+Fits limits k w content items job (Reading s loaded) =
+    IsRead limits k s × Begins loaded content × (length loaded < length content)
 Fits limits k w content items job (Checking s loaded) =
-    (is_get job ≡ false) × (s ≡ write_stamp (units limits) k) × (items ≡ content) × Begins loaded content × (length loaded < length content)
+    (is_get job ≡ false) × (s ≡ write_stamp (units limits) k) × (items ≡ content)
+    × Begins loaded content × (length loaded < length content)
 Fits limits k w content items job (Storing s i) =
-    (is_get job ≡ false) × (s ≡ write_stamp (units limits) k) × (expects job content ≡ true) × (i < length content)
+    (is_get job ≡ false) × (s ≡ write_stamp (units limits) k) × (expects job content ≡ true)
+    × (i < length content)
     × (items ≡ take i (new_words job) ++ drop i content)
-Fits limits k w content items job (Releasing s a) = (s ≡ write_stamp (units limits) k) × (a ≡ reply_to content job) × (items ≡ content_with content job)
+Fits limits k w content items job (Releasing s a) =
+    (s ≡ write_stamp (units limits) k) × (a ≡ reply_to content job)
+    × (items ≡ content_with content job)
 
 pub record Doing : Type 0 where
   pub job : Job
@@ -73,37 +89,51 @@ written_in (Some d) = written_by d.place
 abbrev pub FitsIn : Bounds → ℕ → ℕ → List ℕ → List ℕ → Option Doing → Type 0
 FitsIn limits k w content items None = Unit {0}
 FitsIn limits k w content items (Some d) =
-    (0 < length content) × ((is_get d.job ≡ true) ⊎ (length (new_words d.job) ≡ length content)) × Fits limits k w content items d.job d.place
+    (0 < length content) × ((is_get d.job ≡ true) ⊎ (length (new_words d.job) ≡ length content))
+    × Fits limits k w content items d.job d.place
 
 -- what holds of the record after every step, by the content that the finished calls leave
-pub record RecordKept (limits : Bounds) (lock : ℕ) (items : List ℕ) (content : List ℕ) (doing : List (Option Doing)) : Type 0 where
+pub record RecordKept (limits : Bounds) (lock : ℕ) (items : List ℕ) (content : List ℕ)
+    (doing : List (Option Doing)) : Type 0 where
   pub admitted : IsAdmittedAt limits lock
   pub writers : sum_by written_in doing ≡ (counts_at limits lock).writers
   pub readers : sum_by read_in doing ≡ (counts_at limits lock).readers
   pub width : length items ≡ length content
   pub free : (counts_at limits lock).writers ≡ 0 → items ≡ content
-  pub fits : (t : ℕ) → FitsIn limits (counts_at limits lock).write_count (counts_at limits lock).writers content items (slice_index_or doing t None)
+  pub fits : (t : ℕ) →
+      FitsIn limits (counts_at limits lock).write_count (counts_at limits lock).writers content
+      items (slice_index_or doing t None)
 
 abbrev pub SameFor : Bounds → ℕ → List ℕ → List ℕ → ℕ → List ℕ → List ℕ → Type 0
 SameFor limits lock items content lock' items' content' =
-    ((counts_at limits lock').write_count ≡ (counts_at limits lock).write_count) × ((counts_at limits lock').writers ≡ (counts_at limits lock).writers) × (content' ≡ content) × (items' ≡ items)
+    ((counts_at limits lock').write_count ≡ (counts_at limits lock).write_count)
+    × ((counts_at limits lock').writers ≡ (counts_at limits lock).writers)
+    × (content' ≡ content) × (items' ≡ items)
 
 abbrev pub AloneFor : Bounds → Place → ℕ → ℕ → Type 0
 AloneFor limits before lock lock' =
-    ((counts_at limits lock).writers ≡ written_by before) × ((counts_at limits lock).readers ≡ read_by before)
-    × (((counts_at limits lock').write_count ≡ (counts_at limits lock).write_count + 1) ⊎ (((counts_at limits lock).writers ≡ 1) × ((counts_at limits lock').write_count ≡ (counts_at limits lock).write_count)))
+    ((counts_at limits lock).writers ≡ written_by before)
+    × ((counts_at limits lock).readers ≡ read_by before)
+    × (((counts_at limits lock').write_count ≡ (counts_at limits lock).write_count + 1)
+    ⊎ (((counts_at limits lock).writers ≡ 1)
+    × ((counts_at limits lock').write_count ≡ (counts_at limits lock).write_count)))
 
 -- what the access of one thread, whose call stood at `before`, makes of the record
-pub record Moved (limits : Bounds) (before : Place) (lock : ℕ) (items : List ℕ) (content : List ℕ) (lock' : ℕ) (items' : List ℕ) (content' : List ℕ) (now : Option Doing) : Type 0 where
+pub record Moved (limits : Bounds) (before : Place) (lock : ℕ) (items : List ℕ) (content : List ℕ)
+    (lock' : ℕ) (items' : List ℕ) (content' : List ℕ) (now : Option Doing) : Type 0 where
   pub admitted : IsAdmittedAt limits lock'
-  pub writers : (counts_at limits lock').writers + written_by before ≡ (counts_at limits lock).writers + written_in now
-  pub readers : (counts_at limits lock').readers + read_by before ≡ (counts_at limits lock).readers + read_in now
+  pub writers : (counts_at limits lock').writers + written_by before
+      ≡ (counts_at limits lock).writers + written_in now
+  pub readers : (counts_at limits lock').readers + read_by before ≡ (counts_at limits lock).readers
+      + read_in now
   pub width : length items' ≡ length content'
   pub same_width : length content' ≡ length content
   pub free : (counts_at limits lock').writers ≡ 0 → items' ≡ content'
-  pub fits : FitsIn limits (counts_at limits lock').write_count (counts_at limits lock').writers content' items' now
+  pub fits : FitsIn limits (counts_at limits lock').write_count (counts_at limits lock').writers
+      content' items' now
   -- either nothing changed that another call relies on, or no other call holds anything
-  pub effect : SameFor limits lock items content lock' items' content' ⊎ AloneFor limits before lock lock'
+  pub effect : SameFor limits lock items content lock' items' content'
+      ⊎ AloneFor limits before lock lock'
 
 -- the call after an access, the content after it, and that what it answered is right
 abbrev pub now_of : Job → PlaceTurn → Option Doing
@@ -120,10 +150,12 @@ RightIn content job (Done a) = a ≡ reply_to content job
 
 abbrev pub Steps : Bounds → Job → Place → ℕ → List ℕ → List ℕ → ℕ → List ℕ → PlaceTurn → Type 0
 Steps limits job place lock items content lock' items' turned =
-    Moved limits place lock items content lock' items' (content_of content job turned) (now_of job turned) × RightIn content job turned
+    Moved limits place lock items content lock' items' (content_of content job turned)
+    (now_of job turned) × RightIn content job turned
 
 -- what a call may rely on as it steps
-pub record Stands (limits : Bounds) (job : Job) (place : Place) (lock : ℕ) (items : List ℕ) (content : List ℕ) : Type 0 where
+pub record Stands (limits : Bounds) (job : Job) (place : Place) (lock : ℕ) (items : List ℕ)
+    (content : List ℕ) : Type 0 where
   pub range : AreInRange limits
   pub admitted : IsAdmittedAt limits lock
   pub room : (counts_at limits lock).write_count < limits.versions
@@ -133,4 +165,5 @@ pub record Stands (limits : Bounds) (job : Job) (place : Place) (lock : ℕ) (it
   pub reads : read_by place ≤ (counts_at limits lock).readers
   pub writes : written_by place ≤ (counts_at limits lock).writers
   pub words : (is_get job ≡ true) ⊎ (length (new_words job) ≡ length content)
-  pub fits : Fits limits (counts_at limits lock).write_count (counts_at limits lock).writers content items job place
+  pub fits : Fits limits (counts_at limits lock).write_count (counts_at limits lock).writers content
+      items job place

@@ -1,13 +1,16 @@
 -- The record calls: where they may stand, what they access next, and where that leads.
-use Rattle.std.specs.Prelude.{ℕ, ◌+◌, ◌==◌, ◌&&◌, nat_lt, Bool, List, [], ◌∷◌, ◌++◌, length, Option, None, if◌then◌else◌, slice_index}
+use Rattle.std.specs.Prelude.{ℕ, ◌+◌, ◌==◌, ◌&&◌, nat_lt, Bool, List, [], ◌∷◌, ◌++◌, length, Option}
+use Rattle.std.specs.Prelude.{None, if◌then◌else◌, slice_index}
 use Rattle.stamp_core.specs.Limits.{Bounds, units}
 use Rattle.stamp_core.specs.declared.call.Call.{Call}
-use Rattle.stamp_core.specs.declared.call.Call.TheVariants.{ReadLock, WriteLock, UnlockRead, ToWrite}
+use Rattle.stamp_core.specs.declared.call.Call.TheVariants.{ReadLock, WriteLock, UnlockRead}
+use Rattle.stamp_core.specs.declared.call.Call.TheVariants.{ToWrite}
 use Rattle.stamp_core.specs.declared.reply.Reply.{Reply}
 use Rattle.stamp_core.specs.declared.reply.Reply.TheVariants as reply
 use Rattle.stamp_core.specs.Decision.{stamp_in}
 use Rattle.stamp_machines.specs.LockNumber.{counts_at}
-use Rattle.stamp_machines.specs.Job.{Job, Getting, Putting, PuttingIf, new_words, expects, is_get, stored_reply}
+use Rattle.stamp_machines.specs.Job.{Job, Getting, Putting, PuttingIf, new_words, expects, is_get}
+use Rattle.stamp_machines.specs.Job.{stored_reply}
 use Rattle.stamp_machines.specs.LocalAccess.{LocalAccess, LoadLock, CasLock, LoadItem, StoreItem}
 use Rattle.stamp_machines.specs.LockPhase.{PhaseTurn, Still, Ended, phase_next, phase_after}
 
@@ -48,7 +51,8 @@ opening (PuttingIf a b) = Locking ToShare None
 
 abbrev pub next : Bounds → ℕ → Job → Place → LocalAccess
 next limits n job Glancing = LoadLock
-next limits n job (Copying first loaded) = if nat_lt (length loaded) n then LoadItem (length loaded) else LoadLock
+next limits n job (Copying first loaded) =
+    if nat_lt (length loaded) n then LoadItem (length loaded) else LoadLock
 next limits n job (Locking e seen) = phase_next limits (call_for e) seen
 next limits n job (Reading s loaded) = LoadItem (length loaded)
 next limits n job (Checking s loaded) = LoadItem (length loaded)
@@ -65,7 +69,8 @@ abbrev pub errand_done : Job → Errand → ℕ → PlaceTurn
 errand_done job ToShare s = Going (Reading s [])
 errand_done job (ToLeave t loaded) s = Done (reply.Content loaded)
 errand_done job (ToRefuse t) s = Done reply.No
-errand_done job (ToUpgrade t) s = if s == 0 then Going (Locking (ToRetreat t) None) else Going (Storing s 0)
+errand_done job (ToUpgrade t) s =
+    if s == 0 then Going (Locking (ToRetreat t) None) else Going (Storing s 0)
 errand_done job (ToRetreat t) s = Going (Locking ToClaim None)
 errand_done job ToClaim s = claimed job s
 
@@ -74,23 +79,33 @@ passed job e (Still seen) = Going (Locking e seen)
 passed job e (Ended r) = errand_done job e (stamp_in r)
 
 abbrev pub unchanged : Bounds → ℕ → ℕ → Bool
-unchanged limits first found = ((counts_at limits found).writers == 0) && ((counts_at limits found).write_count == (counts_at limits first).write_count)
+unchanged limits first found =
+    ((counts_at limits found).writers == 0)
+    && ((counts_at limits found).write_count == (counts_at limits first).write_count)
 
 abbrev pub all_read : Job → ℕ → List ℕ → PlaceTurn
 all_read job s loaded =
     if is_get job then Going (Locking (ToLeave s loaded) None)
-    else (if expects job loaded then Going (Locking (ToUpgrade s) None) else Going (Locking (ToRefuse s) None))
+    else (if expects job loaded then Going (Locking (ToUpgrade s) None)
+    else Going (Locking (ToRefuse s) None))
 
 abbrev pub after : Bounds → ℕ → Job → Place → ℕ → PlaceTurn
-after limits n job Glancing found = if (counts_at limits found).writers == 0 then Going (Copying found []) else Going (Locking ToShare None)
+after limits n job Glancing found =
+    if (counts_at limits found).writers == 0 then Going (Copying found [])
+    else Going (Locking ToShare None)
 after limits n job (Copying first loaded) found =
     if nat_lt (length loaded) n then Going (Copying first (loaded ++ found ∷ []))
-    else (if unchanged limits first found then Done (reply.Content loaded) else Going (Locking ToShare None))
-after limits n job (Locking e seen) found = passed job e (phase_after limits (call_for e) seen found)
+    else (if unchanged limits first found then Done (reply.Content loaded)
+    else Going (Locking ToShare None))
+after limits n job (Locking e seen) found =
+    passed job e (phase_after limits (call_for e) seen found)
 after limits n job (Reading s loaded) found =
-    if nat_lt (length loaded + 1) n then Going (Reading s (loaded ++ found ∷ [])) else all_read job s (loaded ++ found ∷ [])
+    if nat_lt (length loaded + 1) n then Going (Reading s (loaded ++ found ∷ []))
+    else all_read job s (loaded ++ found ∷ [])
 after limits n job (Checking s loaded) found =
     if nat_lt (length loaded + 1) n then Going (Checking s (loaded ++ found ∷ []))
-    else (if expects job (loaded ++ found ∷ []) then Going (Storing s 0) else Going (Releasing s reply.No))
-after limits n job (Storing s i) found = if nat_lt (i + 1) n then Going (Storing s (i + 1)) else Going (Releasing s (stored_reply job))
+    else (if expects job (loaded ++ found ∷ []) then Going (Storing s 0)
+    else Going (Releasing s reply.No))
+after limits n job (Storing s i) found =
+    if nat_lt (i + 1) n then Going (Storing s (i + 1)) else Going (Releasing s (stored_reply job))
 after limits n job (Releasing s a) found = Done a

@@ -4,7 +4,11 @@ use Rattle.std.specs.Global.{Global}
 use Rattle.stamp_machines.specs.Script.{Suits}
 use Rattle.stamp_machines.specs.declared.script.ScriptCall.{ScriptCall}
 use Rattle.stamp_core.specs.declared.script_error.ScriptError.{ScriptError}
-use Rattle.stamp_core.specs.declared.script_error.ScriptError.TheVariants.{TooManyThreads, TooManyCalls, TooManySteps, NoSuchThread, RecordWidth}
+use Rattle.stamp_core.specs.declared.script_error.ScriptError.TheVariants.{TooManyThreads}
+use Rattle.stamp_core.specs.declared.script_error.ScriptError.TheVariants.{TooManyCalls}
+use Rattle.stamp_core.specs.declared.script_error.ScriptError.TheVariants.{TooManySteps}
+use Rattle.stamp_core.specs.declared.script_error.ScriptError.TheVariants.{NoSuchThread}
+use Rattle.stamp_core.specs.declared.script_error.ScriptError.TheVariants.{RecordWidth}
 
 abbrev pub calls_in : Vec ScriptCall Global → List ScriptCall
 calls_in calls = calls.items
@@ -13,23 +17,32 @@ abbrev pub AreShort : List (Vec ScriptCall Global) → Type 0
 AreShort threads = All (λ (calls : Vec ScriptCall Global). length calls.items ≤ 10000) threads
 
 abbrev pub AreSuited : ℕ → List (Vec ScriptCall Global) → Type 0
-AreSuited width threads = All (λ (calls : Vec ScriptCall Global). All (Suits width) calls.items) threads
+AreSuited width threads =
+    All (λ (calls : Vec ScriptCall Global). All (Suits width) calls.items) threads
 
 -- each step names a thread
 abbrev pub AreNamed : ℕ → List ℕ → Type 0
 AreNamed threads steps = All (λ name. name < threads) steps
 
 abbrev pub IsFirstUnknown : ℕ → List ℕ → ℕ → Type 0
-IsFirstUnknown threads steps i = (i < length steps) × (threads ≤ slice_index steps i) × AreNamed threads (take i steps)
+IsFirstUnknown threads steps i =
+    (i < length steps) × (threads ≤ slice_index steps i) × AreNamed threads (take i steps)
 
 -- the fault holds, and none of those before it
 abbrev pub IsFirstFault : ℕ → List (Vec ScriptCall Global) → List ℕ → ScriptError → Type 0
 IsFirstFault width threads steps TooManyThreads = 64 < length threads
 IsFirstFault width threads steps TooManyCalls = (length threads ≤ 64) × (AreShort threads → ⊥)
-IsFirstFault width threads steps TooManySteps = (length threads ≤ 64) × AreShort threads × (1000000 < length steps)
-IsFirstFault width threads steps (NoSuchThread i) = (length threads ≤ 64) × AreShort threads × (length steps ≤ 1000000) × IsFirstUnknown (length threads) steps i
-IsFirstFault width threads steps RecordWidth = (length threads ≤ 64) × AreShort threads × (length steps ≤ 1000000) × AreNamed (length threads) steps × ((16 < width) ⊎ (AreSuited width threads → ⊥))
+IsFirstFault width threads steps TooManySteps =
+    (length threads ≤ 64) × AreShort threads × (1000000 < length steps)
+IsFirstFault width threads steps (NoSuchThread i) =
+    (length threads ≤ 64) × AreShort threads × (length steps ≤ 1000000)
+    × IsFirstUnknown (length threads) steps i
+IsFirstFault width threads steps RecordWidth =
+    (length threads ≤ 64) × AreShort threads × (length steps ≤ 1000000)
+    × AreNamed (length threads) steps × ((16 < width) ⊎ (AreSuited width threads → ⊥))
 
 -- there is no fault
 abbrev pub IsGood : ℕ → List (Vec ScriptCall Global) → List ℕ → Type 0
-IsGood width threads steps = (length threads ≤ 64) × AreShort threads × (length steps ≤ 1000000) × AreNamed (length threads) steps × (width ≤ 16) × AreSuited width threads
+IsGood width threads steps =
+    (length threads ≤ 64) × AreShort threads × (length steps ≤ 1000000)
+    × AreNamed (length threads) steps × (width ≤ 16) × AreSuited width threads

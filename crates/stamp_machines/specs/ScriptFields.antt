@@ -5,7 +5,13 @@ use Rattle.stamp_machines.specs.ScriptFault.{calls_in, IsGood}
 use Rattle.stamp_machines.specs.declared.script.Script.TheInside.{Inside}
 
 abbrev pub scripted_of : Inside → Scripted
-scripted_of s = record { limits = s.limits; width = s.width; threads = map calls_in s.threads.items; steps = s.steps.items }
+scripted_of s =
+    record {
+      limits = s.limits;
+      width = s.width;
+      threads = map calls_in s.threads.items;
+      steps = s.steps.items;
+    }
 
 abbrev pub IsWithin : Inside → Type 0
 IsWithin s = IsGood s.width s.threads.items s.steps.items

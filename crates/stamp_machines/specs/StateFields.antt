@@ -1,5 +1,6 @@
 -- What the workers of a run keep of the finished calls.
-use Rattle.std.specs.Prelude.{◌≡◌, ℕ, List, [], map, Option, Some, None, slice_index_or, vec_len, vec_capacity, ◌<◌}
+use Rattle.std.specs.Prelude.{◌≡◌, ℕ, List, [], map, Option, Some, None, slice_index_or, vec_len}
+use Rattle.std.specs.Prelude.{vec_capacity, ◌<◌}
 use Rattle.stamp_machines.specs.declared.state.Begun.{Begun}
 use Rattle.stamp_machines.specs.declared.state.Worker.{Worker}
 use Rattle.stamp_machines.specs.declared.state.State.{State}
@@ -22,7 +23,12 @@ HasRoom (Some w) = vec_len w.stamps < vec_capacity w.stamps
 
 abbrev pub world_at : State → ℕ → World
 world_at s position =
-    record { words = s.words.items; begun = map begun_in s.workers.items; entries = s.entries.items; position = position }
+    record {
+      words = s.words.items;
+      begun = map begun_in s.workers.items;
+      entries = s.entries.items;
+      position = position;
+    }
 
 -- what clients see of two states is the same
 pub record SameState (old : State) (new : State) : Type 0 where

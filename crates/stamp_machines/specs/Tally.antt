@@ -1,5 +1,6 @@
 -- What is counted while a script is run.
-use Rattle.std.specs.Prelude.{ℕ, ◌≡◌, ◌≤◌, ◌+◌, ◌-◌, ◌==◌, Option, Some, None, length, map, List, [], ◌∷◌, ◌++◌, slice_set, slice_index_or, if◌then◌else◌}
+use Rattle.std.specs.Prelude.{ℕ, ◌≡◌, ◌≤◌, ◌+◌, ◌-◌, ◌==◌, Option, Some, None, length, map, List}
+use Rattle.std.specs.Prelude.{[], ◌∷◌, ◌++◌, slice_set, slice_index_or, if◌then◌else◌}
 use Rattle.stamp_machines.specs.Script.{Scripted}
 use Rattle.stamp_machines.specs.World.{execution_of, completed_calls}
 use Rattle.stamp_machines.specs.Interference.{own_since, changes_since, cost}
@@ -33,19 +34,33 @@ meter_after changes change m = record { steps = m.steps + 1; before = before_in 
 abbrev pub tally_after : TallyState → ℕ → ℕ → Stepped → TallyState
 tally_after s thread change Idle = s
 tally_after s thread change Going =
-    record { changes = s.changes + change; meters = slice_set s.meters thread (meter_after s.changes change (meter_at s.meters thread)); report = s.report }
+    record {
+      changes = s.changes + change;
+      meters = slice_set s.meters thread
+          (meter_after s.changes change (meter_at s.meters thread));
+      report = s.report;
+    }
 tally_after s thread change (Ended e) =
     let m = meter_after s.changes change (meter_at s.meters thread) in
-    record { changes = s.changes + change; meters = slice_set s.meters thread idle_meter; report = s.report ++ (m.steps, s.changes + change - m.before) ∷ [] }
+    record {
+      changes = s.changes + change;
+      meters = slice_set s.meters thread idle_meter;
+      report = s.report ++ (m.steps, s.changes + change - m.before) ∷ [];
+    }
 
 -- the meter of a thread that is in this call, or in none
 abbrev pub IsMetered : Scripted → List ℕ → ℕ → ℕ → Option Begun → Meter → Type 0
 IsMetered plan names changes t None m = m ≡ idle_meter
-IsMetered plan names changes t (Some b) m = (1 ≤ m.steps) × (m.steps ≡ own_since names t b.first) × (m.before + changes_since plan names t b.first ≡ changes) × (b.first ≤ length names)
+IsMetered plan names changes t (Some b) m =
+    (1 ≤ m.steps) × (m.steps ≡ own_since names t b.first)
+    × (m.before + changes_since plan names t b.first ≡ changes) × (b.first ≤ length names)
 
--- the meters are those of the calls that have begun, and the report is the cost of the finished ones
+-- the meters are those of the calls that have begun, and the report is the cost of the finished
+-- ones
 pub record IsTallied (plan : Scripted) (names : List ℕ) (s : TallyState) : Type 0 where
-  pub meters : (t : ℕ) → IsMetered plan names s.changes t (slice_index_or (execution_of plan names).begun t None) (meter_at s.meters t)
+  pub meters : (t : ℕ) →
+      IsMetered plan names s.changes t (slice_index_or (execution_of plan names).begun t None)
+      (meter_at s.meters t)
   pub few : s.changes ≤ length names
   pub threads : length s.meters ≡ length plan.threads
   pub report : s.report ≡ map (cost plan names) (completed_calls plan names)

@@ -1,5 +1,6 @@
 -- A machine that nobody disturbs.
-use Rattle.std.specs.Prelude.{ℕ, ◌≡◌, ◌≢◌, ◌<◌, List, ◌++◌, length, Some, None, zero, suc, IsTrue, slice_index}
+use Rattle.std.specs.Prelude.{ℕ, ◌≡◌, ◌≢◌, ◌<◌, List, ◌++◌, length, Some, None, zero, suc, IsTrue}
+use Rattle.std.specs.Prelude.{slice_index}
 use Rattle.stamp_core.specs.LockEvent.{LockEvent}
 use Rattle.stamp_core.specs.Limits.{Bounds, AreInRange}
 use Rattle.stamp_core.specs.Word.{Represents, word_at}
@@ -17,19 +18,24 @@ use Rattle.stamp_machines.specs.Machine.{next_access, after_access}
 abbrev pub alone : ℕ → List ℕ → Turn → List ℕ × Turn
 alone zero words turn = (words, turn)
 alone (suc n) words (Done reply) = (words, Done reply)
-alone (suc n) words (Going m) = alone n (words_after (next_access m) words) (after_access m (seen_by (next_access m) words))
+alone (suc n) words (Going m) =
+    alone n (words_after (next_access m) words) (after_access m (seen_by (next_access m) words))
 
--- the call has ended with its transition's reply, and word 0 represents the events with those appended
-pub record HasEnded (limits : Bounds) (events : List LockEvent) (call : Call) (x : List ℕ × Turn) : Type 0 where
+-- the call has ended with its transition's reply, and word 0 represents the events with those
+-- appended
+pub record HasEnded (limits : Bounds) (events : List LockEvent) (call : Call) (x : List ℕ
+    × Turn) : Type 0 where
   pub taken : Transition
   pub taken_is : transition limits events call ≡ Some taken
   pub done : x.1 ≡ Done taken.reply
-  pub represented : Represents limits (word_at limits (slice_index x.0 0)) (events ++ taken.appended)
+  pub represented : Represents limits (word_at limits (slice_index x.0 0))
+      (events ++ taken.appended)
 
 -- A call of the lock that has a transition ends within two accesses.
 abbrev pub EndsWithinTwo : Type 0
 EndsWithinTwo =
     (shape : Shape) (call : Call) (words : List ℕ) (events : List LockEvent) →
     AreInRange shape.limits → IsTrue (is_lock_call call) → 0 < length words →
-    Represents shape.limits (word_at shape.limits (slice_index words 0)) events → transition shape.limits events call ≢ None →
+    Represents shape.limits (word_at shape.limits (slice_index words 0)) events →
+    transition shape.limits events call ≢ None →
     HasEnded shape.limits events call (alone 2 words (Going (start shape call)))

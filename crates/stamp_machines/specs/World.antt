@@ -1,5 +1,7 @@
 -- A schedule: each name in turn makes one access of its thread's current call on the common words.
-use Rattle.std.specs.Prelude.{ℕ, ◌+◌, ◌==◌, Bool, List, [], ◌∷◌, ◌++◌, length, map, filter, replicate, Option, Some, None, if◌then◌else◌, slice_get, slice_index, slice_index_or, slice_set, fold}
+use Rattle.std.specs.Prelude.{ℕ, ◌+◌, ◌==◌, Bool, List, [], ◌∷◌, ◌++◌, length, map, filter}
+use Rattle.std.specs.Prelude.{replicate, Option, Some, None, if◌then◌else◌, slice_get, slice_index}
+use Rattle.std.specs.Prelude.{slice_index_or, slice_set, fold}
 use Rattle.stamp_core.specs.LockEvent.{counts}
 use Rattle.stamp_core.specs.Limits.{Bounds, units}
 use Rattle.stamp_core.specs.Word.{word_number}
@@ -9,7 +11,16 @@ use Rattle.stamp_core.specs.declared.reply.Reply.{Reply}
 use Rattle.stamp_machines.specs.declared.script.Arg.{Arg}
 use Rattle.stamp_machines.specs.declared.script.Arg.TheVariants.{Number, Of}
 use Rattle.stamp_machines.specs.declared.script.ScriptCall.{ScriptCall}
-use Rattle.stamp_machines.specs.declared.script.ScriptCall.TheVariants.{TryWrite, TryRead, WriteLock, ReadLock, Optimistic, Validate, UnlockWrite, UnlockRead, Unlock, ToWrite, ToRead, ToOptimistic, TryUnlockWrite, TryUnlockRead, IsWriteLocked, IsReadLocked, ReadCount, Get, Put, PutIf}
+use Rattle.stamp_machines.specs.declared.script.ScriptCall.TheVariants.{TryWrite, TryRead}
+use Rattle.stamp_machines.specs.declared.script.ScriptCall.TheVariants.{WriteLock, ReadLock}
+use Rattle.stamp_machines.specs.declared.script.ScriptCall.TheVariants.{Optimistic, Validate}
+use Rattle.stamp_machines.specs.declared.script.ScriptCall.TheVariants.{UnlockWrite, UnlockRead}
+use Rattle.stamp_machines.specs.declared.script.ScriptCall.TheVariants.{Unlock, ToWrite, ToRead}
+use Rattle.stamp_machines.specs.declared.script.ScriptCall.TheVariants.{ToOptimistic}
+use Rattle.stamp_machines.specs.declared.script.ScriptCall.TheVariants.{TryUnlockWrite}
+use Rattle.stamp_machines.specs.declared.script.ScriptCall.TheVariants.{TryUnlockRead}
+use Rattle.stamp_machines.specs.declared.script.ScriptCall.TheVariants.{IsWriteLocked, IsReadLocked}
+use Rattle.stamp_machines.specs.declared.script.ScriptCall.TheVariants.{ReadCount, Get, Put, PutIf}
 use Rattle.stamp_core.specs.declared.entry.Entry.{Entry}
 use Rattle.stamp_machines.specs.Access.{words_after, seen_by}
 use Rattle.stamp_core.specs.Decision.{stamp_in}
@@ -21,7 +32,8 @@ use Rattle.stamp_machines.specs.MachineState.{start}
 use Rattle.stamp_machines.specs.Machine.{next_access, after_access}
 use Rattle.stamp_machines.specs.Script.{Scripted, calls_of}
 
--- the common words, each thread's call that has begun and not ended, the finished calls, and the steps made
+-- the common words, each thread's call that has begun and not ended, the finished calls, and the
+-- steps made
 pub record World : Type 0 where
   pub words : List ℕ
   pub begun : List (Option Begun)
@@ -35,7 +47,12 @@ opening_word limits = word_number (units limits) (counts [])
 -- word 0 is the lock, word 1 the record's own lock, and the record's words come after them
 abbrev pub opening_of : Bounds → ℕ → ℕ → World
 opening_of limits width threads =
-    record { words = opening_word limits ∷ opening_word limits ∷ replicate width 0; begun = replicate threads None; entries = []; position = 0 }
+    record {
+      words = opening_word limits ∷ opening_word limits ∷ replicate width 0;
+      begun = replicate threads None;
+      entries = [];
+      position = 0;
+    }
 
 abbrev pub opening : Scripted → World
 opening plan = opening_of plan.limits plan.width (length plan.threads)
@@ -76,14 +93,17 @@ call_of stamps (PutIf a b) = call.PutIf a b
 
 abbrev pub begin : Shape → (ℕ → List ℕ) → ℕ → Option ScriptCall → Option Begun
 begin shape stamps position None = None
-begin shape stamps position (Some c) = Some (record { machine = start shape (call_of stamps c); first = position })
+begin shape stamps position (Some c) =
+    Some (record { machine = start shape (call_of stamps c); first = position })
 
 abbrev pub shape_of : Scripted → Shape
 shape_of plan = record { limits = plan.limits; width = plan.width }
 
 -- the call after a thread's finished calls, which begins at this position
 abbrev pub next_call : Scripted → (ℕ → List ℕ) → ℕ → ℕ → Option Begun
-next_call plan stamps position thread = begin (shape_of plan) stamps position (slice_get (calls_of plan thread) (length (stamps thread)))
+next_call plan stamps position thread =
+    begin (shape_of plan) stamps position
+    (slice_get (calls_of plan thread) (length (stamps thread)))
 
 abbrev pub current_of : Scripted → (ℕ → List ℕ) → ℕ → ℕ → Option Begun → Option Begun
 current_of plan stamps position thread (Some b) = Some b
@@ -91,20 +111,31 @@ current_of plan stamps position thread None = next_call plan stamps position thr
 
 -- the call that a thread is in: the one that it has begun, or else its next one
 abbrev pub current : Scripted → World → ℕ → Option Begun
-current plan world thread = current_of plan (λ t. stamps_of t world.entries) world.position thread (slice_index_or world.begun thread None)
+current plan world thread =
+    current_of plan (λ t. stamps_of t world.entries) world.position thread
+    (slice_index_or world.begun thread None)
 
--- the world while the thread's call is out of it
-abbrev pub without : World → ℕ → World
-without world thread = record world { begun = slice_set world.begun thread None }
+-- the world in which the thread is in this call, or is left as it is
+abbrev pub begun_with : World → ℕ → Option Begun → World
+begun_with world thread None = world
+begun_with world thread (Some b) = record world { begun = slice_set world.begun thread (Some b) }
 
 abbrev pub entry_of : World → ℕ → Begun → Reply → Entry
 entry_of world thread b reply =
-    record { thread = thread; call = b.machine.call; reply = reply; first = b.first; point = world.position; last = world.position }
+    record {
+      thread = thread;
+      call = b.machine.call;
+      reply = reply;
+      first = b.first;
+      point = world.position;
+      last = world.position;
+    }
 
 -- the stamps of thread t after a step of another or of itself
 abbrev pub stamps_after : ℕ → ℕ → List ℕ → Turn → List ℕ
 stamps_after t thread stamps (turned.Going machine) = stamps
-stamps_after t thread stamps (turned.Done reply) = if t == thread then stamps ++ stamp_in reply ∷ [] else stamps
+stamps_after t thread stamps (turned.Done reply) =
+    if t == thread then stamps ++ stamp_in reply ∷ [] else stamps
 
 abbrev pub landed : World → ℕ → Begun → List ℕ → Turn → World
 landed world thread b words (turned.Going machine) =
@@ -125,7 +156,8 @@ landed world thread b words (turned.Done reply) =
 abbrev pub stepped : World → ℕ → Option Begun → World
 stepped world thread None = record world { position = world.position + 1 }
 stepped world thread (Some b) =
-    landed world thread b (words_after (next_access b.machine) world.words) (after_access b.machine (seen_by (next_access b.machine) world.words))
+    landed world thread b (words_after (next_access b.machine) world.words)
+    (after_access b.machine (seen_by (next_access b.machine) world.words))
 
 abbrev pub step : Scripted → World → ℕ → World
 step plan world thread = stepped world thread (current plan world thread)

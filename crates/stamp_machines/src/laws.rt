@@ -2,7 +2,9 @@
 //! script and every list of names.
 ghost use Rattle.stamp_machines.specs.Interference.{StepsBoundedAlways};
 ghost use Rattle.stamp_machines.specs.Undisturbed.{EndsWithinTwo};
-ghost use Rattle.stamp_machines.specs.Laws.{LegalAlways, LinearizedAlways, RepresentedAlways, StampsValidateAlways, GetsAnswerContentAlways, ReleasesWinAlways};
+ghost use Rattle.stamp_machines.specs.Laws.{LegalAlways, LinearizedAlways, RepresentedAlways};
+ghost use Rattle.stamp_machines.specs.Laws.{StampsValidateAlways, GetsAnswerContentAlways};
+ghost use Rattle.stamp_machines.specs.Laws.{ReleasesWinAlways};
 
 /// The finished calls are a legal history of the lock and the record, whoever steps when.
 pub fn finished_calls_are_legal()

@@ -3,12 +3,20 @@
 #![tactic(auto)]
 
 mod access;
+#[cfg(test)]
+mod brute_tests;
+#[cfg(test)]
+mod fixtures;
 pub mod laws;
 mod loaded;
 mod lock_phase;
 mod machine;
+#[cfg(test)]
+mod plain_lock;
 mod run_whole;
 mod running;
+#[cfg(test)]
+mod schedule_tests;
 mod script;
 mod shape;
 mod stage;

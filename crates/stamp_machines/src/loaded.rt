@@ -34,6 +34,7 @@ impl Loaded {
         }
     }
 
+    #[inline(always)]
     pub(crate) fn len(&self) -> usize
         ensures len { result ≡ length self.now }
         ensures few { length self.now ≤ 16 }
@@ -41,28 +42,33 @@ impl Loaded {
         self.len
     }
 
-    /// With one word more.
-    pub(crate) fn with(self, word: u64) -> Loaded
-        requires { length self < 16 }
-        ensures { result ≡ self ++ word ∷ [] }
+    /// Forgets them all.
+    #[inline(always)]
+    pub(crate) fn clear(&mut self)
+        ensures { self.new ≡ [] }
     {
-        let mut words = self.words;
-        words[self.len] = word;
-        Loaded {
-            len: self.len + 1,
-            words,
-        }
+        self.len = 0;
+    }
+
+    /// Adds a word.
+    #[inline(always)]
+    pub(crate) fn push(&mut self, word: u64)
+        requires { length self.old < 16 }
+        ensures { self.new ≡ self.old ++ word ∷ [] }
+    {
+        self.words[self.len] = word;
+        self.len += 1;
     }
 
     fn as_slice(&self) -> &[u64]
-        ensures { result.now ≡ self.now }
+        ensures words { result.now ≡ self.now }
+        ensures few { length self.now ≤ 16 }
     {
         &self.words[..self.len]
     }
 
     pub(crate) fn words(&self) -> Words
-        requires some { 1 ≤ length self.now }
-        requires few { length self.now ≤ 16 }
+        requires { 1 ≤ length self.now }
         ensures { result ≡ self.now }
     {
         Words::new(self.as_slice()).unwrap()

@@ -1,136 +1,98 @@
 //! A lock call on its way: a load, and exchanges until one wins or the word found decides the call.
+//! It has seen the word that it is to change, or has seen none, and then has to load it.
+ghost use Rattle.std.specs.Prelude.{◌≡◌, ◌↔◌, ℕ, Some, IsTrue};
+ghost use Rattle.stamp_core.specs.Call.{is_lock_call};
+ghost use Rattle.stamp_core.specs.Word.{IsAdmitted, word_at};
+ghost use Rattle.stamp_machines.specs.LocalAccess.{with_lock};
+ghost use Rattle.stamp_machines.specs.LockPhase.{phase_next, phase_after};
+ghost use Rattle.stamp_machines.specs.LockCallSteps.{Plans};
+ghost use Rattle.stamp_machines.specs.Passage.{phase_turn, IsChanging, IsPassage, LeadsOn};
+
 use crate::access::Access;
-use stamp_core::{Call, Decision, Limits, Reply, Word, decide};
-use std::marker::Model;
+use stamp_core::{Call, Decision, Limits, Reply, decide};
 
-/// A lock call on its way, on the word `at`.
-#[derive(Drop)]
-pub(crate) struct LockPhase {
-    at: usize,
-    limits: Limits,
-    call: Call,
-    /// The word `old` was seen, and the call changes it to `new` with this reply. Else the word has
-    /// to be loaded, and these are of no account.
-    is_trying: bool,
-    old: Word,
-    new: Word,
-    reply: Reply,
-}
-
-/// What an access of a phase leads to.
-#[derive(Drop)]
+/// What an access of a lock call leads to.
+#[derive(Clone, Copy)]
 pub(crate) enum Passage {
-    Still(LockPhase),
-    Ended(Reply),
+    Still(Option<u64>),
+    /// Its reply was written where the caller asked.
+    Ended,
 }
 
-impl Model for LockPhase {
-    ghost use Rattle.stamp_machines.specs.PhaseState.{PhaseState};
-
-    ghost Value = { PhaseState };
-
-    ghost use Rattle.stamp_machines.specs.LockPhaseFields.{phase_state, IsDecided};
-
-    ghost view = { phase_state };
-
-    ghost invariant = { IsDecided };
+/// The next access of a lock call, on the word `at`.
+#[inline(always)]
+pub(crate) fn planned(at: usize, limits: Limits, call: &Call, seen: Option<u64>) -> Access
+    requires lock { IsTrue (is_lock_call call.now) }
+    requires seen { IsChanging limits call.now seen }
+    ensures next { result ≡ with_lock at (phase_next limits call.now seen) }
+    ensures plans { Plans (record { at = at; limits = limits; call = call.now; seen = seen })
+        result }
+{
+    match seen {
+        Some(old) => exchange(at, limits, call, old),
+        None => Access::Load(at),
+    }
 }
 
-impl LockPhase {
-    ghost use Rattle.std.specs.Prelude.{◌≡◌, None, Some, ◌<◌, ◌^◌, IsTrue};
-    ghost use Rattle.stamp_core.specs.Call.{is_lock_call};
-    ghost use Rattle.stamp_core.specs.CountedDecision.{decision};
-    ghost use Rattle.stamp_core.specs.Decision.{stamp_in};
-    ghost use Rattle.stamp_core.specs.Word.{IsAdmitted, word_at};
-    ghost use Rattle.stamp_core.specs.declared.decision.Decision.TheVariants.{Change};
-    ghost use Rattle.stamp_machines.specs.LocalAccess.{with_lock};
-    ghost use Rattle.stamp_machines.specs.LockPhase.{phase_next, phase_after, judged};
-    ghost use Rattle.stamp_machines.specs.LockCallSteps.{Plans};
-    ghost use Rattle.stamp_machines.specs.Passage.{passage_of, FitsInPassage, LeadsOn};
-
-    pub(crate) fn start(at: usize, limits: Limits, call: Call) -> LockPhase
-        requires place { at < 2 }
-        requires lock { IsTrue (is_lock_call call) }
-        ensures { result ≡ record { at = at; limits = limits; call = call; seen = None } }
-    {
-        let word = Word::opening_in(limits.layout());
-        LockPhase {
-            at,
-            limits,
-            call,
-            is_trying: false,
-            old: word,
-            new: word,
-            reply: Reply::Done,
-        }
+/// The exchange of the word seen for the one that the call changes it to.
+#[inline(always)]
+fn exchange(at: usize, limits: Limits, call: &Call, old: u64) -> Access
+    requires lock { IsTrue (is_lock_call call.now) }
+    requires seen { IsChanging limits call.now (Some old) }
+    ensures next { result ≡ with_lock at (phase_next limits call.now (Some old)) }
+    ensures plans { Plans (record { at = at; limits = limits; call = call.now; seen = Some old })
+        result }
+{
+    let _ = limits.layout();
+    match decide(limits, limits.word(old), *call) {
+        Decision::Change(new, _) => Access::Cas(at, old, new.bits()),
+        Decision::Answer(_) | Decision::Wait => Access::Load(at),
     }
+}
 
-    pub(crate) fn plan(&self) -> Access
-        ensures next { result ≡ with_lock self.now.at (phase_next self.now.limits self.now.call self.now.seen) }
-        ensures plans { Plans self.now result }
-    {
-        if self.is_trying {
-            Access::Cas(self.at, self.old.bits(), self.new.bits())
-        } else {
-            Access::Load(self.at)
+/// Goes on after the access has found this word.
+#[inline(always)]
+pub(crate) fn passed(
+    limits: Limits,
+    call: &Call,
+    seen: Option<u64>,
+    found: u64,
+    answer: &mut Reply,
+) -> Passage
+    requires lock { IsTrue (is_lock_call call.now) }
+    requires seen { IsChanging limits call.now seen }
+    requires word { IsAdmitted limits (word_at limits found) }
+    ensures passage { phase_turn result answer.new ≡ phase_after limits call.now seen found }
+    ensures changing { IsPassage limits call.now result answer.new }
+    ensures leads { (at : ℕ) →
+        LeadsOn (record { at = at; limits = limits; call = call.now; seen = seen }) found result
+        answer.new }
+{
+    let _ = limits.layout();
+    match decide(limits, limits.word(found), *call) {
+        Decision::Answer(reply) => {
+            *answer = reply;
+            Passage::Ended
         }
-    }
-
-    pub(crate) fn resume(self, found: u64) -> Passage
-        requires { IsAdmitted self.limits (word_at self.limits found) }
-        ensures passage { result ≡ passage_of self (phase_after self.limits self.call self.seen found) }
-        ensures leads { LeadsOn self found result }
-        ensures fits { FitsInPassage result }
-    {
-        let before = self.old.bits();
-        if self.is_trying && found == before {
-            return Passage::Ended(self.reply);
-        }
-        LockPhase::judge(self.at, self.limits, &self.call, found)
-    }
-
-    /// Goes on from the word found.
-    fn judge(at: usize, limits: Limits, call: &Call, found: u64) -> Passage
-        requires place { at < 2 }
-        requires lock { IsTrue (is_lock_call call.now) }
-        requires word { IsAdmitted limits (word_at limits found) }
-        ensures passage { result ≡ passage_of (record { at = at; limits = limits; call = call.now; seen = None }) (judged found (decision limits found call.now)) }
-        ensures fits { FitsInPassage result }
-    {
-        let old = limits.word(found);
-        match decide(limits, old, *call) {
-            Decision::Answer(reply) => Passage::Ended(reply),
-            Decision::Change(new, reply) => {
-                Passage::Still(LockPhase::trying(at, limits, *call, old, new, reply))
+        Decision::Change(_, reply) => {
+            if is_seen(seen, found) {
+                *answer = reply;
+                Passage::Ended
+            } else {
+                Passage::Still(Some(found))
             }
-            Decision::Wait => Passage::Still(LockPhase::start(at, limits, *call)),
         }
+        Decision::Wait => Passage::Still(None),
     }
+}
 
-    /// The word `old` was seen, and is to become `new`.
-    fn trying(
-        at: usize,
-        limits: Limits,
-        call: Call,
-        old: Word,
-        new: Word,
-        reply: Reply,
-    ) -> LockPhase
-        requires place { at < 2 }
-        requires lock { IsTrue (is_lock_call call) }
-        requires decided { decision limits old.bits call ≡ Change new reply }
-        requires fits { stamp_in reply < 2 ^ 63 }
-        ensures { result ≡ record { at = at; limits = limits; call = call; seen = Some old.bits } }
-    {
-        let _ = limits.layout();
-        LockPhase {
-            at,
-            limits,
-            call,
-            is_trying: true,
-            old,
-            new,
-            reply,
-        }
+/// Whether this word is the one that was seen.
+#[inline(always)]
+fn is_seen(seen: Option<u64>, found: u64) -> bool
+    ensures { IsTrue result ↔ (seen ≡ Some found) }
+{
+    match seen {
+        Some(old) => found == old,
+        None => false,
     }
 }

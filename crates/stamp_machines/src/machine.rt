@@ -4,12 +4,23 @@ ghost use Rattle.stamp_core.specs.Call.{is_lock_call, call_suits};
 ghost use Rattle.stamp_machines.specs.LockCallSteps.{Plans, Leads, lock_phase};
 ghost use Rattle.stamp_machines.specs.MachineState.{start};
 ghost use Rattle.stamp_machines.specs.Machine.{next_access, after_access, IsFound};
-ghost use Rattle.stamp_machines.specs.MachineFields.{phase_at, IsStage};
+ghost use Rattle.stamp_core.specs.Word.{IsAdmitted, word_at};
+ghost use Rattle.stamp_machines.specs.Machine.{after_in, IsFoundIn};
+ghost use Rattle.stamp_machines.specs.MachineState.{MachineState, OnLock, record_limits};
+ghost use Rattle.stamp_machines.specs.MachineTurn.{turn_of};
+ghost use Rattle.stamp_machines.specs.MachineFields.{phase_at, turn_in, errand_in, IsStage};
+ghost use Rattle.stamp_machines.specs.MachineFields.{IsErrand, IsNext};
+ghost use Rattle.stamp_machines.specs.Passage.{IsChanging};
+ghost use Rattle.stamp_machines.specs.RecordPhase.{call_for};
 
 use crate::access::Access;
-use crate::lock_phase::Passage;
+use crate::loaded::Loaded;
+use crate::lock_phase::{Passage, passed, planned};
 use crate::shape::Shape;
-use crate::stage::{Stage, checked, copied, ended, first_stage, glanced, new_word, read, stored};
+use crate::stage::{
+    Errand, Next, Stage, call_for, checked, copied, ended, first_stage, glanced, new_word, read,
+    released_reply, stored,
+};
 use stamp_core::{Call, Reply};
 use std::marker::Model;
 
@@ -18,6 +29,7 @@ use std::marker::Model;
 pub struct Machine {
     shape: Shape,
     call: Call,
+    loaded: Loaded,
     stage: Stage,
 }
 
@@ -40,27 +52,124 @@ impl Model for Machine {
     ghost invariant = { IsSound };
 }
 
-/// The call goes on from this stage.
-pub(crate) fn going(shape: &Shape, call: &Call, stage: Stage) -> Turn
-    requires { IsStage shape.now call.now stage }
-    ensures { result ≡ Turn.Going (record { shape = shape.now; call = call.now; phase = phase_at call.now stage }) }
+/// A lock call on the public lock goes on.
+#[inline(always)]
+fn after_public(
+    shape: &Shape,
+    call: &Call,
+    loaded: &Loaded,
+    seen: Option<u64>,
+    found: u64,
+    answer: &mut Reply,
+) -> Next
+    requires stage { IsStage shape.now call.now loaded.now (Stage.Public seen) }
+    requires found { IsFoundIn shape.now (phase_at call.now loaded.now (Stage.Public seen)) found }
+    ensures next { turn_in shape.now call.now loaded.now answer.new result
+        ≡ after_in shape.now call.now found (phase_at call.now loaded.now (Stage.Public seen)) }
+    ensures sound { IsNext shape.now call.now loaded.now loaded.now result }
+    ensures leads { Leads (lock_phase
+        (record {
+          shape = shape.now;
+          call = call.now;
+          phase = phase_at call.now loaded.now (Stage.Public seen);
+        })) found
+        (turn_in shape.now call.now loaded.now answer.new result) }
 {
-    Turn::Going(Machine {
-        shape: *shape,
-        call: *call,
-        stage,
-    })
+    match passed(shape.limits, call, seen, found, answer) {
+        Passage::Still(seen) => Next::To(Stage::Public { seen }),
+        Passage::Ended => Next::Done,
+    }
+}
+
+/// A lock call on the record's lock goes on.
+#[inline(always)]
+fn after_locking(
+    shape: &Shape,
+    call: &Call,
+    errand: Errand,
+    seen: Option<u64>,
+    loaded: &mut Loaded,
+    found: u64,
+    answer: &mut Reply,
+) -> Next
+    requires stage { IsStage shape.now call.now loaded.old (Stage.Locking errand seen) }
+    requires found { IsFoundIn shape.now (phase_at call.now loaded.old (Stage.Locking errand seen))
+        found }
+    ensures next { turn_in shape.now call.now loaded.new answer.new result
+        ≡ after_in shape.now call.now found
+        (phase_at call.now loaded.old (Stage.Locking errand seen)) }
+    ensures sound { IsNext shape.now call.now loaded.old loaded.new result }
+{
+    match passed(
+        shape.record_limits(),
+        &call_for(errand),
+        seen,
+        found,
+        answer,
+    ) {
+        Passage::Still(seen) => Next::To(Stage::Locking { errand, seen }),
+        Passage::Ended => ended(shape, call, errand, loaded, answer),
+    }
+}
+
+/// Where a call goes on from a stage after its access has found this.
+#[inline(always)]
+fn next(
+    shape: &Shape,
+    call: &Call,
+    loaded: &mut Loaded,
+    stage: Stage,
+    found: u64,
+    answer: &mut Reply,
+) -> Next
+    requires stage { IsStage shape.now call.now loaded.old stage }
+    requires found { IsFoundIn shape.now (phase_at call.now loaded.old stage) found }
+    ensures next { turn_in shape.now call.now loaded.new answer.new result
+        ≡ after_in shape.now call.now found (phase_at call.now loaded.old stage) }
+    ensures sound { IsNext shape.now call.now loaded.old loaded.new result }
+    ensures leads { IsTrue (is_lock_call call.now) →
+        Leads (lock_phase
+        (record {
+          shape = shape.now;
+          call = call.now;
+          phase = phase_at call.now loaded.old stage;
+        })) found
+        (turn_in shape.now call.now loaded.new answer.new result) }
+{
+    match stage {
+        Stage::Public { seen } => after_public(shape, call, loaded, seen, found, answer),
+        Stage::Glancing => Next::To(glanced(shape, call, loaded, found)),
+        Stage::Copying { first } => copied(shape, call, first, loaded, found, answer),
+        Stage::Locking { errand, seen } => {
+            after_locking(shape, call, errand, seen, loaded, found, answer)
+        }
+        Stage::Reading { stamp } => Next::To(read(shape, call, stamp, loaded, found)),
+        Stage::Checking { stamp } => Next::To(checked(shape, call, stamp, loaded, found)),
+        Stage::Storing { stamp, stored: i } => {
+            Next::To(stored(shape, call, stamp, i, loaded, found))
+        }
+        Stage::Releasing { is_stored, .. } => {
+            *answer = released_reply(call, is_stored);
+            Next::Done
+        }
+    }
 }
 
 impl Machine {
     /// The machine of a call, before its first access.
+    #[inline(always)]
     pub fn start(call: Call, shape: Shape) -> Machine
         requires suits { IsTrue (call_suits shape.width call) }
         requires width { shape.width ≤ 16 }
         ensures { result ≡ start shape call }
     {
         let stage = first_stage(&shape, &call);
-        Machine { shape, call, stage }
+        Machine {
+            shape,
+            call,
+            loaded: Loaded::none(),
+            stage,
+        }
     }
 
     /// The call that is being made.
@@ -71,28 +180,31 @@ impl Machine {
     }
 
     /// The access that comes next. It is the same until the machine is resumed.
+    #[inline(always)]
     pub fn plan(&self) -> Access
         ensures next { result ≡ next_access self.now }
         ensures plans { IsTrue (is_lock_call self.now.call) → Plans (lock_phase self.now) result }
     {
-        match &self.stage {
-            Stage::Public(phase) => phase.plan(),
+        match self.stage {
+            Stage::Public { seen } => planned(0, self.shape.limits, &self.call, seen),
             Stage::Glancing => Access::Load(1),
-            Stage::Copying { loaded, .. } => {
-                if loaded.len() < self.shape.words() {
-                    Access::Load(2 + loaded.len())
+            Stage::Copying { .. } => {
+                if self.loaded.len() < self.shape.words() {
+                    Access::Load(2 + self.loaded.len())
                 } else {
                     Access::Load(1)
                 }
             }
-            Stage::Locking { phase, .. } => phase.plan(),
-            Stage::Reading { loaded, .. } => Access::Load(2 + loaded.len()),
-            Stage::Checking { loaded, .. } => Access::Load(2 + loaded.len()),
-            Stage::Storing { stored, .. } => {
-                Access::Store(2 + *stored, new_word(self.call, *stored))
+            Stage::Locking { errand, seen } => {
+                planned(1, self.shape.record_limits(), &call_for(errand), seen)
             }
+            Stage::Reading { .. } | Stage::Checking { .. } => Access::Load(2 + self.loaded.len()),
+            Stage::Storing { stored, .. } => Access::Store(
+                2 + stored,
+                new_word(&self.call, stored),
+            ),
             Stage::Releasing { stamp, .. } => {
-                Access::Cas(1, *stamp, self.shape.limits.layout().released(*stamp))
+                Access::Cas(1, stamp, self.shape.limits.layout().released(stamp))
             }
         }
     }
@@ -104,22 +216,38 @@ impl Machine {
         ensures after { result ≡ after_access self found }
         ensures leads { IsTrue (is_lock_call self.call) → Leads (lock_phase self) found result }
     {
-        let Machine { shape, call, stage } = self;
-        match stage {
-            Stage::Public(phase) => match phase.resume(found) {
-                Passage::Still(phase) => going(&shape, &call, Stage::Public(phase)),
-                Passage::Ended(reply) => Turn::Done(reply),
-            },
-            Stage::Glancing => glanced(&shape, &call, found),
-            Stage::Copying { first, loaded } => copied(&shape, &call, first, loaded, found),
-            Stage::Locking { errand, phase } => match phase.resume(found) {
-                Passage::Still(phase) => going(&shape, &call, Stage::Locking { errand, phase }),
-                Passage::Ended(reply) => ended(&shape, &call, errand, reply),
-            },
-            Stage::Reading { stamp, loaded } => read(&shape, &call, stamp, loaded, found),
-            Stage::Checking { stamp, loaded } => checked(&shape, &call, stamp, loaded, found),
-            Stage::Storing { stamp, stored: i } => stored(&shape, &call, stamp, i, found),
-            Stage::Releasing { reply, .. } => Turn::Done(reply),
+        let mut machine = self;
+        let mut answer = Reply::Done;
+        if machine.advance(found, &mut answer) {
+            Turn::Done(answer)
+        } else {
+            Turn::Going(machine)
+        }
+    }
+
+    /// Goes on as `resume` does, in place, and tells whether the call has ended. Then its reply
+    /// stands in `answer`, and where the machine stands is of no account.
+    #[inline(always)]
+    pub(crate) fn advance(&mut self, found: u64, answer: &mut Reply) -> bool
+        requires { IsFound self.old found }
+        ensures after { turn_of self.new answer.new result ≡ after_access self.old found }
+        ensures leads { IsTrue (is_lock_call self.old.call) →
+            Leads (lock_phase self.old) found (turn_of self.new answer.new result) }
+        ensures call { self.new.call ≡ self.old.call }
+    {
+        match next(
+            &self.shape,
+            &self.call,
+            &mut self.loaded,
+            self.stage,
+            found,
+            answer,
+        ) {
+            Next::To(stage) => {
+                self.stage = stage;
+                false
+            }
+            Next::Done => true,
         }
     }
 }

@@ -1,8 +1,7 @@
 //! A script from its first step to its last.
-ghost use Rattle.std.specs.Prelude.{◌≡◌, [], All, map, IfOk, OnErr};
+ghost use Rattle.std.specs.Prelude.{◌≡◌, All, IfOk, OnErr};
 ghost use Rattle.stamp_core.specs.Linearized.{IsLinearized};
-ghost use Rattle.stamp_machines.specs.World.{completed_calls};
-ghost use Rattle.stamp_machines.specs.Interference.{cost};
+ghost use Rattle.stamp_machines.specs.RunRecord.{run_record, reported_record};
 
 use crate::running::{Run, RunError};
 use crate::script::Script;
@@ -13,7 +12,7 @@ use std::alloc::Global;
 /// Runs a script to its end. The record has an entry for each finished call, in the order of their
 /// last steps, which are their points.
 pub fn run(alloc: Global, script: &Script) -> Result<Record, RunError>
-    ensures record { IfOk result (λ r. r ≡ record { limits = script.now.limits; width = script.now.width; entries = completed_calls script.now script.now.steps; report = [] }) }
+    ensures record { IfOk result (λ r. r ≡ run_record script.now) }
     ensures linearized { IfOk result (λ r. IsLinearized r) }
     ensures points { IfOk result (λ r. All (λ e. e.point ≡ e.last) r.entries) }
     ensures memory { OnErr result (result ≡ Err RunError.Memory) }
@@ -28,7 +27,7 @@ pub fn run(alloc: Global, script: &Script) -> Result<Record, RunError>
 /// Runs a script to its end as `run` does. The report has a pair for each entry: its own steps, and
 /// the steps of others between its first and its last that changed the lock's word.
 pub fn run_reported(alloc: Global, script: &Script) -> Result<Record, RunError>
-    ensures record { IfOk result (λ r. r ≡ record { limits = script.now.limits; width = script.now.width; entries = completed_calls script.now script.now.steps; report = map (cost script.now script.now.steps) (completed_calls script.now script.now.steps) }) }
+    ensures record { IfOk result (λ r. r ≡ reported_record script.now) }
     ensures linearized { IfOk result (λ r. IsLinearized r) }
     ensures memory { OnErr result (result ≡ Err RunError.Memory) }
 {

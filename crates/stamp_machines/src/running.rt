@@ -1,8 +1,9 @@
 //! A script that is being run.
-ghost use Rattle.std.specs.Prelude.{◌≡◌, ◌<◌, ◌≤◌, ◌↔◌, ◌++◌, ◌∷◌, [], length, IfOk, OnOk, OnErr, slice_index, All};
+ghost use Rattle.std.specs.Prelude.{◌≡◌, ◌<◌, ◌≤◌, ◌↔◌, ◌++◌, ◌∷◌, [], length, IfOk, OnOk, OnErr};
+ghost use Rattle.std.specs.Prelude.{slice_index, All};
 
 use crate::script::Script;
-use crate::state::State;
+use crate::state::{Progress, State};
 use crate::tally::Tally;
 use stamp_core::{Call, Entry, Record, Word};
 use std::alloc::{AllocError, Global};
@@ -68,6 +69,7 @@ impl<'a> Run<'a> {
     ghost use Rattle.stamp_core.specs.Linearized.{history_of, AreLinearized};
     ghost use Rattle.stamp_machines.specs.Script.{IsSound};
     ghost use Rattle.stamp_machines.specs.Stepped.{Reports};
+    ghost use Rattle.stamp_machines.specs.Progress.{HasReport, told_by};
     ghost use Rattle.stamp_machines.specs.Tally.{tally_of, IsTallied};
 
     /// The run before its first step: it refuses for want of memory alone.
@@ -86,8 +88,25 @@ impl<'a> Run<'a> {
     /// One access of the thread's current call. A refused step leaves the run as it was.
     pub fn step(&mut self, thread: u64) -> Result<Stepped, RunError>
         requires { thread < length self.old.plan.threads }
-        ensures ok { OnOk result (self.new ≡ record self.old { names = self.old.names ++ thread ∷ [] }) }
-        ensures report { IfOk result (Reports self.old.plan (execution_of self.old.plan self.old.names) thread) }
+        ensures ok { OnOk result
+            (self.new ≡ record self.old { names = self.old.names ++ thread ∷ [] }) }
+        ensures report { IfOk result
+            (Reports self.old.plan (execution_of self.old.plan self.old.names) thread) }
+        ensures err { OnErr result (self.new ≡ self.old) }
+        ensures full { (result ≡ Err RunError.TooManySteps) ↔ (length self.old.names ≡ 1000000) }
+    {
+        let progress = self.moved(thread)?;
+        Ok(self.told(progress))
+    }
+
+    /// One access, told without the entry of the call that has ended by it: it is the last one.
+    #[inline(always)]
+    fn moved(&mut self, thread: u64) -> Result<Progress, RunError>
+        requires { thread < length self.old.plan.threads }
+        ensures ok { OnOk result
+            (self.new ≡ record self.old { names = self.old.names ++ thread ∷ [] }) }
+        ensures report { IfOk result
+            (HasReport self.old.plan (execution_of self.old.plan self.old.names) thread) }
         ensures err { OnErr result (self.new ≡ self.old) }
         ensures full { (result ≡ Err RunError.TooManySteps) ↔ (length self.old.names ≡ 1000000) }
     {
@@ -102,19 +121,23 @@ impl<'a> Run<'a> {
         Ok(self.state.step(self.script, at, position))
     }
 
+    /// What a step did, with the entry of the call that has ended by it.
+    fn told(&self, progress: Progress) -> Stepped
+        ensures { result ≡ told_by (completed_calls self.now.plan self.now.names) progress }
+    {
+        self.state.told(progress)
+    }
+
     /// One access, of which only the refusal is told.
+    #[inline(always)]
     pub(crate) fn advance(&mut self, thread: u64) -> Result<(), RunError>
         requires { thread < length self.old.plan.threads }
-        ensures ok { OnOk result (self.new ≡ record self.old { names = self.old.names ++ thread ∷ [] }) }
+        ensures ok { OnOk result
+            (self.new ≡ record self.old { names = self.old.names ++ thread ∷ [] }) }
         ensures full { (result ≡ Err RunError.TooManySteps) ↔ (length self.old.names ≡ 1000000) }
     {
-        match self.step(thread) {
-            Ok(stepped) => {
-                let _ = told(&stepped);
-                Ok(())
-            }
-            Err(refusal) => Err(refusal),
-        }
+        self.moved(thread)?;
+        Ok(())
     }
 
     /// What each run keeps to.
@@ -129,8 +152,10 @@ impl<'a> Run<'a> {
     pub(crate) fn step_counted(&mut self, thread: u64, tally: &mut Tally) -> Result<(), RunError>
         requires thread { thread < length self.old.plan.threads }
         requires tallied { IsTallied self.old.plan self.old.names (tally_of tally.old) }
-        ensures ok { OnOk result (self.new ≡ record self.old { names = self.old.names ++ thread ∷ [] }) }
-        ensures tallied { OnOk result (IsTallied self.new.plan self.new.names (tally_of tally.new)) }
+        ensures ok { OnOk result
+            (self.new ≡ record self.old { names = self.old.names ++ thread ∷ [] }) }
+        ensures tallied { OnOk result
+            (IsTallied self.new.plan self.new.names (tally_of tally.new)) }
         ensures full { (result ≡ Err RunError.TooManySteps) → (length self.old.names ≡ 1000000) }
     {
         self.known();
@@ -163,8 +188,11 @@ impl<'a> Run<'a> {
 
     /// The lock's word.
     pub fn word(&self) -> Word
-        ensures word { result ≡ word_at self.now.plan.limits (slice_index (execution_of self.now.plan self.now.names).words 0) }
-        ensures represented { Represents self.now.plan.limits result (events_of self.now.plan.limits (history_of (completed_calls self.now.plan self.now.names))) }
+        ensures word { result ≡ word_at self.now.plan.limits
+            (slice_index (execution_of self.now.plan self.now.names).words 0) }
+        ensures represented { Represents self.now.plan.limits result
+            (events_of self.now.plan.limits
+            (history_of (completed_calls self.now.plan self.now.names))) }
     {
         self.script.limits().word(self.state.words[0])
     }
@@ -176,7 +204,12 @@ impl<'a> Run<'a> {
 
     /// The finished calls as a record, with no report.
     pub(crate) fn into_record(self) -> Record
-        ensures record { result ≡ record { limits = self.entry.plan.limits; width = self.entry.plan.width; entries = completed_calls self.entry.plan self.entry.names; report = [] } }
+        ensures record { result ≡ record {
+          limits = self.entry.plan.limits;
+          width = self.entry.plan.width;
+          entries = completed_calls self.entry.plan self.entry.names;
+          report = [];
+        } }
         ensures linearized { IsLinearized result }
         ensures points { All (λ e. e.point ≡ e.last) result.entries }
     {
@@ -196,7 +229,12 @@ impl<'a> Run<'a> {
     /// The finished calls as a record, with a report that has a pair for each.
     pub(crate) fn into_reported(self, report: Vec<(u64, u64)>) -> Record
         requires { length report.items ≡ length (completed_calls self.plan self.names) }
-        ensures record { result ≡ record { limits = self.entry.plan.limits; width = self.entry.plan.width; entries = completed_calls self.entry.plan self.entry.names; report = report.items } }
+        ensures record { result ≡ record {
+          limits = self.entry.plan.limits;
+          width = self.entry.plan.width;
+          entries = completed_calls self.entry.plan self.entry.names;
+          report = report.items;
+        } }
         ensures linearized { IsLinearized result }
     {
         Record::of_reported(

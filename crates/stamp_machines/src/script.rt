@@ -1,5 +1,7 @@
 //! Scripts: the calls of each thread, and who steps when.
-ghost use Rattle.std.specs.Prelude.{◌≡◌, ◌<◌, ◌≤◌, ◌↔◌, length, slice_get, map, vec_len, IsTrue, IfSome, IfNone, IfOk, IfErr, All};
+ghost use Rattle.std.specs.Prelude.{◌≡◌, ◌<◌, ◌≤◌, ◌↔◌, length, slice_get, map, vec_len, IsTrue};
+ghost use Rattle.std.specs.Prelude.{option_copied};
+ghost use Rattle.std.specs.Prelude.{IfSome, IfNone, IfOk, IfErr, All};
 ghost use Rattle.stamp_machines.specs.Script.{Suits, IsSound, calls_of};
 
 use crate::shape::Shape;
@@ -61,7 +63,8 @@ impl Model for Script {
     ghost invariant = { IsWithin };
 }
 
-ghost use Rattle.stamp_machines.specs.ScriptFault.{calls_in, AreShort, AreSuited, AreNamed, IsFirstUnknown, IsFirstFault, IsGood};
+ghost use Rattle.stamp_machines.specs.ScriptFault.{calls_in, AreShort, AreSuited, AreNamed};
+ghost use Rattle.stamp_machines.specs.ScriptFault.{IsFirstUnknown, IsFirstFault, IsGood};
 
 fn suits(width: u64, call: &ScriptCall) -> bool
     ensures { IsTrue result ↔ Suits width call.now }
@@ -109,7 +112,13 @@ impl Script {
         threads: Vec<Vec<ScriptCall>>,
         steps: Vec<u64>,
     ) -> Result<Script, ScriptError>
-        ensures ok { IfOk result (λ s. s ≡ record { limits = limits; width = width; threads = map calls_in threads.items; steps = steps.items }) }
+        ensures ok { IfOk result
+            (λ s. s ≡ record {
+              limits = limits;
+              width = width;
+              threads = map calls_in threads.items;
+              steps = steps.items;
+            }) }
         ensures good { IfOk result (λ _. IsGood width threads.items steps.items) }
         ensures fault { IfErr result (IsFirstFault width threads.items steps.items) }
     {
@@ -186,10 +195,10 @@ impl Script {
     }
 
     /// A call of a thread, none past its last.
-    pub(crate) fn call(&self, thread: usize, index: usize) -> Option<ScriptCall>
+    pub(crate) fn call(&self, thread: usize, index: usize) -> Option<&ScriptCall>
         requires { thread < length self.now.threads }
-        ensures { result ≡ slice_get (calls_of self.now thread) index }
+        ensures { option_copied result ≡ slice_get (calls_of self.now thread) index }
     {
-        self.threads[thread].get(index).copied()
+        self.threads[thread].get(index)
     }
 }

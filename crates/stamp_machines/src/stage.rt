@@ -1,29 +1,31 @@
 //! Where a call stands between two of its accesses, and where each access leads.
-ghost use Rattle.std.specs.Prelude.{◌≡◌, ◌<◌, ◌≤◌, ◌^◌, ◌==◌, ◌++◌, ◌∷◌, [], length, slice_index, IsTrue, None};
+ghost use Rattle.std.specs.Prelude.{◌≡◌, ◌<◌, ◌≤◌, ◌^◌, ◌==◌, ◌++◌, ◌∷◌, [], ℕ, List, length};
+ghost use Rattle.std.specs.Prelude.{slice_index, IsTrue, None};
 ghost use Rattle.stamp_core.specs.Call.{is_lock_call, call_suits};
 ghost use Rattle.stamp_core.specs.Decision.{stamp_in};
 ghost use Rattle.stamp_core.specs.Word.{IsAdmitted, word_at};
 ghost use Rattle.stamp_machines.specs.LockNumber.{counts_at};
 ghost use Rattle.stamp_machines.specs.Job.{job_in, new_words, is_get, expects, stored_reply};
-ghost use Rattle.stamp_machines.specs.RecordPhase.{after, unchanged, all_read, errand_done, claimed};
+ghost use Rattle.stamp_machines.specs.RecordPhase.{after, unchanged, all_read, errand_done};
+ghost use Rattle.stamp_machines.specs.RecordPhase.{claimed, call_for};
 ghost use Rattle.stamp_machines.specs.RecordPhase as places;
 ghost use Rattle.stamp_machines.specs.MachineState.{first_phase, record_limits};
 ghost use Rattle.stamp_machines.specs.Machine.{record_turn};
-ghost use Rattle.stamp_machines.specs.MachineFields.{phase_at, errand_in, job_of, IsStage, IsRecordCall, IsWriter, IsErrand};
+ghost use Rattle.stamp_machines.specs.MachineFields.{phase_at, going_at, turn_in, errand_in};
+ghost use Rattle.stamp_machines.specs.MachineFields.{job_of, released_reply, IsStage, IsNext};
+ghost use Rattle.stamp_machines.specs.MachineFields.{IsRecordCall, IsWriter, IsErrand};
 
 use crate::loaded::Loaded;
-use crate::lock_phase::LockPhase;
-use crate::machine::{Turn, going};
 use crate::shape::Shape;
-use stamp_core::{Call, Limits, Reply, Word, Words};
+use stamp_core::{Call, Limits, Reply, Words};
 
 /// A lock call on the record's lock, and what its end leads to.
-#[derive(Drop)]
+#[derive(Clone, Copy)]
 pub(crate) enum Errand {
     /// A read lock to read under.
     Share,
     /// The words are read, and are the answer.
-    Leave { stamp: u64, words: Words },
+    Leave { stamp: u64 },
     /// The words are not those expected.
     Refuse { stamp: u64 },
     /// The words are those expected: the read lock is to become a write lock.
@@ -34,32 +36,41 @@ pub(crate) enum Errand {
     Claim,
 }
 
-#[derive(Drop)]
+/// A word that was seen is one that a lock call is to change.
+#[derive(Clone, Copy)]
 pub(crate) enum Stage {
     /// A lock call, on the public lock.
-    Public(LockPhase),
+    Public { seen: Option<u64> },
     /// The record's lock has to be seen.
     Glancing,
     /// It was seen free, and words are being loaded without a lock.
-    Copying { first: Word, loaded: Loaded },
+    Copying { first: u64 },
     /// A lock call on the record's lock.
-    Locking { errand: Errand, phase: LockPhase },
+    Locking { errand: Errand, seen: Option<u64> },
     /// Words are being loaded under a read lock.
-    Reading { stamp: u64, loaded: Loaded },
+    Reading { stamp: u64 },
     /// Words are being loaded under a write lock, to be compared.
-    Checking { stamp: u64, loaded: Loaded },
+    Checking { stamp: u64 },
     /// Words are being stored under a write lock.
     Storing { stamp: u64, stored: usize },
-    /// The write lock is to be released.
-    Releasing { stamp: u64, reply: Reply },
+    /// The write lock is to be released, after the words were stored or were not those expected.
+    Releasing { stamp: u64, is_stored: bool },
+}
+
+/// Where a call goes on, if it does.
+#[derive(Clone, Copy)]
+pub(crate) enum Next {
+    To(Stage),
+    /// Its reply was written where the caller asked.
+    Done,
 }
 
 /// The stamp in a reply, 0 where it has none.
-pub(crate) fn stamp_in(reply: Reply) -> u64
-    ensures { result ≡ stamp_in reply }
+pub(crate) fn stamp_in(reply: &Reply) -> u64
+    ensures { result ≡ stamp_in reply.now }
 {
     match reply {
-        Reply::Stamp(stamp) => stamp,
+        Reply::Stamp(stamp) => *stamp,
         Reply::Yes
         | Reply::No
         | Reply::Done
@@ -69,25 +80,26 @@ pub(crate) fn stamp_in(reply: Reply) -> u64
     }
 }
 
-fn expects(call: Call, words: Words) -> bool
-    ensures { result ≡ expects (job_of call) words }
+fn expects(call: &Call, words: &Words) -> bool
+    ensures { result ≡ expects (job_of call.now) words.now }
 {
     match call {
-        Call::PutIf(expected, _) => words.is_same(&expected),
+        Call::PutIf(expected, _) => words.is_same(expected),
         _ => true,
     }
 }
 
-fn is_get(call: Call) -> bool
-    ensures { result ≡ is_get (job_of call) }
+fn is_get(call: &Call) -> bool
+    ensures { result ≡ is_get (job_of call.now) }
 {
     !matches!(call, Call::Put(_) | Call::PutIf(_, _))
 }
 
 /// The word that the call stores at this place.
-pub(crate) fn new_word(call: Call, i: usize) -> u64
-    requires { i < length (new_words (job_of call)) }
-    ensures { result ≡ slice_index (new_words (job_of call)) i }
+#[inline(always)]
+pub(crate) fn new_word(call: &Call, i: usize) -> u64
+    requires { i < length (new_words (job_of call.now)) }
+    ensures { result ≡ slice_index (new_words (job_of call.now)) i }
 {
     match call {
         Call::Put(words) | Call::PutIf(_, words) => words.as_slice()[i],
@@ -95,12 +107,20 @@ pub(crate) fn new_word(call: Call, i: usize) -> u64
     }
 }
 
-/// A lock call on the record's lock, before its first access.
-fn on_record(shape: &Shape, call: Call) -> LockPhase
-    requires { IsTrue (is_lock_call call) }
-    ensures { result ≡ record { at = 1; limits = record_limits shape.now; call = call; seen = None } }
+/// The lock call of an errand.
+#[inline(always)]
+pub(crate) fn call_for(errand: Errand) -> Call
+    ensures call { (loaded : List ℕ) → result ≡ call_for (errand_in loaded errand) }
+    ensures lock { IsTrue (is_lock_call result) }
 {
-    LockPhase::start(1, shape.record_limits(), call)
+    match errand {
+        Errand::Share => Call::ReadLock,
+        Errand::Leave { stamp } | Errand::Refuse { stamp } | Errand::Retreat { stamp } => {
+            Call::UnlockRead(stamp)
+        }
+        Errand::Upgrade { stamp } => Call::ToWrite(stamp),
+        Errand::Claim => Call::WriteLock,
+    }
 }
 
 /// Nobody writes.
@@ -113,127 +133,139 @@ fn is_free(limits: Limits, found: u64) -> bool
 }
 
 /// Nobody writes, nor has since the first word was found.
-fn is_unchanged(limits: Limits, first: Word, found: u64) -> bool
+fn is_unchanged(limits: Limits, first: u64, found: u64) -> bool
     requires word { IsAdmitted limits (word_at limits found) }
-    requires first { IsAdmitted limits first }
-    ensures { result ≡ unchanged limits first.bits found }
+    requires first { IsAdmitted limits (word_at limits first) }
+    ensures { result ≡ unchanged limits first found }
 {
     let _ = limits.layout();
     let now = limits.word(found);
-    !now.is_writing() && now.writes() == first.writes()
+    !now.is_writing() && now.writes() == limits.word(first).writes()
 }
 
-fn to_share(shape: &Shape, call: &Call) -> Turn
-    requires { IsRecordCall shape.now call.now }
-    ensures { result ≡ record_turn shape.now call.now (job_of call.now) (places.Going (places.Locking places.ToShare None)) }
+/// A lock call on the record's lock, before its first access.
+fn locking(shape: &Shape, call: &Call, loaded: &Loaded, errand: Errand) -> Stage
+    requires { IsErrand shape.now call.now loaded.now errand }
+    ensures next { going_at shape.now call.now loaded.now result
+        ≡ record_turn shape.now call.now (job_of call.now)
+        (places.Going (places.Locking (errand_in loaded.now errand) None)) }
+    ensures sound { IsStage shape.now call.now loaded.now result }
 {
-    going(
-        shape,
-        call,
-        Stage::Locking {
-            errand: Errand::Share,
-            phase: on_record(shape, Call::ReadLock),
-        },
-    )
+    Stage::Locking { errand, seen: None }
 }
 
-pub(crate) fn glanced(shape: &Shape, call: &Call, found: u64) -> Turn
+#[inline(always)]
+pub(crate) fn glanced(shape: &Shape, call: &Call, loaded: &mut Loaded, found: u64) -> Stage
     requires call { IsRecordCall shape.now call.now }
     requires word { IsAdmitted (record_limits shape.now) (word_at (record_limits shape.now) found) }
-    ensures { result ≡ record_turn shape.now call.now (job_of call.now) (after (record_limits shape.now) shape.now.width (job_of call.now) (places.Glancing) found) }
+    ensures next { going_at shape.now call.now loaded.new result
+        ≡ record_turn shape.now call.now (job_of call.now)
+        (after (record_limits shape.now) shape.now.width (job_of call.now) (places.Glancing)
+        found) }
+    ensures sound { IsStage shape.now call.now loaded.new result }
 {
+    loaded.clear();
     if is_free(shape.record_limits(), found) {
-        going(
-            shape,
-            call,
-            Stage::Copying {
-                first: shape.record_limits().word(found),
-                loaded: Loaded::none(),
-            },
-        )
+        Stage::Copying { first: found }
     } else {
-        to_share(shape, call)
+        locking(shape, call, loaded, Errand::Share)
     }
 }
 
-pub(crate) fn copied(shape: &Shape, call: &Call, first: Word, loaded: Loaded, found: u64) -> Turn
+#[inline(always)]
+pub(crate) fn copied(
+    shape: &Shape,
+    call: &Call,
+    first: u64,
+    loaded: &mut Loaded,
+    found: u64,
+    answer: &mut Reply,
+) -> Next
     requires call { IsRecordCall shape.now call.now }
-    requires first { IsAdmitted (record_limits shape.now) first }
-    requires length { length loaded ≤ shape.now.width }
-    requires word { shape.now.width ≤ length loaded → IsAdmitted (record_limits shape.now) (word_at (record_limits shape.now) found) }
-    ensures { result ≡ record_turn shape.now call.now (job_of call.now) (after (record_limits shape.now) shape.now.width (job_of call.now) (places.Copying first.bits loaded) found) }
+    requires first { IsAdmitted (record_limits shape.now)
+        (word_at (record_limits shape.now) first) }
+    requires length { length loaded.old ≤ shape.now.width }
+    requires word { shape.now.width ≤ length loaded.old →
+        IsAdmitted (record_limits shape.now) (word_at (record_limits shape.now) found) }
+    ensures next { turn_in shape.now call.now loaded.new answer.new result
+        ≡ record_turn shape.now call.now (job_of call.now)
+        (after (record_limits shape.now) shape.now.width (job_of call.now)
+        (places.Copying first loaded.old) found) }
+    ensures sound { IsNext shape.now call.now loaded.old loaded.new result }
 {
     if loaded.len() < shape.words() {
-        let loaded = loaded.with(found);
-        going(shape, call, Stage::Copying { first, loaded })
+        loaded.push(found);
+        Next::To(Stage::Copying { first })
     } else if is_unchanged(shape.record_limits(), first, found) {
-        Turn::Done(Reply::Content(loaded.words()))
+        *answer = Reply::Content(loaded.words());
+        Next::Done
     } else {
-        to_share(shape, call)
+        Next::To(locking(shape, call, loaded, Errand::Share))
     }
 }
 
-pub(crate) fn read(shape: &Shape, call: &Call, stamp: u64, loaded: Loaded, found: u64) -> Turn
+#[inline(always)]
+pub(crate) fn read(shape: &Shape, call: &Call, stamp: u64, loaded: &mut Loaded, found: u64) -> Stage
     requires call { IsRecordCall shape.now call.now }
-    requires length { length loaded < shape.now.width }
-    ensures { result ≡ record_turn shape.now call.now (job_of call.now) (after (record_limits shape.now) shape.now.width (job_of call.now) (places.Reading stamp loaded) found) }
+    requires length { length loaded.old < shape.now.width }
+    ensures next { going_at shape.now call.now loaded.new result
+        ≡ record_turn shape.now call.now (job_of call.now)
+        (after (record_limits shape.now) shape.now.width (job_of call.now)
+        (places.Reading stamp loaded.old) found) }
+    ensures sound { IsStage shape.now call.now loaded.new result }
 {
-    let loaded = loaded.with(found);
+    loaded.push(found);
     if loaded.len() < shape.words() {
-        going(shape, call, Stage::Reading { stamp, loaded })
+        Stage::Reading { stamp }
     } else {
-        all_read(shape, call, stamp, loaded.words())
+        all_read(shape, call, stamp, loaded)
     }
 }
 
-fn all_read(shape: &Shape, call: &Call, stamp: u64, words: Words) -> Turn
+fn all_read(shape: &Shape, call: &Call, stamp: u64, loaded: &Loaded) -> Stage
     requires call { IsRecordCall shape.now call.now }
-    ensures { result ≡ record_turn shape.now call.now (job_of call.now) (all_read (job_of call.now) stamp words) }
+    requires some { 1 ≤ length loaded.now }
+    ensures next { going_at shape.now call.now loaded.now result
+        ≡ record_turn shape.now call.now (job_of call.now)
+        (all_read (job_of call.now) stamp loaded.now) }
+    ensures sound { IsStage shape.now call.now loaded.now result }
 {
-    let errand = if is_get(*call) {
-        Errand::Leave { stamp, words }
-    } else if expects(*call, words) {
-        return going(
-            shape,
-            call,
-            Stage::Locking {
-                errand: Errand::Upgrade { stamp },
-                phase: on_record(shape, Call::ToWrite(stamp)),
-            },
-        );
+    if is_get(call) {
+        locking(shape, call, loaded, Errand::Leave { stamp })
+    } else if expects(call, &loaded.words()) {
+        locking(shape, call, loaded, Errand::Upgrade { stamp })
     } else {
-        Errand::Refuse { stamp }
-    };
-    going(
-        shape,
-        call,
-        Stage::Locking {
-            errand,
-            phase: on_record(shape, Call::UnlockRead(stamp)),
-        },
-    )
+        locking(shape, call, loaded, Errand::Refuse { stamp })
+    }
 }
 
-pub(crate) fn checked(shape: &Shape, call: &Call, stamp: u64, loaded: Loaded, found: u64) -> Turn
+#[inline(always)]
+pub(crate) fn checked(
+    shape: &Shape,
+    call: &Call,
+    stamp: u64,
+    loaded: &mut Loaded,
+    found: u64,
+) -> Stage
     requires call { IsWriter shape.now call.now }
-    requires length { length loaded < shape.now.width }
+    requires length { length loaded.old < shape.now.width }
     requires fits { stamp < 2 ^ 63 }
-    ensures { result ≡ record_turn shape.now call.now (job_of call.now) (after (record_limits shape.now) shape.now.width (job_of call.now) (places.Checking stamp loaded) found) }
+    ensures next { going_at shape.now call.now loaded.new result
+        ≡ record_turn shape.now call.now (job_of call.now)
+        (after (record_limits shape.now) shape.now.width (job_of call.now)
+        (places.Checking stamp loaded.old) found) }
+    ensures sound { IsStage shape.now call.now loaded.new result }
 {
-    let loaded = loaded.with(found);
+    loaded.push(found);
     if loaded.len() < shape.words() {
-        going(shape, call, Stage::Checking { stamp, loaded })
-    } else if expects(*call, loaded.words()) {
-        going(shape, call, Stage::Storing { stamp, stored: 0 })
+        Stage::Checking { stamp }
+    } else if expects(call, &loaded.words()) {
+        Stage::Storing { stamp, stored: 0 }
     } else {
-        going(
-            shape,
-            call,
-            Stage::Releasing {
-                stamp,
-                reply: Reply::No,
-            },
-        )
+        Stage::Releasing {
+            stamp,
+            is_stored: false,
+        }
     }
 }
 
@@ -247,126 +279,144 @@ fn stored_reply(call: &Call) -> Reply
     }
 }
 
-pub(crate) fn stored(shape: &Shape, call: &Call, stamp: u64, stored: usize, found: u64) -> Turn
-    requires call { IsWriter shape.now call.now }
-    requires length { stored < shape.now.width }
-    requires fits { stamp < 2 ^ 63 }
-    ensures { result ≡ record_turn shape.now call.now (job_of call.now) (after (record_limits shape.now) shape.now.width (job_of call.now) (places.Storing stamp stored) found) }
+/// The reply of a call that has released its write lock.
+pub(crate) fn released_reply(call: &Call, is_stored: bool) -> Reply
+    ensures { result ≡ released_reply (job_of call.now) is_stored }
 {
-    if stored + 1 < shape.words() {
-        going(
-            shape,
-            call,
-            Stage::Storing {
-                stamp,
-                stored: stored + 1,
-            },
-        )
+    if is_stored {
+        stored_reply(call)
     } else {
-        going(
-            shape,
-            call,
-            Stage::Releasing {
-                stamp,
-                reply: stored_reply(call),
-            },
-        )
+        Reply::No
     }
 }
 
-fn claimed(shape: &Shape, call: &Call, stamp: u64) -> Turn
+#[inline(always)]
+pub(crate) fn stored(
+    shape: &Shape,
+    call: &Call,
+    stamp: u64,
+    stored: usize,
+    loaded: &Loaded,
+    found: u64,
+) -> Stage
+    requires call { IsWriter shape.now call.now }
+    requires length { stored < shape.now.width }
+    requires fits { stamp < 2 ^ 63 }
+    ensures next { going_at shape.now call.now loaded.now result
+        ≡ record_turn shape.now call.now (job_of call.now)
+        (after (record_limits shape.now) shape.now.width (job_of call.now)
+        (places.Storing stamp stored) found) }
+    ensures sound { IsStage shape.now call.now loaded.now result }
+{
+    if stored + 1 < shape.words() {
+        Stage::Storing {
+            stamp,
+            stored: stored + 1,
+        }
+    } else {
+        Stage::Releasing {
+            stamp,
+            is_stored: true,
+        }
+    }
+}
+
+fn claimed(shape: &Shape, call: &Call, stamp: u64, loaded: &mut Loaded) -> Stage
     requires call { IsWriter shape.now call.now }
     requires fits { stamp < 2 ^ 63 }
-    ensures { result ≡ record_turn shape.now call.now (job_of call.now) (claimed (job_of call.now) stamp) }
+    ensures next { going_at shape.now call.now loaded.new result
+        ≡ record_turn shape.now call.now (job_of call.now) (claimed (job_of call.now) stamp) }
+    ensures sound { IsStage shape.now call.now loaded.new result }
 {
+    loaded.clear();
     match call {
-        Call::PutIf(_, _) => going(
-            shape,
-            call,
-            Stage::Checking {
-                stamp,
-                loaded: Loaded::none(),
-            },
-        ),
-        _ => going(shape, call, Stage::Storing { stamp, stored: 0 }),
+        Call::PutIf(_, _) => Stage::Checking { stamp },
+        _ => Stage::Storing { stamp, stored: 0 },
     }
 }
 
 /// The conversion answered this stamp, 0 where it could not be.
-fn upgraded(shape: &Shape, call: &Call, stamp: u64, got: u64) -> Turn
+fn upgraded(shape: &Shape, call: &Call, stamp: u64, loaded: &Loaded, got: u64) -> Stage
     requires call { IsWriter shape.now call.now }
     requires fits { got < 2 ^ 63 }
-    ensures { result ≡ record_turn shape.now call.now (job_of call.now) (errand_done (job_of call.now) (places.ToUpgrade stamp) got) }
+    ensures next { going_at shape.now call.now loaded.now result
+        ≡ record_turn shape.now call.now (job_of call.now)
+        (errand_done (job_of call.now) (places.ToUpgrade stamp) got) }
+    ensures sound { IsStage shape.now call.now loaded.now result }
 {
     if got == 0 {
-        going(
-            shape,
-            call,
-            Stage::Locking {
-                errand: Errand::Retreat { stamp },
-                phase: on_record(shape, Call::UnlockRead(stamp)),
-            },
-        )
+        locking(shape, call, loaded, Errand::Retreat { stamp })
     } else {
-        going(
-            shape,
-            call,
-            Stage::Storing {
-                stamp: got,
-                stored: 0,
-            },
-        )
+        Stage::Storing {
+            stamp: got,
+            stored: 0,
+        }
     }
 }
 
-/// A lock call on the record's lock has ended with this reply.
-pub(crate) fn ended(shape: &Shape, call: &Call, errand: Errand, reply: Reply) -> Turn
-    requires errand { IsErrand shape.now call.now errand }
-    requires fits { stamp_in reply < 2 ^ 63 }
-    ensures { result ≡ record_turn shape.now call.now (job_of call.now) (errand_done (job_of call.now) (errand_in errand) (stamp_in reply)) }
+/// Words are to be loaded under the read lock of this stamp.
+fn shared(shape: &Shape, call: &Call, stamp: u64, loaded: &mut Loaded) -> Stage
+    requires { IsRecordCall shape.now call.now }
+    ensures next { going_at shape.now call.now loaded.new result
+        ≡ record_turn shape.now call.now (job_of call.now)
+        (places.Going (places.Reading stamp [])) }
+    ensures sound { IsStage shape.now call.now loaded.new result }
 {
-    let got = stamp_in(reply);
+    loaded.clear();
+    Stage::Reading { stamp }
+}
+
+/// A lock call on the record's lock has ended with the reply that stands in `answer`.
+pub(crate) fn ended(
+    shape: &Shape,
+    call: &Call,
+    errand: Errand,
+    loaded: &mut Loaded,
+    answer: &mut Reply,
+) -> Next
+    requires errand { IsErrand shape.now call.now loaded.old errand }
+    requires fits { stamp_in answer.old < 2 ^ 63 }
+    ensures next { turn_in shape.now call.now loaded.new answer.new result
+        ≡ record_turn shape.now call.now (job_of call.now)
+        (errand_done (job_of call.now) (errand_in loaded.old errand) (stamp_in answer.old)) }
+    ensures sound { IsNext shape.now call.now loaded.old loaded.new result }
+{
+    let got = stamp_in(answer);
     match errand {
-        Errand::Share => going(
-            shape,
-            call,
-            Stage::Reading {
-                stamp: got,
-                loaded: Loaded::none(),
-            },
-        ),
-        Errand::Leave { words, .. } => Turn::Done(Reply::Content(words)),
-        Errand::Refuse { .. } => Turn::Done(Reply::No),
-        Errand::Upgrade { stamp } => upgraded(shape, call, stamp, got),
-        Errand::Retreat { .. } => going(
-            shape,
-            call,
-            Stage::Locking {
-                errand: Errand::Claim,
-                phase: on_record(shape, Call::WriteLock),
-            },
-        ),
-        Errand::Claim => claimed(shape, call, got),
+        Errand::Share => Next::To(shared(shape, call, got, loaded)),
+        Errand::Leave { .. } => {
+            *answer = Reply::Content(loaded.words());
+            Next::Done
+        }
+        Errand::Refuse { .. } => {
+            *answer = Reply::No;
+            Next::Done
+        }
+        Errand::Upgrade { stamp } => Next::To(upgraded(shape, call, stamp, loaded, got)),
+        Errand::Retreat { .. } => Next::To(locking(shape, call, loaded, Errand::Claim)),
+        Errand::Claim => Next::To(claimed(shape, call, got, loaded)),
     }
 }
 
 /// The stage before the first access.
+#[inline(always)]
 pub(crate) fn first_stage(shape: &Shape, call: &Call) -> Stage
     requires suits { IsTrue (call_suits shape.now.width call.now) }
     requires width { shape.now.width ≤ 16 }
-    ensures stage { IsStage shape.now call.now result }
-    ensures phase { phase_at call.now result ≡ first_phase (job_in call.now) }
+    ensures stage { (loaded : List ℕ) → IsStage shape.now call.now loaded result }
+    ensures phase { (loaded : List ℕ) →
+        phase_at call.now loaded result ≡ first_phase (job_in call.now) }
 {
     match call {
         Call::Get => Stage::Glancing,
         Call::Put(_) => Stage::Locking {
             errand: Errand::Claim,
-            phase: on_record(shape, Call::WriteLock),
+            seen: None,
         },
         Call::PutIf(_, _) => Stage::Locking {
             errand: Errand::Share,
-            phase: on_record(shape, Call::ReadLock),
+            seen: None,
         },
-        _ => Stage::Public(LockPhase::start(0, shape.limits, *call)),
+        _ => Stage::Public { seen: None },
     }
 }

@@ -1,8 +1,11 @@
 //! What the threads of a running script are at.
-ghost use Rattle.std.specs.Prelude.{◌≡◌, ◌<◌, ◌≤◌, ◌+◌, ◌^◌, ℕ, length, map, replicate, vec_len, vec_capacity, IfOk, OnOk, None, Some, slice_index, slice_index_or, slice_get, slice_set, ◌==◌, ◌++◌, ◌∷◌, [], if◌then◌else◌};
+ghost use Rattle.std.specs.Prelude.{◌≡◌, ◌<◌, ◌≤◌, ◌+◌, ◌^◌, ℕ, length, map, replicate, vec_len};
+ghost use Rattle.std.specs.Prelude.{vec_capacity, IfOk, OnOk, None, Some, slice_index};
+ghost use Rattle.std.specs.Prelude.{slice_index_or, slice_get, slice_set, ◌==◌, ◌++◌, ◌∷◌, []};
+ghost use Rattle.std.specs.Prelude.{if◌then◌else◌, is_some, IfSome, false};
 
 use crate::access::make;
-use crate::machine::{Machine, Turn};
+use crate::machine::Machine;
 use crate::running::Stepped;
 use crate::script::{Arg, Script, ScriptCall};
 use crate::shape::Shape;
@@ -30,18 +33,21 @@ pub(crate) struct State {
     pub(crate) words: Vec<u64>,
     pub(crate) workers: Vec<Worker>,
     pub(crate) entries: Vec<Entry>,
+    /// The reply of the call that has ended last.
+    answer: Reply,
+}
+
+/// What a step did: as `Stepped`, without the entry.
+#[derive(Clone, Copy)]
+pub(crate) enum Progress {
+    Idle,
+    Going,
+    Ended,
 }
 
 ghost use Rattle.stamp_machines.specs.StateFields.{stamps_at, begun_in, HasRoom};
 ghost use Rattle.stamp_machines.specs.World.{number_of, call_of, next_call, opening_word};
-ghost use Rattle.stamp_core.specs.Decision.{stamp_in};
-
-/// The stamp in a reply, zero where it has none.
-fn stamp_of(reply: &Reply) -> u64
-    ensures { result ≡ stamp_in reply.now }
-{
-    stamp_in(*reply)
-}
+ghost use Rattle.stamp_machines.specs.Landed.{IsSafeOn, AllLanded};
 
 fn number(workers: &[Worker], arg: Arg) -> u64
     ensures { result ≡ number_of (stamps_at workers.now) arg }
@@ -83,30 +89,22 @@ fn resolve(workers: &[Worker], call: &ScriptCall) -> Call
 }
 
 /// The call after those that the thread has finished, to begin at this position.
-pub(crate) fn next_call(
-    script: &Script,
-    workers: &[Worker],
-    thread: usize,
-    first: u64,
-) -> Option<Begun>
+fn next_call(script: &Script, workers: &[Worker], thread: usize, first: u64) -> Option<Begun>
     requires thread { thread < length workers.now }
     requires workers { length workers.now ≡ length script.now.threads }
     ensures { result ≡ next_call script.now (stamps_at workers.now) first thread }
 {
     let call = script.call(thread, workers[thread].stamps.len())?;
-    let machine = Machine::start(resolve(workers, &call), script.shape());
+    let machine = Machine::start(resolve(workers, call), script.shape());
     Some(Begun { machine, first })
 }
 
-/// Takes out the call that the thread is in.
-fn take_begun(workers: &mut [Worker], thread: usize) -> Option<Begun>
-    requires { thread < length workers.old }
-    ensures taken { result ≡ slice_index_or (map begun_in workers.old) thread None }
-    ensures begun { map begun_in workers.new ≡ slice_set (map begun_in workers.old) thread None }
-    ensures stamps { (t : ℕ) → stamps_at workers.new t ≡ stamps_at workers.old t }
-    ensures room { HasRoom (slice_get workers.old thread) → HasRoom (slice_get workers.new thread) }
+/// Whether the thread is in a call.
+fn is_in_call(workers: &[Worker], thread: usize) -> bool
+    requires { thread < length workers.now }
+    ensures { result ≡ is_some (slice_index_or (map begun_in workers.now) thread None) }
 {
-    workers[thread].begun.take()
+    workers[thread].begun.is_some()
 }
 
 /// Makes room for one more stamp.
@@ -119,30 +117,151 @@ fn reserve_stamp(workers: &mut [Worker], thread: usize) -> Result<(), AllocError
     workers[thread].stamps.reserve(1)
 }
 
-/// The thread goes on with its call.
-fn go_on(workers: &mut [Worker], thread: usize, begun: Begun)
+/// The thread is in this call from now on.
+fn set_begun(workers: &mut [Worker], thread: usize, begun: Begun)
     requires { thread < length workers.old }
-    ensures begun { map begun_in workers.new ≡ slice_set (map begun_in workers.old) thread (Some begun) }
+    ensures begun { map begun_in workers.new
+        ≡ slice_set (map begun_in workers.old) thread (Some begun) }
     ensures stamps { (t : ℕ) → stamps_at workers.new t ≡ stamps_at workers.old t }
+    ensures room { HasRoom (slice_get workers.old thread) → HasRoom (slice_get workers.new thread) }
 {
     workers[thread].begun = Some(begun);
 }
 
-/// The thread has finished its call, which answered this stamp. There is room for it.
-fn finish(workers: &mut [Worker], thread: usize, stamp: u64)
+impl Begun {
+    ghost use Rattle.stamp_machines.specs.Access.{place_of, words_after, seen_by};
+    ghost use Rattle.stamp_machines.specs.Machine.{next_access, after_access, IsFound};
+    ghost use Rattle.stamp_machines.specs.MachineTurn.{turn_of};
+
+    /// Makes its next access, and tells whether it has ended by it. Then its reply stands in
+    /// `answer`.
+    #[inline(always)]
+    fn access(&mut self, words: &mut [u64], answer: &mut Reply) -> bool
+        requires memory { place_of (next_access self.old.machine) < length words.old }
+        requires word { IsFound self.old.machine
+            (seen_by (next_access self.old.machine) words.old) }
+        ensures words { words.new ≡ words_after (next_access self.old.machine) words.old }
+        ensures after { turn_of self.new.machine answer.new result
+            ≡ after_access self.old.machine (seen_by (next_access self.old.machine) words.old) }
+        ensures call { self.new.machine.call ≡ self.old.machine.call }
+        ensures first { self.new.first ≡ self.old.first }
+    {
+        let seen = make(words, self.machine.plan());
+        self.machine.advance(seen, answer)
+    }
+
+    /// The entry of a call that ends at this position.
+    fn ended(&self, thread: usize, reply: &Reply, position: u64) -> Entry
+        ensures { result ≡ record {
+          thread = thread;
+          call = self.now.machine.call;
+          reply = reply.now;
+          first = self.now.first;
+          point = position;
+          last = position;
+        } }
+    {
+        Entry {
+            thread: thread as u64,
+            call: self.machine.call(),
+            reply: *reply,
+            first: self.first,
+            point: position,
+            last: position,
+        }
+    }
+}
+
+impl Worker {
+    ghost use Rattle.stamp_machines.specs.Landed.{IsSafeOn, Landed};
+
+    /// Makes the next access of the call that the thread is in. Where it ends by it, its entry comes
+    /// after the others; there is room for it.
+    #[inline(always)]
+    fn access(
+        &mut self,
+        thread: usize,
+        words: &mut [u64],
+        answer: &mut Reply,
+        entries: &mut Vec<Entry>,
+        position: u64,
+    ) -> Progress
+        requires safe { IfSome self.old.begun (λ b. IsSafeOn b words.old) }
+        requires room { vec_len self.old.stamps < vec_capacity self.old.stamps }
+        requires entries { vec_len entries.old < vec_capacity entries.old }
+        ensures landed { IfSome self.old.begun
+            (λ b. Landed b thread position words.old self.old.stamps.items entries.old.items
+            words.new self.new.begun self.new.stamps.items entries.new.items result) }
+    {
+        let Some(begun) = &mut self.begun else {
+            return Progress::Idle;
+        };
+        if !begun.access(words, answer) {
+            return Progress::Going;
+        }
+        keep(entries, begun, thread, answer, position);
+        self.end(stamp_in(answer));
+        Progress::Ended
+    }
+
+    /// The thread is in no call any more. There is room for the stamp that it answered.
+    #[inline(never)]
+    fn end(&mut self, stamp: u64)
+        requires { vec_len self.old.stamps < vec_capacity self.old.stamps }
+        ensures begun { self.new.begun ≡ None }
+        ensures stamps { self.new.stamps.items ≡ self.old.stamps.items ++ stamp ∷ [] }
+    {
+        self.begun = None;
+        let _ = self.stamps.push(stamp);
+    }
+}
+
+/// Adds the entry of a call that ends at this position. There is room for it.
+#[inline(never)]
+fn keep(entries: &mut Vec<Entry>, begun: &Begun, thread: usize, answer: &Reply, position: u64)
+    requires { vec_len entries.old < vec_capacity entries.old }
+    ensures { entries.new.items ≡ entries.old.items
+        ++ record {
+          thread = thread;
+          call = begun.now.machine.call;
+          reply = answer.now;
+          first = begun.now.first;
+          point = position;
+          last = position;
+        } ∷ [] }
+{
+    let entry = &begun.ended(thread, answer, position);
+    let (_call, _reply): (Call, Reply) = (entry.call, entry.reply);
+    let _ = entries.push(*entry);
+}
+
+/// Makes the next access of the call that the thread is in.
+#[inline(always)]
+fn access(
+    workers: &mut [Worker],
+    thread: usize,
+    words: &mut [u64],
+    answer: &mut Reply,
+    entries: &mut Vec<Entry>,
+    position: u64,
+) -> Progress
     requires thread { thread < length workers.old }
     requires room { HasRoom (slice_get workers.old thread) }
-    ensures begun { map begun_in workers.new ≡ slice_set (map begun_in workers.old) thread None }
-    ensures stamps { (t : ℕ) → stamps_at workers.new t ≡ (if t == thread then stamps_at workers.old t ++ stamp ∷ [] else stamps_at workers.old t) }
+    requires entries { vec_len entries.old < vec_capacity entries.old }
+    requires safe { IfSome (slice_index_or (map begun_in workers.old) thread None)
+        (λ b. IsSafeOn b words.old) }
+    ensures landed { IfSome (slice_index_or (map begun_in workers.old) thread None)
+        (λ b. AllLanded b thread position words.old workers.old entries.old.items words.new
+        workers.new entries.new.items result) }
 {
-    let worker = &mut workers[thread];
-    worker.begun = None;
-    let _ = worker.stamps.push(stamp);
+    workers[thread].access(thread, words, answer, entries, position)
 }
 
 fn opening_words(alloc: Global, shape: &Shape) -> Result<Vec<u64>, AllocError>
     requires { shape.now.width ≤ 16 }
-    ensures { IfOk result (λ words. words.items ≡ opening_word shape.now.limits ∷ opening_word shape.now.limits ∷ replicate shape.now.width 0) }
+    ensures { IfOk result (λ words. words.items
+        ≡ opening_word shape.now.limits ∷ opening_word shape.now.limits ∷ replicate
+        shape.now.width 0) }
 {
     let opening = Word::opening_in(shape.limits.layout()).bits();
     let mut words = Vec::with_capacity(alloc, 2 + shape.words())?;
@@ -157,16 +276,19 @@ fn opening_words(alloc: Global, shape: &Shape) -> Result<Vec<u64>, AllocError>
 impl State {
     ghost use Rattle.stamp_machines.specs.Access.{place_of, words_after, seen_by};
     ghost use Rattle.stamp_machines.specs.Machine.{next_access, after_access, IsFound};
-    ghost use Rattle.stamp_machines.specs.World.{landed, stamps_after, stamps_of, current, without, step, opening_of};
+    ghost use Rattle.stamp_machines.specs.World.{landed, stamps_after, stamps_of, current};
+    ghost use Rattle.stamp_machines.specs.World.{begun_with, step, opening_of};
     ghost use Rattle.stamp_machines.specs.StateFields.{world_at, SameState};
-    ghost use Rattle.stamp_machines.specs.Stepped.{told, Reports};
+    ghost use Rattle.stamp_machines.specs.StateLanded.{StateLanded};
+    ghost use Rattle.stamp_machines.specs.Progress.{told_by, HasReport};
     ghost use Rattle.stamp_machines.specs.Kept.{Kept};
     ghost use Rattle.stamp_machines.specs.Script.{IsSound};
 
     /// The opening words, and threads that have begun nothing.
     pub(crate) fn new(alloc: Global, shape: Shape, threads: usize) -> Result<State, AllocError>
         requires { shape.width ≤ 16 }
-        ensures world { IfOk result (λ s. world_at s 0 ≡ opening_of shape.limits shape.width threads) }
+        ensures world { IfOk result
+            (λ s. world_at s 0 ≡ opening_of shape.limits shape.width threads) }
         ensures workers { IfOk result (λ s. vec_len s.workers ≡ threads) }
         ensures stamps { IfOk result (λ s. (t : ℕ) → stamps_at s.workers.items t ≡ []) }
     {
@@ -182,6 +304,7 @@ impl State {
             words,
             workers,
             entries: Vec::new(alloc),
+            answer: Reply::Done,
         })
     }
 
@@ -196,78 +319,113 @@ impl State {
         reserve_stamp(&mut self.workers, thread)
     }
 
-    /// Takes out the call that the thread is in, or begins its next one.
-    fn current(&mut self, script: &Script, thread: usize, position: u64) -> Option<Begun>
+    /// Begins the thread's next call where it is in none. Tells whether it is in one then.
+    #[inline(always)]
+    fn begin(&mut self, script: &Script, thread: usize, position: u64) -> bool
         requires thread { thread < vec_len self.old.workers }
         requires workers { vec_len self.old.workers ≡ length script.now.threads }
-        requires stamps { (t : ℕ) → stamps_at self.old.workers.items t ≡ stamps_of t self.old.entries.items }
-        ensures current { result ≡ current script.now (world_at self.old position) thread }
-        ensures world { world_at self.new position ≡ without (world_at self.old position) thread }
-        ensures stamps { (t : ℕ) → stamps_at self.new.workers.items t ≡ stamps_at self.old.workers.items t }
+        requires stamps { (t : ℕ) → stamps_at self.old.workers.items t
+            ≡ stamps_of t self.old.entries.items }
+        ensures begun { result ≡ is_some (current script.now (world_at self.old position) thread) }
+        ensures world { world_at self.new position
+            ≡ begun_with (world_at self.old position) thread
+            (current script.now (world_at self.old position) thread) }
+        ensures stamps { (t : ℕ) → stamps_at self.new.workers.items t
+            ≡ stamps_at self.old.workers.items t }
         ensures workers { vec_len self.new.workers ≡ vec_len self.old.workers }
-        ensures room { HasRoom (slice_get self.old.workers.items thread) → HasRoom (slice_get self.new.workers.items thread) }
+        ensures room { HasRoom (slice_get self.old.workers.items thread) →
+            HasRoom (slice_get self.new.workers.items thread) }
         ensures entries { self.new.entries ≡ self.old.entries }
     {
-        match take_begun(&mut self.workers, thread) {
-            Some(begun) => Some(begun),
-            None => next_call(script, &self.workers, thread, position),
-        }
+        is_in_call(&self.workers, thread) || self.begin_next(script, thread, position)
     }
 
-    /// Makes one access of the thread's current call, if it has one.
-    pub(crate) fn step(&mut self, script: &Script, thread: usize, position: u64) -> Stepped
+    /// Begins the next call of a thread that is in none. Tells whether it is in one then.
+    #[inline(never)]
+    fn begin_next(&mut self, script: &Script, thread: usize, position: u64) -> bool
+        requires none { is_some (slice_index_or (map begun_in self.old.workers.items) thread None)
+            ≡ false }
+        requires thread { thread < vec_len self.old.workers }
+        requires workers { vec_len self.old.workers ≡ length script.now.threads }
+        requires stamps { (t : ℕ) → stamps_at self.old.workers.items t
+            ≡ stamps_of t self.old.entries.items }
+        ensures begun { result ≡ is_some (current script.now (world_at self.old position) thread) }
+        ensures world { world_at self.new position
+            ≡ begun_with (world_at self.old position) thread
+            (current script.now (world_at self.old position) thread) }
+        ensures stamps { (t : ℕ) → stamps_at self.new.workers.items t
+            ≡ stamps_at self.old.workers.items t }
+        ensures workers { vec_len self.new.workers ≡ vec_len self.old.workers }
+        ensures room { HasRoom (slice_get self.old.workers.items thread) →
+            HasRoom (slice_get self.new.workers.items thread) }
+        ensures entries { self.new.entries ≡ self.old.entries }
+    {
+        let Some(begun) = next_call(script, &self.workers, thread, position) else {
+            return false;
+        };
+        set_begun(&mut self.workers, thread, begun);
+        true
+    }
+
+    /// Makes the next access of the call that the thread is in. There is room for what it may finish.
+    #[inline(always)]
+    fn land(&mut self, thread: usize, position: u64) -> Progress
+        requires safe { IfSome (slice_index_or (map begun_in self.old.workers.items) thread None)
+            (λ b. IsSafeOn b self.old.words.items) }
+        requires thread { thread < vec_len self.old.workers }
+        requires room { HasRoom (slice_get self.old.workers.items thread) }
+        requires entries { vec_len self.old.entries < vec_capacity self.old.entries }
+        ensures landed { IfSome (slice_index_or (map begun_in self.old.workers.items) thread None)
+            (λ b. StateLanded b thread position self.old self.new result) }
+        ensures workers { vec_len self.new.workers ≡ vec_len self.old.workers }
+    {
+        access(
+            &mut self.workers,
+            thread,
+            &mut self.words,
+            &mut self.answer,
+            &mut self.entries,
+            position,
+        )
+    }
+
+    /// Makes one access of the thread's current call, if it has one. The entry of a call that ends
+    /// by it is the last one.
+    #[inline(always)]
+    pub(crate) fn step(&mut self, script: &Script, thread: usize, position: u64) -> Progress
         requires sound { IsSound script.now }
         requires kept { Kept script.now (world_at self.old position) }
         requires thread { thread < vec_len self.old.workers }
         requires workers { vec_len self.old.workers ≡ length script.now.threads }
-        requires stamps { (t : ℕ) → stamps_at self.old.workers.items t ≡ stamps_of t self.old.entries.items }
+        requires stamps { (t : ℕ) → stamps_at self.old.workers.items t
+            ≡ stamps_of t self.old.entries.items }
         requires room { HasRoom (slice_get self.old.workers.items thread) }
         requires entries { vec_len self.old.entries < vec_capacity self.old.entries }
-        ensures world { world_at self.new (position + 1) ≡ step script.now (world_at self.old position) thread }
+        ensures world { world_at self.new (position + 1)
+            ≡ step script.now (world_at self.old position) thread }
         ensures workers { vec_len self.new.workers ≡ vec_len self.old.workers }
-        ensures stamps { (t : ℕ) → stamps_at self.new.workers.items t ≡ stamps_of t self.new.entries.items }
-        ensures report { Reports script.now (world_at self.old position) thread result }
+        ensures stamps { (t : ℕ) → stamps_at self.new.workers.items t
+            ≡ stamps_of t self.new.entries.items }
+        ensures report { HasReport script.now (world_at self.old position) thread result }
     {
-        match self.current(script, thread, position) {
-            Some(begun) => self.land(thread, begun, position),
-            None => Stepped::Idle,
+        if self.begin(script, thread, position) {
+            self.land(thread, position)
+        } else {
+            Progress::Idle
         }
     }
 
-    /// Makes the next access of the call that the thread is in. There is room for what it may finish.
-    pub(crate) fn land(&mut self, thread: usize, begun: Begun, position: u64) -> Stepped
-        requires memory { place_of (next_access begun.machine) < length self.old.words.items }
-        requires word { IsFound begun.machine (seen_by (next_access begun.machine) self.old.words.items) }
-        requires thread { thread < vec_len self.old.workers }
-        requires room { HasRoom (slice_get self.old.workers.items thread) }
-        requires entries { vec_len self.old.entries < vec_capacity self.old.entries }
-        ensures world { world_at self.new (position + 1) ≡ landed (world_at self.old position) thread begun (words_after (next_access begun.machine) self.old.words.items) (after_access begun.machine (seen_by (next_access begun.machine) self.old.words.items)) }
-        ensures workers { vec_len self.new.workers ≡ vec_len self.old.workers }
-        ensures stamps { (t : ℕ) → stamps_at self.new.workers.items t ≡ stamps_after t thread (stamps_at self.old.workers.items t) (after_access begun.machine (seen_by (next_access begun.machine) self.old.words.items)) }
-        ensures told { result ≡ told (world_at self.old position) thread begun (after_access begun.machine (seen_by (next_access begun.machine) self.old.words.items)) }
+    /// What a step did, with the entry of the call that has ended by it.
+    pub(crate) fn told(&self, progress: Progress) -> Stepped
+        ensures { result ≡ told_by self.now.entries.items progress }
     {
-        let call = begun.machine.call();
-        let first = begun.first;
-        let seen = make(&mut self.words, begun.machine.plan());
-        match begun.machine.resume(seen) {
-            Turn::Going(machine) => {
-                go_on(&mut self.workers, thread, Begun { machine, first });
-                Stepped::Going
-            }
-            Turn::Done(reply) => {
-                let stamp = stamp_of(&reply);
-                let entry = &Entry {
-                    thread: thread as u64,
-                    call,
-                    reply,
-                    first,
-                    point: position,
-                    last: position,
-                };
-                let _ = self.entries.push(*entry);
-                finish(&mut self.workers, thread, stamp);
-                Stepped::Ended(*entry)
-            }
+        match progress {
+            Progress::Idle => Stepped::Idle,
+            Progress::Going => Stepped::Going,
+            Progress::Ended => match self.entries.last() {
+                Some(entry) => Stepped::Ended(*entry),
+                None => Stepped::Idle,
+            },
         }
     }
 }

@@ -1,6 +1,8 @@
 //! What the calls of a run cost, counted while they are made.
-ghost use Rattle.std.specs.Prelude.{◌≡◌, ◌≤◌, ◌<◌, ℕ, [], length, vec_len, slice_set, replicate, IfOk, OnOk, if◌then◌else◌};
-ghost use Rattle.stamp_machines.specs.Tally.{meter_after, meter_at, tally_of, tally_after, idle_meter};
+ghost use Rattle.std.specs.Prelude.{◌≡◌, ◌≤◌, ◌<◌, ℕ, [], length, vec_len, slice_set, replicate};
+ghost use Rattle.std.specs.Prelude.{IfOk, OnOk, if◌then◌else◌};
+ghost use Rattle.stamp_machines.specs.Tally.{meter_after, meter_at, tally_of, tally_after};
+ghost use Rattle.stamp_machines.specs.Tally.{idle_meter};
 
 use crate::running::Stepped;
 use stamp_core::Call;
@@ -63,7 +65,12 @@ fn set_meter(meters: &mut [Meter], thread: usize, meter: Meter)
 
 impl Tally {
     pub(crate) fn new(alloc: Global, threads: usize) -> Result<Tally, AllocError>
-        ensures { IfOk result (λ t. tally_of t ≡ record { changes = 0; meters = replicate threads idle_meter; report = [] }) }
+        ensures { IfOk result
+            (λ t. tally_of t ≡ record {
+              changes = 0;
+              meters = replicate threads idle_meter;
+              report = [];
+            }) }
     {
         let mut meters = Vec::with_capacity(alloc, threads)?;
         for _ in 0..threads {
@@ -87,7 +94,9 @@ impl Tally {
         requires steps { (meter_at self.old.meters.items thread).steps ≤ 1000000 }
         requires before { (meter_at self.old.meters.items thread).before ≤ self.old.changes }
         requires changes { self.old.changes ≤ 1000000 }
-        ensures { OnOk result (tally_of self.new ≡ tally_after (tally_of self.old) thread (if is_changed then 1 else 0) stepped.now) }
+        ensures { OnOk result
+            (tally_of self.new ≡ tally_after (tally_of self.old) thread (if is_changed then 1
+            else 0) stepped.now) }
     {
         let change = if is_changed { 1 } else { 0 };
         match stepped {

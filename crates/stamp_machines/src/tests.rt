@@ -1,147 +1,12 @@
-use crate::{
-    Access, Arg, Machine, Run, Script, ScriptCall, ScriptError, Shape, Stepped, Turn, run,
-    run_reported,
-};
-use stamp_core::{Call, Entry, Layout, Limits, Reply, Words};
+use crate::fixtures::{limits, script, words};
+use crate::{Access, Machine, Run, Script, ScriptCall, ScriptError, Shape, Stepped, Turn};
+use stamp_core::{Call, Layout, Limits, Word};
 use std::alloc::Global;
 use std::test::Fail;
 
-fn limits() -> Result<Limits, Fail> {
-    match Limits::new(127, 1000) {
-        Ok(limits) => Ok(limits),
-        Err(_) => Err(Fail::from("limits")),
-    }
-}
-
-fn words(words: &[u64]) -> Result<Words, Fail> {
-    match Words::new(words) {
-        Some(words) => Ok(words),
-        None => Err(Fail::from("words")),
-    }
-}
-
-/// A script of two threads.
-fn script(
-    alloc: Global,
-    width: u64,
-    first: &[ScriptCall],
-    second: &[ScriptCall],
-    steps: &[u64],
-) -> Result<Script, Fail> {
-    let mut threads = Vec::new(alloc);
-    threads.push(calls(alloc, first)?)?;
-    threads.push(calls(alloc, second)?)?;
-    let mut names = Vec::new(alloc);
-    for name in steps {
-        names.push(*name)?;
-    }
-    match Script::new(limits()?, width, threads, names) {
-        Ok(script) => Ok(script),
-        Err(_) => Err(Fail::from("script")),
-    }
-}
-
-fn calls(alloc: Global, calls: &[ScriptCall]) -> Result<Vec<ScriptCall>, Fail> {
-    let mut made = Vec::new(alloc);
-    for call in calls {
-        made.push(*call)?;
-    }
-    Ok(made)
-}
-
-/// What an entry is, in short.
-fn told(entry: &Entry) -> (u64, u64, u64) {
-    (entry.thread, entry.first, entry.last)
-}
-
-#[test]
-fn a_lost_exchange_tries_again_on_the_free_word_that_it_found(rt: HostRuntime) -> Result<(), Fail> {
-    let script = script(
-        rt.alloc(),
-        0,
-        &[ScriptCall::TryWrite],
-        &[ScriptCall::TryWrite, ScriptCall::UnlockWrite(Arg::Of(1, 0))],
-        &[0, 1, 1, 1, 1, 0, 0],
-    )?;
-    let record = run_reported(rt.alloc(), &script)?;
-    let entries = record.entries();
-    assert_eq!(rt; entries.len(), 3);
-    assert_eq!(rt; told(&entries[0]), (1, 1, 2));
-    assert_eq!(rt; entries[0].reply, Reply::Stamp(384));
-    assert_eq!(rt; told(&entries[1]), (1, 3, 4));
-    assert_eq!(rt; entries[1].call, Call::UnlockWrite(384));
-    assert_eq!(rt; told(&entries[2]), (0, 0, 6));
-    assert_eq!(rt; entries[2].reply, Reply::Stamp(640));
-    let report = record.report();
-    assert_eq!(rt; report.len(), 3);
-    assert_eq!(rt; report[0], (2, 0));
-    assert_eq!(rt; report[1], (2, 0));
-    assert_eq!(rt; report[2], (3, 2));
-    Ok(())
-}
-
-#[test]
-fn a_lost_exchange_decides_on_the_held_word_that_it_found(rt: HostRuntime) -> Result<(), Fail> {
-    let script = script(
-        rt.alloc(),
-        0,
-        &[ScriptCall::TryWrite],
-        &[ScriptCall::TryWrite],
-        &[0, 1, 0, 1],
-    )?;
-    let record = run(rt.alloc(), &script)?;
-    let entries = record.entries();
-    assert_eq!(rt; entries.len(), 2);
-    assert_eq!(rt; entries[0].reply, Reply::Stamp(384));
-    assert_eq!(rt; told(&entries[1]), (1, 1, 3));
-    assert_eq!(rt; entries[1].reply, Reply::Stamp(0));
-    Ok(())
-}
-
-#[test]
-fn a_get_beside_a_put_reads_words_that_were_held_together(rt: HostRuntime) -> Result<(), Fail> {
-    let put = [ScriptCall::Put(words(&[7, 9])?)];
-    let script = script(
-        rt.alloc(),
-        2,
-        &[ScriptCall::Get],
-        &put,
-        &[0, 0, 1, 1, 1, 1, 1, 0, 0, 0, 0, 0, 0, 0, 0],
-    )?;
-    let record = run(rt.alloc(), &script)?;
-    let entries = record.entries();
-    assert_eq!(rt; entries.len(), 2);
-    assert_eq!(rt; told(&entries[0]), (1, 2, 6));
-    assert_eq!(rt; entries[0].reply, Reply::Done);
-    assert_eq!(rt; told(&entries[1]), (0, 0, 14));
-    assert_eq!(rt; entries[1].reply, Reply::Content(words(&[7, 9])?));
-    Ok(())
-}
-
-#[test]
-fn two_conditional_puts_beside_each_other_store_once(rt: HostRuntime) -> Result<(), Fail> {
-    let first = [ScriptCall::PutIf(words(&[0])?, words(&[5])?)];
-    let second = [ScriptCall::PutIf(words(&[0])?, words(&[6])?)];
-    let script = script(
-        rt.alloc(),
-        1,
-        &first,
-        &second,
-        &[0, 0, 1, 1, 0, 1, 0, 0, 0, 0, 1, 1, 1, 1, 0, 0, 0, 0],
-    )?;
-    let record = run(rt.alloc(), &script)?;
-    let entries = record.entries();
-    assert_eq!(rt; entries.len(), 2);
-    assert_eq!(rt; told(&entries[0]), (1, 2, 13));
-    assert_eq!(rt; entries[0].reply, Reply::Yes);
-    assert_eq!(rt; told(&entries[1]), (0, 0, 17));
-    assert_eq!(rt; entries[1].reply, Reply::No);
-    Ok(())
-}
-
 #[test]
 fn a_step_is_told_and_the_word_is_seen(rt: HostRuntime) -> Result<(), Fail> {
-    let script = script(rt.alloc(), 0, &[ScriptCall::TryWrite], &[], &[])?;
+    let script = script(rt.alloc(), 0, [&[ScriptCall::TryWrite], &[]], &[])?;
     assert_eq!(rt; script.threads().len(), 2);
     let mut run = Run::start(rt.alloc(), &script)?;
     assert!(rt; matches!(run.step(1)?, Stepped::Idle));
@@ -150,29 +15,116 @@ fn a_step_is_told_and_the_word_is_seen(rt: HostRuntime) -> Result<(), Fail> {
     assert!(rt; matches!(run.step(0)?, Stepped::Ended(_)));
     assert_eq!(rt; run.word().bits(), 384);
     assert_eq!(rt; run.finished().len(), 1);
-    assert_eq!(rt; run.steps().len(), 3);
+    assert_eq!(rt; run.steps(), [1, 0, 0].as_slice());
+    Ok(())
+}
+
+/// So many threads without calls.
+fn idle_threads(alloc: Global, count: usize) -> Result<Vec<Vec<ScriptCall>>, Fail> {
+    let mut threads = Vec::new(alloc);
+    for _ in 0..count {
+        threads.push(Vec::new(alloc))?;
+    }
+    Ok(threads)
+}
+
+/// One thread with so many calls.
+fn busy_thread(
+    alloc: Global,
+    call: &ScriptCall,
+    count: usize,
+) -> Result<Vec<Vec<ScriptCall>>, Fail> {
+    let mut calls = Vec::new(alloc);
+    for _ in 0..count {
+        calls.push(*call)?;
+    }
+    let mut threads = Vec::new(alloc);
+    threads.push(calls)?;
+    Ok(threads)
+}
+
+/// The first thread's name, so many times.
+fn zeros(alloc: Global, count: usize) -> Result<Vec<u64>, Fail> {
+    let mut steps = Vec::new(alloc);
+    for _ in 0..count {
+        steps.push(0)?;
+    }
+    Ok(steps)
+}
+
+/// The refusal of a script, `None` for a script.
+fn refusal(
+    width: u64,
+    threads: Vec<Vec<ScriptCall>>,
+    steps: Vec<u64>,
+) -> Result<Option<ScriptError>, Fail> {
+    Ok(Script::new(limits(127, 1000)?, width, threads, steps).err())
+}
+
+#[test]
+fn the_most_threads_calls_and_steps_are_taken(rt: HostRuntime) -> Result<(), Fail> {
+    let alloc = rt.alloc();
+    assert!(rt; refusal(16, idle_threads(alloc, 64)?, zeros(alloc, 1_000_000)?)?.is_none());
+    let most = busy_thread(alloc, &ScriptCall::ReadCount, 10_000)?;
+    assert!(rt; refusal(0, most, Vec::new(alloc))?.is_none());
     Ok(())
 }
 
 #[test]
-fn an_unknown_thread_and_a_wrong_width_are_refused(rt: HostRuntime) -> Result<(), Fail> {
-    let steps = vec![in rt.alloc(); 0, 64]?;
-    let none = Script::new(limits()?, 0, Vec::new(rt.alloc()), steps);
-    assert!(rt; matches!(none, Err(ScriptError::NoSuchThread(0))));
-    let one = vec![in rt.alloc(); ScriptCall::Get]?;
-    let threads = vec![in rt.alloc(); one]?;
-    let unread = Script::new(limits()?, 0, threads, Vec::new(rt.alloc()));
-    assert!(rt; matches!(unread, Err(ScriptError::RecordWidth)));
+fn a_script_is_refused_by_the_first_of_its_causes(rt: HostRuntime) -> Result<(), Fail> {
+    let alloc = rt.alloc();
+    let many = refusal(17, idle_threads(alloc, 65)?, Vec::new(alloc))?;
+    assert!(rt; matches!(many, Some(ScriptError::TooManyThreads)));
+    let calls = busy_thread(alloc, &ScriptCall::Get, 10_001)?;
+    let long = refusal(0, calls, zeros(alloc, 1_000_001)?)?;
+    assert!(rt; matches!(long, Some(ScriptError::TooManyCalls)));
+    let steps = refusal(17, Vec::new(alloc), zeros(alloc, 1_000_001)?)?;
+    assert!(rt; matches!(steps, Some(ScriptError::TooManySteps)));
+    let names = vec![in alloc; 0, 64]?;
+    let unknown = refusal(17, idle_threads(alloc, 2)?, names)?;
+    assert!(rt; matches!(unknown, Some(ScriptError::NoSuchThread(1))));
     Ok(())
 }
 
 #[test]
-fn a_machine_loads_and_exchanges_in_the_second_layout(rt: HostRuntime) -> Result<(), Fail> {
+fn a_call_of_the_record_has_the_record_s_width(rt: HostRuntime) -> Result<(), Fail> {
+    let one = words(&[1])?;
+    let two = words(&[1, 2])?;
+    let table = [
+        (17, ScriptCall::Optimistic, true),
+        (0, ScriptCall::Get, true),
+        (1, ScriptCall::Get, false),
+        (2, ScriptCall::Put(one), true),
+        (2, ScriptCall::Put(two), false),
+        (2, ScriptCall::PutIf(one, two), true),
+        (2, ScriptCall::PutIf(two, one), true),
+        (2, ScriptCall::PutIf(two, two), false),
+    ];
+    for (width, call, is_refused) in table {
+        let threads = busy_thread(rt.alloc(), &call, 1)?;
+        let refused = refusal(width, threads, Vec::new(rt.alloc()))?;
+        assert_eq!(rt;
+            matches!(refused, Some(ScriptError::RecordWidth)),
+            is_refused
+        );
+        assert_eq!(rt; refused.is_some(), is_refused);
+    }
+    Ok(())
+}
+
+#[test]
+fn a_machine_goes_on_by_what_it_finds(rt: HostRuntime) -> Result<(), Fail> {
     let shape = Shape {
         limits: Limits::widest(Layout::Two),
         width: 0,
     };
     let machine = Machine::start(Call::TryRead, shape);
+    assert_eq!(rt; machine.call(), Call::TryRead);
     assert_eq!(rt; machine.plan(), Access::Load(0));
+    let opening = Word::opening_in(Layout::Two);
+    let Turn::Going(machine) = machine.resume(opening.bits()) else {
+        return Err(Fail::from("it ended"));
+    };
+    assert_eq!(rt; machine.plan(), Access::Cas(0, 131_072, 131_073));
     Ok(())
 }

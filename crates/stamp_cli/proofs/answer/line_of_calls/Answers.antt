@@ -1,4 +1,4 @@
-use Rattle.stamp_cli.proofs.Replayed.{of_text, handed_on}
+use Rattle.stamp_cli.proofs.Replayed.{of_text}
 use Rattle.stamp_cli.proofs.answer.line_of_calls.Goals as goal
 
 pub returns-clause-answer : goal.returns-clause-answer

@@ -3,14 +3,29 @@ use Rattle.stamp_machines.proofs.RunFacts.{run-recorded, run-in-order}
 use Rattle.stamp_machines.proofs.running.Run.into_record.Goals as goal
 
 pub unwrap-requires : goal.unwrap-requires
-unwrap-requires c = c.of.ensures.some.1 (rw (c.limits.ensures, c.width.ensures) (run-recorded c.self.inside c.self.invariant))
+unwrap-requires c =
+    c.of.ensures.some.1
+    (rw (c.limits.ensures, c.width.ensures) (run-recorded c.self.inside c.self.invariant))
 
 pub returns-clause-linearized : goal.returns-clause-linearized
 returns-clause-linearized c =
-    let made : c.unwrap.result ≡ record { limits = c.limits.result; width = c.width.result; entries = c.self.inside.state.entries.items; report = [] } = rw c.unwrap.ensures at c.of.ensures.same in
-    rw (made, c.limits.ensures, c.width.ensures) (run-in-order c.self.inside c.self.invariant).linearized
+    let made : c.unwrap.result ≡ record {
+      limits = c.limits.result;
+      width = c.width.result;
+      entries = c.self.inside.state.entries.items;
+      report = [];
+    } =
+    rw c.unwrap.ensures at c.of.ensures.same in
+    rw (made, c.limits.ensures, c.width.ensures)
+    (run-in-order c.self.inside c.self.invariant).linearized
 
 pub returns-clause-points : goal.returns-clause-points
 returns-clause-points c =
-    let made : c.unwrap.result ≡ record { limits = c.limits.result; width = c.width.result; entries = c.self.inside.state.entries.items; report = [] } = rw c.unwrap.ensures at c.of.ensures.same in
+    let made : c.unwrap.result ≡ record {
+      limits = c.limits.result;
+      width = c.width.result;
+      entries = c.self.inside.state.entries.items;
+      report = [];
+    } =
+    rw c.unwrap.ensures at c.of.ensures.same in
     rw made (run-in-order c.self.inside c.self.invariant).points

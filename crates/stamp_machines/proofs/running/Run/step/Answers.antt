@@ -1,22 +1,18 @@
-use Rattle.std.proofs.Common.{◌≡◌, ◌++◌, ◌∷◌, [], length, arith}
-use Rattle.std.proofs.lemmas.Grind.{common_steps}
-use Rattle.std.proofs.lemmas.List.{length-append}
-use Rattle.stamp_machines.proofs.RunFacts.{run-kept, same-kept, world-more}
+use Rattle.std.proofs.Common.{◌≡◌, ◌∙◌, ap}
+use Rattle.stamp_machines.specs.Course.{Course}
+use Rattle.stamp_machines.specs.World.{World, execution_of, completed_calls, step}
+use Rattle.stamp_machines.proofs.StateSteps.{told-reports}
+use Rattle.stamp_machines.proofs.StepsKeep.{execution_of-more}
 use Rattle.stamp_machines.proofs.running.Run.step.Goals as goal
 
-pub step-requires-clause-kept : goal.step-requires-clause-kept
-step-requires-clause-kept c =
-    let here : c.len-position.result ≡ length c.self.inside.steps.items = grind (arith, common_steps) in
-    rw here (same-kept _ _ _ _ c.reserve-2.ensures.same (run-kept c.self.inside c.self.invariant))
-
-pub invariant_of-self-2 : goal.invariant_of-self-2
-invariant_of-self-2 c =
-    let more : c.push.new.self.items ≡ c.self.inside.steps.items ++ c.args.thread ∷ [] = grind (arith, common_steps) in
-    let here : c.len-position.result ≡ length c.self.inside.steps.items = grind (arith, common_steps) in
-    record {
-      world = world-more c.self.inside.script.now c.self.inside.state c.reserve-2.new.self c.step.new.self c.self.inside.steps.items c.push.new.self.items c.args.thread c.self.invariant.world c.reserve-2.ensures.same (rw here at c.step.ensures.world) more;
-      sound = c.self.invariant.sound;
-      workers = grind (arith, common_steps);
-      stamps = c.step.ensures.stamps;
-      few = rw (more, length-append) (grind (arith, common_steps));
-    }
+pub returns-clause-report : goal.returns-clause-report
+returns-clause-report c =
+    let world : World = execution_of c.args.self.now.plan c.args.self.now.names in
+    let entries : completed_calls c.moved.new.self.plan c.moved.new.self.names
+    ≡ (step c.args.self.now.plan world c.args.thread).entries =
+    ap (λ (r : Course). completed_calls r.plan r.names) c.in_ok-progress.ensures.ok
+    ∙ ap (λ (w : World). w.entries)
+    (execution_of-more c.args.self.now.plan c.args.self.now.names c.args.thread) in
+    rw c.told.ensures
+    (told-reports c.args.self.now.plan world c.args.thread c.in_ok-progress.progress _ entries
+    c.in_ok-progress.ensures.report)

@@ -1,0 +1,168 @@
+//! Scripts, whose runs ask for memory as they go.
+ghost use Rattle.std.specs.Prelude.{◌≡◌, ◌<◌, ◌++◌, ◌∷◌, [], length, OnOk, OnErr};
+
+use crate::{Outcome, right_if};
+use stamp_core::{Call, Entry, Limits, Words};
+use stamp_history::{ReadError, read_script, write_history};
+use stamp_machines::{
+    Arg, Run, RunError, Script, ScriptCall, ScriptError, Stepped, run, run_reported,
+};
+use std::alloc::{AllocError, Global};
+
+const SCRIPT: &[u8] =
+    br#"{"readers":1,"steps":[0,0,1,1],"threads":[[["try_write"]],[["unlock",[0,0]]]],"versions":1,"width":0}"#;
+
+const HISTORY: &[u8] =
+    br#"{"entries":[{"call":["try_write"],"first":0,"last":1,"point":1,"reply":384,"thread":0},{"call":["unlock",384],"first":2,"last":3,"point":3,"reply":"done","thread":1}],"format":1,"readers":1,"versions":1,"width":0}"#;
+
+const TOO_WIDE: &[u8] = br#"{"readers":1,"steps":[],"threads":[],"versions":1,"width":17}"#;
+
+/// Readers who come and go, more often than a list begins with room for.
+fn readers(alloc: Global) -> Result<Vec<ScriptCall>, AllocError> {
+    let mut calls = Vec::new(alloc);
+    for i in 0..6 {
+        calls.push(ScriptCall::TryRead)?;
+        calls.push(ScriptCall::UnlockRead(Arg::Of(0, i * 2)))?;
+    }
+    Ok(calls)
+}
+
+/// A put and a get of two words.
+fn record_calls(alloc: Global) -> Result<Vec<ScriptCall>, AllocError> {
+    let mut calls = Vec::new(alloc);
+    if let Some(words) = Words::new(&[7, 9]) {
+        calls.push(ScriptCall::Put(words))?;
+        calls.push(ScriptCall::Get)?;
+    }
+    Ok(calls)
+}
+
+/// Two threads in turns.
+fn turns(alloc: Global) -> Result<Vec<u64>, AllocError> {
+    let mut steps = Vec::new(alloc);
+    for _ in 0..24 {
+        steps.push(0)?;
+        steps.push(1)?;
+    }
+    Ok(steps)
+}
+
+fn parts(alloc: Global) -> Result<(Vec<Vec<ScriptCall>>, Vec<u64>), AllocError> {
+    let mut threads = Vec::new(alloc);
+    threads.push(readers(alloc)?)?;
+    threads.push(record_calls(alloc)?)?;
+    Ok((threads, turns(alloc)?))
+}
+
+fn script(alloc: Global) -> Result<Script, Outcome> {
+    let Ok(limits) = Limits::new(127, 1000) else {
+        return Err(Outcome::Wrong);
+    };
+    let Ok((threads, steps)) = parts(alloc) else {
+        return Err(Outcome::Refused);
+    };
+    Script::new(limits, 2, threads, steps).map_err(|_| Outcome::Wrong)
+}
+
+/// How a refusal ends the program.
+fn refusal(error: RunError) -> Outcome {
+    match error {
+        RunError::Memory => Outcome::Refused,
+        RunError::TooManySteps => Outcome::Wrong,
+    }
+}
+
+fn is_run(alloc: Global) -> Result<bool, Outcome> {
+    let record = run(alloc, &script(alloc)?).map_err(refusal)?;
+    Ok(record.entries().len() == 14 && record.report().is_empty())
+}
+
+/// The put takes five steps, beside two changes of the word by readers.
+fn is_run_reported(alloc: Global) -> Result<bool, Outcome> {
+    let record = run_reported(alloc, &script(alloc)?).map_err(refusal)?;
+    let report = record.report();
+    Ok(report.len() == 14 && report.contains(&(5, 2)))
+}
+
+/// Makes a step, and once more where memory was refused.
+fn step_again(run: &mut Run, name: u64) -> Result<Stepped, RunError>
+    requires { name < length run.old.plan.threads }
+    ensures { OnOk result (run.new ≡ record run.old { names = run.old.names ++ name ∷ [] }) }
+{
+    match run.step(name) {
+        Err(RunError::Memory) => run.step(name),
+        other => other,
+    }
+}
+
+/// What a step told is what the run has.
+fn is_told(run: &Run, stepped: &Stepped) -> bool {
+    match stepped {
+        Stepped::Ended(entry) => run.finished().last() == Some(entry),
+        Stepped::Going | Stepped::Idle => true,
+    }
+}
+
+/// Steps through the script; the end is that of a run that was never refused.
+fn ends_alike(alloc: Global, script: &Script, entries: &[Entry]) -> Result<bool, RunError> {
+    let mut run = Run::start(alloc, script)?;
+    for name in script.steps() {
+        let stepped = step_again(&mut run, *name)?;
+        if !is_told(&run, &stepped) {
+            return Ok(false);
+        }
+    }
+    Ok(run.finished() == entries && run.word().bits() == 256 && run.steps() == script.steps())
+}
+
+fn is_stepped_again(alloc: Global) -> Result<bool, Outcome> {
+    let script = script(alloc)?;
+    let record = run(alloc, &script).map_err(refusal)?;
+    ends_alike(alloc, &script, record.entries()).map_err(refusal)
+}
+
+fn outcome_of(answer: Result<bool, Outcome>) -> Outcome {
+    match answer {
+        Ok(holds) => right_if(holds),
+        Err(outcome) => outcome,
+    }
+}
+
+pub(crate) fn run_outcome(alloc: Global) -> Outcome {
+    outcome_of(is_run(alloc))
+}
+
+pub(crate) fn run_reported_outcome(alloc: Global) -> Outcome {
+    outcome_of(is_run_reported(alloc))
+}
+
+/// A step that is made again after a refusal is right; what comes before it may be refused.
+pub(crate) fn steps_outcome(alloc: Global) -> Outcome {
+    outcome_of(is_stepped_again(alloc))
+}
+
+/// The text of the history that a script's text is run to.
+fn history(alloc: Global) -> Result<Vec<u8>, ReadError> {
+    let script = read_script(alloc, SCRIPT)?;
+    match run(alloc, &script) {
+        Ok(record) => write_history(alloc, &record),
+        Err(_) => Err(ReadError::Memory),
+    }
+}
+
+pub(crate) fn history_outcome(alloc: Global) -> Outcome {
+    match history(alloc) {
+        Ok(text) => right_if(text.as_slice() == HISTORY),
+        Err(ReadError::Memory) => Outcome::Refused,
+        Err(_) => Outcome::Wrong,
+    }
+}
+
+/// A script that is refused is refused for its own fault, or for want of memory.
+pub(crate) fn bad_script_outcome(alloc: Global) -> Outcome {
+    match read_script(alloc, TOO_WIDE) {
+        Err(ReadError::BadScript(ScriptError::RecordWidth)) => Outcome::Right,
+        Err(ReadError::Memory) => Outcome::Refused,
+        _ => Outcome::Wrong,
+    }
+}

@@ -1,0 +1,138 @@
+//! The script that is timed.
+ghost use Rattle.std.specs.Prelude.{◌≡◌, ◌<◌, ◌≤◌};
+
+use stamp_core::{Layout, Limits, ScriptError, Words};
+use stamp_machines::{Arg, Script, ScriptCall};
+use std::alloc::{AllocError, Global};
+
+/// Why there is no such script.
+#[derive(Clone, Copy)]
+pub enum MixError {
+    /// 1: a growth was refused.
+    Memory,
+    /// 2: more than 1,000,000 steps, or a record of more than 16 words.
+    Script,
+}
+
+impl From<AllocError> for MixError {
+    fn from(_: AllocError) -> Self {
+        MixError::Memory
+    }
+}
+
+impl From<ScriptError> for MixError {
+    fn from(_: ScriptError) -> Self {
+        MixError::Script
+    }
+}
+
+const THREADS: u64 = 64;
+
+const CALLS: u64 = 10_000;
+
+/// How many calls of the lock there are before they come again.
+const TURNS: u64 = 13;
+
+/// The stamp of the thread's call that is so many calls before this one.
+fn before(thread: u64, index: u64, calls: u64) -> Arg {
+    Arg::Of(thread, index.saturating_sub(calls))
+}
+
+/// A call of the lock: each that takes a stamp is given that of a call before it.
+fn lock_call(thread: u64, index: u64) -> ScriptCall {
+    match index % TURNS {
+        0 => ScriptCall::TryRead,
+        1 => ScriptCall::Validate(before(thread, index, 1)),
+        2 => ScriptCall::UnlockRead(before(thread, index, 2)),
+        3 => ScriptCall::TryWrite,
+        4 => ScriptCall::Validate(before(thread, index, 1)),
+        5 => ScriptCall::UnlockWrite(before(thread, index, 2)),
+        6 => ScriptCall::TryRead,
+        7 => ScriptCall::ToWrite(before(thread, index, 1)),
+        8 => ScriptCall::Unlock(before(thread, index, 1)),
+        9 => ScriptCall::Unlock(before(thread, index, 3)),
+        10 => ScriptCall::Optimistic,
+        11 => ScriptCall::ToRead(before(thread, index, 1)),
+        _ => ScriptCall::ToOptimistic(before(thread, index, 1)),
+    }
+}
+
+/// A call of the record: every fortieth is a put.
+fn record_call(index: u64, words: &Words) -> ScriptCall {
+    if index % 40 == 0 {
+        ScriptCall::Put(*words)
+    } else {
+        ScriptCall::Get
+    }
+}
+
+fn call_at(thread: u64, index: u64, words: &Option<Words>) -> ScriptCall {
+    match words {
+        Some(words) => record_call(index, words),
+        None => lock_call(thread, index),
+    }
+}
+
+/// The thread that has this turn.
+fn name_of(turn: u64) -> u64
+    requires { turn < 1_000_000 }
+    ensures { result < 64 }
+{
+    (turn * 2_654_435_761) % 4_294_967_296 / 67_108_864
+}
+
+/// How many steps a turn has: a call of the record has many.
+fn turn_of(width: u64) -> u64
+    ensures { 0 < result }
+{
+    if width > 0 { 100 } else { 1 }
+}
+
+/// The words that a thread puts: none where there is no record.
+fn words_of(thread: u64, width: u64) -> Option<Words>
+    requires { width ≤ 16 }
+{
+    Words::new(&[thread; 16][..width as usize])
+}
+
+fn calls_of(alloc: Global, thread: u64, width: u64) -> Result<Vec<ScriptCall>, AllocError>
+    requires { width ≤ 16 }
+{
+    let words = words_of(thread, width);
+    let mut calls = Vec::with_capacity(alloc, CALLS as usize)?;
+    for index in 0..CALLS {
+        calls.push(call_at(thread, index, &words))?;
+    }
+    Ok(calls)
+}
+
+fn threads_of(alloc: Global, width: u64) -> Result<Vec<Vec<ScriptCall>>, AllocError>
+    requires { width ≤ 16 }
+{
+    let mut threads = Vec::new(alloc);
+    for thread in 0..THREADS {
+        threads.push(calls_of(alloc, thread, width)?)?;
+    }
+    Ok(threads)
+}
+
+fn names_of(alloc: Global, steps: u64, turn: u64) -> Result<Vec<u64>, AllocError>
+    requires steps { steps ≤ 1_000_000 }
+    requires turn { 0 < turn }
+{
+    let mut names = Vec::new(alloc);
+    for position in 0..steps {
+        names.push(name_of(position / turn))?;
+    }
+    Ok(names)
+}
+
+/// A script of 64 threads and so many steps.
+pub fn script_of(alloc: Global, steps: u64, width: u64) -> Result<Script, MixError> {
+    if steps > 1_000_000 || width > 16 {
+        return Err(MixError::Script);
+    }
+    let threads = threads_of(alloc, width)?;
+    let names = names_of(alloc, steps, turn_of(width))?;
+    Ok(Script::new(Limits::widest(Layout::One), width, threads, names)?)
+}

@@ -1,0 +1,38 @@
+-- The first fault of a script's plan.
+use Rattle.std.specs.Prelude.{ℕ, ◌==◌, ◌&&◌, not, nat_le, nat_lt, List, length, position, Bool, true, Option, Some, None, if◌then◌else◌}
+use Rattle.std.specs.List.{list_all}
+use Rattle.std.specs.Option.{option_map_or}
+use Rattle.stamp_core.specs.declared.script_error.ScriptError.{ScriptError}
+use Rattle.stamp_core.specs.declared.script_error.ScriptError.TheVariants.{TooManyThreads, TooManyCalls, TooManySteps, NoSuchThread, RecordWidth}
+use Rattle.stamp_machines.specs.Script.{Scripted}
+use Rattle.stamp_machines.specs.declared.script.ScriptCall.{ScriptCall}
+use Rattle.stamp_machines.specs.declared.script.ScriptCall.TheVariants.{Get, Put, PutIf}
+
+-- a call of the record needs a record, and words of its width
+abbrev pub suits : ℕ → ScriptCall → Bool
+suits width Get = nat_lt 0 width
+suits width (Put words) = nat_lt 0 width && (length words == width)
+suits width (PutIf expected words) = nat_lt 0 width && (length expected == width) && (length words == width)
+suits width _ = true
+
+-- no thread has more than 10,000 calls
+abbrev pub are_short : List (List ScriptCall) → Bool
+are_short threads = list_all (λ calls. nat_le (length calls) 10000) threads
+
+abbrev pub are_suited : ℕ → List (List ScriptCall) → Bool
+are_suited width threads = list_all (list_all (suits width)) threads
+
+-- the first step that names none of so many threads
+abbrev pub first_unknown : ℕ → List ℕ → Option ℕ
+first_unknown threads steps = position (λ name. nat_le threads name) steps
+
+abbrev pub width_fault : Scripted → Option ScriptError
+width_fault plan = if nat_le plan.width 16 && are_suited plan.width plan.threads then None else Some RecordWidth
+
+-- more than 64 threads, 10,000 calls of one or 1,000,000 steps; then a step of no thread; then the width
+unfoldable pub plan_fault : Scripted → Option ScriptError
+plan_fault plan =
+    if nat_lt 64 (length plan.threads) then Some TooManyThreads
+    else if not (are_short plan.threads) then Some TooManyCalls
+    else if nat_lt 1000000 (length plan.steps) then Some TooManySteps
+    else option_map_or (λ i. Some (NoSuchThread i)) (first_unknown (length plan.threads) plan.steps) (width_fault plan)

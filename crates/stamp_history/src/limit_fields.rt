@@ -1,0 +1,85 @@
+//! The fields of the limits, each over one JSON value.
+
+ghost use Rattle.std.specs.Prelude.{◌≡◌};
+ghost use Rattle.serde_json.specs.View.{view};
+ghost use Rattle.stamp_core.specs.Limits.{AreInRange};
+ghost use Rattle.stamp_history.specs.Gives.{Gives};
+ghost use Rattle.stamp_history.specs.LimitFields as field;
+
+use crate::field::Field;
+use crate::json_values::{has_key, whole_under};
+use crate::read_error::ReadError;
+use serde_json::Value;
+use stamp_core::{Layout, Limits};
+
+fn numbered_layout(number: Option<u64>) -> Result<Layout, ReadError>
+    ensures { result ≡ field.numbered_layout number }
+{
+    match number {
+        Some(1) => Ok(Layout::One),
+        Some(2) => Ok(Layout::Two),
+        _ => Err(ReadError::NotScript(Field::Layout)),
+    }
+}
+
+fn read_layout(value: &Value) -> Result<Layout, ReadError>
+    ensures { result ≡ field.layout (view value.now) }
+{
+    if has_key(value, "layout") {
+        numbered_layout(whole_under(value, "layout"))
+    } else {
+        Ok(Layout::One)
+    }
+}
+
+fn read_readers(layout: Layout, value: &Value) -> Result<u64, ReadError>
+    ensures { result ≡ field.readers layout (view value.now) }
+{
+    match whole_under(value, "readers") {
+        None => Err(ReadError::NotScript(Field::Readers)),
+        Some(readers) => {
+            if 1 <= readers && readers <= layout.most_readers() {
+                Ok(readers)
+            } else {
+                Err(ReadError::Limit(Field::Readers))
+            }
+        }
+    }
+}
+
+fn read_versions(layout: Layout, value: &Value) -> Result<u64, ReadError>
+    ensures { result ≡ field.versions layout (view value.now) }
+{
+    match whole_under(value, "versions") {
+        None => Err(ReadError::NotScript(Field::Versions)),
+        Some(versions) => {
+            if versions <= layout.most_versions() {
+                Ok(versions)
+            } else {
+                Err(ReadError::Limit(Field::Versions))
+            }
+        }
+    }
+}
+
+/// Limits that were found in range.
+fn limits_of(layout: Layout, readers: u64, versions: u64) -> Limits
+    requires { AreInRange (record { layout = layout; readers = readers; versions = versions }) }
+    ensures { result ≡ record { layout = layout; readers = readers; versions = versions } }
+{
+    match Limits::in_layout(layout, readers, versions) {
+        Ok(limits) => limits,
+        Err(_) => unreachable!(),
+    }
+}
+
+/// The limits that the fields give.
+#[tactic(auto, unfolding(crate::specs::LimitFields::limits))]
+pub(crate) fn read_limits(value: &Value) -> Result<Limits, ReadError>
+    ensures { Gives ReadError.Memory (λ limits. limits) result (field.limits (view value.now)) }
+{
+    let layout = read_layout(value)?;
+    let readers = read_readers(layout, value)?;
+    let versions = read_versions(layout, value)?;
+    Ok(limits_of(layout, readers, versions))
+}

@@ -1,0 +1,106 @@
+-- An access of one worker's call, as all workers see it.
+use Rattle.std.proofs.Common.{◌≡◌, ℕ, ◌+◌, ◌<◌, List, [], ◌∷◌, ◌++◌, length, zero, suc, Option}
+use Rattle.std.proofs.Common.{Some, None, refl, ◌∙◌, ap, arith}
+use Rattle.std.specs.Prelude.{slice_set, slice_index_or, map, IfSome}
+use Rattle.std.proofs.lemmas.List.{map-set}
+use Rattle.stamp_core.specs.Decision.{stamp_in}
+use Rattle.stamp_machines.specs.declared.machine.Turn.{Turn}
+use Rattle.stamp_machines.specs.declared.machine.Turn.TheVariants.{Going, Done}
+use Rattle.stamp_machines.specs.declared.state.Begun.{Begun}
+use Rattle.stamp_machines.specs.declared.state.Worker.{Worker}
+use Rattle.stamp_core.specs.declared.entry.Entry.{Entry}
+use Rattle.stamp_machines.specs.declared.state.Progress.{Progress}
+use Rattle.stamp_machines.specs.Progress.{progress_of}
+use Rattle.stamp_machines.specs.declared.state.State.{State}
+use Rattle.stamp_machines.specs.Access.{words_after}
+use Rattle.stamp_machines.specs.Machine.{next_access}
+use Rattle.stamp_machines.specs.World.{World, landed, stamps_after}
+use Rattle.stamp_machines.specs.Stepped.{told}
+use Rattle.stamp_machines.specs.StateFields.{world_at, stamps_at, stamps_in, begun_in}
+use Rattle.stamp_machines.specs.Landed.{Landed, AllLanded, begun_after, stamps_with, told_at}
+use Rattle.stamp_machines.specs.Landed.{entries_with, turn_on}
+use Rattle.stamp_machines.specs.StateLanded.{StateLanded}
+use Rattle.stamp_machines.proofs.WorkerStamps.{stamps_at-index, stamps_at-kept, stamps_at-more}
+
+begun_at-index : (ws : List Worker) (i : ℕ) (d : Worker) → i < length ws →
+    slice_index_or (map begun_in ws) i None ≡ begun_in (slice_index_or ws i d)
+begun_at-index [] i d h = absurd (omega arith)
+begun_at-index (x ∷ ws) zero d h = refl
+begun_at-index (x ∷ ws) (suc i) d h = begun_at-index ws i d (omega arith)
+
+stamps-landed : (ws : List Worker) (i t : ℕ) (w : Worker) (turned : Turn) → i < length ws →
+    stamps_in w ≡ stamps_with (stamps_at ws i) turned →
+    stamps_at (slice_set ws i w) t ≡ stamps_after t i (stamps_at ws t) turned
+stamps-landed ws i t w (Going m) h e = stamps_at-kept ws i t w h e
+stamps-landed ws i t w (Done r) h e = stamps_at-more ws i t (stamp_in r) w h e
+
+pub all-landed : (ws : List Worker) (i position : ℕ) (d w : Worker) (words : List ℕ)
+    (es : List Entry) (words' : List ℕ) (es' : List Entry) (s : Progress) → i < length ws →
+    IfSome (slice_index_or ws i d).begun
+    (λ b. Landed b i position words (slice_index_or ws i d).stamps.items es words' w.begun
+    w.stamps.items es' s) →
+    IfSome (slice_index_or (map begun_in ws) i None)
+    (λ b. AllLanded b i position words ws es words' (slice_set ws i w) es' s)
+all-landed ws i position d w words es words' es' s h landed =
+    rw (begun_at-index ws i d h) (go (slice_index_or ws i d).begun landed)
+  where
+    go : (o : Option Begun) →
+        IfSome o (λ b. Landed b i position words (slice_index_or ws i d).stamps.items es words'
+        w.begun w.stamps.items es' s) →
+        IfSome o (λ b. AllLanded b i position words ws es words' (slice_set ws i w) es' s)
+    go None l = tt
+    go (Some b) l = record {
+      words_are = l.words_are;
+      begun_are = map-set begun_in ws i w
+          ∙ ap (λ (x : Option Begun). slice_set (map begun_in ws) i x) l.begun_is;
+      stamps_are =
+          λ t. stamps-landed ws i t w (turn_on b words) h
+          (rw (stamps_at-index ws i d h) l.stamps_are);
+      entries_are = l.entries_are;
+      told = l.told;
+    }
+
+-- the state after it is the schedule's world
+world-landed : (world : World) (t : ℕ) (b : Begun) (words : List ℕ) (turned : Turn) →
+    record {
+      words = words;
+      begun = slice_set world.begun t (begun_after b turned);
+      entries = entries_with world.entries (told_at t world.position b turned);
+      position = world.position + 1;
+    } ≡ landed world t b words turned
+world-landed world t b words (Going m) = refl
+world-landed world t b words (Done r) = refl
+
+told-same : (world : World) (t : ℕ) (b : Begun) (turned : Turn) →
+    told_at t world.position b turned ≡ told world t b turned
+told-same world t b (Going m) = refl
+told-same world t b (Done r) = refl
+
+pub state-landed : (old new : State) (t position : ℕ) (words' : List ℕ) (workers' : List Worker)
+    (s : Progress) → new.words.items ≡ words' → new.workers.items ≡ workers' →
+    IfSome (slice_index_or (map begun_in old.workers.items) t None)
+    (λ b. AllLanded b t position old.words.items old.workers.items old.entries.items words' workers'
+    new.entries.items s) →
+    IfSome (slice_index_or (map begun_in old.workers.items) t None)
+    (λ b. StateLanded b t position old new s)
+state-landed old new t position words' workers' s words workers all =
+    go (slice_index_or (map begun_in old.workers.items) t None) all
+  where
+    go : (o : Option Begun) →
+        IfSome o (λ b. AllLanded b t position old.words.items old.workers.items old.entries.items
+        words' workers' new.entries.items s) → IfSome o (λ b. StateLanded b t position old new s)
+    go None l = tt
+    go (Some b) l =
+        let turned : Turn = turn_on b old.words.items in
+        let w : new.words.items ≡ words_after (next_access b.machine) old.words.items =
+        words ∙ l.words_are in
+        let m : map begun_in new.workers.items
+        ≡ slice_set (map begun_in old.workers.items) t (begun_after b turned) =
+        ap (λ (ws : List Worker). map begun_in ws) workers ∙ l.begun_are in
+        record {
+          world = rw (w, m, l.entries_are)
+              (world-landed (world_at old position) t b
+              (words_after (next_access b.machine) old.words.items) turned);
+          stamps = λ u. ap (λ (ws : List Worker). stamps_at ws u) workers ∙ l.stamps_are u;
+          told_is = l.told ∙ ap progress_of (told-same (world_at old position) t b turned);
+        }

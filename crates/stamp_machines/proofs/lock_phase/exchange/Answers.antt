@@ -1,0 +1,15 @@
+use Rattle.std.proofs.Common.{Some, refl}
+use Rattle.stamp_machines.proofs.LockCallSteps.{plans-exchange}
+use Rattle.stamp_machines.proofs.lock_phase.exchange.Goals as goal
+
+pub returns-in-Change-clause-plans : goal.returns-in-Change-clause-plans
+returns-in-Change-clause-plans c =
+    rw c.bits.ensures.bits
+    (plans-exchange
+    (record {
+      at = c.args.at;
+      limits = c.args.limits;
+      call = c.args.call.now;
+      seen = Some c.args.old;
+    }) c.args.old c.in-Change.new c.in-Change.field-1 refl
+    (rw c.word.ensures at c.in-Change.ensures.decides))

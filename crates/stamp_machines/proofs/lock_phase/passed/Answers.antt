@@ -1,0 +1,39 @@
+use Rattle.std.proofs.Common.{◌≡◌, ◌≢◌, ℕ, Some, sym, ◌∙◌}
+use Rattle.stamp_core.specs.Decision.{Decides}
+use Rattle.stamp_core.specs.Word.{word_at}
+use Rattle.stamp_core.specs.declared.decision.Decision.TheVariants.{Change, Wait}
+use Rattle.stamp_machines.specs.PhaseState.{PhaseState}
+use Rattle.stamp_machines.proofs.LockCallSteps.{won, lost, not_seen}
+use Rattle.stamp_machines.proofs.lock_phase.passed.Goals as goal
+
+pub returns-then-is_seen-clause-leads : goal.returns-then-is_seen-clause-leads
+returns-then-is_seen-clause-leads c = λ at.
+    let p : PhaseState =
+    record { at = at; limits = c.args.limits; call = c.args.call.now; seen = c.args.seen } in
+    let says : Decides p.limits (word_at p.limits c.args.found) p.call
+    (Change c.in-Change.field-0 c.in-Change.reply) =
+    rw c.word.ensures at c.in-Change.ensures.decides in
+    won p c.args.found c.in-Change.field-0 c.in-Change.reply (c.is_seen.ensures.0 c.if-is_seen.true)
+    says
+
+pub returns-else-is_seen-clause-leads : goal.returns-else-is_seen-clause-leads
+returns-else-is_seen-clause-leads c = λ at.
+    let p : PhaseState =
+    record { at = at; limits = c.args.limits; call = c.args.call.now; seen = c.args.seen } in
+    let says : Decides p.limits (word_at p.limits c.args.found) p.call
+    (Change c.in-Change.field-0 c.in-Change.reply) =
+    rw c.word.ensures at c.in-Change.ensures.decides in
+    let other : c.args.seen ≢ Some c.args.found = λ e. let yes = c.is_seen.ensures.1 e in let no =
+    c.if-is_seen.false in cc in
+    lost p c.args.found (Change c.in-Change.field-0 c.in-Change.reply) c.layout.ensures.in_range
+    c.requires.lock c.requires.word other says
+
+pub returns-in-Wait-clause-leads : goal.returns-in-Wait-clause-leads
+returns-in-Wait-clause-leads c = λ at.
+    let p : PhaseState =
+    record { at = at; limits = c.args.limits; call = c.args.call.now; seen = c.args.seen } in
+    let says : Decides p.limits (word_at p.limits c.args.found) p.call Wait =
+    rw c.word.ensures at c.in-Wait.ensures.decides in
+    lost p c.args.found Wait c.layout.ensures.in_range c.requires.lock c.requires.word
+    (not_seen p.limits p.call c.args.seen c.args.found c.requires.seen
+    (rw c.word.ensures at c.in-Wait.ensures.number)) says
