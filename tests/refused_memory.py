@@ -23,6 +23,14 @@ HISTORY = (
     b'{"call":["unlock",384],"first":2,"last":3,"point":3,"reply":"done","thread":1}],'
     b'"format":1,"readers":1,%s"versions":1,"width":0}\n'
 )
+BAD_HISTORY = (
+    b'{"entries":[{"call":["try_write"],"first":1,"last":1,"point":0,"reply":384,"thread":0}],'
+    b'"format":1,"readers":1,"versions":1,"width":0}'
+)
+WIDE_HISTORY = (
+    b'{"entries":[{"call":["try_write"],"first":1,"last":1,"point":0,"reply":196608,"thread":0}],'
+    b'"format":2,"layout":2,"readers":1,"versions":1,"width":0}\n'
+)
 NO_THREAD = b'{"readers":1,"steps":[0,64],"threads":[[]],"versions":1,"width":0}'
 NO_THREAD_LINE = b"stamped: script refused: no thread at step 1\n"
 BAD_LINE = (2, b"", b"stamped: bad command line\n")
@@ -65,6 +73,9 @@ def main():
         ([stamped, "replay"], b"[", (1, b"", b"stamped: not json\n"), told),
         ([stamped, "run"], SCRIPT, (0, HISTORY % b"", b""), told),
         ([stamped, "run", "--report"], SCRIPT, (0, HISTORY % b'"report":[[2,0],[2,0]],', b""), told),
+        ([stamped, "check"], HISTORY % b"", (0, b"ok 2\n", b""), told),
+        ([stamped, "check"], BAD_HISTORY, (1, b"bad 0 interval\n", b""), told),
+        ([stamped, "migrate"], BAD_HISTORY, (0, WIDE_HISTORY, b""), told),
         ([stamped, "run"], NO_THREAD, (1, b"", NO_THREAD_LINE), told),
         ([stamped, "stamp", "257"], b"", (0, b"read 0 1\n", b""), told),
         ([stamped, "stamp", "--layout", "2", "196608"], b"", (0, b"write 1\n", b""), told),

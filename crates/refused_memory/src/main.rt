@@ -6,7 +6,8 @@
 mod schedules;
 
 use crate::schedules::{
-    bad_script_outcome, history_outcome, run_outcome, run_reported_outcome, steps_outcome,
+    bad_script_outcome, history_outcome, judged_outcome, run_outcome, run_reported_outcome,
+    steps_outcome,
 };
 use stamp_cli::{Order, ReadSource, ServeFault, Verdict, WriteSink, fault_line, serve};
 use stamp_core::{Call, Layout, Limits, ReplayError, Replayed, replay};
@@ -169,6 +170,7 @@ fn outcome_of_all(alloc: Global) -> Outcome {
         serve_outcome(alloc, Order::StampIn(Layout::Two, 196_608), b"write 1\n"),
         history_outcome(alloc),
         bad_script_outcome(alloc),
+        judged_outcome(alloc),
         run_outcome(alloc),
         run_reported_outcome(alloc),
         steps_outcome(alloc),

@@ -3,7 +3,7 @@ ghost use Rattle.std.specs.Prelude.{◌≡◌, ◌<◌, ◌++◌, ◌∷◌, [],
 
 use crate::{Outcome, right_if};
 use stamp_core::{Call, Entry, Limits, Words};
-use stamp_history::{ReadError, read_script, write_history};
+use stamp_history::{ReadError, check, migrate, read_history, read_script, write_history};
 use stamp_machines::{
     Arg, Run, RunError, Script, ScriptCall, ScriptError, Stepped, run, run_reported,
 };
@@ -164,5 +164,23 @@ pub(crate) fn bad_script_outcome(alloc: Global) -> Outcome {
         Err(ReadError::BadScript(ScriptError::RecordWidth)) => Outcome::Right,
         Err(ReadError::Memory) => Outcome::Refused,
         _ => Outcome::Wrong,
+    }
+}
+
+/// What a history's text is judged, read and written again in layout 2.
+fn judged(alloc: Global) -> Result<bool, ReadError> {
+    let history = read_history(alloc, HISTORY)?;
+    let is_ok = check(&history) == Ok(2);
+    match migrate(history) {
+        Ok(migrated) => Ok(is_ok && !write_history(alloc, &migrated)?.is_empty()),
+        Err(_) => Ok(false),
+    }
+}
+
+pub(crate) fn judged_outcome(alloc: Global) -> Outcome {
+    match judged(alloc) {
+        Ok(holds) => right_if(holds),
+        Err(ReadError::Memory) => Outcome::Refused,
+        Err(_) => Outcome::Wrong,
     }
 }

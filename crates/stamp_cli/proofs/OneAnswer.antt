@@ -4,16 +4,23 @@ use Rattle.std.proofs.lemmas.Bool.{ltb-true, ltb-false}
 use Rattle.stamp_core.specs.declared.layout.Layout.{Layout}
 use Rattle.stamp_core.specs.declared.layout.Layout.TheVariants.{One}
 use Rattle.stamp_core.specs.declared.reply.Reply.{Reply}
+use Rattle.stamp_core.specs.Record.{Recorded}
+use Rattle.stamp_check.proofs.OneFault.{one_verdict}
+use Rattle.stamp_check.proofs.OneForeign.{one_bad_reply, migrates_or_not}
+use Rattle.stamp_history.specs.History.{history_of}
 use Rattle.stamp_history.specs.ReplayText.{replayed_text}
 use Rattle.stamp_history.specs.declared.read_error.ReadError.{ReadError}
 use Rattle.stamp_history.specs.Replay.{Replay, replay_of}
 use Rattle.stamp_history.specs.ReplayAnswer.{IsReplayedText}
 use Rattle.stamp_history.proofs.OnlyLockCalls.{replay_of_lock}
 use Rattle.stamp_cli.specs.declared.faults.ServeFault.{ServeFault}
-use Rattle.stamp_cli.specs.declared.faults.ServeFault.TheVariants.{Waits}
+use Rattle.stamp_cli.specs.declared.faults.ServeFault.TheVariants.{Waits, BadReply}
 use Rattle.stamp_cli.specs.declared.orders.Order.{Order}
 use Rattle.stamp_cli.specs.declared.orders.Order.TheVariants as order
-use Rattle.stamp_cli.specs.Answer.{IsWaitFault, IsReplayAnswer, IsInputAnswer, AnswersReplay, AnswersRun, AnswersReportedRun, IsStampAnswer, IsAnswer}
+use Rattle.stamp_cli.specs.Answer.{Answered, IsWaitFault, IsReplayAnswer, IsInputAnswer, IsCheckAnswer, IsMigrateAnswer}
+use Rattle.stamp_cli.specs.Answer.{AnswersReplay, AnswersRun, AnswersReportedRun, AnswersCheck, AnswersMigrate}
+use Rattle.stamp_cli.specs.Answer.{IsStampAnswer, IsAccepted, IsAnswer}
+use Rattle.stamp_cli.specs.CheckText.{verdict_text, verdict_of}
 use Rattle.stamp_cli.specs.Source.{most_bytes}
 use Rattle.stamp_cli.specs.StampText.{kind_text}
 use Rattle.stamp_core.proofs.OneStampKind.{one_kind}
@@ -53,16 +60,35 @@ long_or_not n m = by_test (nat_lt n m) refl
     by_test true e = inl (ltb-true n m e)
     by_test false e = inr (ltb-false n m e)
 
--- there is one answer of this kind to an input
-abbrev pub IsOnce : (List ℕ → Result (List ℕ) ServeFault → Type 0) → Type 0
-IsOnce IsSo = (input : List ℕ) (a b : Result (List ℕ) ServeFault) → IsSo input a → IsSo input b → a ≡ b
+ok_inj : {A : Type 0} {a b : A} → Path (Result A ServeFault) (Ok a) (Ok b) → a ≡ b
+ok_inj e = cc
 
-one_to_input : (IsSo : List ℕ → Result (List ℕ) ServeFault → Type 0) → IsOnce IsSo → IsOnce (IsInputAnswer IsSo)
+err_inj : {A : Type 0} {d e : ServeFault} → Path (Result A ServeFault) (Err d) (Err e) → d ≡ e
+err_inj e = cc
+
+ok_not_err : {A : Type 0} {a : A} {e : ServeFault} → Path (Result A ServeFault) (Ok a) (Err e) → ⊥
+ok_not_err e = cc
+
+same_line : (a b : Answered) → a.text ≡ b.text → a.verdict ≡ b.verdict → a ≡ b
+same_line a b t v = let parts : record { text = a.text; verdict = a.verdict } ≡ record { text = b.text; verdict = b.verdict } = cc in parts
+
+-- there is one answer of this kind to an input
+abbrev pub IsOnce : {A : Type 0} → (List ℕ → Result A ServeFault → Type 0) → Type 0
+IsOnce {A} IsSo = (input : List ℕ) (a b : Result A ServeFault) → IsSo input a → IsSo input b → a ≡ b
+
+one_to_input : {A : Type 0} (IsSo : List ℕ → Result A ServeFault → Type 0) → IsOnce IsSo → IsOnce (IsInputAnswer IsSo)
 one_to_input IsSo once input a b x y = by (long_or_not most_bytes (length input))
   where
     by : (most_bytes < length input) ⊎ (length input ≤ most_bytes) → a ≡ b
     by (inl long) = x.too_long long ∙ sym (y.too_long long)
     by (inr fits) = once input a b (x.read fits) (y.read fits)
+
+-- a text or a refusal, as a line that is accepted
+one_accepted : (IsSo : Result (List ℕ) ServeFault → Type 0) → ((a b : Result (List ℕ) ServeFault) → IsSo a → IsSo b → a ≡ b) → (a b : Result Answered ServeFault) → IsAccepted IsSo a → IsAccepted IsSo b → a ≡ b
+one_accepted IsSo once (Ok a) (Ok b) x y = ap Ok (same_line a b (ok_inj (once (Ok a.text) (Ok b.text) x.0 y.0)) (x.1 ∙ sym y.1))
+one_accepted IsSo once (Ok a) (Err e) x y = absurd (ok_not_err (once (Ok a.text) (Err e) x.0 y))
+one_accepted IsSo once (Err d) (Ok b) x y = absurd (ok_not_err (once (Ok b.text) (Err d) y.0 x))
+one_accepted IsSo once (Err d) (Err e) x y = ap Err (err_inj (once (Err d) (Err e) x y))
 
 one_to_replay : IsOnce AnswersReplay
 one_to_replay input a b x y = one_reading (replay_of input) a b (of_lock_in input) x y
@@ -78,9 +104,36 @@ one_to_stamp layout n a b x y =
     let same = one_kind layout n x.text.kind y.text.kind x.text.has y.text.has in
     x.is ∙ ap Ok (x.text.says ∙ ap kind_text same ∙ sym y.text.says) ∙ sym y.is
 
-pub one_answer : (o : Order) (input : List ℕ) (a b : Result (List ℕ) ServeFault) → IsAnswer o input a → IsAnswer o input b → a ≡ b
-one_answer order.Replay input a b x y = one_to_input AnswersReplay one_to_replay input a b x y
-one_answer order.Run input a b x y = one_to_input AnswersRun one_to_run input a b x y
-one_answer order.RunReported input a b x y = one_to_input AnswersReportedRun one_to_reported_run input a b x y
-one_answer (order.Stamp n) input a b x y = one_to_stamp One n a b x y
-one_answer (order.StampIn layout n) input a b x y = one_to_stamp layout n a b x y
+one_check : (r : Result Recorded ReadError) (a b : Result Answered ServeFault) → IsCheckAnswer r a → IsCheckAnswer r b → a ≡ b
+one_check (Ok h) (Ok a) (Ok b) x y =
+    let same = one_verdict h x.found y.found x.is y.is in
+    ap Ok (same_line a b (x.says ∙ ap verdict_text same ∙ sym y.says) (x.verdict ∙ ap verdict_of same ∙ sym y.verdict))
+one_check (Ok h) (Ok a) (Err e) x y = absurd y
+one_check (Ok h) (Err e) b x y = absurd x
+one_check (Err e) a b x y = x ∙ sym y
+
+one_to_check : IsOnce AnswersCheck
+one_to_check input a b x y = one_check (history_of input) a b x y
+
+one_migration : (r : Result Recorded ReadError) (a b : Result (List ℕ) ServeFault) → IsMigrateAnswer r a → IsMigrateAnswer r b → a ≡ b
+one_migration (Ok h) (Ok a) (Ok b) x y = ap Ok (x.1 ∙ sym y.1)
+one_migration (Ok h) (Ok a) (Err e) x y = absurd (migrates_or_not h y.entry x.0 y.foreign)
+one_migration (Ok h) (Err e) (Ok b) x y = absurd (migrates_or_not h x.entry y.0 x.foreign)
+one_migration (Ok h) (Err d) (Err e) x y = ap Err (x.named ∙ ap BadReply (one_bad_reply h x.entry y.entry x.foreign y.foreign) ∙ sym y.named)
+one_migration (Err e) a b x y = x ∙ sym y
+
+one_to_migrate : IsOnce AnswersMigrate
+one_to_migrate input a b x y = one_migration (history_of input) a b x y
+
+-- of an input's accepted text
+one_text : (IsSo : List ℕ → Result (List ℕ) ServeFault → Type 0) → IsOnce IsSo → (input : List ℕ) (a b : Result Answered ServeFault) → IsAccepted (IsInputAnswer IsSo input) a → IsAccepted (IsInputAnswer IsSo input) b → a ≡ b
+one_text IsSo once input a b x y = one_accepted (IsInputAnswer IsSo input) (one_to_input IsSo once input) a b x y
+
+pub one_answer : (o : Order) (input : List ℕ) (a b : Result Answered ServeFault) → IsAnswer o input a → IsAnswer o input b → a ≡ b
+one_answer order.Replay input a b x y = one_text AnswersReplay one_to_replay input a b x y
+one_answer order.Run input a b x y = one_text AnswersRun one_to_run input a b x y
+one_answer order.RunReported input a b x y = one_text AnswersReportedRun one_to_reported_run input a b x y
+one_answer order.Check input a b x y = one_to_input AnswersCheck one_to_check input a b x y
+one_answer order.Migrate input a b x y = one_text AnswersMigrate one_to_migrate input a b x y
+one_answer (order.Stamp n) input a b x y = one_accepted (IsStampAnswer One n) (one_to_stamp One n) a b x y
+one_answer (order.StampIn layout n) input a b x y = one_accepted (IsStampAnswer layout n) (one_to_stamp layout n) a b x y

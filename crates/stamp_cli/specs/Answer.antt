@@ -7,18 +7,34 @@ use Rattle.stamp_core.specs.declared.layout.Layout.{Layout}
 use Rattle.stamp_core.specs.declared.layout.Layout.TheVariants.{One}
 use Rattle.stamp_machines.specs.Script.{Scripted}
 use Rattle.stamp_machines.specs.RunRecord.{run_record, reported_record}
+use Rattle.stamp_check.specs.Verdict.{IsVerdict}
+use Rattle.stamp_check.specs.Migration.{CanMigrate, IsBadReply, migrated}
+use Rattle.stamp_check.specs.declared.checking.Bad.{Bad}
+use Rattle.stamp_history.specs.History.{history_of}
 use Rattle.stamp_history.specs.HistoryText.{history_text}
 use Rattle.stamp_history.specs.Replay.{Replay, replay_of}
 use Rattle.stamp_history.specs.ReplayAnswer.{IsReplayedText}
 use Rattle.stamp_history.specs.ScriptReading.{script_of}
 use Rattle.stamp_history.specs.declared.read_error.ReadError.{ReadError}
 use Rattle.stamp_cli.specs.declared.faults.ServeFault.{ServeFault}
-use Rattle.stamp_cli.specs.declared.faults.ServeFault.TheVariants.{TooLong, Waits, Memory}
+use Rattle.stamp_cli.specs.declared.faults.ServeFault.TheVariants.{TooLong, Waits, Memory, BadReply}
 use Rattle.stamp_cli.specs.declared.orders.Order.{Order}
 use Rattle.stamp_cli.specs.declared.orders.Order.TheVariants as order
+use Rattle.stamp_cli.specs.declared.line.Line as made
+use Rattle.stamp_cli.specs.declared.line.Verdict.{Verdict}
+use Rattle.stamp_cli.specs.declared.line.Verdict.TheVariants.{Accepted}
+use Rattle.stamp_cli.specs.CheckText.{verdict_text, verdict_of}
 use Rattle.stamp_cli.specs.Refusal.{refusal}
 use Rattle.stamp_cli.specs.Source.{most_bytes, most_reads, Reads, ReadsNone}
 use Rattle.stamp_cli.specs.StampText.{IsStampText}
+
+-- a line without its line feed, and what it says
+pub record Answered : Type 0 where
+  pub text : List ℕ
+  pub verdict : Verdict
+
+abbrev pub line_in : made.Line → Answered
+line_in line = record { text = line.text.items; verdict = line.verdict }
 
 -- a call waits, and the fault names it
 pub record IsWaitFault (replay : Replay) (fault : ServeFault) : Type 0 where
@@ -37,12 +53,37 @@ abbrev pub script_answer : (Scripted → Recorded) → Result Scripted ReadError
 script_answer record_of (Ok plan) = Ok (history_text (record_of plan))
 script_answer record_of (Err e) = Err (refusal e)
 
+-- a history has this verdict, which the line says
+pub record IsJudged (history : Recorded) (line : Answered) : Type 0 where
+  pub found : Result ℕ Bad
+  pub is : IsVerdict history found
+  pub says : line.text ≡ verdict_text found
+  pub verdict : line.verdict ≡ verdict_of found
+
+-- and if that is a history: its verdict
+abbrev pub IsCheckAnswer : Result Recorded ReadError → Result Answered ServeFault → Type 0
+IsCheckAnswer (Ok history) (Ok line) = IsJudged history line
+IsCheckAnswer (Ok history) (Err fault) = ⊥
+IsCheckAnswer (Err e) answer = answer ≡ Err (refusal e)
+
+-- an entry's stamp has no place in layout 2, and the fault names the first such
+pub record IsBadReplyFault (history : Recorded) (fault : ServeFault) : Type 0 where
+  pub entry : ℕ
+  pub foreign : IsBadReply history entry
+  pub named : fault ≡ BadReply entry
+
+-- or its text in layout 2
+abbrev pub IsMigrateAnswer : Result Recorded ReadError → Result (List ℕ) ServeFault → Type 0
+IsMigrateAnswer (Ok history) (Ok text) = CanMigrate history × (text ≡ history_text (migrated history))
+IsMigrateAnswer (Ok history) (Err fault) = IsBadReplyFault history fault
+IsMigrateAnswer (Err e) answer = answer ≡ Err (refusal e)
+
 -- the answer to an input: it is too long, or it is answered so
-pub record IsInputAnswer (IsSo : List ℕ → Result (List ℕ) ServeFault → Type 0) (input : List ℕ) (answer : Result (List ℕ) ServeFault) : Type 0 where
+pub record IsInputAnswer {A : Type 0} (IsSo : List ℕ → Result A ServeFault → Type 0) (input : List ℕ) (answer : Result A ServeFault) : Type 0 where
   pub too_long : most_bytes < length input → answer ≡ Err TooLong
   pub read : length input ≤ most_bytes → IsSo input answer
 
--- the answers to the bytes of a replay, and of a script that is run, without a report and with one
+-- the answers to the bytes of a replay, of a script that is run, without a report and with one, and of a history
 abbrev pub AnswersReplay : List ℕ → Result (List ℕ) ServeFault → Type 0
 AnswersReplay input answer = IsReplayAnswer (replay_of input) answer
 
@@ -52,25 +93,40 @@ AnswersRun input answer = answer ≡ script_answer run_record (script_of input)
 abbrev pub AnswersReportedRun : List ℕ → Result (List ℕ) ServeFault → Type 0
 AnswersReportedRun input answer = answer ≡ script_answer reported_record (script_of input)
 
+abbrev pub AnswersCheck : List ℕ → Result Answered ServeFault → Type 0
+AnswersCheck input answer = IsCheckAnswer (history_of input) answer
+
+abbrev pub AnswersMigrate : List ℕ → Result (List ℕ) ServeFault → Type 0
+AnswersMigrate input answer = IsMigrateAnswer (history_of input) answer
+
 -- the answer to a number
 pub record IsStampAnswer (layout : Layout) (n : ℕ) (answer : Result (List ℕ) ServeFault) : Type 0 where
   pub line : List ℕ
   pub text : IsStampText layout n line
   pub is : answer ≡ Ok line
 
+-- a text that is accepted, or a refusal
+abbrev pub IsAccepted : (Result (List ℕ) ServeFault → Type 0) → Result Answered ServeFault → Type 0
+IsAccepted IsSo (Ok line) = IsSo (Ok line.text) × (line.verdict ≡ Accepted)
+IsAccepted IsSo (Err fault) = IsSo (Err fault)
+
 -- the answer to an order, without the line feed
-abbrev pub IsAnswer : Order → List ℕ → Result (List ℕ) ServeFault → Type 0
-IsAnswer order.Replay input answer = IsInputAnswer AnswersReplay input answer
-IsAnswer order.Run input answer = IsInputAnswer AnswersRun input answer
-IsAnswer order.RunReported input answer = IsInputAnswer AnswersReportedRun input answer
-IsAnswer (order.Stamp n) input answer = IsStampAnswer One n answer
-IsAnswer (order.StampIn layout n) input answer = IsStampAnswer layout n answer
+abbrev pub IsAnswer : Order → List ℕ → Result Answered ServeFault → Type 0
+IsAnswer order.Replay input answer = IsAccepted (IsInputAnswer AnswersReplay input) answer
+IsAnswer order.Run input answer = IsAccepted (IsInputAnswer AnswersRun input) answer
+IsAnswer order.RunReported input answer = IsAccepted (IsInputAnswer AnswersReportedRun input) answer
+IsAnswer order.Check input answer = IsInputAnswer AnswersCheck input answer
+IsAnswer order.Migrate input answer = IsAccepted (IsInputAnswer AnswersMigrate input) answer
+IsAnswer (order.Stamp n) input answer = IsAccepted (IsStampAnswer One n) answer
+IsAnswer (order.StampIn layout n) input answer = IsAccepted (IsStampAnswer layout n) answer
 
 -- input is what an order reads of a source
 abbrev pub IsRead : Order → Option (List ℕ) → Option (List ℕ) → List ℕ → Type 0
 IsRead order.Replay old new input = Reads old new input
 IsRead order.Run old new input = Reads old new input
 IsRead order.RunReported old new input = Reads old new input
+IsRead order.Check old new input = Reads old new input
+IsRead order.Migrate old new input = Reads old new input
 IsRead (order.Stamp n) old new input = ReadsNone old new input
 IsRead (order.StampIn layout n) old new input = ReadsNone old new input
 
@@ -79,11 +135,13 @@ abbrev pub most_reads_of : Order → ℕ
 most_reads_of order.Replay = most_reads
 most_reads_of order.Run = most_reads
 most_reads_of order.RunReported = most_reads
+most_reads_of order.Check = most_reads
+most_reads_of order.Migrate = most_reads
 most_reads_of (order.Stamp n) = 0
 most_reads_of (order.StampIn layout n) = 0
 
 -- a source was read as far as the order asks, and this is the answer to it
-pub record Answers (order : Order) (old new : Option (List ℕ)) (answer : Result (List ℕ) ServeFault) : Type 0 where
+pub record Answers (order : Order) (old new : Option (List ℕ)) (answer : Result Answered ServeFault) : Type 0 where
   pub input : List ℕ
   pub reads : IsRead order old new input
   pub is : IsAnswer order input answer
@@ -92,3 +150,8 @@ pub record Answers (order : Order) (old new : Option (List ℕ)) (answer : Resul
 abbrev pub UnlessMemory : (Result (List ℕ) ServeFault → Type 0) → Result (Vec ℕ Global) ServeFault → Type 0
 UnlessMemory P (Ok line) = P (Ok line.items)
 UnlessMemory P (Err e) = e ≢ Memory → P (Err e)
+
+-- the same of a line
+abbrev pub LineUnlessMemory : (Result Answered ServeFault → Type 0) → Result made.Line ServeFault → Type 0
+LineUnlessMemory P (Ok line) = P (Ok (line_in line))
+LineUnlessMemory P (Err e) = e ≢ Memory → P (Err e)

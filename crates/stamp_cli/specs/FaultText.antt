@@ -6,7 +6,7 @@ use Rattle.stamp_history.specs.Field.{field_text}
 use Rattle.stamp_history.specs.declared.read_error.ReadError.{ReadError}
 use Rattle.stamp_history.specs.declared.read_error.ReadError.TheVariants as read
 use Rattle.stamp_cli.specs.declared.faults.ServeFault.{ServeFault}
-use Rattle.stamp_cli.specs.declared.faults.ServeFault.TheVariants.{ReadFault, TooLong, Refused, Waits, Memory, WriteFault}
+use Rattle.stamp_cli.specs.declared.faults.ServeFault.TheVariants.{ReadFault, TooLong, Refused, Waits, Memory, WriteFault, BadReply}
 
 abbrev pub script_error_text : ScriptError → List ℕ
 script_error_text TooManyThreads = codes "too many threads"
@@ -30,3 +30,4 @@ fault_text (Refused e) = read_error_text e
 fault_text (Waits i) = codes "stamped: call " ++ decimal i ++ codes " waits"
 fault_text Memory = codes "stamped: memory"
 fault_text WriteFault = codes "stamped: write fault"
+fault_text (BadReply i) = codes "stamped: bad reply at entry " ++ decimal i

@@ -4,5 +4,6 @@ pub mod Order
 pub mod Refusal
 pub mod FaultText
 pub mod StampText
+pub mod CheckText
 pub mod Answer
 pub mod Laws

@@ -8,7 +8,7 @@ use Rattle.std.specs.Str.Parse.{digits_value}
 use Rattle.stamp_core.specs.declared.layout.Layout.{Layout}
 use Rattle.stamp_core.specs.declared.layout.Layout.TheVariants.{One, Two}
 use Rattle.stamp_cli.specs.declared.orders.Order.{Order}
-use Rattle.stamp_cli.specs.declared.orders.Order.TheVariants.{Replay, Run, RunReported, Stamp, StampIn}
+use Rattle.stamp_cli.specs.declared.orders.Order.TheVariants.{Replay, Run, RunReported, Check, Migrate, Stamp, StampIn}
 use Rattle.stamp_cli.specs.declared.orders.CommandFault.{CommandFault}
 use Rattle.stamp_cli.specs.declared.orders.CommandFault.TheVariants.{Bad}
 
@@ -23,6 +23,8 @@ abbrev pub one_word : List ℕ → Option Order
 one_word word =
     if bytes_eq word (codes "replay") then Some Replay
     else if bytes_eq word (codes "run") then Some Run
+    else if bytes_eq word (codes "check") then Some Check
+    else if bytes_eq word (codes "migrate") then Some Migrate
     else None
 
 abbrev pub two_words : List ℕ → List ℕ → Option Order
@@ -37,7 +39,7 @@ four_words command option layout number =
     then option_and_then (λ found. option_map (StampIn found) (number_in number)) (layout_in layout)
     else None
 
--- the forms of the command line: replay, run, run --report, stamp N, stamp --layout L N
+-- the forms of the command line: replay, run, run --report, check, migrate, stamp N, stamp --layout L N
 abbrev pub form_of : List (List ℕ) → Option Order
 form_of (word ∷ []) = one_word word
 form_of (command ∷ second ∷ []) = two_words command second

@@ -5,7 +5,7 @@ use Rattle.stamp_history.specs.declared.answer_error.AnswerError.TheVariants as 
 use Rattle.stamp_history.specs.declared.read_error.ReadError.{ReadError}
 use Rattle.stamp_history.specs.declared.read_error.ReadError.TheVariants as read
 use Rattle.stamp_cli.specs.declared.faults.ServeFault.{ServeFault}
-use Rattle.stamp_cli.specs.declared.faults.ServeFault.TheVariants.{ReadFault, TooLong, Refused, Waits, Memory, WriteFault}
+use Rattle.stamp_cli.specs.declared.faults.ServeFault.TheVariants.{ReadFault, TooLong, Refused, Waits, Memory, WriteFault, BadReply}
 
 -- want of memory is one fault, wherever it came
 abbrev pub refusal : ReadError → ServeFault
@@ -28,3 +28,4 @@ is_of_end (Refused e) = false
 is_of_end (Waits i) = false
 is_of_end Memory = false
 is_of_end WriteFault = true
+is_of_end (BadReply i) = false

@@ -3,15 +3,18 @@
 ghost use Rattle.std.specs.Prelude.{◌≡◌, ◌≢◌, ◌↔◌, ◌+◌, ◌<◌, ◌≤◌, length, true, false, IfOk, IfErr, Ok, Err};
 ghost use Rattle.stamp_cli.specs.Refusal.{is_of_end};
 ghost use Rattle.stamp_cli.specs.Source.{most_bytes};
-ghost use Rattle.stamp_cli.specs.Answer.{Answers, AnswersReplay, AnswersReportedRun, AnswersRun, IsInputAnswer, UnlessMemory, most_reads_of};
+ghost use Rattle.stamp_cli.specs.Answer.{Answers, AnswersCheck, AnswersMigrate, AnswersReplay, AnswersReportedRun, AnswersRun};
+ghost use Rattle.stamp_cli.specs.Answer.{IsInputAnswer, LineUnlessMemory, UnlessMemory, line_in, most_reads_of};
 
+use crate::check_text::verdict_line;
 use crate::faults::ServeFault;
 use crate::input::{MOST_BYTES, read_input};
+use crate::line::{Line, accepted};
 use crate::orders::Order;
 use crate::sources::Source;
 use crate::stamp_text::stamp_line;
 use stamp_core::Layout;
-use stamp_history::{read_script, replay_text, write_history};
+use stamp_history::{check, migrate, read_history, read_script, replay_text, write_history};
 use stamp_machines::{run, run_reported};
 use std::alloc::Global;
 
@@ -46,6 +49,28 @@ fn line_of_reported_script(alloc: Global, input: &[u8]) -> Result<Vec<u8>, Serve
     Ok(write_history(alloc, &record)?)
 }
 
+/// The verdict on a history.
+#[tactic(auto, using(crate::proofs::Refusals::inner))]
+fn line_of_history(alloc: Global, input: &[u8]) -> Result<Line, ServeFault>
+    ensures answer { LineUnlessMemory (AnswersCheck input.now) result }
+    ensures inner { IfErr result (λ e. is_of_end e ≡ false) }
+{
+    let history = read_history(alloc, input)?;
+    Ok(verdict_line(alloc, check(&history))?)
+}
+
+/// The history in layout 2.
+#[tactic(auto, using(crate::proofs::Refusals::inner))]
+fn line_of_migration(alloc: Global, input: &[u8]) -> Result<Vec<u8>, ServeFault>
+    ensures answer { UnlessMemory (AnswersMigrate input.now) result }
+    ensures inner { IfErr result (λ e. is_of_end e ≡ false) }
+{
+    match migrate(read_history(alloc, input)?) {
+        Ok(migrated) => Ok(write_history(alloc, &migrated)?),
+        Err(bad) => Err(ServeFault::BadReply(bad.entry)),
+    }
+}
+
 /// The input, unless it is longer than the most.
 fn within(input: &[u8]) -> Result<&[u8], ServeFault>
     ensures ok { IfOk result (λ bytes. (bytes.now ≡ input.now) × (length input.now ≤ most_bytes)) }
@@ -78,16 +103,30 @@ fn line_of_reported_run(alloc: Global, input: &[u8]) -> Result<Vec<u8>, ServeFau
     line_of_reported_script(alloc, within(input)?)
 }
 
+fn line_of_check(alloc: Global, input: &[u8]) -> Result<Line, ServeFault>
+    ensures answer { LineUnlessMemory (IsInputAnswer AnswersCheck input.now) result }
+    ensures inner { IfErr result (λ e. is_of_end e ≡ false) }
+{
+    line_of_history(alloc, within(input)?)
+}
+
+fn line_of_migrate(alloc: Global, input: &[u8]) -> Result<Vec<u8>, ServeFault>
+    ensures answer { UnlessMemory (IsInputAnswer AnswersMigrate input.now) result }
+    ensures inner { IfErr result (λ e. is_of_end e ≡ false) }
+{
+    line_of_migration(alloc, within(input)?)
+}
+
 /// The line that answers the order, without its line feed. A stamp makes no read.
 pub(crate) fn line_of<S: Source>(
     alloc: Global,
     order: Order,
     source: &mut S,
-) -> Result<Vec<u8>, ServeFault>
+) -> Result<Line, ServeFault>
     requires unread { S.reads source.old ≡ 0 }
     requires unfailed { S.has_failed source.old ≡ false }
     ensures few { S.reads source.new ≤ most_reads_of order }
-    ensures ok { IfOk result (λ line. Answers order (S.left source.old) (S.left source.new) (Ok line.items)) }
+    ensures ok { IfOk result (λ line. Answers order (S.left source.old) (S.left source.new) (Ok (line_in line))) }
     ensures err { IfErr result (λ e. e ≢ ServeFault.ReadFault → e ≢ ServeFault.Memory
         → Answers order (S.left source.old) (S.left source.new) (Err e)) }
     ensures failed { (result ≡ Err ServeFault.ReadFault) ↔ (S.has_failed source.new ≡ true) }
@@ -96,17 +135,25 @@ pub(crate) fn line_of<S: Source>(
     match order {
         Order::Replay => {
             let input = read_input(alloc, source)?;
-            line_of_replay(alloc, &input)
+            Ok(accepted(line_of_replay(alloc, &input)?))
         }
         Order::Run => {
             let input = read_input(alloc, source)?;
-            line_of_run(alloc, &input)
+            Ok(accepted(line_of_run(alloc, &input)?))
         }
         Order::RunReported => {
             let input = read_input(alloc, source)?;
-            line_of_reported_run(alloc, &input)
+            Ok(accepted(line_of_reported_run(alloc, &input)?))
         }
-        Order::Stamp(stamp) => Ok(stamp_line(alloc, Layout::One, stamp)?),
-        Order::StampIn(layout, stamp) => Ok(stamp_line(alloc, layout, stamp)?),
+        Order::Check => {
+            let input = read_input(alloc, source)?;
+            line_of_check(alloc, &input)
+        }
+        Order::Migrate => {
+            let input = read_input(alloc, source)?;
+            Ok(accepted(line_of_migrate(alloc, &input)?))
+        }
+        Order::Stamp(stamp) => Ok(accepted(stamp_line(alloc, Layout::One, stamp)?)),
+        Order::StampIn(layout, stamp) => Ok(accepted(stamp_line(alloc, layout, stamp)?)),
     }
 }

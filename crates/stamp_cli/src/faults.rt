@@ -33,6 +33,10 @@ pub enum ServeFault {
     /// 6: a write answered an error or took no byte. A front of the line may have gone out.
     #[error("a write failed")]
     WriteFault,
+    /// 7: this entry of the history, counted from 0, is the first whose stamp has no place in
+    /// layout 2.
+    #[error("bad reply at entry {0}")]
+    BadReply(u64),
 }
 
 impl From<AllocError> for ServeFault {
@@ -136,6 +140,7 @@ impl fmt::Display for FaultLine {
             ServeFault::Waits(call) => write!(f, "stamped: call {call} waits"),
             ServeFault::Memory => write!(f, "stamped: memory"),
             ServeFault::WriteFault => write!(f, "stamped: write fault"),
+            ServeFault::BadReply(entry) => write!(f, "stamped: bad reply at entry {entry}"),
         }
     }
 }

@@ -2,9 +2,13 @@
 #![tactic(auto)]
 
 mod answer;
+mod check_text;
 mod faults;
+#[cfg(test)]
+mod history_tests;
 mod input;
 pub mod laws;
+mod line;
 mod orders;
 mod output;
 #[cfg(test)]
@@ -17,7 +21,8 @@ mod stamp_text;
 mod tests;
 
 pub use faults::{ServeFault, fault_line};
+pub use line::Verdict;
 pub use orders::{CommandFault, Order, order_of};
-pub use serving::{Verdict, serve};
+pub use serving::serve;
 pub use sinks::{Sink, WriteSink};
 pub use sources::{ReadSource, Source};

@@ -16,6 +16,10 @@ pub enum Order {
     Run,
     /// As `Run`, and tells of each finished call the steps it took and what others changed meanwhile.
     RunReported,
+    /// Reads a history and says whether the sequential lock explains it, or its first fault.
+    Check,
+    /// Reads a history and answers it as one of layout 2.
+    Migrate,
     /// Says what a number is as a stamp of layout 1.
     Stamp(u64),
     /// Says what a number is as a stamp of a layout.
@@ -63,6 +67,8 @@ fn one_word(word: &str) -> Option<Order>
     match word {
         "replay" => Some(Order::Replay),
         "run" => Some(Order::Run),
+        "check" => Some(Order::Check),
+        "migrate" => Some(Order::Migrate),
         _ => None,
     }
 }

@@ -3,24 +3,16 @@
 ghost use Rattle.std.specs.Prelude.{◌≡◌, ◌≢◌, ◌↔◌, ◌++◌, ◌∷◌, ◌≤◌, [], List, ℕ, true, false, IfOk, IfErr, OnOk, Ok, Err};
 ghost use Rattle.std.specs.Io.KnownBytes.{Appends, Keeps};
 ghost use Rattle.stamp_cli.specs.Sink.{AppendsFront};
-ghost use Rattle.stamp_cli.specs.Answer.{Answers, most_reads_of};
+ghost use Rattle.stamp_cli.specs.Answer.{Answered, Answers, most_reads_of};
 
 use crate::answer::line_of;
 use crate::faults::ServeFault;
+use crate::line::{Line, Verdict};
 use crate::orders::Order;
 use crate::output::write_line;
 use crate::sinks::Sink;
 use crate::sources::Source;
 use std::alloc::Global;
-
-/// What the line that was written says.
-#[derive(Clone, Copy, Debug, PartialEq, Eq)]
-pub enum Verdict {
-    /// The line is an answer.
-    Accepted,
-    /// The line says that a history is bad; no order that is there asks for one yet.
-    Bad,
-}
 
 /// Answers the order: reads what it needs of the source and writes one line, or says why not.
 pub fn serve<S: Source, K: Sink>(
@@ -34,10 +26,10 @@ pub fn serve<S: Source, K: Sink>(
     requires sink { K.has_failed sink.old ≡ false }
     ensures few { S.reads source.new ≤ most_reads_of order }
 
-    // The answer to what was read is written with a line feed, and nothing else.
-    ensures ok { OnOk result ((line : List ℕ) × Answers order (S.left source.old) (S.left source.new) (Ok line)
-        × Appends (K.sent sink.old) (K.sent sink.new) (line ++ 10 ∷ [])) }
-    ensures verdict { IfOk result (λ verdict. verdict ≡ Verdict.Accepted) }
+    // The answer to what was read is written with a line feed, and nothing else; the verdict is its.
+    ensures ok { IfOk result (λ verdict. (line : Answered)
+        × Answers order (S.left source.old) (S.left source.new) (Ok line) × (verdict ≡ line.verdict)
+        × Appends (K.sent sink.old) (K.sent sink.new) (line.text ++ 10 ∷ [])) }
 
     // What was read is refused so.
     ensures refused { IfErr result (λ e. e ≢ ServeFault.ReadFault → e ≢ ServeFault.WriteFault
@@ -46,14 +38,14 @@ pub fn serve<S: Source, K: Sink>(
 
     // A write that failed leaves a front of the line, and no other refusal writes.
     ensures write_fault { (result ≡ Err ServeFault.WriteFault) ↔ (K.has_failed sink.new ≡ true) }
-    ensures front { result ≡ Err ServeFault.WriteFault → ((line : List ℕ)
+    ensures front { result ≡ Err ServeFault.WriteFault → ((line : Answered)
         × Answers order (S.left source.old) (S.left source.new) (Ok line)
-        × AppendsFront (K.sent sink.old) (K.sent sink.new) (line ++ 10 ∷ [])) }
+        × AppendsFront (K.sent sink.old) (K.sent sink.new) (line.text ++ 10 ∷ [])) }
     ensures silent { IfErr result (λ e. e ≢ ServeFault.WriteFault
         → Keeps (K.sent sink.old) (K.sent sink.new)) }
 {
-    let mut line = line_of(alloc, order, source)?;
-    line.push(b'\n')?;
-    write_line(sink, &line)?;
-    Ok(Verdict::Accepted)
+    let Line { mut text, verdict } = line_of(alloc, order, source)?;
+    text.push(b'\n')?;
+    write_line(sink, &text)?;
+    Ok(verdict)
 }

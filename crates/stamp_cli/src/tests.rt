@@ -136,8 +136,14 @@ pub(crate) fn answered<R: Read + Drop>(
     let result = serve(alloc, order, &mut source, &mut sink);
     let bytes = sink.into_inner().bytes;
     match result {
-        Ok(Verdict::Accepted) => Ok(String::from_utf8(bytes).map_err(|_| Fail::from("no text"))?),
-        Ok(Verdict::Bad) => Err(Fail::from("a bad history")),
+        Ok(verdict) => {
+            let line = String::from_utf8(bytes).map_err(|_| Fail::from("no text"))?;
+            if (verdict == Verdict::Bad) == line.starts_with("bad ") {
+                Ok(line)
+            } else {
+                Err(Fail::from("another verdict"))
+            }
+        }
         Err(_) if !bytes.is_empty() => Err(Fail::from("a refusal wrote")),
         Err(fault) => Ok(fault_line(alloc, &fault)?),
     }
@@ -519,7 +525,7 @@ fn a_write_that_fails_leaves_a_front_of_the_line(rt: HostRuntime) {
 #[test]
 fn words_are_an_order_in_these_forms_alone(rt: HostRuntime) {
     let most = u64::MAX;
-    let table: [(&[&str], Result<Order, CommandFault>); 34] = [
+    let table: [(&[&str], Result<Order, CommandFault>); 35] = [
         (&["replay"], Ok(Order::Replay)),
         (&["stamp", "384"], Ok(Order::Stamp(384))),
         (&["stamp", "0"], Ok(Order::Stamp(0))),
@@ -561,8 +567,9 @@ fn words_are_an_order_in_these_forms_alone(rt: HostRuntime) {
         (&["--report", "run"], Err(CommandFault::Bad)),
         (&["run", "--report", "--report"], Err(CommandFault::Bad)),
         (&["replay", "--report"], Err(CommandFault::Bad)),
-        (&["check"], Err(CommandFault::Bad)),
-        (&["migrate"], Err(CommandFault::Bad)),
+        (&["check"], Ok(Order::Check)),
+        (&["migrate"], Ok(Order::Migrate)),
+        (&["check", "--report"], Err(CommandFault::Bad)),
     ];
     for (words, want) in table {
         assert_eq!(rt; order_of(words), want, "{words:?}");
@@ -578,6 +585,7 @@ fn a_fault_has_its_line(rt: HostRuntime) -> Result<(), Fail> {
         (ServeFault::Waits(12), "stamped: call 12 waits"),
         (ServeFault::Memory, "stamped: memory"),
         (ServeFault::WriteFault, "stamped: write fault"),
+        (ServeFault::BadReply(7), "stamped: bad reply at entry 7"),
         (ServeFault::Refused(ReadError::NotJson), "stamped: not json"),
         (
             ServeFault::Refused(ReadError::NotHistory(Field::Entry(4))),

@@ -15,3 +15,9 @@ pub mod Appending
 pub mod CallText
 pub mod ReportKey
 pub mod HistoryParts
+pub mod PairLengths
+pub mod KnownHistory
+pub mod ReadAgain
+pub mod EntriesReadAgain
+pub mod HistoryAgain
+pub mod HistoryReadsAgain

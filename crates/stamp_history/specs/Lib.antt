@@ -15,3 +15,9 @@ pub mod ScriptValue
 pub mod PlanFault
 pub mod ScriptReading
 pub mod HistoryText
+pub mod HistoryCall
+pub mod ReplyValue
+pub mod EntryValue
+pub mod HistoryFields
+pub mod History
+pub mod HistoryLaws

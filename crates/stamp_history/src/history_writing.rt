@@ -1,13 +1,19 @@
 //! The text of a recorded history.
 
-ghost use Rattle.std.specs.Prelude.{◌≡◌, ◌++◌, ◌∷◌, [], codes, true, IfOk, OnOk, IsOkUnless};
+ghost use Rattle.std.specs.Prelude.{◌≡◌, ◌++◌, codes, true, Ok, IfOk, OnOk, IsOkUnless};
 ghost use Rattle.serde_json.specs.Data.{no_items, item, Members, member};
 ghost use Rattle.serde_json.specs.Written.{compact_text, items_text, members_text};
 ghost use Rattle.stamp_history.specs.ReplayText.{number_data, words_data};
+ghost use Rattle.std.specs.List.{All};
+ghost use Rattle.stamp_core.specs.Limits.{AreInRange};
+ghost use Rattle.stamp_history.specs.History.{history_of};
+ghost use Rattle.stamp_history.specs.HistoryLaws.{IsU64, CallIsU64, EntryIsU64, PairIsU64, AreU64};
 ghost use Rattle.stamp_history.specs.HistoryText as spec;
-ghost use Rattle.stamp_history.specs.HistoryText.{arguments, call_data, entry_data, entries_data, pair_data, report_data, format_of, with_layout, with_report, history_data, history_text};
+ghost use Rattle.stamp_history.specs.HistoryText.{arguments, call_data, entry_data, entries_data};
+ghost use Rattle.stamp_history.specs.HistoryText.{pair_data, report_data, format_of, with_layout};
+ghost use Rattle.stamp_history.specs.HistoryText.{with_report, history_data, history_text};
 
-use crate::json_text::{push_numbered, push_reply, push_text, push_words};
+use crate::json_text::{push_comma, push_numbered, push_reply, push_text, push_words};
 use crate::read_error::ReadError;
 use stamp_core::{Call, Entry, Layout, Record, Words};
 use std::alloc::{AllocError, Global};
@@ -43,16 +49,18 @@ fn call_name(call: &Call) -> &'static str
 }
 
 fn push_stamp(text: &mut Vec<u8>, stamp: u64) -> Result<(), AllocError>
-    ensures { OnOk result (text.new.items
+    ensures text { OnOk result (text.new.items
         ≡ text.old.items ++ items_text true (item (number_data stamp) no_items)) }
+    ensures fits { IsU64 stamp }
 {
     push_numbered(text, ",", stamp)?;
     push_text(text, "]")
 }
 
 fn push_put(text: &mut Vec<u8>, words: &Words) -> Result<(), AllocError>
-    ensures { OnOk result (text.new.items
+    ensures text { OnOk result (text.new.items
         ≡ text.old.items ++ items_text true (item (words_data words.now) no_items)) }
+    ensures fits { OnOk result (All IsU64 words.now) }
 {
     push_text(text, ",")?;
     push_words(text, words)?;
@@ -60,8 +68,9 @@ fn push_put(text: &mut Vec<u8>, words: &Words) -> Result<(), AllocError>
 }
 
 fn push_put_if(text: &mut Vec<u8>, expected: &Words, words: &Words) -> Result<(), AllocError>
-    ensures { OnOk result (text.new.items
+    ensures text { OnOk result (text.new.items
         ≡ text.old.items ++ items_text true (arguments (Call.PutIf expected.now words.now))) }
+    ensures fits { OnOk result (CallIsU64 (Call.PutIf expected.now words.now)) }
 {
     push_text(text, ",")?;
     push_words(text, expected)?;
@@ -70,8 +79,9 @@ fn push_put_if(text: &mut Vec<u8>, expected: &Words, words: &Words) -> Result<()
 
 /// Appends what the call takes, and the end of the list.
 fn push_arguments(text: &mut Vec<u8>, call: &Call) -> Result<(), AllocError>
-    ensures { OnOk result (text.new.items
+    ensures text { OnOk result (text.new.items
         ≡ text.old.items ++ items_text true (arguments call.now)) }
+    ensures fits { OnOk result (CallIsU64 call.now) }
 {
     match call {
         Call::Validate(stamp)
@@ -88,8 +98,9 @@ fn push_arguments(text: &mut Vec<u8>, call: &Call) -> Result<(), AllocError>
 }
 
 fn push_call(text: &mut Vec<u8>, call: &Call) -> Result<(), AllocError>
-    ensures { OnOk result (text.new.items
+    ensures text { OnOk result (text.new.items
         ≡ text.old.items ++ compact_text (call_data call.now)) }
+    ensures fits { OnOk result (CallIsU64 call.now) }
 {
     push_text(text, "[\"")?;
     push_text(text, call_name(call))?;
@@ -99,8 +110,9 @@ fn push_call(text: &mut Vec<u8>, call: &Call) -> Result<(), AllocError>
 }
 
 fn push_entry(text: &mut Vec<u8>, entry: &Entry) -> Result<(), AllocError>
-    ensures { OnOk result (text.new.items
+    ensures text { OnOk result (text.new.items
         ≡ text.old.items ++ compact_text (entry_data entry.now)) }
+    ensures fits { OnOk result (EntryIsU64 entry.now) }
 {
     push_text(text, "{\"call\":")?;
     push_call(text, &entry.call)?;
@@ -115,21 +127,22 @@ fn push_entry(text: &mut Vec<u8>, entry: &Entry) -> Result<(), AllocError>
 }
 
 fn push_entries(text: &mut Vec<u8>, entries: &[Entry]) -> Result<(), AllocError>
-    ensures { OnOk result (text.new.items
+    ensures text { OnOk result (text.new.items
         ≡ text.old.items ++ compact_text (entries_data entries.now)) }
+    ensures fits { OnOk result (All EntryIsU64 entries.now) }
 {
     push_text(text, "[")?;
     for (index, entry) in entries.iter().enumerate() {
-        if index > 0 {
-            push_text(text, ",")?;
-        }
+        push_comma(text, index)?;
         push_entry(text, entry)?;
     }
-    push_text(text, "]")
+    push_text(text, "]")?;
+    Ok(())
 }
 
 fn push_pair(text: &mut Vec<u8>, pair: (u64, u64)) -> Result<(), AllocError>
-    ensures { OnOk result (text.new.items ≡ text.old.items ++ compact_text (pair_data pair)) }
+    ensures text { OnOk result (text.new.items ≡ text.old.items ++ compact_text (pair_data pair)) }
+    ensures fits { OnOk result (PairIsU64 pair) }
 {
     push_numbered(text, "[", pair.0)?;
     push_numbered(text, ",", pair.1)?;
@@ -137,17 +150,17 @@ fn push_pair(text: &mut Vec<u8>, pair: (u64, u64)) -> Result<(), AllocError>
 }
 
 fn push_pairs(text: &mut Vec<u8>, pairs: &[(u64, u64)]) -> Result<(), AllocError>
-    ensures { OnOk result (text.new.items
+    ensures text { OnOk result (text.new.items
         ≡ text.old.items ++ compact_text (report_data pairs.now)) }
+    ensures fits { OnOk result (All PairIsU64 pairs.now) }
 {
     push_text(text, "[")?;
     for (index, pair) in pairs.iter().enumerate() {
-        if index > 0 {
-            push_text(text, ",")?;
-        }
+        push_comma(text, index)?;
         push_pair(text, *pair)?;
     }
-    push_text(text, "]")
+    push_text(text, "]")?;
+    Ok(())
 }
 
 /// Appends the format, and the layout where it is the second.
@@ -168,8 +181,9 @@ fn push_format(text: &mut Vec<u8>, layout: Layout) -> Result<(), AllocError>
 
 /// Appends the report, if there is one.
 fn push_report(text: &mut Vec<u8>, report: &[(u64, u64)]) -> Result<(), AllocError>
-    ensures { OnOk result ((rest : Members) → text.new.items ++ members_text true rest
+    ensures text { OnOk result ((rest : Members) → text.new.items ++ members_text true rest
         ≡ text.old.items ++ members_text true (with_report report.now rest)) }
+    ensures fits { OnOk result (All PairIsU64 report.now) }
 {
     if report.is_empty() {
         return Ok(());
@@ -180,8 +194,10 @@ fn push_report(text: &mut Vec<u8>, report: &[(u64, u64)]) -> Result<(), AllocErr
 }
 
 fn push_history(text: &mut Vec<u8>, history: &Record) -> Result<(), AllocError>
-    ensures { OnOk result (text.new.items
+    ensures text { OnOk result (text.new.items
         ≡ text.old.items ++ compact_text (history_data history.now)) }
+    ensures fits { OnOk result (AreU64 history.now) }
+    ensures range { OnOk result (AreInRange history.now.limits) }
 {
     let limits = history.limits();
     push_text(text, "{\"entries\":")?;
@@ -201,6 +217,7 @@ fn push_history(text: &mut Vec<u8>, history: &Record) -> Result<(), AllocError>
 #[tactic(auto, unfolding(crate::specs::HistoryText::history_text))]
 pub fn write_history(alloc: Global, history: &Record) -> Result<Vec<u8>, ReadError>
     ensures text { IfOk result (λ text. text.items ≡ history_text history.now) }
+    ensures again { IfOk result (λ text. history_of text.items ≡ Ok history.now) }
     ensures refused { IsOkUnless result ReadError.Memory }
 {
     let bytes = ENTRY_BYTES.saturating_mul(history.entries().len() + 1);

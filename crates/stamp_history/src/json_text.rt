@@ -1,7 +1,9 @@
 //! JSON values appended to a text.
 
-ghost use Rattle.std.specs.Prelude.{◌≡◌, ◌++◌, OnOk, decimal};
-ghost use Rattle.serde_json.specs.Written.{compact_text};
+ghost use Rattle.std.specs.Prelude.{◌≡◌, ◌++◌, OnOk, nat_lt};
+ghost use Rattle.std.specs.List.{All};
+ghost use Rattle.serde_json.specs.Written.{comma_if, compact_text};
+ghost use Rattle.stamp_history.specs.HistoryLaws.{IsU64, ReplyIsU64};
 ghost use Rattle.stamp_history.specs.ReplayText.{number_data, words_data, reply_data};
 
 use itoa::Buffer;
@@ -17,8 +19,9 @@ pub(crate) fn push_text(text: &mut Vec<u8>, piece: &str) -> Result<(), AllocErro
 
 /// Appends the number.
 pub(crate) fn push_number(text: &mut Vec<u8>, number: u64) -> Result<(), AllocError>
-    ensures { OnOk result (text.new.items
+    ensures text { OnOk result (text.new.items
         ≡ text.old.items ++ compact_text (number_data number)) }
+    ensures fits { IsU64 number }
 {
     let mut digits = Buffer::new();
     push_text(text, digits.format(number))
@@ -26,39 +29,52 @@ pub(crate) fn push_number(text: &mut Vec<u8>, number: u64) -> Result<(), AllocEr
 
 /// Appends what stands before the number, and the number.
 pub(crate) fn push_numbered(text: &mut Vec<u8>, before: &str, number: u64) -> Result<(), AllocError>
-    ensures { OnOk result (text.new.items
+    ensures text { OnOk result (text.new.items
         ≡ text.old.items ++ (before.now ++ compact_text (number_data number))) }
+    ensures fits { IsU64 number }
 {
     push_text(text, before)?;
     push_number(text, number)
 }
 
+/// Appends the comma before an item that is not the first.
+pub(crate) fn push_comma(text: &mut Vec<u8>, index: usize) -> Result<(), AllocError>
+    ensures { OnOk result (text.new.items ≡ text.old.items ++ comma_if (nat_lt 0 index)) }
+{
+    if index > 0 {
+        push_text(text, ",")?;
+    }
+    Ok(())
+}
+
 fn push_numbers(text: &mut Vec<u8>, numbers: &[u64]) -> Result<(), AllocError>
-    ensures { OnOk result (text.new.items
+    ensures text { OnOk result (text.new.items
         ≡ text.old.items ++ compact_text (words_data numbers.now)) }
+    ensures fits { OnOk result (All IsU64 numbers.now) }
 {
     push_text(text, "[")?;
     for (index, number) in numbers.iter().enumerate() {
-        if index > 0 {
-            push_text(text, ",")?;
-        }
+        push_comma(text, index)?;
         push_number(text, *number)?;
     }
-    push_text(text, "]")
+    push_text(text, "]")?;
+    Ok(())
 }
 
 /// Appends the list of the words.
 pub(crate) fn push_words(text: &mut Vec<u8>, words: &Words) -> Result<(), AllocError>
-    ensures { OnOk result (text.new.items
+    ensures text { OnOk result (text.new.items
         ≡ text.old.items ++ compact_text (words_data words.now)) }
+    ensures fits { OnOk result (All IsU64 words.now) }
 {
     push_numbers(text, words.as_slice())
 }
 
 #[tactic(auto, unfolding(serde_json::proofs::OnLiterals::serde_json_on_literals))]
 fn push_count(text: &mut Vec<u8>, count: u64) -> Result<(), AllocError>
-    ensures { OnOk result (text.new.items
+    ensures text { OnOk result (text.new.items
         ≡ text.old.items ++ compact_text (reply_data (Reply.Count count))) }
+    ensures fits { IsU64 count }
 {
     push_numbered(text, "{\"count\":", count)?;
     push_text(text, "}")
@@ -67,8 +83,9 @@ fn push_count(text: &mut Vec<u8>, count: u64) -> Result<(), AllocError>
 /// Appends the reply.
 #[tactic(auto, unfolding(serde_json::proofs::OnLiterals::serde_json_on_literals))]
 pub(crate) fn push_reply(text: &mut Vec<u8>, reply: &Reply) -> Result<(), AllocError>
-    ensures { OnOk result (text.new.items
+    ensures text { OnOk result (text.new.items
         ≡ text.old.items ++ compact_text (reply_data reply.now)) }
+    ensures fits { OnOk result (ReplyIsU64 reply.now) }
 {
     match reply {
         Reply::Stamp(stamp) => push_number(text, *stamp),

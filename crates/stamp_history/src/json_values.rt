@@ -23,7 +23,7 @@ pub(crate) fn json(alloc: Global, bytes: &[u8]) -> Result<Value, ReadError>
     }
 }
 
-fn has_members(value: &Value, count: usize) -> bool
+pub(crate) fn has_members(value: &Value, count: usize) -> bool
     ensures { result ≡ spec.has_members count (view value.now) }
 {
     match value.as_object() {

@@ -1,13 +1,20 @@
-//! Texts in JSON: replays and what they are answered, scripts, and recorded histories.
+//! Replays, scripts and recorded histories as JSON, and what a replay answered as JSON.
 #![tactic(auto)]
 
 mod answer_error;
 mod field;
+mod history_calls;
+mod history_entries;
+mod history_fields;
+mod history_reading;
+#[cfg(test)]
+mod history_reading_tests;
 #[cfg(test)]
 mod history_tests;
 mod history_writing;
 mod json_text;
 mod json_values;
+pub mod laws;
 mod limit_fields;
 mod lock_calls;
 mod read_error;
@@ -27,9 +34,11 @@ mod words_value;
 
 pub use answer_error::AnswerError;
 pub use field::Field;
+pub use history_reading::read_history;
 pub use history_writing::write_history;
 pub use read_error::ReadError;
 pub use replay_answer::replay_text;
 pub use replay_reading::read_replay;
 pub use replay_writing::write_replay;
 pub use script_reading::read_script;
+pub use stamp_check::{Bad, BadReply, Why, check, migrate};

@@ -6,9 +6,9 @@ use Rattle.stamp_history.specs.HistoryText.{call_data}
 use Rattle.stamp_history.proofs.Appending.{onto}
 use Rattle.stamp_history.proofs.history_writing.push_entry.Goals as goal
 
-pub returns : goal.returns
+pub returns-clause-text : goal.returns-clause-text
 unfolding serde_json_on_literals
-returns c =
+returns-clause-text c =
     let e = c.args.entry.now in
     let end = codes "}" in
     let thread = codes ",\"thread\":" ++ compact_text (number_data e.thread) in
@@ -19,10 +19,10 @@ returns c =
     let from_first = (codes ",\"first\":" ++ compact_text (number_data e.first)) ++ from_last in
     let from_call = compact_text (call_data e.call) ++ from_first in
     onto _ (codes "{\"call\":") from_call c.in_ok-push_text.ensures
-    (onto _ (compact_text (call_data e.call)) from_first c.in_ok-push_call.ensures
-    (onto _ (codes ",\"first\":" ++ compact_text (number_data e.first)) from_last c.in_ok-push_numbered.ensures
-    (onto _ (codes ",\"last\":" ++ compact_text (number_data e.last)) from_point c.in_ok-push_numbered-2.ensures
-    (onto _ (codes ",\"point\":" ++ compact_text (number_data e.point)) from_key c.in_ok-push_numbered-3.ensures
+    (onto _ (compact_text (call_data e.call)) from_first c.in_ok-push_call.ensures.text
+    (onto _ (codes ",\"first\":" ++ compact_text (number_data e.first)) from_last c.in_ok-push_numbered.ensures.text
+    (onto _ (codes ",\"last\":" ++ compact_text (number_data e.last)) from_point c.in_ok-push_numbered-2.ensures.text
+    (onto _ (codes ",\"point\":" ++ compact_text (number_data e.point)) from_key c.in_ok-push_numbered-3.ensures.text
     (onto _ (codes ",\"reply\":") from_reply c.in_ok-push_text-2.ensures
-    (onto _ (compact_text (reply_data e.reply)) (thread ++ end) c.in_ok-push_reply.ensures
-    (onto _ thread end c.in_ok-push_numbered-4.ensures c.in_ok-push_text-3.ensures)))))))
+    (onto _ (compact_text (reply_data e.reply)) (thread ++ end) c.in_ok-push_reply.ensures.text
+    (onto _ thread end c.in_ok-push_numbered-4.ensures.text c.in_ok-push_text-3.ensures)))))))

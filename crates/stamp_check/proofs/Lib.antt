@@ -1,0 +1,13 @@
+pub mod LastPositions
+pub mod LockOrRecord
+pub mod EntryByEntry
+pub mod LockAnswers
+pub mod WalkSteps
+pub mod OneFault
+pub mod RespelledStamps
+pub mod RespelledRows
+pub mod RespelledReplies
+pub mod RespelledEntries
+pub mod RespelledRecords
+pub mod RespelledParts
+pub mod OneForeign

@@ -1,0 +1,5 @@
+use Rattle.stamp_check.proofs.RespelledRecords.{migration_keeps_verdicts}
+use Rattle.stamp_check.proofs.migration_laws.migration_keeps_verdicts.Goals as goal
+
+pub returns : goal.returns
+returns c = migration_keeps_verdicts

@@ -1,0 +1,27 @@
+-- The laws of checks, over the definitions alone.
+use Rattle.std.specs.Prelude.{ℕ, ◌≡◌, ◌≤◌, length, Result, Ok}
+use Rattle.stamp_core.specs.Record.{Recorded}
+use Rattle.stamp_core.specs.Linearized.{IsLinearized}
+use Rattle.stamp_machines.specs.Script.{Scripted, IsSound}
+use Rattle.stamp_machines.specs.RunRecord.{run_record, reported_record}
+use Rattle.stamp_machines.specs.World.{completed_calls}
+use Rattle.stamp_check.specs.declared.checking.Bad.{Bad}
+use Rattle.stamp_check.specs.declared.checking.Why.{Why}
+use Rattle.stamp_check.specs.FirstFault.{IsFirstFault}
+use Rattle.stamp_check.specs.Verdict.{IsVerdict}
+
+-- What has a fault is not linearized.
+abbrev pub FaultsAreExact : Type 0
+FaultsAreExact = (r : Recorded) (i : ℕ) (why : Why) → IsFirstFault r i why → ¬ IsLinearized r
+
+-- Of each recorded history there is one verdict at most.
+abbrev pub OneVerdict : Type 0
+OneVerdict = (r : Recorded) (a b : Result ℕ Bad) → IsVerdict r a → IsVerdict r b → a ≡ b
+
+-- The verdict on what a script is run to, with or without its report, is the number of its finished calls.
+abbrev pub RunsAreAccepted : Type 0
+RunsAreAccepted =
+    (plan : Scripted) → IsSound plan → length plan.steps ≤ 1000000 →
+    let accepted = Ok (length (completed_calls plan plan.steps)) in
+    ((a : Result ℕ Bad) → IsVerdict (run_record plan) a → a ≡ accepted) ×
+    ((a : Result ℕ Bad) → IsVerdict (reported_record plan) a → a ≡ accepted)

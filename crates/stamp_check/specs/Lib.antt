@@ -1,0 +1,9 @@
+pub mod FirstFault
+pub mod Verdict
+pub mod GoesOn
+pub mod LockReplies
+pub mod Walk
+pub mod CheckLaws
+pub mod SameVerdict
+pub mod Migration
+pub mod MigrationLaws

@@ -1,0 +1,17 @@
+//! Laws of checks. Each function does nothing; its contract is the law, over the definitions alone.
+ghost use Rattle.stamp_check.specs.CheckLaws.{FaultsAreExact, OneVerdict, RunsAreAccepted};
+
+/// What has a fault is not linearized.
+pub fn faults_are_exact()
+    ensures { FaultsAreExact }
+{}
+
+/// There is one verdict on a recorded history at most: `check` answers it.
+pub fn one_verdict()
+    ensures { OneVerdict }
+{}
+
+/// `check` accepts what `run` and `run_reported` give, whatever the script.
+pub fn runs_are_accepted()
+    ensures { RunsAreAccepted }
+{}

@@ -1,0 +1,126 @@
+//! Records of layout 1, spelled anew in layout 2.
+ghost use Rattle.std.specs.Prelude.{◌≡◌, ◌↔◌, map, IsOk, IfOk, IfErr, IsTrue, MatchOption};
+ghost use Rattle.stamp_check.specs.SameVerdict.{HaveSameVerdict};
+ghost use Rattle.stamp_check.specs.Migration.{respelling, respelled_call, respelled_reply, respelled_entry, respelled_record, widened, migrated, CanRespell, AllCanRespell, CanMigrate, IsFirstForeign, IsBadReply};
+
+use stamp_core::{Call, CoreError, Entry, Layout, Limits, Record, Reply, respell};
+
+/// 1, its only cause: this entry is the first whose stamp reply is neither 0 nor a stamp of layout 1
+/// of a version up to 2^46-2. It hands the record back as it was.
+#[derive(Drop)]
+pub struct BadReply {
+    pub entry: u64,
+    pub unchanged: Record,
+}
+
+fn respelled(stamp: u64) -> u64
+    ensures { result ≡ respelling stamp }
+{
+    respell(stamp)
+}
+
+fn respelled_call(call: &Call) -> Call
+    ensures { result ≡ respelled_call call.now }
+{
+    match *call {
+        Call::Validate(stamp) => Call::Validate(respelled(stamp)),
+        Call::UnlockWrite(stamp) => Call::UnlockWrite(respelled(stamp)),
+        Call::UnlockRead(stamp) => Call::UnlockRead(respelled(stamp)),
+        Call::Unlock(stamp) => Call::Unlock(respelled(stamp)),
+        Call::ToWrite(stamp) => Call::ToWrite(respelled(stamp)),
+        Call::ToRead(stamp) => Call::ToRead(respelled(stamp)),
+        Call::ToOptimistic(stamp) => Call::ToOptimistic(respelled(stamp)),
+        other => other,
+    }
+}
+
+fn respelled_reply(reply: &Reply) -> Reply
+    ensures { result ≡ respelled_reply reply.now }
+{
+    match *reply {
+        Reply::Stamp(stamp) => Reply::Stamp(respelled(stamp)),
+        other => other,
+    }
+}
+
+fn can_respell(reply: &Reply) -> bool
+    ensures { IsTrue result ↔ CanRespell reply.now }
+{
+    match *reply {
+        Reply::Stamp(stamp) => stamp == 0 || respelled(stamp) != 0,
+        _ => true,
+    }
+}
+
+fn first_foreign(entries: &[Entry]) -> Option<usize>
+    ensures { MatchOption result (AllCanRespell entries.now) (λ i. IsFirstForeign entries.now i) }
+{
+    for (i, entry) in entries.iter().enumerate() {
+        if !can_respell(&entry.reply) {
+            return Some(i);
+        }
+    }
+    None
+}
+
+fn respelled_entry(entry: &Entry) -> Entry
+    ensures { result ≡ respelled_entry entry.now }
+{
+    Entry {
+        call: respelled_call(&entry.call),
+        reply: respelled_reply(&entry.reply),
+        ..*entry
+    }
+}
+
+fn respelled_entries(mut entries: Vec<Entry>) -> Vec<Entry>
+    ensures { result.items ≡ map respelled_entry entries.items }
+{
+    for entry in entries.iter_mut() {
+        *entry = respelled_entry(entry);
+    }
+    entries
+}
+
+fn widened(limits: &Limits) -> Limits
+    ensures { result ≡ widened limits.now }
+{
+    let versions = limits.versions().min(Layout::Two.most_versions());
+    match Limits::in_layout(Layout::Two, limits.readers(), versions) {
+        Ok(widened) => widened,
+        Err(CoreError::LimitsOutOfRange) => unreachable!(),
+    }
+}
+
+fn in_layout_two(history: Record) -> Record
+    ensures { result ≡ respelled_record history }
+{
+    let (limits, width, entries, report) = history.into_parts();
+    let entries = respelled_entries(entries);
+    match Record::of_reported(widened(&limits), width, entries, report) {
+        Some(migrated) => migrated,
+        None => unreachable!(),
+    }
+}
+
+/// The record spelled in layout 2: stamps that calls take and replies keep their kind, version and
+/// place there, and a number that is no stamp, or is of a version that layout 2 has not, becomes 0.
+/// A record of layout 2 comes back as it is.
+pub fn migrate(history: Record) -> Result<Record, BadReply>
+    ensures ok { IsOk result ↔ CanMigrate history }
+    ensures migrated { IfOk result (λ r. r ≡ migrated history) }
+    ensures verdict { IfOk result (λ r. HaveSameVerdict r history) }
+    ensures bad { IfErr result (λ bad. IsBadReply history bad.entry) }
+    ensures unchanged { IfErr result (λ bad. bad.unchanged ≡ history) }
+{
+    match history.limits().layout() {
+        Layout::Two => Ok(history),
+        Layout::One => match first_foreign(history.entries()) {
+            None => Ok(in_layout_two(history)),
+            Some(entry) => Err(BadReply {
+                entry: entry as u64,
+                unchanged: history,
+            }),
+        },
+    }
+}

@@ -1,0 +1,24 @@
+//! Laws of migration. Each function does nothing; its contract is the law, over the definitions
+//! alone.
+ghost use Rattle.stamp_check.specs.MigrationLaws.{RespellingIsOfStamps, MigrationKeepsLinearized, MigrationKeepsFaults, MigrationKeepsVerdicts};
+
+/// A stamp is respelled to the stamp of the same kind, version and place in layout 2, and a number
+/// that is none there to 0.
+pub fn respelling_is_of_stamps()
+    ensures { RespellingIsOfStamps }
+{}
+
+/// A migrated record is linearized exactly where the old one is.
+pub fn migration_keeps_linearized()
+    ensures { MigrationKeepsLinearized }
+{}
+
+/// A migrated record has the first fault of the old one, at the same entry.
+pub fn migration_keeps_faults()
+    ensures { MigrationKeepsFaults }
+{}
+
+/// A check says the same of a record and of the migrated one.
+pub fn migration_keeps_verdicts()
+    ensures { MigrationKeepsVerdicts }
+{}

@@ -1,0 +1,94 @@
+//! The walk over a history.
+ghost use Rattle.std.specs.Prelude.{◌≡◌, ◌<◌, ◌≤◌, ◌↔◌, [], length, IsTrue};
+ghost use Rattle.stamp_core.specs.Linearized.{IsWithin};
+ghost use Rattle.stamp_core.specs.Word.{IsAdmitted, word_at};
+ghost use Rattle.stamp_core.specs.Content.{zeros};
+ghost use Rattle.stamp_check.specs.Walk.{IsAbove, IsAfter, Advances};
+
+use crate::checking::Why;
+use crate::judging::{lock_goes_on, record_goes_on};
+use stamp_core::{Entry, Limits, Word, Words};
+
+/// What is kept of the entries so far: the number of the lock's word, the record's content, the
+/// last point, and the last position of each thread.
+#[derive(Drop)]
+pub(crate) struct Walk {
+    pub(crate) bits: u64,
+    pub(crate) content: Words,
+    pub(crate) point: Option<u64>,
+    pub(crate) lasts: [Option<u64>; 64],
+}
+
+/// The point lies in the interval.
+pub(crate) fn is_within(entry: &Entry) -> bool
+    ensures { IsTrue result ↔ IsWithin entry.now }
+{
+    entry.first <= entry.point && entry.point <= entry.last
+}
+
+fn is_above(before: Option<u64>, n: u64) -> bool
+    ensures { IsTrue result ↔ IsAbove before n }
+{
+    match before {
+        None => true,
+        Some(b) => b < n,
+    }
+}
+
+/// Zeros; one of them where there is no record.
+pub(crate) fn first_content(width: u64) -> Words
+    ensures { 0 < width → width ≤ 16 → result ≡ zeros width }
+{
+    if width == 0 || width > 16 {
+        Words::zeros(1)
+    } else {
+        Words::zeros(width as usize)
+    }
+}
+
+impl Walk {
+    /// Before the first entry.
+    pub(crate) fn start(limits: Limits, width: u64) -> Walk
+        ensures { width ≤ 16 → IsAfter limits width [] result }
+    {
+        Walk {
+            bits: Word::opening_in(limits.layout()).bits(),
+            content: first_content(width),
+            point: None,
+            lasts: [None; 64],
+        }
+    }
+
+    /// One entry more, or what it breaks first.
+    pub(crate) fn advance(&mut self, limits: Limits, entry: &Entry) -> Option<Why>
+        requires admitted { IsAdmitted limits (word_at limits self.old.bits) }
+        requires thread { entry.now.thread < 64 }
+        requires threads { length self.old.lasts ≡ 64 }
+        ensures { Advances limits entry.now self.old self.new result }
+    {
+        if !is_within(entry) {
+            return Some(Why::Interval);
+        }
+        if !is_above(self.point, entry.point) {
+            return Some(Why::Order);
+        }
+        let place = entry.thread as usize;
+        if !is_above(self.lasts[place], entry.first) {
+            return Some(Why::Overlap);
+        }
+        if entry.call.is_lock_call() {
+            let Some(bits) = lock_goes_on(limits, self.bits, &entry.call, &entry.reply) else {
+                return Some(Why::Reply);
+            };
+            self.bits = bits;
+        } else {
+            let Some(content) = record_goes_on(&self.content, &entry.call, &entry.reply) else {
+                return Some(Why::Reply);
+            };
+            self.content = content;
+        }
+        self.point = Some(entry.point);
+        self.lasts[place] = Some(entry.last);
+        None
+    }
+}

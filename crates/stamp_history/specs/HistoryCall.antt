@@ -1,0 +1,39 @@
+-- The calls of a history as JSON: those of a script whose stamp is a whole number.
+use Rattle.std.specs.Prelude.{ℕ, Option, Some, None, option_and_then, option_map}
+use Rattle.serde_json.specs.Data.{Data}
+use Rattle.stamp_core.specs.declared.call.Call.{Call}
+use Rattle.stamp_core.specs.declared.call.Call.TheVariants as call
+use Rattle.stamp_machines.specs.declared.script.Arg.{Arg}
+use Rattle.stamp_machines.specs.declared.script.Arg.TheVariants.{Number, Of}
+use Rattle.stamp_machines.specs.declared.script.ScriptCall.{ScriptCall}
+use Rattle.stamp_machines.specs.declared.script.ScriptCall.TheVariants.{TryWrite, TryRead, WriteLock, ReadLock, Optimistic, Validate, UnlockWrite, UnlockRead, Unlock, ToWrite, ToRead, ToOptimistic, TryUnlockWrite, TryUnlockRead, IsWriteLocked, IsReadLocked, ReadCount, Get, Put, PutIf}
+use Rattle.stamp_history.specs.ScriptCallValue.{script_call}
+
+abbrev pub number : Arg → Option ℕ
+number (Number n) = Some n
+number (Of thread index) = None
+
+abbrev pub as_call : ScriptCall → Option Call
+as_call TryWrite = Some call.TryWrite
+as_call TryRead = Some call.TryRead
+as_call WriteLock = Some call.WriteLock
+as_call ReadLock = Some call.ReadLock
+as_call Optimistic = Some call.Optimistic
+as_call (Validate stamp) = option_map call.Validate (number stamp)
+as_call (UnlockWrite stamp) = option_map call.UnlockWrite (number stamp)
+as_call (UnlockRead stamp) = option_map call.UnlockRead (number stamp)
+as_call (Unlock stamp) = option_map call.Unlock (number stamp)
+as_call (ToWrite stamp) = option_map call.ToWrite (number stamp)
+as_call (ToRead stamp) = option_map call.ToRead (number stamp)
+as_call (ToOptimistic stamp) = option_map call.ToOptimistic (number stamp)
+as_call TryUnlockWrite = Some call.TryUnlockWrite
+as_call TryUnlockRead = Some call.TryUnlockRead
+as_call IsWriteLocked = Some call.IsWriteLocked
+as_call IsReadLocked = Some call.IsReadLocked
+as_call ReadCount = Some call.ReadCount
+as_call Get = Some call.Get
+as_call (Put words) = Some (call.Put words)
+as_call (PutIf expected words) = Some (call.PutIf expected words)
+
+abbrev pub history_call : Data → Option Call
+history_call d = option_and_then as_call (script_call d)
