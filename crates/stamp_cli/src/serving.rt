@@ -14,7 +14,9 @@ use crate::sinks::Sink;
 use crate::sources::Source;
 use std::alloc::Global;
 
-/// Answers the order: reads what it needs of the source and writes one line, or says why not.
+/// Answers the order: reads what it needs of the source and writes one line, or says why not. What
+/// was read of the source is gone also after a refusal. No more than 16,777,216 bytes are taken as
+/// an input; the readings of `stamp_history` by themselves have no such limit.
 pub fn serve<S: Source, K: Sink>(
     alloc: Global,
     order: Order,

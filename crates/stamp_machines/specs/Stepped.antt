@@ -1,4 +1,4 @@
--- What a step reports, and the value of a run.
+-- What a step reports.
 use Rattle.std.specs.Prelude.{◌≡◌, ℕ, [], ◌∷◌, ◌++◌, IsSome, None}
 use Rattle.stamp_machines.specs.Script.{Scripted}
 use Rattle.stamp_machines.specs.World.{World, current, step, entry_of}

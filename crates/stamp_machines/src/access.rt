@@ -2,7 +2,9 @@
 ghost use Rattle.std.specs.Prelude.{◌≡◌, ◌<◌, length};
 ghost use Rattle.stamp_machines.specs.Access.{place_of, words_after, seen_by};
 
-/// One access to the word of this place, counted from 0.
+/// One access to the word of this place, counted from 0: 0 is the lock's word, 1 that of the
+/// record's own lock, and the record's words come after them. What an access sees is the value that
+/// stood there before it.
 #[derive(Clone, Copy, Debug, PartialEq, Eq)]
 pub enum Access {
     Load(usize),

@@ -10,7 +10,7 @@ use stamp_core::Record;
 use std::alloc::Global;
 
 /// Runs a script to its end. The record has an entry for each finished call, in the order of their
-/// last steps, which are their points.
+/// last steps, which are their points. The one error is 6 `Memory`, after which nothing is kept.
 pub fn run(alloc: Global, script: &Script) -> Result<Record, RunError>
     ensures record { IfOk result (λ r. r ≡ run_record script.now) }
     ensures linearized { IfOk result (λ r. IsLinearized r) }
@@ -25,7 +25,8 @@ pub fn run(alloc: Global, script: &Script) -> Result<Record, RunError>
 }
 
 /// Runs a script to its end as `run` does. The report has a pair for each entry: its own steps, and
-/// the steps of others between its first and its last that changed the lock's word.
+/// the steps of others between its first and its last that changed the lock's word (and not those
+/// that changed the record's own lock).
 pub fn run_reported(alloc: Global, script: &Script) -> Result<Record, RunError>
     ensures record { IfOk result (λ r. r ≡ reported_record script.now) }
     ensures linearized { IfOk result (λ r. IsLinearized r) }

@@ -42,7 +42,9 @@ impl From<AllocError> for RunError {
     }
 }
 
-/// A script, and how far it has come.
+/// A run of a script's threads. Which of them makes the next step is told to `step`; the steps that
+/// the script itself lists are for `run` alone. `finished` has the entries so far, of which
+/// `Record::of` makes a record.
 #[derive(Drop)]
 pub struct Run<'a> {
     script: &'a Script,
