@@ -18,7 +18,7 @@ cc -O2 -o "$room/by_hand" "$here/run_script.c"
 if echo '#include <jansson.h>' | cc -E -x c - > "$room/found" 2>&1; then
     cc -O2 -DJANSSON -o "$room/by_jansson" "$here/run_script.c" -ljansson
 else
-    echo "no jansson.h (Debian: libjansson-dev): the target of C, which is by that, is not judged"
+    echo "no jansson.h (Debian: libjansson-dev): no row for C that reads by it"
 fi
 for mix in lock record; do
     python3 "$here/make_script.py" "$room/script.json" "$steps" "$mix"

@@ -2,8 +2,8 @@
 
     run_table.py PROGRAM PYTHON_PROGRAM FOLDER STEPS ROUNDS
 
-FOLDER holds script.json and the C program by_hand, and by_jansson where that could be built: the
-target of C is judged on by_jansson alone. Times are those of whole processes, on the wall. Memory
+FOLDER holds script.json and the C program by_hand, on which the target of C is judged, and
+by_jansson where that could be built. Times are those of whole processes, on the wall. Memory
 is the most that one was resident. That of reading is the peak of `stamped run` of refused.json,
 which is written here: the same script but for its last step, which names a thread that there isn't,
 so it is read to its end and then refused, with status 1. Any other status but 0 ends the table."""
@@ -101,9 +101,10 @@ def print_times(runs):
 
 def print_ratios(runs):
     print_figure("of python3", ratio_of(runs, "stamped run", "python3"), MOST_OF_PYTHON)
+    print_figure("of C", ratio_of(runs, "stamped run", "C"), MOST_OF_C)
     if "C, jansson" in runs:
-        print_figure("of C, jansson", ratio_of(runs, "stamped run", "C, jansson"), MOST_OF_C)
-    print(f"{'of C':16}{ratio_of(runs, 'stamped run', 'C'):8.2f}    (no target)")
+        ratio = ratio_of(runs, "stamped run", "C, jansson")
+        print(f"{'of C, jansson':16}{ratio:8.2f}    (no target)")
     print_figure("report of run", ratio_of(runs, "run --report", "stamped run"), MOST_OF_RUN)
 
 
