@@ -9,6 +9,7 @@ pub mod Call
 pub mod Transition
 pub mod Decision
 pub mod Decoded
+pub mod LockDecision
 pub mod CountedDecision
 pub mod Content
 pub mod History

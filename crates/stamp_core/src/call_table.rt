@@ -3,19 +3,19 @@
 
 ghost use Rattle.std.specs.Prelude.{◌≡◌, if◌then◌else◌};
 ghost use Rattle.stamp_core.specs.CountedDecision.{decision_of};
+ghost use Rattle.stamp_core.specs.LockDecision.{decision_as};
 
 use crate::call::Call;
-use crate::decision::Decision;
+use crate::lock_decision::{LockDecision, LockReply};
 use crate::limits::Limits;
-use crate::reply::Reply;
 use crate::word::Word;
 
 #[inline(always)]
-pub(crate) fn decided(limits: Limits, word: Word, call: Call) -> Decision
+pub(crate) fn decided(limits: Limits, word: Word, call: &Call) -> LockDecision
     requires { word.layout ≡ limits.layout }
-    ensures { result ≡ decision_of limits word call }
+    ensures { decision_as result ≡ decision_of limits word call.now }
 {
-    match call {
+    match *call {
         Call::TryWrite => try_write(limits, word),
         Call::TryRead => try_read(limits, word),
         Call::WriteLock => write_lock(limits, word),
@@ -32,33 +32,33 @@ pub(crate) fn decided(limits: Limits, word: Word, call: Call) -> Decision
         Call::TryUnlockRead => try_unlock_read(limits, word),
         Call::IsWriteLocked => yes_where(word.has_writer()),
         Call::IsReadLocked => yes_where(word.reader_count() > 0),
-        Call::ReadCount => Decision::Answer(Reply::Count(word.reader_count())),
-        Call::Get | Call::Put(_) | Call::PutIf(_, _) => Decision::Wait,
+        Call::ReadCount => LockDecision::Answer(LockReply::Count(word.reader_count())),
+        Call::Get | Call::Put(_) | Call::PutIf(_, _) => LockDecision::Wait,
     }
 }
 
-fn zero() -> Decision
-    ensures { result ≡ Decision.Answer (Reply.Stamp 0) }
+fn zero() -> LockDecision
+    ensures { result ≡ LockDecision.Answer (LockReply.Stamp 0) }
 {
-    Decision::Answer(Reply::Stamp(0))
+    LockDecision::Answer(LockReply::Stamp(0))
 }
 
-fn yes_where(holds: bool) -> Decision
-    ensures { result ≡ Decision.Answer (if holds then Reply.Yes else Reply.No) }
+fn yes_where(holds: bool) -> LockDecision
+    ensures { result ≡ LockDecision.Answer (if holds then LockReply.Yes else LockReply.No) }
 {
-    Decision::Answer(if holds { Reply::Yes } else { Reply::No })
+    LockDecision::Answer(if holds { LockReply::Yes } else { LockReply::No })
 }
 
 /// Answers the stamp that the new word is.
-fn gets(word: Word) -> Decision
-    ensures { result ≡ Decision.Change word (Reply.Stamp word.bits) }
+fn gets(word: Word) -> LockDecision
+    ensures { result ≡ LockDecision.Change word (LockReply.Stamp word.bits) }
 {
-    Decision::Change(word, Reply::Stamp(word.bits()))
+    LockDecision::Change(word, LockReply::Stamp(word.bits()))
 }
 
-fn try_write(limits: Limits, word: Word) -> Decision
+fn try_write(limits: Limits, word: Word) -> LockDecision
     requires { word.layout ≡ limits.layout }
-    ensures { result ≡ decision_of limits word Call.TryWrite }
+    ensures { decision_as result ≡ decision_of limits word Call.TryWrite }
 {
     if word.may_write(limits) {
         gets(word.with_writer())
@@ -67,9 +67,9 @@ fn try_write(limits: Limits, word: Word) -> Decision
     }
 }
 
-fn try_read(limits: Limits, word: Word) -> Decision
+fn try_read(limits: Limits, word: Word) -> LockDecision
     requires { word.layout ≡ limits.layout }
-    ensures { result ≡ decision_of limits word Call.TryRead }
+    ensures { decision_as result ≡ decision_of limits word Call.TryRead }
 {
     if word.may_read(limits) {
         gets(word.with_reader())
@@ -78,89 +78,89 @@ fn try_read(limits: Limits, word: Word) -> Decision
     }
 }
 
-fn write_lock(limits: Limits, word: Word) -> Decision
+fn write_lock(limits: Limits, word: Word) -> LockDecision
     requires { word.layout ≡ limits.layout }
-    ensures { result ≡ decision_of limits word Call.WriteLock }
+    ensures { decision_as result ≡ decision_of limits word Call.WriteLock }
 {
     if word.version() == limits.versions() {
         zero()
     } else if word.may_write(limits) {
         gets(word.with_writer())
     } else {
-        Decision::Wait
+        LockDecision::Wait
     }
 }
 
-fn read_lock(limits: Limits, word: Word) -> Decision
+fn read_lock(limits: Limits, word: Word) -> LockDecision
     requires { word.layout ≡ limits.layout }
-    ensures { result ≡ decision_of limits word Call.ReadLock }
+    ensures { decision_as result ≡ decision_of limits word Call.ReadLock }
 {
     if word.may_read(limits) {
         gets(word.with_reader())
     } else {
-        Decision::Wait
+        LockDecision::Wait
     }
 }
 
-fn optimistic(limits: Limits, word: Word) -> Decision
+fn optimistic(limits: Limits, word: Word) -> LockDecision
     requires { word.layout ≡ limits.layout }
-    ensures { result ≡ decision_of limits word Call.Optimistic }
+    ensures { decision_as result ≡ decision_of limits word Call.Optimistic }
 {
     if word.has_writer() {
         zero()
     } else {
-        Decision::Answer(Reply::Stamp(word.observed()))
+        LockDecision::Answer(LockReply::Stamp(word.observed()))
     }
 }
 
-fn validate(limits: Limits, word: Word, stamp: u64) -> Decision
+fn validate(limits: Limits, word: Word, stamp: u64) -> LockDecision
     requires { word.layout ≡ limits.layout }
-    ensures { result ≡ decision_of limits word (Call.Validate stamp) }
+    ensures { decision_as result ≡ decision_of limits word (Call.Validate stamp) }
 {
     yes_where(word.validates(stamp))
 }
 
-fn unlock_write(limits: Limits, word: Word, stamp: u64) -> Decision
+fn unlock_write(limits: Limits, word: Word, stamp: u64) -> LockDecision
     requires { word.layout ≡ limits.layout }
-    ensures { result ≡ decision_of limits word (Call.UnlockWrite stamp) }
+    ensures { decision_as result ≡ decision_of limits word (Call.UnlockWrite stamp) }
 {
     if word.holds_write(stamp) {
-        Decision::Change(word.without_writer(), Reply::Done)
+        LockDecision::Change(word.without_writer(), LockReply::Done)
     } else {
-        Decision::Answer(Reply::Mismatch)
+        LockDecision::Answer(LockReply::Mismatch)
     }
 }
 
-fn unlock_read(limits: Limits, word: Word, stamp: u64) -> Decision
+fn unlock_read(limits: Limits, word: Word, stamp: u64) -> LockDecision
     requires { word.layout ≡ limits.layout }
-    ensures { result ≡ decision_of limits word (Call.UnlockRead stamp) }
+    ensures { decision_as result ≡ decision_of limits word (Call.UnlockRead stamp) }
 {
     if word.holds_read(stamp) {
-        Decision::Change(word.without_reader(), Reply::Done)
+        LockDecision::Change(word.without_reader(), LockReply::Done)
     } else {
-        Decision::Answer(Reply::Mismatch)
+        LockDecision::Answer(LockReply::Mismatch)
     }
 }
 
-fn unlock(limits: Limits, word: Word, stamp: u64) -> Decision
+fn unlock(limits: Limits, word: Word, stamp: u64) -> LockDecision
     requires { word.layout ≡ limits.layout }
-    ensures { result ≡ decision_of limits word (Call.Unlock stamp) }
+    ensures { decision_as result ≡ decision_of limits word (Call.Unlock stamp) }
 {
     if word.holds_write(stamp) {
-        Decision::Change(word.without_writer(), Reply::Done)
+        LockDecision::Change(word.without_writer(), LockReply::Done)
     } else if word.holds_read(stamp) {
-        Decision::Change(word.without_reader(), Reply::Done)
+        LockDecision::Change(word.without_reader(), LockReply::Done)
     } else {
-        Decision::Answer(Reply::Mismatch)
+        LockDecision::Answer(LockReply::Mismatch)
     }
 }
 
-fn to_write(limits: Limits, word: Word, stamp: u64) -> Decision
+fn to_write(limits: Limits, word: Word, stamp: u64) -> LockDecision
     requires { word.layout ≡ limits.layout }
-    ensures { result ≡ decision_of limits word (Call.ToWrite stamp) }
+    ensures { decision_as result ≡ decision_of limits word (Call.ToWrite stamp) }
 {
     if word.holds_write(stamp) {
-        Decision::Answer(Reply::Stamp(stamp))
+        LockDecision::Answer(LockReply::Stamp(stamp))
     } else if word.holds_read(stamp)
         && word.reader_count() == 1
         && word.version() < limits.versions()
@@ -173,14 +173,14 @@ fn to_write(limits: Limits, word: Word, stamp: u64) -> Decision
     }
 }
 
-fn to_read(limits: Limits, word: Word, stamp: u64) -> Decision
+fn to_read(limits: Limits, word: Word, stamp: u64) -> LockDecision
     requires { word.layout ≡ limits.layout }
-    ensures { result ≡ decision_of limits word (Call.ToRead stamp) }
+    ensures { decision_as result ≡ decision_of limits word (Call.ToRead stamp) }
 {
     if word.holds_write(stamp) {
         gets(word.without_writer().with_reader())
     } else if word.holds_read(stamp) {
-        Decision::Answer(Reply::Stamp(stamp))
+        LockDecision::Answer(LockReply::Stamp(stamp))
     } else if word.may_read(limits) && stamp == word.observed() {
         gets(word.with_reader())
     } else {
@@ -188,41 +188,41 @@ fn to_read(limits: Limits, word: Word, stamp: u64) -> Decision
     }
 }
 
-fn to_optimistic(limits: Limits, word: Word, stamp: u64) -> Decision
+fn to_optimistic(limits: Limits, word: Word, stamp: u64) -> LockDecision
     requires { word.layout ≡ limits.layout }
-    ensures { result ≡ decision_of limits word (Call.ToOptimistic stamp) }
+    ensures { decision_as result ≡ decision_of limits word (Call.ToOptimistic stamp) }
 {
     if word.holds_write(stamp) {
         let next = word.without_writer();
-        Decision::Change(next, Reply::Stamp(next.bits()))
+        LockDecision::Change(next, LockReply::Stamp(next.bits()))
     } else if word.holds_read(stamp) {
         let next = word.without_reader();
-        Decision::Change(next, Reply::Stamp(next.observed()))
+        LockDecision::Change(next, LockReply::Stamp(next.observed()))
     } else if !word.has_writer() && stamp == word.observed() {
-        Decision::Answer(Reply::Stamp(stamp))
+        LockDecision::Answer(LockReply::Stamp(stamp))
     } else {
         zero()
     }
 }
 
-fn try_unlock_write(limits: Limits, word: Word) -> Decision
+fn try_unlock_write(limits: Limits, word: Word) -> LockDecision
     requires { word.layout ≡ limits.layout }
-    ensures { result ≡ decision_of limits word Call.TryUnlockWrite }
+    ensures { decision_as result ≡ decision_of limits word Call.TryUnlockWrite }
 {
     if word.has_writer() {
-        Decision::Change(word.without_writer(), Reply::Yes)
+        LockDecision::Change(word.without_writer(), LockReply::Yes)
     } else {
-        Decision::Answer(Reply::No)
+        LockDecision::Answer(LockReply::No)
     }
 }
 
-fn try_unlock_read(limits: Limits, word: Word) -> Decision
+fn try_unlock_read(limits: Limits, word: Word) -> LockDecision
     requires { word.layout ≡ limits.layout }
-    ensures { result ≡ decision_of limits word Call.TryUnlockRead }
+    ensures { decision_as result ≡ decision_of limits word Call.TryUnlockRead }
 {
     if word.reader_count() > 0 {
-        Decision::Change(word.without_reader(), Reply::Yes)
+        LockDecision::Change(word.without_reader(), LockReply::Yes)
     } else {
-        Decision::Answer(Reply::No)
+        LockDecision::Answer(LockReply::No)
     }
 }

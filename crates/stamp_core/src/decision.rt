@@ -6,8 +6,8 @@ ghost use Rattle.stamp_core.specs.Decision.{Decides, Steps, FitsInStamp};
 ghost use Rattle.stamp_core.specs.CountedDecision.{decision};
 
 use crate::call::Call;
-use crate::call_table::decided;
 use crate::limits::Limits;
+use crate::lock_decision::decide_lock;
 use crate::reply::Reply;
 use crate::word::Word;
 
@@ -33,8 +33,7 @@ pub fn decide(limits: Limits, word: Word, call: Call) -> Decision
     ensures number { result ≡ decision limits word.bits call }
     ensures fits { FitsInStamp result }
 {
-    limits.known();
-    decided(limits, word, call)
+    decide_lock(limits, word, &call).as_decision()
 }
 
 /// The word after a call of the lock and its reply; nothing where the call waits.

@@ -1,9 +1,13 @@
 -- What an access of a phase does to the common words.
 use Rattle.std.proofs.Common.{◌≡◌, ℕ, ◌+◌, ◌==◌, Bool, true, false, List, [], ◌∷◌, length, drop}
-use Rattle.std.proofs.Common.{Option, Some, None, if◌then◌else◌, refl, arith, suc}
+use Rattle.std.proofs.Common.{Option, Some, None, if◌then◌else◌, refl, sym, arith, suc}
+use Rattle.std.proofs.lemmas.Bool.Decides.{nat_tests}
+use Rattle.std.proofs.lemmas.List.{set-get_or}
 use Rattle.std.specs.Prelude.{slice_index, slice_set}
 use Rattle.stamp_core.specs.Limits.{Bounds}
 use Rattle.stamp_core.specs.declared.call.Call.{Call}
+use Rattle.stamp_core.specs.Word.{LockWord}
+use Rattle.stamp_core.specs.declared.reply.Reply.{Reply}
 use Rattle.stamp_core.specs.declared.decision.Decision.{Decision}
 use Rattle.stamp_core.specs.declared.decision.Decision.TheVariants.{Answer, Change, Wait}
 use Rattle.stamp_machines.specs.Access.{words_after, seen_by}
@@ -46,6 +50,32 @@ on-lock (CasLock old new) x y items h = go (x == old)
     go false = refl
 on-lock (LoadItem i) x y items h = absurd h
 on-lock (StoreItem i v) x y items h = absurd h
+
+-- an access to a lock's word changes no other
+word-set : (at : ℕ) (a : LocalAccess) (words : List ℕ) → IsToLock a →
+    words_after (with_lock at a) words ≡ slice_set words at (lock_after a (slice_index words at))
+word-set at LoadLock words h = sym (set-get_or words at 0)
+word-set at (CasLock old new) words h = go (slice_index words at == old)
+  where
+    go : (b : Bool) → (if b then slice_set words at new else words)
+        ≡ slice_set words at (if b then new else slice_index words at)
+    go true = refl
+    go false = sym (set-get_or words at 0)
+word-set at (LoadItem i) words h = absurd h
+word-set at (StoreItem i v) words h = absurd h
+
+pub phase-word_set : (at : ℕ) (limits : Bounds) (call : Call) (seen : Option ℕ) (words : List ℕ) →
+    words_after (with_lock at (phase_next limits call seen)) words
+    ≡ slice_set words at (lock_after (phase_next limits call seen) (slice_index words at))
+phase-word_set at limits call seen words =
+    word-set at (phase_next limits call seen) words (phase-to_lock limits call seen)
+
+-- an exchange of the word that it finds puts what the call changes that word to
+pub won-word : (limits : Bounds) (call : Call) (seen : Option ℕ) (found : ℕ) (new : LockWord)
+    (reply : Reply) → seen ≡ Some found → decision limits found call ≡ Change new reply →
+    new.bits ≡ lock_after (phase_next limits call seen) found
+won-word limits call seen found new reply is says =
+    let same : (found == found) ≡ true = grind (arith, nat_tests) in rw (is, says, same) refl
 
 seen-lock : (a : LocalAccess) (x y : ℕ) (items : List ℕ) → IsToLock a →
     seen_by (with_lock 0 a) (x ∷ y ∷ items) ≡ local_seen a x []

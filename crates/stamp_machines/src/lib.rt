@@ -26,6 +26,7 @@ mod tally;
 mod tests;
 
 pub use access::Access;
+pub use lock_phase::{Passage, after_lock_access, lock_access};
 pub use machine::{Machine, Turn};
 pub use run_whole::{run, run_reported};
 pub use running::{MOST_STEPS, Run, RunError, Stepped};

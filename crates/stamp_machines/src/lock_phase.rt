@@ -1,19 +1,22 @@
 //! A lock call on its way: a load, and exchanges until one wins or the word found decides the call.
 //! It has seen the word that it is to change, or has seen none, and then has to load it.
-ghost use Rattle.std.specs.Prelude.{◌≡◌, ◌↔◌, ℕ, Some, IsTrue};
+ghost use Rattle.std.specs.Prelude.{◌≡◌, ◌↔◌, ◌<◌, ℕ, Some, IsTrue, length, slice_index};
 ghost use Rattle.stamp_core.specs.Call.{is_lock_call};
 ghost use Rattle.stamp_core.specs.Word.{IsAdmitted, word_at};
-ghost use Rattle.stamp_machines.specs.LocalAccess.{with_lock};
+ghost use Rattle.stamp_machines.specs.Access.{words_after};
+ghost use Rattle.stamp_machines.specs.LocalAccess.{with_lock, lock_after};
 ghost use Rattle.stamp_machines.specs.LockPhase.{phase_next, phase_after};
-ghost use Rattle.stamp_machines.specs.LockCallSteps.{Plans};
+ghost use Rattle.stamp_machines.specs.LockCallSteps.{Plans, on_lock};
+ghost use Rattle.stamp_machines.specs.Machine.{next_access, after_access};
 ghost use Rattle.stamp_machines.specs.Passage.{phase_turn, IsChanging, IsPassage, LeadsOn};
+ghost use Rattle.stamp_machines.specs.Passage.{machine_on_lock, turn_on_lock};
 
 use crate::access::Access;
-use stamp_core::{Call, Decision, Limits, Reply, decide};
+use stamp_core::{Call, Limits, LockDecision, Reply, decide_lock};
 
 /// What an access of a lock call leads to.
 #[derive(Clone, Copy)]
-pub(crate) enum Passage {
+pub enum Passage {
     Still(Option<u64>),
     /// Its reply was written where the caller asked.
     Ended,
@@ -44,9 +47,46 @@ fn exchange(at: usize, limits: Limits, call: &Call, old: u64) -> Access
         result }
 {
     let _ = limits.layout();
-    match decide(limits, limits.word(old), *call) {
-        Decision::Change(new, _) => Access::Cas(at, old, new.bits()),
-        Decision::Answer(_) | Decision::Wait => Access::Load(at),
+    match decide_lock(limits, limits.word(old), call) {
+        LockDecision::Change(new, _) => Access::Cas(at, old, new.bits()),
+        LockDecision::Answer(_) | LockDecision::Wait => Access::Load(at),
+    }
+}
+
+/// The word after the access of a lock call that has found this one, and where the call goes on.
+#[inline(always)]
+fn tried(
+    limits: Limits,
+    call: &Call,
+    seen: Option<u64>,
+    found: u64,
+    answer: &mut Reply,
+) -> (u64, Passage)
+    requires lock { IsTrue (is_lock_call call.now) }
+    requires seen { IsChanging limits call.now seen }
+    requires word { IsAdmitted limits (word_at limits found) }
+    ensures word { result.0 ≡ lock_after (phase_next limits call.now seen) found }
+    ensures passage { phase_turn result.1 answer.new ≡ phase_after limits call.now seen found }
+    ensures changing { IsPassage limits call.now result.1 answer.new }
+    ensures leads { (at : ℕ) →
+        LeadsOn (record { at = at; limits = limits; call = call.now; seen = seen }) found result.1
+        answer.new }
+{
+    let _ = limits.layout();
+    match decide_lock(limits, limits.word(found), call) {
+        LockDecision::Answer(reply) => {
+            *answer = reply.as_reply();
+            (found, Passage::Ended)
+        }
+        LockDecision::Change(new, reply) => {
+            if is_seen(seen, found) {
+                *answer = reply.as_reply();
+                (new.bits(), Passage::Ended)
+            } else {
+                (found, Passage::Still(Some(found)))
+            }
+        }
+        LockDecision::Wait => (found, Passage::Still(None)),
     }
 }
 
@@ -68,22 +108,34 @@ pub(crate) fn passed(
         LeadsOn (record { at = at; limits = limits; call = call.now; seen = seen }) found result
         answer.new }
 {
-    let _ = limits.layout();
-    match decide(limits, limits.word(found), *call) {
-        Decision::Answer(reply) => {
-            *answer = reply;
-            Passage::Ended
-        }
-        Decision::Change(_, reply) => {
-            if is_seen(seen, found) {
-                *answer = reply;
-                Passage::Ended
-            } else {
-                Passage::Still(Some(found))
-            }
-        }
-        Decision::Wait => Passage::Still(None),
-    }
+    let (_, passage) = tried(limits, call, seen, found, answer);
+    passage
+}
+
+/// Makes the next access of a lock call to the word `at`, and goes on after it: as `planned`, the
+/// access and `passed`, but the word is decided on once.
+#[inline(always)]
+pub(crate) fn accessed(
+    at: usize,
+    limits: Limits,
+    call: &Call,
+    seen: Option<u64>,
+    words: &mut [u64],
+    answer: &mut Reply,
+) -> Passage
+    requires memory { at < length words.old }
+    requires lock { IsTrue (is_lock_call call.now) }
+    requires seen { IsChanging limits call.now seen }
+    requires word { IsAdmitted limits (word_at limits (slice_index words.old at)) }
+    ensures words { words.new
+        ≡ words_after (with_lock at (phase_next limits call.now seen)) words.old }
+    ensures passage { phase_turn result answer.new
+        ≡ phase_after limits call.now seen (slice_index words.old at) }
+    ensures changing { IsPassage limits call.now result answer.new }
+{
+    let (word, passage) = tried(limits, call, seen, words[at], answer);
+    words[at] = word;
+    passage
 }
 
 /// Whether this word is the one that was seen.
@@ -95,4 +147,37 @@ fn is_seen(seen: Option<u64>, found: u64) -> bool
         Some(old) => found == old,
         None => false,
     }
+}
+
+/// The next access of a call of the lock that has seen this word, or has to load it: what the
+/// machine of the call plans, without room for the stages of the record's calls.
+#[inline(always)]
+pub fn lock_access(limits: Limits, call: &Call, seen: Option<u64>) -> Access
+    requires lock { IsTrue (is_lock_call call.now) }
+    requires seen { IsChanging limits call.now seen }
+    ensures next { result ≡ next_access (machine_on_lock limits call.now seen) }
+    ensures plans { Plans (on_lock limits call.now seen) result }
+{
+    planned(0, limits, call, seen)
+}
+
+/// Goes on after that access has found this word, as the machine does. Where the call has ended,
+/// its reply stands in `answer`.
+#[inline(always)]
+pub fn after_lock_access(
+    limits: Limits,
+    call: &Call,
+    seen: Option<u64>,
+    found: u64,
+    answer: &mut Reply,
+) -> Passage
+    requires lock { IsTrue (is_lock_call call.now) }
+    requires seen { IsChanging limits call.now seen }
+    requires word { IsAdmitted limits (word_at limits found) }
+    ensures after { turn_on_lock limits call.now result answer.new
+        ≡ after_access (machine_on_lock limits call.now seen) found }
+    ensures changing { IsPassage limits call.now result answer.new }
+    ensures leads { LeadsOn (on_lock limits call.now seen) found result answer.new }
+{
+    passed(limits, call, seen, found, answer)
 }

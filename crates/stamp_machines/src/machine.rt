@@ -1,5 +1,5 @@
 //! A call as a machine that makes one access a step.
-ghost use Rattle.std.specs.Prelude.{◌≡◌, ◌≤◌, IsTrue};
+ghost use Rattle.std.specs.Prelude.{◌≡◌, ◌<◌, ◌≤◌, IsTrue, length};
 ghost use Rattle.stamp_core.specs.Call.{is_lock_call, call_suits};
 ghost use Rattle.stamp_machines.specs.LockCallSteps.{Plans, Leads, lock_phase};
 ghost use Rattle.stamp_machines.specs.MachineState.{start};
@@ -7,15 +7,16 @@ ghost use Rattle.stamp_machines.specs.Machine.{next_access, after_access, IsFoun
 ghost use Rattle.stamp_core.specs.Word.{IsAdmitted, word_at};
 ghost use Rattle.stamp_machines.specs.Machine.{after_in, IsFoundIn};
 ghost use Rattle.stamp_machines.specs.MachineState.{MachineState, OnLock, record_limits};
+ghost use Rattle.stamp_machines.specs.Access.{place_of, words_after, seen_by};
 ghost use Rattle.stamp_machines.specs.MachineTurn.{turn_of};
 ghost use Rattle.stamp_machines.specs.MachineFields.{phase_at, turn_in, errand_in, IsStage};
 ghost use Rattle.stamp_machines.specs.MachineFields.{IsErrand, IsNext};
 ghost use Rattle.stamp_machines.specs.Passage.{IsChanging};
 ghost use Rattle.stamp_machines.specs.RecordPhase.{call_for};
 
-use crate::access::Access;
+use crate::access::{Access, make};
 use crate::loaded::Loaded;
-use crate::lock_phase::{Passage, passed, planned};
+use crate::lock_phase::{Passage, accessed, passed, planned};
 use crate::shape::Shape;
 use crate::stage::{
     Errand, Next, Stage, call_for, checked, copied, ended, first_stage, glanced, new_word, read,
@@ -225,6 +226,34 @@ impl Machine {
             Turn::Done(answer)
         } else {
             Turn::Going(machine)
+        }
+    }
+
+    /// Makes the planned access and goes on after it, in place. Tells whether the call has ended:
+    /// then its reply stands in `answer`, and where the machine stands is of no account.
+    #[inline(always)]
+    pub(crate) fn access(&mut self, words: &mut [u64], answer: &mut Reply) -> bool
+        requires memory { place_of (next_access self.old) < length words.old }
+        requires word { IsFound self.old (seen_by (next_access self.old) words.old) }
+        ensures words { words.new ≡ words_after (next_access self.old) words.old }
+        ensures after { turn_of self.new answer.new result
+            ≡ after_access self.old (seen_by (next_access self.old) words.old) }
+        ensures call { self.new.call ≡ self.old.call }
+    {
+        match self.stage {
+            Stage::Public { seen } => {
+                match accessed(0, self.shape.limits, &self.call, seen, words, answer) {
+                    Passage::Still(seen) => {
+                        self.stage = Stage::Public { seen };
+                        false
+                    }
+                    Passage::Ended => true,
+                }
+            }
+            _ => {
+                let found = make(words, self.plan());
+                self.advance(found, answer)
+            }
         }
     }
 

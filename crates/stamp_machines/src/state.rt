@@ -4,7 +4,6 @@ ghost use Rattle.std.specs.Prelude.{vec_capacity, IfOk, OnOk, None, Some, slice_
 ghost use Rattle.std.specs.Prelude.{slice_index_or, slice_get, slice_set, ◌==◌, ◌++◌, ◌∷◌, []};
 ghost use Rattle.std.specs.Prelude.{if◌then◌else◌, is_some, IfSome, false};
 
-use crate::access::make;
 use crate::machine::Machine;
 use crate::running::Stepped;
 use crate::script::{Arg, Script, ScriptCall};
@@ -146,8 +145,7 @@ impl Begun {
         ensures call { self.new.machine.call ≡ self.old.machine.call }
         ensures first { self.new.first ≡ self.old.first }
     {
-        let seen = make(words, self.machine.plan());
-        self.machine.advance(seen, answer)
+        self.machine.access(words, answer)
     }
 
     /// The entry of a call that ends at this position.

@@ -1,4 +1,5 @@
 use Rattle.std.proofs.Common.{Some, refl}
+use Rattle.stamp_core.specs.LockDecision.{reply_as}
 use Rattle.stamp_machines.proofs.LockCallSteps.{plans-exchange}
 use Rattle.stamp_machines.proofs.lock_phase.exchange.Goals as goal
 
@@ -11,5 +12,5 @@ returns-in-Change-clause-plans c =
       limits = c.args.limits;
       call = c.args.call.now;
       seen = Some c.args.old;
-    }) c.args.old c.in-Change.new c.in-Change.field-1 refl
+    }) c.args.old c.in-Change.new (reply_as c.in-Change.field-1) refl
     (rw c.word.ensures at c.in-Change.ensures.decides))

@@ -1,0 +1,81 @@
+//! What a call of the lock does with the word that it finds. Its replies have no room for the words
+//! of a record.
+ghost use Rattle.std.specs.Prelude.{◌≡◌, IsTrue};
+ghost use Rattle.stamp_core.specs.Call.{is_lock_call};
+ghost use Rattle.stamp_core.specs.Word.{IsAdmitted};
+ghost use Rattle.stamp_core.specs.Decision.{Decides, FitsInStamp};
+ghost use Rattle.stamp_core.specs.CountedDecision.{decision};
+ghost use Rattle.stamp_core.specs.LockDecision.{reply_as, decision_as};
+
+use crate::call::Call;
+use crate::call_table::decided;
+use crate::decision::Decision;
+use crate::limits::Limits;
+use crate::reply::Reply;
+use crate::word::Word;
+
+/// What a call of the lock is answered: as `Reply`, without `Content`.
+#[derive(Clone, Copy, Debug, PartialEq, Eq)]
+pub enum LockReply {
+    Stamp(u64),
+    Yes,
+    No,
+    Done,
+    Mismatch,
+    Count(u64),
+}
+
+/// What a call of the lock is to do with the word that it finds: as `Decision`, in 40 bytes and not
+/// in 176.
+#[derive(Clone, Copy, Debug, PartialEq, Eq)]
+pub enum LockDecision {
+    Answer(LockReply),
+    Change(Word, LockReply),
+    Wait,
+}
+
+impl LockReply {
+    /// The same reply, among those of lock and record.
+    #[inline(always)]
+    pub fn as_reply(self) -> Reply
+        ensures { result ≡ reply_as self }
+    {
+        match self {
+            LockReply::Stamp(stamp) => Reply::Stamp(stamp),
+            LockReply::Yes => Reply::Yes,
+            LockReply::No => Reply::No,
+            LockReply::Done => Reply::Done,
+            LockReply::Mismatch => Reply::Mismatch,
+            LockReply::Count(count) => Reply::Count(count),
+        }
+    }
+}
+
+impl LockDecision {
+    /// The same decision, with room for any reply.
+    #[inline(always)]
+    pub fn as_decision(self) -> Decision
+        ensures { result ≡ decision_as self }
+    {
+        match self {
+            LockDecision::Answer(reply) => Decision::Answer(reply.as_reply()),
+            LockDecision::Change(new, reply) => Decision::Change(new, reply.as_reply()),
+            LockDecision::Wait => Decision::Wait,
+        }
+    }
+}
+
+/// Decides a call of the lock by the word found, as `decide` does.
+#[inline(always)]
+pub fn decide_lock(limits: Limits, word: Word, call: &Call) -> LockDecision
+    requires admitted { IsAdmitted limits word }
+    requires lock { IsTrue (is_lock_call call.now) }
+    ensures decides { Decides limits word call.now (decision_as result) }
+
+    // For the crates above: the decision is a function of the number, and its stamp leaves room.
+    ensures number { decision_as result ≡ decision limits word.bits call.now }
+    ensures fits { FitsInStamp (decision_as result) }
+{
+    limits.known();
+    decided(limits, word, call)
+}
