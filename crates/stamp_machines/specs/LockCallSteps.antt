@@ -1,8 +1,10 @@
 -- What the accesses of a lock call are, whatever events the word represents. Who makes them outside
 -- a schedule needs nothing else.
 use Rattle.std.specs.Prelude.{ℕ, ◌≡◌, ◌≢◌, ◌⊎◌, Option, Some, None}
+use Rattle.stamp_core.specs.Limits.{Bounds}
 use Rattle.stamp_core.specs.Word.{word_at}
 use Rattle.stamp_core.specs.Decision.{Answers, Changes, HasNone}
+use Rattle.stamp_core.specs.declared.call.Call.{Call}
 use Rattle.stamp_core.specs.declared.call.Call.TheVariants.{WriteLock, ReadLock}
 use Rattle.stamp_core.specs.declared.reply.Reply.{Reply}
 use Rattle.stamp_machines.specs.PhaseState.{PhaseState}
@@ -37,6 +39,10 @@ pub record Goes (p : PhaseState) (found : ℕ) (q : PhaseState) : Type 0 where
   pub next : ((q.seen ≡ Some found) × (new : ℕ) × (reply : Reply) × Turns p found new reply)
       ⊎ ((q.seen ≡ None) × ((p.call ≡ WriteLock) ⊎ (p.call ≡ ReadLock))
       × HasNone p.limits (word_at p.limits found) p.call)
+
+-- where a call of the public lock is, which has word 0
+abbrev pub on_lock : Bounds → Call → Option ℕ → PhaseState
+on_lock limits call seen = record { at = 0; limits = limits; call = call; seen = seen }
 
 -- the lock phase that the machine of a lock call is: on word 0
 abbrev pub seen_in : Phase → Option ℕ

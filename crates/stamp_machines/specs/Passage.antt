@@ -11,7 +11,10 @@ use Rattle.stamp_machines.specs.declared.lock_phase.Passage.{Passage}
 use Rattle.stamp_machines.specs.declared.lock_phase.Passage.TheVariants as made
 use Rattle.stamp_machines.specs.LockPhase.{PhaseTurn, Still, Ended}
 use Rattle.stamp_machines.specs.PhaseState.{PhaseState}
+use Rattle.stamp_machines.specs.MachineState.{MachineState, OnLock}
 use Rattle.stamp_machines.specs.LockCallSteps.{Ends, Goes}
+use Rattle.stamp_machines.specs.declared.machine.Turn.{Turn}
+use Rattle.stamp_machines.specs.declared.machine.Turn.TheVariants.{Going, Done}
 
 -- with this reply
 abbrev pub phase_turn : Passage → Reply → PhaseTurn
@@ -39,3 +42,13 @@ IsPassage limits call made.Ended reply = stamp_in reply < 2 ^ 63
 abbrev pub LeadsOn : PhaseState → ℕ → Passage → Reply → Type 0
 LeadsOn p found (made.Still seen) reply = Goes p found (record p { seen = seen })
 LeadsOn p found made.Ended reply = Ends p found reply
+
+-- the machine of a call of the lock that has seen this word, beside no record
+abbrev pub machine_on_lock : Bounds → Call → Option ℕ → MachineState
+machine_on_lock limits call seen =
+    record { shape = record { limits = limits; width = 0 }; call = call; phase = OnLock seen }
+
+-- the turn of that machine
+abbrev pub turn_on_lock : Bounds → Call → Passage → Reply → Turn
+turn_on_lock limits call (made.Still seen) reply = Going (machine_on_lock limits call seen)
+turn_on_lock limits call made.Ended reply = Done reply

@@ -5,15 +5,17 @@ ghost use Rattle.stamp_core.specs.Call.{is_lock_call};
 ghost use Rattle.stamp_core.specs.Word.{IsAdmitted, word_at};
 ghost use Rattle.stamp_machines.specs.LocalAccess.{with_lock};
 ghost use Rattle.stamp_machines.specs.LockPhase.{phase_next, phase_after};
-ghost use Rattle.stamp_machines.specs.LockCallSteps.{Plans};
+ghost use Rattle.stamp_machines.specs.LockCallSteps.{Plans, on_lock};
+ghost use Rattle.stamp_machines.specs.Machine.{next_access, after_access};
 ghost use Rattle.stamp_machines.specs.Passage.{phase_turn, IsChanging, IsPassage, LeadsOn};
+ghost use Rattle.stamp_machines.specs.Passage.{machine_on_lock, turn_on_lock};
 
 use crate::access::Access;
 use stamp_core::{Call, Decision, Limits, Reply, decide};
 
 /// What an access of a lock call leads to.
 #[derive(Clone, Copy)]
-pub(crate) enum Passage {
+pub enum Passage {
     Still(Option<u64>),
     /// Its reply was written where the caller asked.
     Ended,
@@ -95,4 +97,37 @@ fn is_seen(seen: Option<u64>, found: u64) -> bool
         Some(old) => found == old,
         None => false,
     }
+}
+
+/// The next access of a call of the lock that has seen this word, or has to load it: what the
+/// machine of the call plans, without room for the stages of the record's calls.
+#[inline(always)]
+pub fn lock_access(limits: Limits, call: &Call, seen: Option<u64>) -> Access
+    requires lock { IsTrue (is_lock_call call.now) }
+    requires seen { IsChanging limits call.now seen }
+    ensures next { result ≡ next_access (machine_on_lock limits call.now seen) }
+    ensures plans { Plans (on_lock limits call.now seen) result }
+{
+    planned(0, limits, call, seen)
+}
+
+/// Goes on after that access has found this word, as the machine does. Where the call has ended,
+/// its reply stands in `answer`.
+#[inline(always)]
+pub fn after_lock_access(
+    limits: Limits,
+    call: &Call,
+    seen: Option<u64>,
+    found: u64,
+    answer: &mut Reply,
+) -> Passage
+    requires lock { IsTrue (is_lock_call call.now) }
+    requires seen { IsChanging limits call.now seen }
+    requires word { IsAdmitted limits (word_at limits found) }
+    ensures after { turn_on_lock limits call.now result answer.new
+        ≡ after_access (machine_on_lock limits call.now seen) found }
+    ensures changing { IsPassage limits call.now result answer.new }
+    ensures leads { LeadsOn (on_lock limits call.now seen) found result answer.new }
+{
+    passed(limits, call, seen, found, answer)
 }

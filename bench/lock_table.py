@@ -1,0 +1,49 @@
+"""Prints the tables of lock.sh from its lines 'PROGRAM NAME THREADS PAIRS NANOSECONDS GOOD'."""
+import collections
+import statistics
+import sys
+
+PROGRAMS = ["lock_timing", "lock_c", "StampedLock"]
+NAMES = [("optimistic", 1), ("read", 1), ("write", 1)] + [("mostly", n) for n in range(1, 5)]
+
+
+def rounds():
+    """The nanoseconds a pair of all threads together, and the share that succeeded, a round."""
+    times = collections.defaultdict(list)
+    for line in open(sys.argv[1]):
+        program, name, threads, pairs, nanoseconds, good = line.split()
+        made = int(pairs) * int(threads)
+        if name == "mostly":
+            made = int(pairs) // 1024 * 1024 * int(threads)
+        if int(good) < made * 0.99:
+            sys.exit(f"too few pairs succeeded: {line}")
+        times[program, name, int(threads)].append(int(nanoseconds) / made)
+    return times
+
+
+def ratio(times, name, threads, other):
+    ours, theirs = times["lock_timing", name, threads], times[other, name, threads]
+    return statistics.median(ours) / statistics.median(theirs)
+
+
+def main():
+    times = rounds()
+    print(f"{'ns a pair':16}" + "".join(f"{program:>14}" for program in PROGRAMS)
+          + f"{'of C':>10}{'of the JDK':>12}")
+    for name, threads in NAMES:
+        medians = [statistics.median(times[program, name, threads]) for program in PROGRAMS]
+        print(f"{name + ' ' + str(threads):16}" + "".join(f"{median:14.2f}" for median in medians)
+              + f"{ratio(times, name, threads, 'lock_c'):10.2f}"
+              + f"{ratio(times, name, threads, 'StampedLock'):12.2f}")
+    print()
+    print(f"{'growth to 4':16}" + "".join(f"{growth(times, program):14.2f}" for program in PROGRAMS)
+          + f"{growth(times, 'lock_timing') / growth(times, 'lock_c'):10.2f}")
+
+
+def growth(times, program):
+    """How many times as many pairs a second four threads make as one does."""
+    one, four = times[program, "mostly", 1], times[program, "mostly", 4]
+    return statistics.median(one) / statistics.median(four)
+
+
+main()

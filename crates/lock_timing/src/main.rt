@@ -1,0 +1,115 @@
+//! Times pairs of calls on a running lock, by one thread and by several that mostly validate.
+//!
+//! `lock_timing [PAIRS [ROUNDS]]` writes a line for each kind of pair and round to standard error:
+//! its name, how many threads, how many pairs each made, the nanoseconds from the first to the last,
+//! and how many pairs succeeded.
+#![tactic(auto)]
+
+ghost use Rattle.std.specs.Prelude.{◌≡◌, IfOk};
+
+mod pairs;
+mod side_by_side;
+
+use pairs::{optimistic_pairs, read_pairs, write_pairs};
+use side_by_side::validated_by;
+use stamp_core::Limits;
+use stamp_threads::{Pass, RunningLock};
+use std::rt::Env;
+use std::thread::Threads;
+use std::time::{Clock, Instant};
+use std::{env, io};
+
+/// How many pairs are made where no argument says so.
+const FEW: u64 = 1_000;
+
+/// How many times as many pairs each of several threads makes, since starting them takes time too.
+const MORE: u64 = 32;
+
+/// How many pairs to make in a round, and how many rounds.
+#[derive(Clone, Copy)]
+struct Order {
+    pairs: u64,
+    rounds: u64,
+}
+
+/// Reads the words after the program's name. A word that is no number is as if it weren't there.
+fn order_given(rt: &(impl Env + AllocGlobal)) -> io::Result<Order> {
+    let mut words = env::args(rt)?.skip(1);
+    let pairs = words.next().and_then(|word| word.parse().ok());
+    let rounds = words.next().and_then(|word| word.parse().ok());
+    Ok(Order {
+        pairs: pairs.unwrap_or(FEW),
+        rounds: rounds.unwrap_or(1),
+    })
+}
+
+/// The three pairs of one thread, one after the other.
+fn alone<R: Eprint + Clock>(
+    rt: &R,
+    lock: &RunningLock,
+    pass: &mut Pass,
+    pairs: u64,
+) -> io::Result<()>
+    requires { pass.old.table ≡ lock.now.table }
+    ensures { pass.new.table ≡ lock.now.table }
+{
+    let start = Instant::now(rt)?;
+    let good = optimistic_pairs(lock, pass, pairs);
+    let nanoseconds = start.elapsed(rt)?.as_nanos();
+    eprintln!(rt; "optimistic 1 {pairs} {nanoseconds} {good}")?;
+    let start = Instant::now(rt)?;
+    let good = read_pairs(lock, pass, pairs);
+    let nanoseconds = start.elapsed(rt)?.as_nanos();
+    eprintln!(rt; "read 1 {pairs} {nanoseconds} {good}")?;
+    let start = Instant::now(rt)?;
+    let good = write_pairs(lock, pass, pairs);
+    let nanoseconds = start.elapsed(rt)?.as_nanos();
+    eprintln!(rt; "write 1 {pairs} {nanoseconds} {good}")?;
+    Ok(())
+}
+
+/// Threads that mostly validate, from one to four of them.
+fn together<R: Eprint + Clock + Threads + Sync>(
+    rt: &R,
+    lock: &RunningLock,
+    mut pass: Pass,
+    pairs: u64,
+) -> io::Result<Pass>
+    requires { pass.table ≡ lock.now.table }
+    ensures { IfOk result (λ back. back.table ≡ lock.now.table) }
+{
+    for threads in 1..=4u64 {
+        let start = Instant::now(rt)?;
+        let (good, back) = validated_by(rt, lock, pass, threads, pairs);
+        let nanoseconds = start.elapsed(rt)?.as_nanos();
+        pass = back;
+        eprintln!(rt; "mostly {threads} {pairs} {nanoseconds} {good}")?;
+    }
+    Ok(pass)
+}
+
+fn all_rounds<R: Eprint + Clock + Threads + Sync>(
+    rt: &R,
+    lock: &RunningLock,
+    mut pass: Pass,
+    order: Order,
+) -> io::Result<()>
+    requires { pass.table ≡ lock.now.table }
+{
+    for _ in 0..order.rounds {
+        alone(rt, lock, &mut pass, order.pairs)?;
+        pass = together(rt, lock, pass, order.pairs.wrapping_mul(MORE))?;
+    }
+    Ok(())
+}
+
+fn main(rt: HostRuntime) -> io::Result<()> {
+    let order = order_given(&rt)?;
+    let Ok(limits) = Limits::new(127, 1 << 50) else {
+        return Ok(());
+    };
+    let Ok((lock, pass)) = RunningLock::new(rt.alloc(), limits) else {
+        return Ok(());
+    };
+    all_rounds(&rt, &lock, pass, order)
+}

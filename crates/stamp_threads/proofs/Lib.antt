@@ -1,0 +1,13 @@
+pub mod Beginnings
+pub mod ListElements
+pub mod MadeBy
+pub mod GivenNames
+pub mod SeatSteps
+pub mod SeatMoves
+pub mod LockLogs
+pub mod RuleKept
+pub mod PassMoves
+pub mod NewLock
+pub mod ClosedLock
+pub mod LostExchanges
+pub mod CallSteps

@@ -1,0 +1,83 @@
+-- Splits and joins of seats keep the rule of the running word.
+use Rattle.std.proofs.Common.{◌≡◌, ℕ, ◌+◌, List, [], ◌∷◌, ◌++◌, map, take, drop, set, refl, ap, sym}
+use Rattle.std.proofs.Common.{subst, arith}
+use Rattle.atomic_table.specs.Table.{State, Me, Splits, Joins}
+use Rattle.stamp_core.specs.Limits.{Bounds}
+use Rattle.stamp_threads.specs.PassView.{IsPart, every, after_split, split_off}
+use Rattle.stamp_threads.specs.Seats.{AreSeated, alone, both}
+use Rattle.stamp_threads.specs.LockPass.{LockPass, IsConsistentWith, first_of, second_of}
+use Rattle.stamp_threads.specs.LockRule.{IsKept}
+use Rattle.stamp_threads.proofs.GivenNames.{child_none, child_unused_all, given_more_all}
+use Rattle.stamp_threads.proofs.GivenNames.{part-after_split, part-split_off}
+use Rattle.stamp_threads.proofs.SeatMoves.{gives, together, parted}
+
+with_views : (limits : Bounds) (s : State (Unit {0}) (List LockPass)) (r : IsKept limits s)
+    (views : List (List LockPass)) → AreSeated (IsPart every r.log) views →
+    IsKept limits record { words = s.words; homes = s.homes; views = views }
+with_views limits s r views passes = record {
+  log = r.log;
+  one_word = r.one_word;
+  legal =
+      r.legal;
+  represents = r.represents;
+  passes = passes;
+}
+
+-- a pass gives a new one
+pub splits_give : (limits : Bounds) (id : ℕ) (me : Me (Unit {0}) (List LockPass)) →
+    me ≡ alone (first_of me.0) → Splits (IsKept limits) id me.0 (map after_split me.0)
+    (map split_off me.0)
+splits_give limits id me is =
+    subst (λ (vs : List LockPass). Splits (IsKept limits) id vs (map after_split vs)
+    (map split_off vs)) (sym (ap (λ (m : Me (Unit {0}) (List LockPass)). m.0) is)) (λ s r at.
+    let v : LockPass = first_of me.0 in
+    let f = r.passes.fits id 0 v (v ∷ [], at, refl) in
+    with_views limits s r (set s.views id (after_split v ∷ []) ++ (split_off v ∷ []) ∷ [])
+    (gives (IsPart every r.log) s.views r.passes id v at (part-after_split every r.log v f)
+    (part-split_off every r.log v f)))
+
+-- two passes go on one seat
+pub joins_share : (limits : Bounds) (id : ℕ) (me : Me (Unit {0}) (List LockPass)) (other : ℕ)
+    (them : Me (Unit {0}) (List LockPass)) → me ≡ alone (first_of me.0) →
+    them ≡ alone (first_of them.0)
+    → Joins (IsKept limits) id me.0 other them.0 (me.0 ++ them.0) []
+joins_share limits id me other them is their =
+    subst (λ (p : List LockPass × List LockPass). Joins (IsKept limits) id p.0 other p.1
+    (p.0 ++ p.1) [])
+    (λ i. (
+      sym (ap (λ (m : Me (Unit {0}) (List LockPass)). m.0) is) i,
+      sym (ap (λ (m : Me (Unit {0}) (List LockPass)). m.0) their) i,
+    )) (λ s r at away there.
+    let v : LockPass = first_of me.0 in
+    let u : LockPass = first_of them.0 in
+    with_views limits s r (set (set s.views id (v ∷ u ∷ [])) other [])
+    (together (IsPart every r.log) s.views r.passes id v other u at away there))
+
+-- and on two again
+pub splits_part : (limits : Bounds) (id : ℕ) (me : Me (Unit {0}) (List LockPass)) →
+    me ≡ both (first_of me.0) (second_of me.0) →
+    Splits (IsKept limits) id me.0 (take 1 me.0) (drop 1 me.0)
+splits_part limits id me is =
+    subst (λ (vs : List LockPass). Splits (IsKept limits) id vs (take 1 vs) (drop 1 vs))
+    (sym (ap (λ (m : Me (Unit {0}) (List LockPass)). m.0) is)) (λ s r at.
+    let v : LockPass = first_of me.0 in
+    let u : LockPass = second_of me.0 in
+    with_views limits s r (set s.views id (v ∷ []) ++ (u ∷ []) ∷ [])
+    (parted (IsPart every r.log) s.views r.passes id v u at))
+
+pub splits_consistent : (limits : Bounds) (v : LockPass) → IsConsistentWith limits v →
+    IsConsistentWith limits (after_split v) × IsConsistentWith limits (split_off v)
+splits_consistent limits v c = (
+  record {
+    legal = c.legal;
+    own = c.own;
+    given =
+        given_more_all v.name v.splits (v.splits + 1) v.observed (omega arith) c.given;
+  },
+  record {
+    legal = c.legal;
+    own = child_none every v.name v.splits v.observed c.given;
+    given =
+        child_unused_all v.name v.splits v.observed c.given;
+  },
+)

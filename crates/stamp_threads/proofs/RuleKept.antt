@@ -1,0 +1,292 @@
+-- Each step on the running word keeps its rule, and tells what it is to tell.
+use Rattle.std.proofs.Common.{◌≡◌, ◌≢◌, ℕ, ◌==◌, eqb, Bool, true, false, MatchBool, List, [], ◌∷◌}
+use Rattle.std.proofs.Common.{◌++◌, set, get_or, refl, ap, sym, ◌∙◌, subst, arith, length-set}
+use Rattle.std.proofs.Common.{get_or-set_same, Some, None}
+use Rattle.std.specs.Prelude.{IsTrue}
+use mathlib.Core.Option.{Option, none, some}
+use mathlib.Core.List.{IsPrefix}
+use lib.ListN.{get_elem?}
+use prog.Atomic.{either}
+use Rattle.std.proofs.lemmas.Bool.{eqb-true}
+use Rattle.atomic_table.specs.Table.{State, Me, Act, keeps, step, stepped, Valid, carried_after}
+use Rattle.atomic_table.specs.Table.{Allows}
+use Rattle.stamp_core.specs.Limits.{Bounds}
+use Rattle.stamp_core.specs.LockEvent.{LockEvent}
+use Rattle.stamp_core.specs.Word.{word_at}
+use Rattle.stamp_core.specs.Call.{is_lock_call}
+use Rattle.stamp_core.specs.Transition.{Transition}
+use Rattle.stamp_core.specs.Decision.{Changes, Moves}
+use Rattle.stamp_core.specs.declared.call.Call.{Call}
+use Rattle.stamp_core.specs.declared.reply.Reply.{Reply}
+use Rattle.stamp_machines.specs.LockNumber.{RepresentsAt}
+use Rattle.stamp_threads.specs.PassName.{HasGivenAll}
+use Rattle.stamp_threads.specs.PassView.{entry, every, made_by, IsPart, observing, adding}
+use Rattle.stamp_threads.specs.Seats.{alone, both}
+use Rattle.stamp_threads.specs.LockLog.{LockLog, events_after, transition_after, IsLegalLog}
+use Rattle.stamp_threads.specs.LockPass.{LockPass, IsConsistentWith, LeavesWord, first_of}
+use Rattle.stamp_threads.specs.LockPass.{second_of}
+use Rattle.stamp_threads.specs.LockRule.{IsKept, making, after_win, answering, reading, after_load}
+use Rattle.stamp_threads.specs.LockRule.{Loaded, Won, LoadTells, ExchangeTells, MeetTells}
+use Rattle.stamp_threads.proofs.Beginnings.{begins_all}
+use Rattle.stamp_threads.proofs.ListElements.{only_one, two_of}
+use Rattle.stamp_threads.proofs.MadeBy.{Grows, grows_none, grows_one, made_by-same}
+use Rattle.stamp_threads.proofs.SeatSteps.{Same, same_one, same_two, stands_on, own_given}
+use Rattle.stamp_threads.proofs.SeatSteps.{other_part}
+use Rattle.stamp_threads.proofs.LockLogs.{legal_longer, represents_unchanged, represents_changed}
+
+module _ (limits : Bounds) (s : State (Unit {0}) (List LockPass)) (r : IsKept limits s) (id : ℕ)
+    (vs ws : List LockPass) (log' : LockLog) (at : get_elem? s.views id ≡ some vs)
+    (same : Same vs ws) (grows : Grows vs r.log log')
+    (all : (k : ℕ) (w : LockPass) → get_elem? ws k ≡ some w →
+    (w.observed ≡ log') × (made_by every w.name log' ≡ w.own)) where
+  own_parts : (k : ℕ) (w : LockPass) → get_elem? ws k ≡ some w → IsPart every log' w
+  own_parts k w h = let a = all k w h in
+      record {
+        observed = subst (λ (l : LockLog). IsPrefix l log') (sym a.0) (begins_all log');
+        own = a.1;
+        given = own_given (IsPart every r.log) s.views r.passes id vs ws at same every r.log log'
+            grows (λ _ f. f) k w h;
+      }
+
+  pub consistent_after : IsLegalLog limits log' → (k : ℕ) (w : LockPass) → get_elem? ws k ≡ some w →
+      IsConsistentWith limits w
+  consistent_after legal k w h =
+      let f = own_parts k w h in
+      let a = all k w h in
+      record {
+        legal = subst (IsLegalLog limits) (sym a.0) legal;
+        own = ap (made_by every w.name) a.0 ∙ f.own;
+        given = subst (HasGivenAll w.name w.splits) (sym a.0) f.given;
+      }
+
+  pub kept_after : (word : ℕ) (homes : List (Option (Unit {0}))) → IsLegalLog limits log' →
+      RepresentsAt limits word (events_after limits log') →
+      IsKept limits record { words = set s.words 0 word; homes = homes; views = set s.views id ws }
+  kept_after word homes legal represents = record {
+    log = log';
+    one_word = length-set s.words 0 word ∙ r.one_word;
+    legal = legal;
+    represents = subst (λ (n : ℕ). RepresentsAt limits n (events_after limits log'))
+        (sym (get_or-set_same s.words 0 word 0 (let w = r.one_word in omega arith))) represents;
+    passes = stands_on (IsPart every r.log) s.views r.passes id vs ws at same (IsPart every log')
+        own_parts (other_part (IsPart every r.log) s.views r.passes id vs ws at same every r.log
+        log' grows (λ _ f. f));
+  }
+
+-- the rule, and what the pass knows, after a step of a seat that stands for one
+abbrev Steps : (limits : Bounds) (s : State (Unit {0}) (List LockPass)) → ℕ → ℕ →
+    List (Option (Unit {0})) → LockPass → Type 0
+Steps limits s id word homes w = IsKept limits
+    record { words = set s.words 0 word; homes = homes; views = set s.views id (w ∷ []) } ×
+    IsConsistentWith limits w
+
+module _ (limits : Bounds) (s : State (Unit {0}) (List LockPass)) (r : IsKept limits s) (id : ℕ)
+    (v : LockPass) (homes : List (Option (Unit {0}))) (at : get_elem? s.views id ≡ some (v ∷ []))
+  where
+    part_now : IsPart every r.log v
+    part_now = r.passes.fits id 0 v (v ∷ [], at, refl)
+
+    pub leaves_now : LeavesWord limits v (get_or s.words 0 0) r.log
+    leaves_now = record { begins = part_now.observed; legal = r.legal; represents = r.represents }
+
+    pub observes_all : Steps limits s id (get_or s.words 0 0) homes (observing v r.log)
+    observes_all =
+        let w : LockPass = observing v r.log in
+        let same = same_one v w refl refl in
+        let grows = grows_none (v ∷ []) r.log in
+        let all = only_one (λ k u. (u.observed ≡ r.log) × (made_by every u.name r.log ≡ u.own)) w
+        (refl, part_now.own) in (
+          kept_after limits s r id (v ∷ []) (w ∷ []) r.log at same grows all (get_or s.words 0 0)
+              homes
+              r.legal r.represents,
+          consistent_after limits s r id (v ∷ []) (w ∷ []) r.log at same grows
+              all r.legal 0 w refl,
+        )
+
+    module _ (call : Call) (lock : IsTrue (is_lock_call call)) where
+      pub makes_call : (t : Transition) (word : ℕ) → transition_after limits r.log call ≡ Some t
+          →
+          RepresentsAt limits word (events_after limits
+          (r.log ++ entry v.name (call, t.reply) ∷ []))
+          → Steps limits s id word homes (adding v r.log (call, t.reply))
+      makes_call t word is represents =
+          let m : Call × Reply = (call, t.reply) in
+          let log' : LockLog = r.log ++ entry v.name m ∷ [] in
+          let w : LockPass = adding v r.log m in
+          let same = same_one v w refl refl in
+          let grows = grows_one v r.log m in
+          let own = made_by-same every v.name r.log m ∙
+          ap (λ (l : List (Call × Reply)). l ++ m ∷ []) part_now.own in
+          let all = only_one (λ k u. (u.observed ≡ log') × (made_by every u.name log' ≡ u.own)) w
+          (refl, own) in
+          let legal = legal_longer limits r.log call v.name t is lock r.legal in (
+            kept_after limits s r id (v ∷ []) (w ∷ []) log' at same grows all word homes legal
+                represents,
+            consistent_after limits s r id (v ∷ []) (w ∷ []) log' at same grows all
+                legal 0 w refl,
+          )
+
+      by_appended : (appended : List LockEvent) (reply : Reply) →
+          transition_after limits r.log call ≡
+          Some (record { appended = appended; reply = reply }) →
+          Steps limits s id (get_or s.words 0 0) homes (answering appended reply call v r.log)
+      by_appended [] reply is = makes_call (record { appended = []; reply = reply })
+          (get_or s.words 0 0) is (represents_unchanged limits r.log call v.name
+          (record { appended = []; reply = reply }) is _ refl r.represents)
+      by_appended (event ∷ appended) reply is = observes_all
+
+      by_transition : (o : Rattle.std.proofs.Common.Option Transition) →
+          transition_after limits r.log call ≡ o →
+          Steps limits s id (get_or s.words 0 0) homes (reading o call v r.log)
+      by_transition None is = observes_all
+      by_transition (Some t) is = by_appended t.appended t.reply is
+
+      pub loads : Steps limits s id (get_or s.words 0 0) homes (after_load limits call v r.log)
+      loads = by_transition (transition_after limits r.log call) refl
+
+      pub wins : (old new : ℕ) (reply : Reply) → get_or s.words 0 0 ≡ old →
+          Changes limits (word_at limits old) call (word_at limits new) reply →
+          Steps limits s id new homes (after_win limits call v r.log)
+      wins old new reply hit changes =
+          let m : Moves limits (events_after limits r.log) call (word_at limits old)
+          (word_at limits new) reply = changes (events_after limits r.log)
+          (subst (λ (n : ℕ). RepresentsAt limits n (events_after limits r.log)) hit r.represents) in
+          let t : Transition = record { appended = m.appended; reply = reply } in
+          let made = makes_call t new m.transition_is
+          (represents_changed limits r.log call v.name t m.transition_is new m.represented) in
+          subst (λ (u : LockPass). Steps limits s id new homes u)
+          (sym (ap (λ (o : Rattle.std.proofs.Common.Option Transition). making o call v r.log)
+          m.transition_is)) made
+
+-- a load
+pub allows_load : (limits : Bounds) (call : Call) (slots id : ℕ)
+    (me : Me (Unit {0}) (List LockPass)) → IsTrue (is_lock_call call) → me ≡ alone (first_of me.0) →
+    Allows (IsKept limits) slots id me 0 (λ n. n) (LoadTells limits call (step slots 0 0 0 none) me)
+allows_load limits call slots id me lock is s r _ at _ =
+    let v : LockPass = first_of me.0 in
+    let here : get_elem? s.views id ≡ some (v ∷ []) =
+    at ∙ ap (λ (m : Me (Unit {0}) (List LockPass)). some m.0) is in
+    let w : LockPass = after_load limits call v r.log in
+    let t = loads limits s r id v s.homes here call lock in (
+      w ∷ [],
+      keeps,
+      tt,
+      t.0,
+      (
+        λ i. (w ∷ [], (is i).1),
+        record {
+          log = r.log;
+          left =
+              leaves_now limits s r id v s.homes here;
+          after = refl;
+          consistent = t.1;
+        },
+      ),
+    )
+
+-- by whether the word found is the old one
+abbrev TellsBy : Bool → Bounds → Call → LockPass → ℕ → Me (Unit {0}) (List LockPass) → Type 0
+TellsBy b limits call v found n = (n ≡ alone (first_of n.0)) ×
+    MatchBool b (Won limits call v found (first_of n.0)) (Loaded limits call v found (first_of n.0))
+
+exchange_at : (limits : Bounds) (s : State (Unit {0}) (List LockPass)) (r : IsKept limits s)
+    (id : ℕ) (me : Me (Unit {0}) (List LockPass)) (call : Call) (old new : ℕ) (reply : Reply) →
+    IsTrue (is_lock_call call) → me ≡ alone (first_of me.0) →
+    get_elem? s.views id ≡ some (first_of me.0 ∷ [])
+    → Changes limits (word_at limits old) call (word_at limits new) reply → (b : Bool) →
+    eqb (get_or s.words 0 0) old ≡ b
+    → (w : List LockPass) × (a : Act (Unit {0})) × Valid s.homes me.1 a ×
+    IsKept limits (stepped s 0 (either b new (get_or s.words 0 0)) id me.1 w a)
+    × TellsBy b limits call (first_of me.0) (get_or s.words 0 0) (w, carried_after me.1 a)
+exchange_at limits s r id me call old new reply lock is here changes true e =
+    let v : LockPass = first_of me.0 in
+    let w : LockPass = after_win limits call v r.log in
+    let t = wins limits s r id v s.homes here call lock old new reply (eqb-true _ _ e) changes in (
+      w ∷ [],
+      keeps,
+      tt,
+      t.0,
+      (
+        λ i. (w ∷ [], (is i).1),
+        record {
+          log = r.log;
+          left = leaves_now limits s r id v s.homes here;
+          after =
+              refl;
+          consistent = t.1;
+        },
+      ),
+    )
+exchange_at limits s r id me call old new reply lock is here changes false e =
+    let v : LockPass = first_of me.0 in
+    let w : LockPass = after_load limits call v r.log in
+    let t = loads limits s r id v s.homes here call lock in (
+      w ∷ [],
+      keeps,
+      tt,
+      t.0,
+      (
+        λ i. (w ∷ [], (is i).1),
+        record {
+          log = r.log;
+          left = leaves_now limits s r id v s.homes here;
+          after =
+              refl;
+          consistent = t.1;
+        },
+      ),
+    )
+
+-- an exchange
+pub allows_exchange : (limits : Bounds) (call : Call) (slots id : ℕ)
+    (me : Me (Unit {0}) (List LockPass)) (old new : ℕ) (reply : Reply) →
+    IsTrue (is_lock_call call) → me ≡ alone (first_of me.0)
+    → Changes limits (word_at limits old) call (word_at limits new) reply
+    → Allows (IsKept limits) slots id me 0 (λ n. either (n == old) new n)
+    (ExchangeTells limits call (step slots 0 old new none) me)
+allows_exchange limits call slots id me old new reply lock is changes s r _ at _ =
+    exchange_at limits s r id me call old new reply lock is
+    (at ∙ ap (λ (m : Me (Unit {0}) (List LockPass)). some m.0) is) changes
+    (eqb (get_or s.words 0 0) old) refl
+
+-- a load by a seat that stands for two
+pub allows_meet : (limits : Bounds) (slots id : ℕ) (me : Me (Unit {0}) (List LockPass)) →
+    me ≡ both (first_of me.0) (second_of me.0) →
+    Allows (IsKept limits) slots id me 0 (λ n. n) (MeetTells limits (step slots 0 0 0 none) me)
+allows_meet limits slots id me is s r _ at _ =
+    let v : LockPass = first_of me.0 in
+    let u : LockPass = second_of me.0 in
+    let here : get_elem? s.views id ≡ some (v ∷ u ∷ []) =
+    at ∙ ap (λ (m : Me (Unit {0}) (List LockPass)). some m.0) is in
+    let vs : List LockPass = v ∷ u ∷ [] in
+    let v' : LockPass = observing v r.log in
+    let u' : LockPass = observing u r.log in
+    let ws : List LockPass = v' ∷ u' ∷ [] in
+    let first = r.passes.fits id 0 v (vs, here, refl) in
+    let second = r.passes.fits id 1 u (vs, here, refl) in
+    let same = same_two v u v' u' (record { name = refl; splits = refl })
+    (record { name = refl; splits = refl }) in
+    let grows = grows_none vs r.log in
+    let all = two_of (λ k w. (w.observed ≡ r.log) × (made_by every w.name r.log ≡ w.own)) v' u'
+    (refl, first.own) (refl, second.own) in
+    let so = consistent_after limits s r id vs ws r.log here same grows all r.legal in (
+      ws,
+      keeps,
+      tt,
+      kept_after limits s r id vs ws r.log here same grows all (get_or s.words 0 0) s.homes r.legal
+          r.represents,
+      (
+        λ i. (ws, (is i).1),
+        record {
+          first_begins = first.observed;
+          second_begins = second.observed;
+          same = refl;
+          apart = λ e. let t = (r.passes.apart id 0 id 1 v u (vs, here, refl) (vs, here, refl) e).1
+              in absurd (omega (arith, t));
+          owns = (refl, refl);
+          names = (refl, refl);
+          splits = (refl, refl);
+          all_consistent = (so 0 v' refl, so 1 u' refl);
+        },
+      ),
+    )

@@ -1,0 +1,9 @@
+use Rattle.stamp_threads.proofs.PassMoves.{splits_consistent}
+use Rattle.stamp_threads.proofs.running_lock.RunningLock.split.Goals as goal
+
+pub returns-clause-all_consistent : goal.returns-clause-all_consistent
+returns-clause-all_consistent c = rw (
+  c.split-seat.ensures.given,
+  c.split-seat.ensures.new,
+  ← c.pass.view_is,
+) (splits_consistent _ _)

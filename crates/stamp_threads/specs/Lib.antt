@@ -1,0 +1,11 @@
+pub mod PassName
+pub mod PassView
+pub mod Seats
+pub mod LockLog
+pub mod LockPass
+pub mod Answered
+pub mod LostExchange
+pub mod HaveMet
+pub mod Closes
+pub mod LockRule
+pub mod LockStep

@@ -1,0 +1,50 @@
+-- What a pass of a running lock knows.
+use Rattle.std.specs.Prelude.{◌≡◌, ℕ, List}
+use mathlib.Core.List.{IsPrefix}
+use Rattle.atomic_table.specs.Seated.{TableId}
+use Rattle.stamp_core.specs.Limits.{Bounds}
+use Rattle.stamp_core.specs.declared.call.Call.{Call}
+use Rattle.stamp_core.specs.declared.reply.Reply.{Reply}
+use Rattle.stamp_machines.specs.LockNumber.{RepresentsAt}
+use Rattle.stamp_threads.specs.declared.pass_view.PassView.{PassView}
+use Rattle.stamp_threads.specs.PassName.{HasGivenAll}
+use Rattle.stamp_threads.specs.PassView as passes
+use Rattle.stamp_threads.specs.PassView.{made_by, every}
+use Rattle.stamp_threads.specs.Seats as seats
+use Rattle.stamp_threads.specs.LockLog.{LockLog, events_after, IsLegalLog}
+
+abbrev pub LockPass : Type 0
+LockPass = PassView (Call × Reply) (Unit {0})
+
+-- a lock is seen as which one it is, and its limits
+pub record LockView : Type 0 where
+  pub table : TableId
+  pub limits : Bounds
+
+-- a pass is seen as the lock that gave it, and what it knows
+pub record Token : Type 0 where
+  pub table : TableId
+  pub view : LockPass
+
+abbrev pub first_pass : LockPass
+first_pass = passes.first_pass tt
+
+abbrev pub first_of : List LockPass → LockPass
+first_of vs = seats.first_of tt vs
+
+abbrev pub second_of : List LockPass → LockPass
+second_of vs = seats.second_of tt vs
+
+-- what the pass has observed is legal, its entries there are its own calls, and no entry has a name
+-- that it may still give
+pub record IsConsistentWith (limits : Bounds) (v : LockPass) : Type 0 where
+  pub legal : IsLegalLog limits v.observed
+  pub own : made_by every v.name v.observed ≡ v.own
+  pub given : HasGivenAll v.name v.splits v.observed
+
+-- a legal history that begins with what the pass has observed, and whose events this word
+-- represents
+pub record LeavesWord (limits : Bounds) (v : LockPass) (word : ℕ) (log : LockLog) : Type 0 where
+  pub begins : IsPrefix v.observed log
+  pub legal : IsLegalLog limits log
+  pub represents : RepresentsAt limits word (events_after limits log)

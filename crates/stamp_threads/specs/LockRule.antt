@@ -1,0 +1,82 @@
+-- The rule of the running word, and what each step of it tells.
+use Rattle.std.specs.Prelude.{◌≡◌, ℕ, ◌==◌, MatchBool, List, [], ◌∷◌, length, slice_index, Option}
+use Rattle.std.specs.Prelude.{Some, None}
+use Rattle.atomic_table.specs.Table.{State, Step, Me}
+use Rattle.stamp_core.specs.Limits.{Bounds}
+use Rattle.stamp_core.specs.LockEvent.{LockEvent}
+use Rattle.stamp_core.specs.Transition.{Transition}
+use Rattle.stamp_core.specs.declared.call.Call.{Call}
+use Rattle.stamp_core.specs.declared.reply.Reply.{Reply}
+use Rattle.stamp_machines.specs.LockNumber.{RepresentsAt}
+use Rattle.stamp_threads.specs.PassView.{IsPart, every, observing, adding}
+use Rattle.stamp_threads.specs.Seats.{AreSeated, alone, both}
+use Rattle.stamp_threads.specs.LockLog.{LockLog, events_after, transition_after, IsLegalLog}
+use Rattle.stamp_threads.specs.LockPass.{LockPass, IsConsistentWith, LeavesWord, first_of}
+use Rattle.stamp_threads.specs.LockPass.{second_of}
+use Rattle.stamp_threads.specs.HaveMet.{HaveMet}
+
+-- there is one legal history, whose events the word represents; each pass that stands knows a part
+-- of it, and their names are apart
+pub record IsKept (limits : Bounds) (s : State (Unit {0}) (List LockPass)) : Type 0 where
+  pub log : LockLog
+  pub one_word : length s.words ≡ 1
+  pub legal : IsLegalLog limits log
+  pub represents : RepresentsAt limits (slice_index s.words 0) (events_after limits log)
+  pub passes : AreSeated (IsPart every log) s.views
+
+-- the pass after the call's transition: the call is made where there is one
+abbrev pub making : Option Transition → Call → LockPass → LockLog → LockPass
+making None call v log = observing v log
+making (Some t) call v log = adding v log (call, t.reply)
+
+abbrev pub after_win : Bounds → Call → LockPass → LockLog → LockPass
+after_win limits call v log = making (transition_after limits log call) call v log
+
+-- a call whose transition appends nothing is made, and no other
+abbrev pub answering : List LockEvent → Reply → Call → LockPass → LockLog → LockPass
+answering [] reply call v log = adding v log (call, reply)
+answering (event ∷ appended) reply call v log = observing v log
+
+abbrev pub reading : Option Transition → Call → LockPass → LockLog → LockPass
+reading None call v log = observing v log
+reading (Some t) call v log = answering t.appended t.reply call v log
+
+-- the pass after it has found the word
+abbrev pub after_load : Bounds → Call → LockPass → LockLog → LockPass
+after_load limits call v log = reading (transition_after limits log call) call v log
+
+-- v is the pass before a step that has found this word, and w the pass after it
+module _ (limits : Bounds) (call : Call) (v : LockPass) (found : ℕ) (w : LockPass) where
+  pub record Loaded : Type 0 where
+    pub log : LockLog
+    pub left : LeavesWord limits v found log
+    pub after : w ≡ after_load limits call v log
+    pub consistent : IsConsistentWith limits w
+
+  pub record Won : Type 0 where
+    pub log : LockLog
+    pub left : LeavesWord limits v found log
+    pub after : w ≡ after_win limits call v log
+    pub consistent : IsConsistentWith limits w
+
+-- an exchange that finds another word than the old one is as a load
+abbrev pub Exchanged : Bounds → Call → ℕ → LockPass → ℕ → LockPass → Type 0
+Exchanged limits call old v found w = MatchBool (found == old) (Won limits call v found w)
+    (Loaded limits call v found w)
+
+-- what the seat of one pass knows after a load
+abbrev pub LoadTells : Bounds → Call → Step (Unit {0}) → Me (Unit {0}) (List LockPass) → ℕ →
+    Me (Unit {0}) (List LockPass) → Type 0
+LoadTells limits call st m found n = (n ≡ alone (first_of n.0)) ×
+    Loaded limits call (first_of m.0) found (first_of n.0)
+
+abbrev pub ExchangeTells : Bounds → Call → Step (Unit {0}) → Me (Unit {0}) (List LockPass) → ℕ →
+    Me (Unit {0}) (List LockPass) → Type 0
+ExchangeTells limits call st m found n =
+    (n ≡ alone (first_of n.0)) × Exchanged limits call st.first (first_of m.0) found (first_of n.0)
+
+-- and the seat of two passes: both have observed the whole history
+abbrev pub MeetTells : Bounds → Step (Unit {0}) → Me (Unit {0}) (List LockPass) → ℕ →
+    Me (Unit {0}) (List LockPass) → Type 0
+MeetTells limits st m found n = (n ≡ both (first_of n.0) (second_of n.0)) ×
+    HaveMet limits (first_of m.0) (second_of m.0) (first_of n.0) (second_of n.0)

@@ -1,0 +1,24 @@
+-- An exchange that lost, where the call can't be answered without a change.
+use Rattle.std.specs.Prelude.{◌≡◌, ◌≢◌, ℕ}
+use mathlib.Core.List.{IsPrefix}
+use Rattle.stamp_core.specs.Limits.{Bounds}
+use Rattle.stamp_core.specs.declared.call.Call.{Call}
+use Rattle.stamp_threads.specs.LockLog.{LockLog, Appends}
+use Rattle.stamp_threads.specs.LockPass.{LockPass, IsConsistentWith, LeavesWord}
+
+-- two legal histories, of which the second begins with the first, left the two words, and after
+-- each the call changes the lock. The pass v has observed the second, and made no call: it is w
+-- then
+pub record LostExchange (limits : Bounds) (call : Call) (loaded found : ℕ) (v w : LockPass) : Type 0
+  where
+    pub differ : loaded ≢ found
+    pub first : LockLog
+    pub at_first : LeavesWord limits v loaded first
+    pub at_second : LeavesWord limits v found w.observed
+    pub longer : IsPrefix first w.observed
+    pub first_appends : Appends limits first call
+    pub second_appends : Appends limits w.observed call
+    pub own : w.own ≡ v.own
+    pub name : w.name ≡ v.name
+    pub splits : w.splits ≡ v.splits
+    pub consistent : IsConsistentWith limits w

@@ -1,0 +1,14 @@
+-- Names of passes. The first pass has the empty list, and the j-th split of a pass gives a pass
+-- whose name has j more.
+use Rattle.std.specs.Prelude.{◌≡◌, ℕ, ◌<◌, List, [], ◌∷◌, ◌++◌}
+use Rattle.stamp_threads.specs.declared.pass_view.Entry.{Entry}
+
+-- if the other name goes on from this one by a number, a pass of this name that was split this
+-- often has given that number
+abbrev pub HasGiven : List ℕ → ℕ → List ℕ → Type 0
+HasGiven name splits other = (j : ℕ) (rest : List ℕ) → other ≡ name ++ j ∷ rest → j < splits
+
+-- so it is with the names of all entries
+abbrev pub HasGivenAll : {E : Type 0} → List ℕ → ℕ → List (Entry E) → Type 0
+HasGivenAll name splits [] = Unit {0}
+HasGivenAll name splits (e ∷ log) = HasGiven name splits e.name × HasGivenAll name splits log

@@ -1,0 +1,82 @@
+-- What a pass knows of the one history: its name, how often it was split, what it has observed, and
+-- what it made itself.
+use Rattle.std.specs.Prelude.{◌≡◌, ℕ, ◌+◌, Bool, true, if◌then◌else◌, nat_eq, List, [], ◌∷◌, ◌++◌}
+use lib.Pointwise.{pointwise}
+use mathlib.Core.List.{IsPrefix}
+use Rattle.stamp_threads.specs.declared.pass_view.Entry.{Entry}
+use Rattle.stamp_threads.specs.declared.pass_view.PassView.{PassView}
+use Rattle.stamp_threads.specs.PassName.{HasGivenAll}
+
+abbrev pub entry : {E : Type 0} → List ℕ → E → Entry E
+entry name made = record { name = name; made = made }
+
+abbrev pub every : {E : Type 0} → E → Bool
+every made = true
+
+-- what the pass of this name made, of one kind, in the order of the history
+abbrev pub made_by : {E : Type 0} → (E → Bool) → List ℕ → List (Entry E) → List E
+made_by kind name [] = []
+made_by kind name (e ∷ log) = if pointwise nat_eq e.name name then
+    (if kind e.made then e.made ∷ made_by kind name log else made_by kind name log) else made_by
+    kind name log
+
+module _ {E P : Type 0} where
+  -- the pass knows a part of the history: a beginning, and all that it made itself. No entry has a
+  -- name that it may still give
+  pub record IsPart (is_own : E → Bool) (log : List (Entry E)) (v : PassView E P) : Type 0 where
+    pub observed : IsPrefix v.observed log
+    pub own : made_by is_own v.name log ≡ v.own
+    pub given : HasGivenAll v.name v.splits log
+
+  -- the pass after it observed the whole history
+  abbrev pub observing : PassView E P → List (Entry E) → PassView E P
+  observing v log = record {
+    name = v.name;
+    splits = v.splits;
+    observed = log;
+    own = v.own;
+    phase =
+        v.phase;
+  }
+
+  -- the pass after it added an entry of its own to the whole history
+  abbrev pub adding : PassView E P → List (Entry E) → E → PassView E P
+  adding v log made = record {
+    name = v.name;
+    splits = v.splits;
+    observed =
+        log ++ entry v.name made ∷ [];
+    own = v.own ++ made ∷ [];
+    phase = v.phase;
+  }
+
+  -- the pass after a split
+  abbrev pub after_split : PassView E P → PassView E P
+  after_split v = record {
+    name = v.name;
+    splits = v.splits + 1;
+    observed = v.observed;
+    own =
+        v.own;
+    phase = v.phase;
+  }
+
+  -- the new pass: it has observed as much, and made nothing
+  abbrev pub split_off : PassView E P → PassView E P
+  split_off v = record {
+    name = v.name ++ v.splits ∷ [];
+    splits = 0;
+    observed = v.observed;
+    own =
+        [];
+    phase = v.phase;
+  }
+
+  -- the first pass of all
+  abbrev pub first_pass : P → PassView E P
+  first_pass phase = record { name = []; splits = 0; observed = []; own = []; phase = phase }
+
+  -- it is the same pass still
+  pub record IsSamePass (v w : PassView E P) : Type 0 where
+    pub name : w.name ≡ v.name
+    pub splits : w.splits ≡ v.splits

@@ -1,0 +1,42 @@
+-- Where passes stand. The view of a seat of the table is the list of the passes that it stands for:
+-- one, and two while they meet.
+use Rattle.std.specs.Prelude.{◌≡◌, ℕ, List, [], ◌∷◌}
+use mathlib.Core.Option.{some}
+use lib.ListN.{get_elem?}
+use Rattle.atomic_table.specs.Table.{Me}
+use Rattle.stamp_threads.specs.declared.pass_view.PassView.{PassView}
+use Rattle.stamp_threads.specs.PassName.{HasGiven}
+use Rattle.stamp_threads.specs.PassView.{first_pass}
+
+-- v is the k-th pass of the seat i
+abbrev pub StandsAt : {V : Type 0} → List (List V) → ℕ → ℕ → V → Type 0
+StandsAt {V} seats i k v = (vs : List V) × (get_elem? seats i ≡ some vs) × (get_elem? vs k ≡ some v)
+
+-- each pass that stands is so; two places have two names; and no name stands that a pass may still
+-- give
+pub record AreSeated {E P : Type 0} (Fits : PassView E P → Type 0)
+    (seats : List (List (PassView E P))) : Type 0 where
+  pub fits : (i k : ℕ) (v : PassView E P) → StandsAt seats i k v → Fits v
+  pub apart : (i k j l : ℕ) (v w : PassView E P) → StandsAt seats i k v → StandsAt seats j l w →
+      v.name ≡ w.name → (i ≡ j) × (k ≡ l)
+  pub given : (i k j l : ℕ) (v w : PassView E P) → StandsAt seats i k v → StandsAt seats j l w →
+      HasGiven v.name v.splits w.name
+
+module _ {E P : Type 0} where
+  -- the first and the second pass of a seat, and the first of all where there is none
+  abbrev pub first_of : P → List (PassView E P) → PassView E P
+  first_of phase [] = first_pass phase
+  first_of phase (v ∷ vs) = v
+
+  abbrev pub second_of : P → List (PassView E P) → PassView E P
+  second_of phase [] = first_pass phase
+  second_of phase (v ∷ vs) = first_of phase vs
+
+module _ {V : Type 0} where
+  -- the seat stands for this pass alone, and holds no slot
+  abbrev pub alone : V → Me (Unit {0}) (List V)
+  alone v = (v ∷ [], [])
+
+  -- the seat stands for both
+  abbrev pub both : V → V → Me (Unit {0}) (List V)
+  both v w = (v ∷ w ∷ [], [])

@@ -1,0 +1,106 @@
+//! The rule of the running word, and what each step of it tells. These types are for proofs alone.
+use crate::pass_view::PassView;
+use atomic_table::{Join, Play, Split, TableRule};
+use stamp_core::{Call, Limits, Reply};
+use std::collections::LinkedList;
+use std::marker::{Brand, PhantomData};
+
+/// The passes that a seat of the table stands for: one, and two while they meet.
+pub type Passes = LinkedList<PassView<(Call, Reply), ()>>;
+
+pub struct LockRule;
+
+impl TableRule<(), Passes, Limits> for LockRule {
+    ghost use Rattle.std.specs.Prelude.{[], ◌∷◌};
+    ghost use Rattle.stamp_threads.specs.LockPass.{first_pass};
+    ghost use Rattle.stamp_threads.specs.LockRule.{IsKept};
+
+    ghost holds = { IsKept };
+
+    ghost first = { λ limits. first_pass ∷ [] };
+}
+
+/// The limits of the lock, and the call that a step is made for. Each step picks its own.
+pub trait StepFor {
+    ghost use Rattle.stamp_core.specs.Limits.{Bounds};
+    ghost use Rattle.stamp_core.specs.declared.call.Call.{Call};
+
+    ghost limits: { Bounds };
+
+    ghost call: { Call };
+}
+
+impl StepFor for Brand {
+    ghost use Rattle.stamp_core.specs.Limits.{bounds};
+    ghost use Rattle.stamp_core.specs.declared.layout.Layout.TheVariants.{One};
+    ghost use Rattle.stamp_core.specs.declared.call.Call.TheVariants.{IsWriteLocked};
+
+    ghost limits = { bounds One 1 0 };
+
+    ghost call = { IsWriteLocked };
+}
+
+pub struct LoadStep<C> {
+    of: PhantomData<C>,
+}
+
+impl<C: StepFor> Play<(), Passes> for LoadStep<C> {
+    ghost use Rattle.stamp_threads.specs.LockRule.{LoadTells};
+
+    ghost then = { LoadTells C.limits C.call };
+}
+
+pub struct ExchangeStep<C> {
+    of: PhantomData<C>,
+}
+
+impl<C: StepFor> Play<(), Passes> for ExchangeStep<C> {
+    ghost use Rattle.stamp_threads.specs.LockRule.{ExchangeTells};
+
+    ghost then = { ExchangeTells C.limits C.call };
+}
+
+/// A load by a seat that stands for two passes.
+pub struct MeetStep<C> {
+    of: PhantomData<C>,
+}
+
+impl<C: StepFor> Play<(), Passes> for MeetStep<C> {
+    ghost use Rattle.stamp_threads.specs.LockRule.{MeetTells};
+
+    ghost then = { MeetTells C.limits };
+}
+
+/// A pass gives a new one.
+pub struct GivePass;
+
+impl Split<Passes> for GivePass {
+    ghost use Rattle.std.specs.Prelude.{map};
+    ghost use Rattle.stamp_threads.specs.PassView.{after_split, split_off};
+
+    ghost left = { map after_split };
+
+    ghost right = { map split_off };
+}
+
+/// Two passes go on one seat.
+pub struct ShareSeat;
+
+impl Join<Passes> for ShareSeat {
+    ghost use Rattle.std.specs.Prelude.{[], ◌++◌};
+
+    ghost both = { λ vs ws. vs ++ ws };
+
+    ghost spent = { [] };
+}
+
+/// And each on one of its own again.
+pub struct PartSeats;
+
+impl Split<Passes> for PartSeats {
+    ghost use Rattle.std.specs.Prelude.{take, drop};
+
+    ghost left = { take 1 };
+
+    ghost right = { drop 1 };
+}

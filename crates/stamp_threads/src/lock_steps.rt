@@ -1,0 +1,110 @@
+//! The steps on the running word, by the seats of its table.
+ghost use Rattle.std.specs.Prelude.{◌≡◌, IsTrue};
+ghost use Rattle.stamp_core.specs.Call.{is_lock_call};
+ghost use Rattle.stamp_core.specs.Word.{word_at};
+ghost use Rattle.stamp_core.specs.Decision.{Changes};
+ghost use Rattle.stamp_threads.specs.PassView.{after_split, split_off};
+ghost use Rattle.stamp_threads.specs.Seats.{alone, both};
+ghost use Rattle.stamp_threads.specs.LockPass.{first_of, second_of};
+ghost use Rattle.stamp_threads.specs.LockRule.{Loaded, Exchanged};
+ghost use Rattle.stamp_threads.specs.HaveMet.{HaveMet};
+
+use crate::lock_rule::{
+    ExchangeStep, GivePass, LoadStep, LockRule, MeetStep, PartSeats, Passes, ShareSeat, StepFor,
+};
+use atomic_table::{Seat, Shared};
+use stamp_core::{Call, Limits, Reply};
+
+pub type LockTable = Shared<(), Passes, Limits, LockRule>;
+
+pub type LockSeat = Seat<(), Passes>;
+
+/// Loads the word. The call is made by it where it changes nothing.
+#[inline(always)]
+pub fn load<C: StepFor>(table: &LockTable, seat: &mut LockSeat, call: &Call) -> u64
+    requires step { (C.limits ≡ table.now.key) × (C.call ≡ call.now) }
+    requires lock { IsTrue (is_lock_call call.now) }
+    requires table { (seat.old.table_id ≡ table.now.table_id) × (table.now.table_id.words ≡ 1) }
+    requires alone { seat.old.me ≡ alone (first_of seat.old.me.0) }
+    ensures table { seat.new.table_id ≡ seat.old.table_id }
+    ensures alone { seat.new.me ≡ alone (first_of seat.new.me.0) }
+    ensures told { let v = first_of seat.old.me.0 in
+        Loaded table.now.key call.now v result (first_of seat.new.me.0) }
+{
+    let _ = call;
+    table.load::<LoadStep<C>>(seat, 0)
+}
+
+/// Makes the call by an exchange. One that finds another word is as a load.
+#[inline(always)]
+pub fn exchange<C: StepFor>(
+    table: &LockTable,
+    seat: &mut LockSeat,
+    call: &Call,
+    old: u64,
+    new: u64,
+) -> u64
+    requires step { (C.limits ≡ table.now.key) × (C.call ≡ call.now) }
+    requires lock { IsTrue (is_lock_call call.now) }
+    requires table { (seat.old.table_id ≡ table.now.table_id) × (table.now.table_id.words ≡ 1) }
+    requires alone { seat.old.me ≡ alone (first_of seat.old.me.0) }
+    requires changes { let limits = table.now.key in
+        (reply : Reply) × Changes limits (word_at limits old) call.now (word_at limits new) reply }
+    ensures table { seat.new.table_id ≡ seat.old.table_id }
+    ensures alone { seat.new.me ≡ alone (first_of seat.new.me.0) }
+    ensures told { let v = first_of seat.old.me.0 in
+        Exchanged table.now.key call.now old v result (first_of seat.new.me.0) }
+{
+    let _ = call;
+    table.compare_exchange::<ExchangeStep<C>>(seat, 0, old, new)
+}
+
+/// A new seat, whose pass has a name that the first one gives.
+pub fn split(table: &LockTable, seat: &mut LockSeat) -> LockSeat
+    requires table { (seat.old.table_id ≡ table.now.table_id) × (table.now.table_id.words ≡ 1) }
+    requires alone { seat.old.me ≡ alone (first_of seat.old.me.0) }
+    ensures table { (seat.new.table_id ≡ seat.old.table_id)
+        × (result.table_id ≡ seat.old.table_id) }
+    ensures given { seat.new.me ≡ alone (after_split (first_of seat.old.me.0)) }
+    ensures new { result.me ≡ alone (split_off (first_of seat.old.me.0)) }
+{
+    table.split_seat::<GivePass>(seat)
+}
+
+/// A load by a seat that stands for two passes: it tells that both had observed beginnings of one
+/// history.
+pub fn load_both<C: StepFor>(table: &LockTable, seat: &mut LockSeat)
+    requires step { C.limits ≡ table.now.key }
+    requires table { (seat.old.table_id ≡ table.now.table_id) × (table.now.table_id.words ≡ 1) }
+    requires both { seat.old.me ≡ both (first_of seat.old.me.0) (second_of seat.old.me.0) }
+    ensures table { seat.new.table_id ≡ seat.old.table_id }
+    ensures both { seat.new.me ≡ both (first_of seat.new.me.0) (second_of seat.new.me.0) }
+    ensures met { let old = seat.old.me.0 in let new = seat.new.me.0 in
+        HaveMet table.now.key (first_of old) (second_of old) (first_of new) (second_of new) }
+{
+    table.load::<MeetStep<C>>(seat, 0);
+}
+
+/// Puts both passes on one seat.
+pub fn share_seat(table: &LockTable, seat: &mut LockSeat, other: LockSeat)
+    requires table { (seat.old.table_id ≡ table.now.table_id) × (table.now.table_id.words ≡ 1) }
+    requires other { other.table_id ≡ table.now.table_id }
+    requires alone { seat.old.me ≡ alone (first_of seat.old.me.0) }
+    requires other_alone { other.me ≡ alone (first_of other.me.0) }
+    ensures table { seat.new.table_id ≡ seat.old.table_id }
+    ensures both { seat.new.me ≡ both (first_of seat.old.me.0) (first_of other.me.0) }
+{
+    table.join_seat::<ShareSeat>(seat, other);
+}
+
+/// Puts the two passes of a seat on two seats.
+pub fn part_seats(table: &LockTable, seat: &mut LockSeat) -> LockSeat
+    requires table { (seat.old.table_id ≡ table.now.table_id) × (table.now.table_id.words ≡ 1) }
+    requires both { seat.old.me ≡ both (first_of seat.old.me.0) (second_of seat.old.me.0) }
+    ensures table { (seat.new.table_id ≡ seat.old.table_id)
+        × (result.table_id ≡ seat.old.table_id) }
+    ensures first { seat.new.me ≡ alone (first_of seat.old.me.0) }
+    ensures second { result.me ≡ alone (second_of seat.old.me.0) }
+{
+    table.split_seat::<PartSeats>(seat)
+}

@@ -1,0 +1,22 @@
+//! The passes of a lock.
+use crate::lock_steps::LockSeat;
+use std::marker::Model;
+
+/// A token of what its holder has observed of a lock. It has no bytes, can be moved to another
+/// thread and can't be copied, and belongs to the lock that gave it.
+#[derive(Drop)]
+pub struct Pass {
+    pub(crate) seat: LockSeat,
+}
+
+impl Model for Pass {
+    ghost use Rattle.std.specs.Prelude.{◌≡◌};
+    ghost use Rattle.stamp_threads.specs.Seats.{alone};
+    ghost use Rattle.stamp_threads.specs.LockPass.{Token, first_of};
+
+    ghost Value = { Token };
+
+    ghost view = { λ p. record { table = p.seat.table_id; view = first_of p.seat.me.0 } };
+
+    ghost invariant = { λ p. p.seat.me ≡ alone (first_of p.seat.me.0) };
+}

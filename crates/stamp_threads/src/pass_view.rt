@@ -1,0 +1,22 @@
+//! What a pass knows. No value of these types is made: they stand in contracts and proofs alone.
+use std::collections::LinkedList;
+
+/// What the pass of this name made, in the one history: of a lock a call with its reply.
+pub struct Entry<E> {
+    pub name: LinkedList<u64>,
+    pub made: E,
+}
+
+/// A pass. The first has the empty list for its name, and the j-th split of a pass, counted from 0,
+/// gives one whose name has j more at its end.
+pub struct PassView<E, P> {
+    pub name: LinkedList<u64>,
+    /// How often it was split.
+    pub splits: u64,
+    /// A beginning of the one history.
+    pub observed: LinkedList<Entry<E>>,
+    /// What it made itself.
+    pub own: LinkedList<E>,
+    /// Where it stands in what it is making; nothing for a lock, whose calls are made by one step.
+    pub phase: P,
+}

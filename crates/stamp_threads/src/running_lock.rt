@@ -1,0 +1,167 @@
+//! The lock that threads share.
+ghost use Rattle.std.specs.Prelude.{◌≡◌, IfOk, IfErr, IsTrue};
+ghost use Rattle.stamp_core.specs.Call.{is_lock_call};
+ghost use Rattle.stamp_threads.specs.PassView.{after_split, split_off};
+ghost use Rattle.stamp_threads.specs.LockPass.{IsConsistentWith, first_pass};
+ghost use Rattle.stamp_threads.specs.Answered.{Answered, IsWaiting, try_form};
+ghost use Rattle.stamp_threads.specs.LostExchange.{LostExchange};
+ghost use Rattle.stamp_threads.specs.HaveMet.{HaveMet};
+ghost use Rattle.stamp_threads.specs.Closes.{Closes};
+
+use crate::lock_rule::{LockRule, Passes};
+use crate::lock_steps;
+use crate::lost::Lost;
+use crate::machine_steps::try_form;
+use crate::pass::Pass;
+use atomic_table::Table;
+use stamp_core::{Call, Limits, Reply, Word};
+use stamp_machines::Passage;
+use std::alloc::Global;
+use std::marker::{Brand, Model};
+use std::sync::Wait;
+
+/// Why a lock is not made.
+#[derive(Clone, Copy, PartialEq, Eq, Debug, Drop)]
+pub enum LockError {
+    /// 1: there was no table for the word. Nothing was made.
+    Unmade,
+}
+
+/// A lock in one word that threads share by reference, each with a pass of its own.
+#[derive(Drop)]
+pub struct RunningLock {
+    pub(crate) table: Table<(), Passes, Limits, LockRule, Global>,
+    pub(crate) limits: Limits,
+}
+
+impl Model for RunningLock {
+    ghost use Rattle.std.specs.Prelude.{◌≡◌};
+    ghost use Rattle.stamp_threads.specs.LockPass.{LockView};
+
+    ghost Value = { LockView };
+
+    ghost view = { λ l. record { table = l.table.shared.table_id; limits = l.limits } };
+
+    ghost invariant = { λ l. (l.table.shared.key ≡ l.limits)
+        × (l.table.shared.table_id.words ≡ 1) × (l.table.shared.table_id.slots ≡ 0) };
+}
+
+impl RunningLock {
+    /// A lock that nobody holds, and its first pass. It refuses only for want of memory.
+    pub fn new(alloc: Global, limits: Limits) -> Result<(RunningLock, Pass), LockError>
+        ensures limits { IfOk result (λ r. r.0.limits ≡ limits) }
+        ensures lock { IfOk result (λ r. r.1.table ≡ r.0.table) }
+        ensures pass { IfOk result (λ r. r.1.view ≡ first_pass) }
+        ensures consistent { IfOk result (λ r. IsConsistentWith limits r.1.view) }
+    {
+        let opening = Word::opening_in(limits.layout()).bits();
+        match Table::of_words(alloc, &[opening], &limits) {
+            Ok((table, seat)) => Ok((RunningLock { table, limits }, Pass { seat })),
+            Err(_) => Err(LockError::Unmade),
+        }
+    }
+
+    /// Makes the call by one load and at most one exchange, and waits for nobody: `WriteLock` and
+    /// `ReadLock` are made as `TryWrite` and `TryRead`. A call that is refused as `Lost` has
+    /// changed nothing, and can be made again.
+    #[inline(always)]
+    pub fn once(&self, pass: &mut Pass, call: Call) -> Result<Reply, Lost>
+        requires call { IsTrue (is_lock_call call) }
+        requires lock { pass.old.table ≡ self.now.table }
+        ensures lock { pass.new.table ≡ self.now.table }
+        ensures ok { let v = pass.old.view in let w = pass.new.view in
+            IfOk result (λ r. Answered self.now.limits (try_form call) r v w) }
+        ensures lost { let v = pass.old.view in let w = pass.new.view in
+            IfErr result (λ l.
+            LostExchange self.now.limits (try_form call) l.loaded l.found v w) }
+    {
+        let call = try_form(&call);
+        self.tried(pass, self.limits, &call)
+    }
+
+    /// Makes a call that doesn't wait, as `once` does.
+    #[inline(always)]
+    fn tried(&self, pass: &mut Pass, limits: Limits, call: &Call) -> Result<Reply, Lost>
+        requires limits { limits ≡ self.now.limits }
+        requires call { IsTrue (is_lock_call call.now) }
+        requires waits { IsWaiting call.now → ⊥ }
+        requires lock { pass.old.table ≡ self.now.table }
+        ensures lock { pass.new.table ≡ self.now.table }
+        ensures ok { let v = pass.old.view in let w = pass.new.view in
+            IfOk result (λ r. Answered limits call.now r v w) }
+        ensures lost { let v = pass.old.view in let w = pass.new.view in
+            IfErr result (λ l. LostExchange limits call.now l.loaded l.found v w) }
+    {
+        let mut reply = Reply::Done;
+        let (loaded, passage) = self.load_step(pass, limits, call, &mut reply);
+        let Passage::Still(Some(old)) = passage else {
+            return Ok(reply);
+        };
+        let (found, passage) = self.exchange_step(pass, limits, call, old, &mut reply);
+        match passage {
+            Passage::Ended => Ok(reply),
+            Passage::Still(_) => Err(Lost { loaded, found }),
+        }
+    }
+
+    /// Makes the call, and tries again until it is made: `WriteLock` and `ReadLock` wait for
+    /// others. It may go on for ever.
+    pub fn call<R: Wait>(&self, rt: &R, pass: &mut Pass, call: Call) -> Reply
+        requires call { IsTrue (is_lock_call call) }
+        requires lock { pass.old.table ≡ self.now.table }
+        ensures lock { pass.new.table ≡ self.now.table }
+        ensures made { Answered self.now.limits call result pass.old.view pass.new.view }
+    {
+        let mut reply = Reply::Done;
+        let mut seen = None;
+        for _ in rt.forever() {
+            let (_, passage) = self.step(pass, &call, seen, &mut reply);
+            match passage {
+                Passage::Ended => return reply,
+                Passage::Still(next) => seen = next,
+            }
+        }
+        unreachable!()
+    }
+
+    /// The pass that was handed in, and a new one, which has observed as much and made no call.
+    pub fn split(&self, mut pass: Pass) -> (Pass, Pass)
+        requires { pass.table ≡ self.now.table }
+        ensures lock { (result.0.table ≡ self.now.table) × (result.1.table ≡ self.now.table) }
+        ensures given { result.0.view ≡ after_split pass.view }
+        ensures new { result.1.view ≡ split_off pass.view }
+        ensures all_consistent { let limits = self.now.limits in
+            IsConsistentWith limits pass.view
+            → IsConsistentWith limits result.0.view × IsConsistentWith limits result.1.view }
+    {
+        let seat = lock_steps::split(&self.table.shared, &mut pass.seat);
+        (pass, Pass { seat })
+    }
+
+    /// Both passes, each of which has then observed what either had. It makes three loads.
+    pub fn meet(&self, mut first: Pass, second: Pass) -> (Pass, Pass)
+        requires { (first.table ≡ self.now.table) × (second.table ≡ self.now.table) }
+        ensures lock { (result.0.table ≡ self.now.table) × (result.1.table ≡ self.now.table) }
+        ensures met { HaveMet self.now.limits first.view second.view result.0.view result.1.view }
+    {
+        let Pass { seat } = second;
+        let table = &self.table.shared;
+        lock_steps::share_seat(table, &mut first.seat, seat);
+        lock_steps::load_both::<Brand>(table, &mut first.seat);
+        let seat = lock_steps::part_seats(table, &mut first.seat);
+        (first, Pass { seat })
+    }
+
+    /// Ends the lock, and gives its word. Other passes may still be there; they are of no use then.
+    pub fn close(self, pass: Pass) -> u64
+        requires { pass.table ≡ self.table }
+        ensures { Closes self.limits pass.view result }
+    {
+        let RunningLock { table, limits: _ } = self;
+        let Pass { seat } = pass;
+        let closed = table.close_with(seat);
+        let word = closed.word(0);
+        closed.free();
+        word
+    }
+}
