@@ -1,7 +1,8 @@
 //! Times the steps of a run: a script of 64 threads, built in memory.
 //!
 //! `run_timing [STEPS [WIDTH]]` writes one line to standard error. With a WIDTH of 0, or none, the
-//! calls are those of the lock; else they are gets and puts of a record of so many words.
+//! calls are those of the lock; else they are gets and puts of a record of so many words. Status 1:
+//! memory was refused, or there is no such script.
 #![tactic(auto)]
 
 mod mix;
@@ -10,6 +11,7 @@ mod sum;
 
 use mix::{MixError, script_of};
 use run::run_of;
+use std::process::ExitCode;
 use std::rt::Env;
 use std::time::Instant;
 use std::{env, io};
@@ -36,30 +38,31 @@ fn order_given(rt: &(impl Env + AllocGlobal)) -> io::Result<Order> {
     })
 }
 
-fn main(rt: HostRuntime) -> io::Result<()> {
+fn main(rt: HostRuntime) -> io::Result<ExitCode> {
     let order = order_given(&rt)?;
     let script = match script_of(rt.alloc(), order.steps, order.width) {
         Ok(script) => script,
         Err(MixError::Memory) => {
             eprintln!(rt; "memory")?;
-            return Ok(());
+            return Ok(ExitCode::FAILURE);
         }
         Err(MixError::Script) => {
             eprintln!(rt; "no such script")?;
-            return Ok(());
+            return Ok(ExitCode::FAILURE);
         }
     };
     let start = Instant::now(&rt)?;
     let ran = run_of(rt.alloc(), &script);
     let nanoseconds = start.elapsed(&rt)?.as_nanos();
-    match ran {
-        Ok(run) => eprintln!(rt;
-            "steps {} nanoseconds {nanoseconds} entries {} sum {}",
-            order.steps,
-            run.finished().len(),
-            sum_of(run.word(), run.finished())
-        )?,
-        Err(_) => eprintln!(rt; "memory")?,
-    }
-    Ok(())
+    let Ok(run) = ran else {
+        eprintln!(rt; "memory")?;
+        return Ok(ExitCode::FAILURE);
+    };
+    eprintln!(rt;
+        "steps {} nanoseconds {nanoseconds} entries {} sum {}",
+        order.steps,
+        run.finished().len(),
+        sum_of(run.word(), run.finished())
+    )?;
+    Ok(ExitCode::SUCCESS)
 }

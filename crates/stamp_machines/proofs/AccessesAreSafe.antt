@@ -1,5 +1,5 @@
 -- What a step needs of the world: its access is within the memory, and what it sees as a lock's
--- word is one that the limits admit.
+-- word is one that the limits admit, at the record's lock with a version left.
 use Rattle.std.proofs.Common.{◌≡◌, ℕ, ◌+◌, ◌<◌, ◌≤◌, Bool, true, false, List, length, Option, Some}
 use Rattle.std.proofs.Common.{None, if◌then◌else◌, refl, sym, subst, arith, nat_lt}
 use Rattle.std.specs.Prelude.{slice_index}
@@ -18,7 +18,7 @@ use Rattle.stamp_machines.specs.LocalAccess.{LoadLock, LoadItem, with_lock}
 use Rattle.stamp_machines.specs.LockPhase.{phase_next, next_on}
 use Rattle.stamp_machines.specs.declared.shape.Shape.{Shape}
 use Rattle.stamp_machines.specs.MachineState.{Phase, OnLock, OnRecord, record_limits}
-use Rattle.stamp_machines.specs.Machine.{next_in, IsFoundIn}
+use Rattle.stamp_machines.specs.Machine.{next_in, IsFoundIn, HasVersionLeft}
 use Rattle.stamp_machines.specs.RecordKept.{Fits}
 
 -- a lock phase is on its lock's word
@@ -58,24 +58,31 @@ pub record-safe : (shape : Shape) (call : Call) (limits : Bounds) (k wr : ℕ)
     (content items : List ℕ) (job : Job) (place : Place) (words : List ℕ) →
     length words ≡ 2 + shape.width → length content ≡ shape.width →
     IsAdmittedAt (record_limits shape) (slice_index words 1) →
-    Fits limits k wr content items job place → IsSafeIn shape call (OnRecord job place) words
-record-safe shape call limits k wr content items job record_calls.Glancing words n l w f =
+    HasVersionLeft shape (slice_index words 1) → Fits limits k wr content items job place →
+    IsSafeIn shape call (OnRecord job place) words
+record-safe shape call limits k wr content items job record_calls.Glancing words n l w v f =
     (omega (arith, n), w)
 record-safe shape call limits k wr content items job (record_calls.Copying first loaded) words n l w
-    f = copying-safe shape call job first loaded words n w
-record-safe shape call limits k wr content items job (record_calls.Locking e seen) words n l w f =
+    v f = copying-safe shape call job first loaded words n w
+record-safe shape call limits k wr content items job (record_calls.Locking e seen) words n l w
+    v f =
     let at : place_of (with_lock 1 (phase_next (record_limits shape) (call_for e) seen)) ≡ 1 =
     phase-place 1 (record_limits shape) (call_for e) seen in (
       omega (arith, at, n),
-      subst (λ (i : ℕ). IsAdmittedAt (record_limits shape) (slice_index words i)) (sym at) w,
+      (
+        subst (λ (i : ℕ). IsAdmittedAt (record_limits shape) (slice_index words i)) (sym at) w,
+        subst (λ (i : ℕ). HasVersionLeft shape (slice_index words i)) (sym at) v,
+      ),
     )
-record-safe shape call limits k wr content items job (record_calls.Reading s loaded) words n l w f =
+record-safe shape call limits k wr content items job (record_calls.Reading s loaded) words n l w
+    v f =
     (omega (arith, n, l, f.2), tt)
 record-safe shape call limits k wr content items job (record_calls.Checking s loaded) words n l w
-    f = (omega (arith, n, l, f.4), tt)
-record-safe shape call limits k wr content items job (record_calls.Storing s i) words n l w f =
+    v f = (omega (arith, n, l, f.4), tt)
+record-safe shape call limits k wr content items job (record_calls.Storing s i) words n l w v f =
     (omega (arith, n, l, f.3), tt)
-record-safe shape call limits k wr content items job (record_calls.Releasing s a) words n l w f =
+record-safe shape call limits k wr content items job (record_calls.Releasing s a) words n l w v
+    f =
     (omega (arith, n), tt)
 
 pub lock-safe : (shape : Shape) (call : Call) (seen : Option ℕ) (words : List ℕ) →

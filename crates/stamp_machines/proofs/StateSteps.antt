@@ -187,10 +187,10 @@ taken plan old mid new t position s some h m landed =
 
 -- its access is safe
 pub taken-safe : (plan : Scripted) (world mid : World) (t : ℕ) → Kept plan world → IsSound plan →
-    is_some (current plan world t) ≡ true → t < length world.begun →
+    world.position < 1000000 → is_some (current plan world t) ≡ true → t < length world.begun →
     mid ≡ begun_with world t (current plan world t) →
     IfSome (slice_index_or mid.begun t None) (λ b. IsSafeOn b mid.words)
-taken-safe plan world mid t kept sound some h m = go (current plan world t) refl some
+taken-safe plan world mid t kept sound room some h m = go (current plan world t) refl some
   where
     go : (o : Option Begun) → current plan world t ≡ o → is_some o ≡ true →
         IfSome (slice_index_or mid.begun t None) (λ b. IsSafeOn b mid.words)
@@ -198,4 +198,5 @@ taken-safe plan world mid t kept sound some h m = go (current plan world t) refl
     go (Some b) e is =
         let m' : mid ≡ begun_with world t (Some b) = rw e at m in
         let words : mid.words ≡ world.words = ap (λ (x : World). x.words) m' in
-        rw (begun-there plan world mid t b h e m, words) (current-safe plan world t b kept sound e)
+        rw (begun-there plan world mid t b h e m, words)
+        (current-safe plan world t b kept sound room e)

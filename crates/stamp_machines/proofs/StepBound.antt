@@ -30,7 +30,7 @@ use Rattle.stamp_machines.specs.World.{call_of, landed, stepped, step, entry_of,
 use Rattle.stamp_machines.specs.World.{completed_calls}
 use Rattle.stamp_machines.specs.Interference.{lock_word, interferes, changes_by_others, own_since}
 use Rattle.stamp_machines.specs.Interference.{changes_since, own_steps, interference, NeverWaits}
-use Rattle.stamp_machines.specs.Interference.{StepsBoundedAlways}
+use Rattle.stamp_machines.specs.Interference.{StepsBoundedAlways, UnderWayBoundedAlways}
 use Rattle.stamp_machines.specs.declared.script.ScriptCall.{ScriptCall}
 use Rattle.stamp_machines.specs.declared.shape.Shape.{Shape}
 use Rattle.stamp_machines.specs.declared.state.Begun.{Begun}
@@ -479,3 +479,24 @@ steps_are_bounded plan names sound few =
     λ k d lt never.
     ((steps-bounded plan [] names sound (omega (arith, few)) (none-bounded plan)).entries k d lt).2
     never
+
+-- a call that has begun and not ended
+under-way : (limits : Bounds) (call : Call) (word own changes : ℕ) (phase : Phase) →
+    job_in call ≡ job_at phase → NeverWaits call →
+    BoundedPhase limits call word own changes phase → own < changes + 2
+under-way limits call word own changes (OnLock None) kind never bounded = omega (arith, bounded)
+under-way limits call word own changes (OnLock (Some w)) kind never bounded = let h = bounded.0 in
+    omega (arith, h)
+under-way limits call word own changes (OnRecord job place) kind never bounded =
+    let none : job_in call ≡ None = lock_none call never.lock in
+    let apart : None ≡ Some job = sym none ∙ kind in
+    cc
+
+pub under_way_bounded : UnderWayBoundedAlways
+under_way_bounded plan names t b sound few at never =
+    let all = steps-bounded plan [] names sound (omega (arith, few)) (none-bounded plan) in
+    let slot : BoundedSlot plan names t (Some b) =
+    subst (BoundedSlot plan names t) at (all.slots t) in
+    let k : Kept plan (execution_of plan names) = always-kept plan names sound few in
+    let of : IsOf (shape_of plan) (Some b) = subst (IsOf (shape_of plan)) at (k.begun t) in
+    under-way plan.limits b.machine.call _ _ _ b.machine.phase of.1 never (slot.1 never)

@@ -481,23 +481,25 @@ always-kept plan names sound few =
     steps-kept plan (opening plan) names (opening-kept plan sound) sound (omega (arith, few))
 
 phase-safe : (plan : Scripted) (world : World) (call : Call) (phase : Phase) → Kept plan world →
+    world.position < 1000000 →
     FitsIn (record_limits (shape_of plan))
     (counts_at (record_limits (shape_of plan)) (slice_index world.words 1)).write_count
     (counts_at (record_limits (shape_of plan)) (slice_index world.words 1)).writers
     (content_in plan world) (drop 2 world.words) (doing_at phase) →
     IsSafeIn (shape_of plan) call phase world.words
-phase-safe plan world call (OnLock seen) k f =
+phase-safe plan world call (OnLock seen) k room f =
     lock-safe (shape_of plan) call seen world.words k.memory
     (record { events = (events_in plan world); represented = k.represented })
-phase-safe plan world call (OnRecord job place) k f =
+phase-safe plan world call (OnRecord job place) k room f =
     record-safe (shape_of plan) call (record_limits (shape_of plan)) _ _ (content_in plan world)
-    (drop 2 world.words) job place world.words k.memory k.width k.record_kept.admitted f.2
+    (drop 2 world.words) job place world.words k.memory k.width k.record_kept.admitted
+    (let v = record_room plan.limits.layout in let few = k.few in omega (arith, v, few, room)) f.2
 
 -- what a thread's step needs
 pub current-safe : (plan : Scripted) (world : World) (t : ℕ) (b : Begun) → Kept plan world →
-    IsSound plan → current plan world t ≡ Some b →
+    IsSound plan → world.position < 1000000 → current plan world t ≡ Some b →
     IsSafeIn b.machine.shape b.machine.call b.machine.phase world.words
-current-safe plan world t b k sound e =
+current-safe plan world t b k sound room e =
     let limits : Bounds = record_limits (shape_of plan) in
     let fits : FitsIn limits (counts_at limits (slice_index world.words 1)).write_count
     (counts_at limits (slice_index world.words 1)).writers (content_in plan world)
@@ -507,7 +509,7 @@ current-safe plan world t b k sound e =
     (slice_index_or world.begun t None) b sound.suited k.width k.threads refl (k.begun t) fits e
     in
     subst (λ (s : Shape). IsSafeIn s b.machine.call b.machine.phase world.words) (sym r.1.of.0)
-    (phase-safe plan world b.machine.call b.machine.phase k r.1.fits)
+    (phase-safe plan world b.machine.call b.machine.phase k room r.1.fits)
 
 -- the exchange that releases finds what it expects
 releases : (plan : Scripted) (world : World) (t : ℕ) (b : Begun) (job : Job) (s : ℕ) (r : Reply) →

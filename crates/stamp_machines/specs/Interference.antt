@@ -1,13 +1,15 @@
 -- What a finished call cost: its own steps, and the steps of others that changed the lock's word
 -- meanwhile.
-use Rattle.std.specs.Prelude.{ℕ, ◌≢◌, ◌+◌, ◌≤◌, ◌==◌, ◌&&◌, not, Bool, List, [], ◌∷◌, length, take}
-use Rattle.std.specs.Prelude.{drop, count_by, All, IsTrue, slice_index, if◌then◌else◌}
+use Rattle.std.specs.Prelude.{ℕ, ◌≡◌, ◌≢◌, ◌+◌, ◌<◌, ◌≤◌, ◌==◌, ◌&&◌, not, Bool, List, [], ◌∷◌}
+use Rattle.std.specs.Prelude.{length, take, drop, count_by, All, IsTrue, slice_index}
+use Rattle.std.specs.Prelude.{slice_index_or, Some, None, if◌then◌else◌}
 use Rattle.stamp_core.specs.Call.{is_lock_call}
 use Rattle.stamp_core.specs.declared.call.Call.{Call}
 use Rattle.stamp_core.specs.declared.call.Call.TheVariants.{WriteLock, ReadLock}
 use Rattle.stamp_core.specs.declared.entry.Entry.{Entry}
 use Rattle.stamp_machines.specs.Script.{Scripted, IsSound}
 use Rattle.stamp_machines.specs.World.{World, step, execution_of, completed_calls}
+use Rattle.stamp_machines.specs.declared.state.Begun.{Begun}
 
 abbrev pub lock_word : World → ℕ
 lock_word world = slice_index world.words 0
@@ -59,3 +61,12 @@ StepsBoundedAlways =
     (plan : Scripted) (names : List ℕ) → IsSound plan → length names ≤ 1000000 →
     All (λ (e : Entry). NeverWaits e.call → own_steps names e ≤ interference plan names e + 2)
     (completed_calls plan names)
+
+-- One that is still under way has made fewer than so many, at every position.
+abbrev pub UnderWayBoundedAlways : Type 0
+UnderWayBoundedAlways =
+    (plan : Scripted) (names : List ℕ) (thread : ℕ) (b : Begun) → IsSound plan →
+    length names ≤ 1000000 →
+    slice_index_or (execution_of plan names).begun thread None ≡ Some b →
+    NeverWaits b.machine.call →
+    own_since names thread b.first < changes_since plan names thread b.first + 2

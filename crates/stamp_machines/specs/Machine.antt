@@ -1,7 +1,7 @@
 -- The next access of a call, and where it stands after it.
-use Rattle.std.specs.Prelude.{ℕ, ◌≤◌, length}
+use Rattle.std.specs.Prelude.{ℕ, ◌<◌, ◌≤◌, length}
 use Rattle.stamp_core.specs.declared.call.Call.{Call}
-use Rattle.stamp_machines.specs.LockNumber.{IsAdmittedAt}
+use Rattle.stamp_machines.specs.LockNumber.{IsAdmittedAt, counts_at}
 use Rattle.stamp_machines.specs.Job.{Job}
 use Rattle.stamp_machines.specs.RecordPhase as record_calls
 use Rattle.stamp_machines.specs.RecordPhase.{Place, PlaceTurn}
@@ -42,12 +42,19 @@ after_in shape call seen (OnRecord job place) =
 abbrev pub after_access : MachineState → ℕ → Turn
 after_access s seen = after_in s.shape s.call seen s.phase
 
--- what is read as a lock's word is one that the lock's limits admit
+-- a version of the record's lock is left: write mode can still be acquired there
+abbrev pub HasVersionLeft : Shape → ℕ → Type 0
+HasVersionLeft shape found =
+    (counts_at (record_limits shape) found).write_count < (record_limits shape).versions
+
+-- what is read as a lock's word is one that the lock's limits admit, and where a call of the record
+-- is about its lock, one with a version left
 abbrev pub IsFoundAt : Shape → Place → ℕ → Type 0
 IsFoundAt shape record_calls.Glancing found = IsAdmittedAt (record_limits shape) found
 IsFoundAt shape (record_calls.Copying first loaded) found =
     shape.width ≤ length loaded → IsAdmittedAt (record_limits shape) found
-IsFoundAt shape (record_calls.Locking e seen) found = IsAdmittedAt (record_limits shape) found
+IsFoundAt shape (record_calls.Locking e seen) found =
+    IsAdmittedAt (record_limits shape) found × HasVersionLeft shape found
 IsFoundAt shape (record_calls.Reading s loaded) found = Unit {0}
 IsFoundAt shape (record_calls.Checking s loaded) found = Unit {0}
 IsFoundAt shape (record_calls.Storing s i) found = Unit {0}

@@ -1,6 +1,6 @@
 //! What holds of every schedule. Each function does nothing; its contract is the law, over every
 //! script and every list of names.
-ghost use Rattle.stamp_machines.specs.Interference.{StepsBoundedAlways};
+ghost use Rattle.stamp_machines.specs.Interference.{StepsBoundedAlways, UnderWayBoundedAlways};
 ghost use Rattle.stamp_machines.specs.Undisturbed.{EndsWithinTwo};
 ghost use Rattle.stamp_machines.specs.Laws.{LegalAlways, LinearizedAlways, RepresentedAlways};
 ghost use Rattle.stamp_machines.specs.Laws.{StampsValidateAlways, GetsAnswerContentAlways};
@@ -42,7 +42,9 @@ pub fn releasing_exchanges_win()
 {}
 
 /// A call of the lock that never waits takes at most two steps, and one more for each step of
-/// another thread between its first and its last that changes the lock's word.
+/// another thread between its first and its last that changes the lock's word. While it is under
+/// way it has made fewer.
 pub fn steps_are_bounded()
-    ensures { StepsBoundedAlways }
+    ensures finished { StepsBoundedAlways }
+    ensures under_way { UnderWayBoundedAlways }
 {}

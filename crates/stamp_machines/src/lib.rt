@@ -30,6 +30,6 @@ pub use lock_phase::{Passage, after_lock_access, lock_access};
 pub use machine::{Machine, Turn};
 pub use run_whole::{run, run_reported};
 pub use running::{MOST_STEPS, Run, RunError, Stepped};
-pub use script::{Arg, Script, ScriptCall};
+pub use script::{Arg, MOST_CALLS, Script, ScriptCall};
 pub use shape::Shape;
-pub use stamp_core::ScriptError;
+pub use stamp_core::{MOST_THREADS, MOST_WIDTH, ScriptError};

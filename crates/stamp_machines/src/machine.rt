@@ -213,8 +213,8 @@ impl Machine {
     /// Goes on after the planned access has found this: the value that stood there before it. What
     /// is found at a lock's word has to be a word that the lock's limits admit, at the record's own
     /// lock those are the widest of the layout; what a store or a releasing exchange finds is of no
-    /// account. Where the record's lock has no version left, a put or a put_if goes on as if it had
-    /// got write mode, so whoever drives machines by hand has to stop before (in a run it can't be).
+    /// account. A call of the record that is about its lock has to find a version left there, so who
+    /// drives machines by hand has to stop before the last one (no run ever comes to it).
     pub fn resume(self, found: u64) -> Turn
         requires { IsFound self found }
         ensures after { result ≡ after_access self found }

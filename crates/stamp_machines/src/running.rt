@@ -9,7 +9,7 @@ use stamp_core::{Call, Entry, Record, Word};
 use std::alloc::{AllocError, Global};
 use std::marker::Model;
 
-/// No run has more steps.
+/// No run has more steps, and no script.
 pub const MOST_STEPS: usize = 1_000_000;
 
 /// What a step did.
@@ -175,8 +175,11 @@ impl<'a> Run<'a> {
 
     /// The names stepped so far.
     pub fn steps(&self) -> &[u64]
-        ensures { result.now ≡ self.now.names }
+        ensures names { result.now ≡ self.now.names }
+        ensures sound { IsSound self.now.plan }
+        ensures few { length self.now.names ≤ 1000000 }
     {
+        self.known();
         &self.steps
     }
 

@@ -28,6 +28,18 @@ fn stepped_through<'a>(
     Ok(run)
 }
 
+/// How many of the script's steps there are until so many calls have finished.
+fn steps_until(alloc: Global, script: &Script, calls: usize) -> Result<usize, RunError> {
+    let mut run = Run::start(alloc, script)?;
+    for name in script.steps() {
+        if run.finished().len() >= calls {
+            break;
+        }
+        let _ = run.step(*name)?;
+    }
+    Ok(run.steps().len())
+}
+
 /// Run whole, run with a report and stepped through, the script has these entries and this word.
 fn ends_with(
     rt: &impl Abort,
@@ -75,6 +87,16 @@ fn a_lost_exchange_tries_again_on_the_free_word_that_it_found(rt: HostRuntime) -
     ];
     ends_with(&rt, rt.alloc(), &script, &entries, 640)?;
     costs(&rt, rt.alloc(), &script, &[(2, 0), (2, 0), (3, 2)])
+}
+
+#[test]
+fn a_run_is_stopped_between_two_steps(rt: HostRuntime) -> Result<(), Fail> {
+    let calls = [ScriptCall::TryWrite];
+    let script = script(rt.alloc(), 0, [&calls, &calls], &[0, 1, 0, 1])?;
+    assert_eq!(rt; steps_until(rt.alloc(), &script, 0)?, 0);
+    assert_eq!(rt; steps_until(rt.alloc(), &script, 1)?, 3);
+    assert_eq!(rt; steps_until(rt.alloc(), &script, 3)?, 4);
+    Ok(())
 }
 
 #[test]

@@ -4,9 +4,13 @@ ghost use Rattle.std.specs.Prelude.{option_copied};
 ghost use Rattle.std.specs.Prelude.{IfSome, IfNone, IfOk, IfErr, All};
 ghost use Rattle.stamp_machines.specs.Script.{Suits, IsSound, calls_of};
 
+use crate::running::MOST_STEPS;
 use crate::shape::Shape;
-use stamp_core::{Limits, ScriptError, Words};
+use stamp_core::{Limits, MOST_THREADS, MOST_WIDTH, ScriptError, Words};
 use std::marker::Model;
+
+/// No thread of a script has more calls.
+pub const MOST_CALLS: usize = 10_000;
 
 /// A stamp argument.
 #[derive(Clone, Copy)]
@@ -94,7 +98,7 @@ fn are_suited(width: u64, threads: &[Vec<ScriptCall>]) -> bool
 fn are_short(threads: &[Vec<ScriptCall>]) -> bool
     ensures { IsTrue result ↔ AreShort threads.now }
 {
-    threads.iter().all(|calls| calls.len() <= 10_000)
+    threads.iter().all(|calls| calls.len() <= MOST_CALLS)
 }
 
 fn first_unknown(steps: &[u64], threads: u64) -> Option<usize>
@@ -105,7 +109,9 @@ fn first_unknown(steps: &[u64], threads: u64) -> Option<usize>
 }
 
 impl Script {
-    /// A script of just what was handed in, or its first fault; then all of it is dropped.
+    /// A script of just what was handed in, or its first fault; then all of it is dropped. It may
+    /// have up to `MOST_THREADS` threads, `MOST_CALLS` calls in each, `MOST_STEPS` steps and a record
+    /// of `MOST_WIDTH` words.
     pub fn new(
         limits: Limits,
         width: u64,
@@ -122,20 +128,20 @@ impl Script {
         ensures good { IfOk result (λ _. IsGood width threads.items steps.items) }
         ensures fault { IfErr result (IsFirstFault width threads.items steps.items) }
     {
-        if threads.len() > 64 {
+        let count = threads.len() as u64;
+        if count > MOST_THREADS {
             return Err(ScriptError::TooManyThreads);
         }
         if !are_short(&threads) {
             return Err(ScriptError::TooManyCalls);
         }
-        if steps.len() > 1_000_000 {
+        if steps.len() > MOST_STEPS {
             return Err(ScriptError::TooManySteps);
         }
-        let count = threads.len() as u64;
         if let Some(at) = first_unknown(&steps, count) {
             return Err(ScriptError::NoSuchThread(at as u64));
         }
-        if width > 16 || !are_suited(width, &threads) {
+        if width > MOST_WIDTH || !are_suited(width, &threads) {
             return Err(ScriptError::RecordWidth);
         }
         Ok(Script {
@@ -146,44 +152,63 @@ impl Script {
         })
     }
 
+    /// What each script keeps to.
+    fn known(&self)
+        ensures sound { IsSound self.now }
+        ensures few { length self.now.steps ≤ 1000000 }
+        ensures named { All (λ n. n < length self.now.threads) self.now.steps }
+    {
+        let _ = self.limits.layout();
+    }
+
     /// What the machines of its calls are made for.
     pub(crate) fn shape(&self) -> Shape
         ensures shape { result ≡ record { limits = self.now.limits; width = self.now.width } }
         ensures sound { IsSound self.now }
         ensures few { self.now.width ≤ 16 }
     {
-        let _ = self.limits.layout();
+        self.known();
         Shape {
             limits: self.limits,
             width: self.width,
         }
     }
 
+    /// The limits of the lock.
     pub fn limits(&self) -> Limits
-        ensures { result ≡ self.now.limits }
+        ensures limits { result ≡ self.now.limits }
+        ensures sound { IsSound self.now }
     {
+        self.known();
         self.limits
     }
 
     /// How many words the record has, 0 for no record.
     pub fn width(&self) -> u64
-        ensures { result ≡ self.now.width }
+        ensures width { result ≡ self.now.width }
+        ensures sound { IsSound self.now }
     {
+        self.known();
         self.width
     }
 
+    /// The calls of each thread, in the order in which it makes them.
     pub fn threads(&self) -> &[Vec<ScriptCall>]
-        ensures { map calls_in result.now ≡ self.now.threads }
+        ensures threads { map calls_in result.now ≡ self.now.threads }
+        ensures sound { IsSound self.now }
     {
+        self.known();
         &self.threads
     }
 
     /// The names of the threads, in the order in which they step.
     pub fn steps(&self) -> &[u64]
         ensures steps { result.now ≡ self.now.steps }
+        ensures sound { IsSound self.now }
         ensures few { length self.now.steps ≤ 1000000 }
         ensures named { All (λ n. n < length self.now.threads) self.now.steps }
     {
+        self.known();
         &self.steps
     }
 

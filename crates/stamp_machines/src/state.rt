@@ -393,6 +393,7 @@ impl State {
     pub(crate) fn step(&mut self, script: &Script, thread: usize, position: u64) -> Progress
         requires sound { IsSound script.now }
         requires kept { Kept script.now (world_at self.old position) }
+        requires few { position < 1000000 }
         requires thread { thread < vec_len self.old.workers }
         requires workers { vec_len self.old.workers ≡ length script.now.threads }
         requires stamps { (t : ℕ) → stamps_at self.old.workers.items t

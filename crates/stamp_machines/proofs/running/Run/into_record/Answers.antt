@@ -5,7 +5,7 @@ use Rattle.stamp_machines.proofs.running.Run.into_record.Goals as goal
 pub unwrap-requires : goal.unwrap-requires
 unwrap-requires c =
     c.of.ensures.some.1
-    (rw (c.limits.ensures, c.width.ensures) (run-recorded c.self.inside c.self.invariant))
+    (rw (c.limits.ensures.limits, c.width.ensures.width) (run-recorded c.self.inside c.self.invariant))
 
 pub returns-clause-linearized : goal.returns-clause-linearized
 returns-clause-linearized c =
@@ -16,7 +16,7 @@ returns-clause-linearized c =
       report = [];
     } =
     rw c.unwrap.ensures at c.of.ensures.same in
-    rw (made, c.limits.ensures, c.width.ensures)
+    rw (made, c.limits.ensures.limits, c.width.ensures.width)
     (run-in-order c.self.inside c.self.invariant).linearized
 
 pub returns-clause-points : goal.returns-clause-points

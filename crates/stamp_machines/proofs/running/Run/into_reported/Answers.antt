@@ -5,7 +5,7 @@ use Rattle.stamp_machines.proofs.running.Run.into_reported.Goals as goal
 pub unwrap-requires : goal.unwrap-requires
 unwrap-requires c =
     c.of_reported.ensures.some.1
-    (rw (c.limits.ensures, c.width.ensures)
+    (rw (c.limits.ensures.limits, c.width.ensures.width)
     (run-reported c.self.inside c.self.invariant c.args.report.items
     (rw (← c.self.view_is) at c.requires)))
 
@@ -18,5 +18,5 @@ returns-clause-linearized c =
       report = c.args.report.items;
     } =
     rw c.unwrap.ensures at c.of_reported.ensures.same in
-    rw (made, c.limits.ensures, c.width.ensures)
+    rw (made, c.limits.ensures.limits, c.width.ensures.width)
     (run-in-order c.self.inside c.self.invariant).linearized

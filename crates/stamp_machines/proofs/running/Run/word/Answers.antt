@@ -13,19 +13,19 @@ word-requires c =
     let e : c.index.result.now ≡ slice_index c.self.inside.state.words.items 0 =
     first-word c.self.inside.state.words.items c.index.result.now
     (run-memory c.self.inside c.self.invariant) c.index.ensures in
-    rw (c.limits.ensures, e) (run-admitted c.self.inside c.self.invariant)
+    rw (c.limits.ensures.limits, e) (run-admitted c.self.inside c.self.invariant)
 
 pub returns-clause-word : goal.returns-clause-word
 returns-clause-word c =
     let e : c.index.result.now ≡ slice_index c.self.inside.state.words.items 0 =
     first-word c.self.inside.state.words.items c.index.result.now
     (run-memory c.self.inside c.self.invariant) c.index.ensures in
-    rw (← c.self.view_is, ← c.self.invariant.world, c.word.ensures, c.limits.ensures, e) refl
+    rw (← c.self.view_is, ← c.self.invariant.world, c.word.ensures, c.limits.ensures.limits, e) refl
 
 pub returns-clause-represented : goal.returns-clause-represented
 returns-clause-represented c =
     let e : c.index.result.now ≡ slice_index c.self.inside.state.words.items 0 =
     first-word c.self.inside.state.words.items c.index.result.now
     (run-memory c.self.inside c.self.invariant) c.index.ensures in
-    rw (← c.self.view_is, c.word.ensures, c.limits.ensures, e)
+    rw (← c.self.view_is, c.word.ensures, c.limits.ensures.limits, e)
     (run-represented c.self.inside c.self.invariant)

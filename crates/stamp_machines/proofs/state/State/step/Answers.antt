@@ -18,7 +18,7 @@ land-requires-clause-safe c =
     rw length-map (grind (arith, common_steps)) in
     taken-safe c.args.script.now (world_at c.args.self.now c.args.position)
     (world_at c.begin.new.self c.args.position) c.args.thread c.requires.kept c.requires.sound
-    some there c.begin.ensures.world
+    c.requires.few some there c.begin.ensures.world
 
 pub returns-then-begin-clause-world : goal.returns-then-begin-clause-world
 returns-then-begin-clause-world c =

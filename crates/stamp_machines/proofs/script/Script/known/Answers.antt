@@ -1,5 +1,5 @@
 use Rattle.stamp_machines.proofs.ScriptsAreSound.{sound}
-use Rattle.stamp_machines.proofs.script.Script.shape.Goals as goal
+use Rattle.stamp_machines.proofs.script.Script.known.Goals as goal
 
 pub returns-clause-sound : goal.returns-clause-sound
 returns-clause-sound c =
