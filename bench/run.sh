@@ -10,6 +10,7 @@ set -euo pipefail
 here=$(cd "$(dirname "$0")" && pwd)
 program=${1:-$here/../crates/stamped/out/stamped}
 steps=${2:-1000000} rounds=${3:-7}
+export PYTHONDONTWRITEBYTECODE=1
 
 [ -x "$program" ] || { echo "no $program: 'rt run' in its crate, or give its path" >&2; exit 1; }
 room=$(mktemp -d)

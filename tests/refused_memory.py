@@ -31,8 +31,14 @@ WIDE_HISTORY = (
     b'{"entries":[{"call":["try_write"],"first":1,"last":1,"point":0,"reply":196608,"thread":0}],'
     b'"format":2,"layout":2,"readers":1,"versions":1,"width":0}\n'
 )
+FOREIGN_HISTORY = (
+    b'{"entries":[{"call":["try_write"],"first":0,"last":0,"point":0,"reply":128,"thread":0}],'
+    b'"format":1,"readers":1,"versions":1,"width":0}'
+)
+FOREIGN_LINE = b"stamped: bad reply at entry 0\n"
 NO_THREAD = b'{"readers":1,"steps":[0,64],"threads":[[]],"versions":1,"width":0}'
 NO_THREAD_LINE = b"stamped: script refused: no thread at step 1\n"
+NO_HISTORY_LINE = b"stamped: not a history: top\n"
 BAD_LINE = (2, b"", b"stamped: bad command line\n")
 MOST = 10_000
 
@@ -76,6 +82,8 @@ def main():
         ([stamped, "check"], HISTORY % b"", (0, b"ok 2\n", b""), told),
         ([stamped, "check"], BAD_HISTORY, (1, b"bad 0 interval\n", b""), told),
         ([stamped, "migrate"], BAD_HISTORY, (0, WIDE_HISTORY, b""), told),
+        ([stamped, "migrate"], FOREIGN_HISTORY, (1, b"", FOREIGN_LINE), told),
+        ([stamped, "check"], NO_THREAD, (1, b"", NO_HISTORY_LINE), told),
         ([stamped, "run"], NO_THREAD, (1, b"", NO_THREAD_LINE), told),
         ([stamped, "stamp", "257"], b"", (0, b"read 0 1\n", b""), told),
         ([stamped, "stamp", "--layout", "2", "196608"], b"", (0, b"write 1\n", b""), told),

@@ -1,6 +1,7 @@
 use crate::Order;
-use crate::tests::answered;
+use crate::tests::{answered, repeated};
 use std::alloc::{AllocError, Global};
+use std::process::Abort;
 use std::test::Fail;
 
 const LOST: &str =
@@ -8,6 +9,15 @@ const LOST: &str =
 
 const LOST_IN_TWO: &str =
     r#"{"entries":[{"call":["try_write"],"first":1,"last":2,"point":2,"reply":196608,"thread":1},{"call":["unlock_write",196608],"first":3,"last":4,"point":4,"reply":"done","thread":1},{"call":["try_write"],"first":0,"last":6,"point":6,"reply":327680,"thread":0}],"format":2,"layout":2,"readers":127,"versions":1000,"width":0}"#;
+
+/// The history with this text before its versions.
+fn before_versions(alloc: Global, history: &str, text: &str) -> Result<String, Fail> {
+    let versions = "\"versions\"";
+    let longer = format!(in alloc; "{text}{versions}")?;
+    Ok(history.replace(alloc, versions, &longer)?)
+}
+
+const REPORT: &str = r#""report":[[2,0],[2,0],[3,2]],"#;
 
 /// An entry in short: thread, call, reply, and its first position, its point and its last position.
 type Short<'a> = (u64, &'a str, &'a str, u64, u64, u64);
@@ -35,61 +45,63 @@ fn history_of(alloc: Global, entries: &[Short], keys: &str) -> Result<String, Al
 
 const PLAIN: &str = r#""versions":1000,"width":0"#;
 
+/// The entries and further keys of histories, and their verdicts.
+const JUDGED: [(&[Short], &str, &str); 10] = [
+    (&[], PLAIN, "ok 0"),
+    (&[(0, TRY_WRITE, "384", 2, 1, 3)], PLAIN, "bad 0 interval"),
+    (
+        &[(0, TRY_WRITE, "384", 0, 1, 3), (0, UNLOCK, DONE, 2, 4, 5)],
+        PLAIN,
+        "bad 1 overlap",
+    ),
+    (
+        &[(0, TRY_WRITE, "384", 0, 0, 1), (0, UNLOCK, DONE, 1, 1, 2)],
+        PLAIN,
+        "bad 1 overlap",
+    ),
+    (
+        &[
+            (0, TRY_WRITE, "384", 0, 1, 1),
+            (1, TRY_WRITE, "384", 2, 3, 3),
+        ],
+        PLAIN,
+        "bad 1 reply",
+    ),
+    (
+        &[
+            (0, TRY_WRITE, "384", 0, 1, 1),
+            (1, TRY_WRITE, "384", 0, 1, 3),
+        ],
+        PLAIN,
+        "bad 1 order",
+    ),
+    (
+        &[
+            (0, TRY_WRITE, "384", 0, 0, 0),
+            (1, r#"["write_lock"]"#, "0", 1, 1, 1),
+        ],
+        PLAIN,
+        "bad 1 reply",
+    ),
+    (
+        &[
+            (0, TRY_WRITE, "384", 0, 0, 0),
+            (1, r#"["write_lock"]"#, "0", 1, 1, 1),
+        ],
+        r#""versions":1,"width":0"#,
+        "ok 2",
+    ),
+    (
+        &[(0, r#"["get"]"#, "[1]", 0, 0, 0)],
+        r#""versions":1000,"width":1"#,
+        "bad 0 reply",
+    ),
+    (&[(0, TRY_WRITE, "385", 2, 1, 3)], PLAIN, "bad 0 interval"),
+];
+
 #[test]
 fn a_history_is_judged(rt: HostRuntime) -> Result<(), Fail> {
-    let table: [(&[Short], &str, &str); 10] = [
-        (&[], PLAIN, "ok 0"),
-        (&[(0, TRY_WRITE, "384", 2, 1, 3)], PLAIN, "bad 0 interval"),
-        (
-            &[(0, TRY_WRITE, "384", 0, 1, 3), (0, UNLOCK, DONE, 2, 4, 5)],
-            PLAIN,
-            "bad 1 overlap",
-        ),
-        (
-            &[(0, TRY_WRITE, "384", 0, 0, 1), (0, UNLOCK, DONE, 1, 1, 2)],
-            PLAIN,
-            "bad 1 overlap",
-        ),
-        (
-            &[
-                (0, TRY_WRITE, "384", 0, 1, 1),
-                (1, TRY_WRITE, "384", 2, 3, 3),
-            ],
-            PLAIN,
-            "bad 1 reply",
-        ),
-        (
-            &[
-                (0, TRY_WRITE, "384", 0, 1, 1),
-                (1, TRY_WRITE, "384", 0, 1, 3),
-            ],
-            PLAIN,
-            "bad 1 order",
-        ),
-        (
-            &[
-                (0, TRY_WRITE, "384", 0, 0, 0),
-                (1, r#"["write_lock"]"#, "0", 1, 1, 1),
-            ],
-            PLAIN,
-            "bad 1 reply",
-        ),
-        (
-            &[
-                (0, TRY_WRITE, "384", 0, 0, 0),
-                (1, r#"["write_lock"]"#, "0", 1, 1, 1),
-            ],
-            r#""versions":1,"width":0"#,
-            "ok 2",
-        ),
-        (
-            &[(0, r#"["get"]"#, "[1]", 0, 0, 0)],
-            r#""versions":1000,"width":1"#,
-            "bad 0 reply",
-        ),
-        (&[(0, TRY_WRITE, "385", 2, 1, 3)], PLAIN, "bad 0 interval"),
-    ];
-    for (entries, keys, want) in table {
+    for (entries, keys, want) in JUDGED {
         let history = history_of(rt.alloc(), entries, keys)?;
         let line = answered(rt.alloc(), Order::Check, history.as_bytes())?;
         assert_eq!(rt; line.trim_end(), want, "{history}");
@@ -99,12 +111,16 @@ fn a_history_is_judged(rt: HostRuntime) -> Result<(), Fail> {
 
 #[test]
 fn what_a_run_wrote_is_judged_ok(rt: HostRuntime) -> Result<(), Fail> {
-    let script =
-        r#"{"readers":127,"steps":[0,0,1,1,1,1,1,0,0,0,0,0,0,0,0],"threads":[[["get"]],[["put",[7,9]]]],"versions":1000,"width":2}"#;
-    for order in [Order::Run, Order::RunReported] {
-        let history = answered(rt.alloc(), order, script.as_bytes())?;
-        let line = answered(rt.alloc(), Order::Check, history.as_bytes())?;
-        assert_eq!(rt; line.as_str(), "ok 2\n");
+    let scripts = [
+        r#"{"readers":127,"steps":[0,0,1,1,1,1,1,0,0,0,0,0,0,0,0],"threads":[[["get"]],[["put",[7,9]]]],"versions":1000,"width":2}"#,
+        r#"{"readers":127,"steps":[0,0,0,0,0,0,0],"threads":[[["put",[7]],["get"]]],"versions":0,"width":1}"#,
+    ];
+    for script in scripts {
+        for order in [Order::Run, Order::RunReported] {
+            let history = answered(rt.alloc(), order, script.as_bytes())?;
+            let line = answered(rt.alloc(), Order::Check, history.as_bytes())?;
+            assert_eq!(rt; line.as_str(), "ok 2\n", "{script}");
+        }
     }
     Ok(())
 }
@@ -118,6 +134,39 @@ fn a_history_that_is_cut_off_is_not_json(rt: HostRuntime) -> Result<(), Fail> {
     }
     let line = answered(rt.alloc(), Order::Check, LOST.as_bytes())?;
     assert_eq!(rt; line.as_str(), "ok 3\n");
+    Ok(())
+}
+
+#[test]
+fn lists_nest_no_deeper_in_a_history(rt: HostRuntime) -> Result<(), Fail> {
+    let table = [
+        (127, "stamped: not a history: top"),
+        (128, "stamped: not json"),
+    ];
+    for (depth, want) in table {
+        let ends = repeated(rt.alloc(), "]", depth, "")?;
+        let input = repeated(rt.alloc(), "[", depth, &ends)?;
+        let line = answered(rt.alloc(), Order::Check, input.as_bytes())?;
+        assert_eq!(rt; line.as_str(), want, "{depth}");
+    }
+    Ok(())
+}
+
+#[test]
+fn a_report_is_read_and_not_judged(rt: HostRuntime) -> Result<(), Fail> {
+    let table = [
+        (REPORT, "ok 3\n"),
+        (
+            r#""report":[[0,18446744073709551615],[7,7],[1,0]],"#,
+            "ok 3\n",
+        ),
+        (r#""report":[[2,0]],"#, "stamped: not a history: report"),
+    ];
+    for (report, want) in table {
+        let history = before_versions(rt.alloc(), LOST, report)?;
+        let line = answered(rt.alloc(), Order::Check, history.as_bytes())?;
+        assert_eq!(rt; line.as_str(), want, "{report}");
+    }
     Ok(())
 }
 
@@ -164,28 +213,41 @@ fn the_first_fault_of_a_history_is_named(rt: HostRuntime) -> Result<(), Fail> {
     Ok(())
 }
 
+/// The history is migrated so, and both have this verdict.
+fn assert_migrated(
+    rt: &(impl Abort + AllocGlobal),
+    history: &str,
+    want: &str,
+    verdict: &str,
+) -> Result<(), Fail> {
+    let line = answered(rt.alloc(), Order::Migrate, history.as_bytes())?;
+    assert_eq!(rt; line.trim_end(), want);
+    let old = answered(rt.alloc(), Order::Check, history.as_bytes())?;
+    assert_eq!(rt; old.trim_end(), verdict);
+    let new = answered(rt.alloc(), Order::Check, line.as_bytes())?;
+    assert_eq!(rt; old, new);
+    Ok(())
+}
+
 #[test]
 fn a_history_is_migrated(rt: HostRuntime) -> Result<(), Fail> {
-    let old =
-        r#"{"call":["unlock",128],"first":0,"last":0,"point":0,"reply":"mismatch","thread":0}"#;
-    let new = r#"{"call":["unlock",0],"first":0,"last":0,"point":0,"reply":"mismatch","thread":0}"#;
-    let foreign = format!(in rt.alloc();
-        "{{\"entries\":[{old}],\"format\":1,\"readers\":127,\"versions\":36028797018963966,\"width\":0}}"
-    )?;
-    let migrated = format!(in rt.alloc();
-        "{{\"entries\":[{new}],\"format\":2,\"layout\":2,\"readers\":127,\"versions\":70368744177662,\"width\":0}}"
-    )?;
+    let old = (0, r#"["unlock",128]"#, r#""mismatch""#, 0, 0, 0);
+    let versions = r#""versions":36028797018963966,"width":0"#;
+    let foreign = history_of(rt.alloc(), &[old], versions)?;
+    let migrated =
+        r#"{"entries":[{"call":["unlock",0],"first":0,"last":0,"point":0,"reply":"mismatch","thread":0}],"format":2,"layout":2,"readers":127,"versions":70368744177662,"width":0}"#;
+    let named = LOST.replace(rt.alloc(), r#""format":1"#, r#""format":2,"layout":1"#)?;
+    let reported = before_versions(rt.alloc(), LOST, REPORT)?;
+    let reported_in_two = before_versions(rt.alloc(), LOST_IN_TWO, REPORT)?;
     let table = [
-        (LOST, LOST_IN_TWO),
-        (LOST_IN_TWO, LOST_IN_TWO),
-        (foreign.as_str(), migrated.as_str()),
+        (LOST, LOST_IN_TWO, "ok 3"),
+        (LOST_IN_TWO, LOST_IN_TWO, "ok 3"),
+        (named.as_str(), LOST_IN_TWO, "ok 3"),
+        (reported.as_str(), reported_in_two.as_str(), "ok 3"),
+        (foreign.as_str(), migrated, "ok 1"),
     ];
-    for (history, want) in table {
-        let line = answered(rt.alloc(), Order::Migrate, history.as_bytes())?;
-        assert_eq!(rt; line.trim_end(), want);
-        let old = answered(rt.alloc(), Order::Check, history.as_bytes())?;
-        let new = answered(rt.alloc(), Order::Check, line.as_bytes())?;
-        assert_eq!(rt; old, new);
+    for (history, want, verdict) in table {
+        assert_migrated(&rt, history, want, verdict)?;
     }
     Ok(())
 }
@@ -202,9 +264,7 @@ fn a_reply_without_a_place_in_layout_two_is_told(rt: HostRuntime) -> Result<(), 
         assert_eq!(rt; line.as_str(), want);
     }
     let history = history_of(rt.alloc(), &[(0, TRY_WRITE, "257", 0, 0, 0)], PLAIN)?;
-    let line = answered(rt.alloc(), Order::Migrate, history.as_bytes())?;
-    assert!(rt; line.contains(r#""reply":131073"#));
-    let line = answered(rt.alloc(), Order::Check, line.as_bytes())?;
-    assert_eq!(rt; line.as_str(), "bad 0 reply\n");
-    Ok(())
+    let migrated =
+        r#"{"entries":[{"call":["try_write"],"first":0,"last":0,"point":0,"reply":131073,"thread":0}],"format":2,"layout":2,"readers":127,"versions":1000,"width":0}"#;
+    assert_migrated(&rt, &history, migrated, "bad 0 reply")
 }

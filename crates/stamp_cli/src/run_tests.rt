@@ -1,6 +1,7 @@
 use crate::Order;
 use crate::tests::answered;
 use std::alloc::{AllocError, Global};
+use std::process::Abort;
 use std::test::Fail;
 
 /// An entry of a history in short: thread, call, reply, first and last step.
@@ -42,6 +43,14 @@ fn ran(alloc: Global, order: Order, script: &str) -> Result<String, Fail> {
     answered(alloc, order, script.as_bytes())
 }
 
+/// What a script is run to is judged to be ok, with so many entries.
+fn assert_ok(rt: &(impl Abort + AllocGlobal), history: &str, count: usize) -> Result<(), Fail> {
+    let line = answered(rt.alloc(), Order::Check, history.as_bytes())?;
+    let want = format!(in rt.alloc(); "ok {count}\n")?;
+    assert_eq!(rt; line, want, "{history}");
+    Ok(())
+}
+
 const LOST: Plan = (
     r#"[["try_write"]],[["try_write"],["unlock_write",[1,0]]]"#,
     "0,1,1,1,1,0,0",
@@ -55,10 +64,12 @@ fn a_run_writes_the_history_of_the_calls_that_finished(rt: HostRuntime) -> Resul
     let want =
         r#"{"entries":[{"call":["try_write"],"first":1,"last":2,"point":2,"reply":384,"thread":1},{"call":["unlock_write",384],"first":3,"last":4,"point":4,"reply":"done","thread":1},{"call":["try_write"],"first":0,"last":6,"point":6,"reply":640,"thread":0}],"format":1,"readers":127,"versions":1000,"width":0}"#;
     assert_eq!(rt; line.trim_end(), want);
+    assert_ok(&rt, &line, 3)?;
     let line = ran(rt.alloc(), Order::RunReported, &script)?;
     let want =
         r#"{"entries":[{"call":["try_write"],"first":1,"last":2,"point":2,"reply":384,"thread":1},{"call":["unlock_write",384],"first":3,"last":4,"point":4,"reply":"done","thread":1},{"call":["try_write"],"first":0,"last":6,"point":6,"reply":640,"thread":0}],"format":1,"readers":127,"report":[[2,0],[2,0],[3,2]],"versions":1000,"width":0}"#;
     assert_eq!(rt; line.trim_end(), want);
+    assert_ok(&rt, &line, 3)?;
     Ok(())
 }
 
@@ -70,116 +81,133 @@ fn a_run_in_layout_two_is_written_in_format_two(rt: HostRuntime) -> Result<(), F
     let want =
         r#"{"entries":[{"call":["try_write"],"first":1,"last":2,"point":2,"reply":196608,"thread":1},{"call":["unlock_write",196608],"first":3,"last":4,"point":4,"reply":"done","thread":1},{"call":["try_write"],"first":0,"last":6,"point":6,"reply":327680,"thread":0}],"format":2,"layout":2,"readers":127,"report":[[2,0],[2,0],[3,2]],"versions":1000,"width":0}"#;
     assert_eq!(rt; line.trim_end(), want);
+    assert_ok(&rt, &line, 3)?;
     Ok(())
 }
 
+/// Scripts, and the entries of what they are run to.
+const INTERLEAVED: [(Plan, &[Short]); 13] = [
+    (
+        (r#"[["try_write"]],[["try_write"]]"#, "0,1,0,1", 0),
+        &[
+            (0, r#"["try_write"]"#, "384", 0, 2),
+            (1, r#"["try_write"]"#, "0", 1, 3),
+        ],
+    ),
+    (
+        (
+            r#"[["try_write"]],[["unlock_write",[0,0]],["unlock_write",[0,0]]]"#,
+            "0,1,0,1,1",
+            0,
+        ),
+        &[
+            (1, r#"["unlock_write",0]"#, r#""mismatch""#, 1, 1),
+            (0, r#"["try_write"]"#, "384", 0, 2),
+            (1, r#"["unlock_write",384]"#, r#""done""#, 3, 4),
+        ],
+    ),
+    (
+        (
+            r#"[["try_write"]],[["try_read"],["unlock_read",257]]"#,
+            "0,1,1,1,1,0",
+            0,
+        ),
+        &[
+            (1, r#"["try_read"]"#, "257", 1, 2),
+            (1, r#"["unlock_read",257]"#, r#""done""#, 3, 4),
+            (0, r#"["try_write"]"#, "384", 0, 5),
+        ],
+    ),
+    (
+        (
+            r#"[["optimistic"],["validate",[0,0]]],[["try_write"]]"#,
+            "0,1,1,0",
+            0,
+        ),
+        &[
+            (0, r#"["optimistic"]"#, "256", 0, 0),
+            (1, r#"["try_write"]"#, "384", 1, 2),
+            (0, r#"["validate",256]"#, r#""no""#, 3, 3),
+        ],
+    ),
+    (
+        (r#"[["unlock",[0,5]],["optimistic"]]"#, "0,0", 0),
+        &[
+            (0, r#"["unlock",0]"#, r#""mismatch""#, 0, 0),
+            (0, r#"["optimistic"]"#, "256", 1, 1),
+        ],
+    ),
+    (
+        (
+            r#"[["write_lock"]],[["read_lock"],["unlock_read",[1,0]]]"#,
+            "1,1,0,0,1,1,0,0",
+            0,
+        ),
+        &[
+            (1, r#"["read_lock"]"#, "257", 0, 1),
+            (1, r#"["unlock_read",257]"#, r#""done""#, 4, 5),
+            (0, r#"["write_lock"]"#, "384", 2, 7),
+        ],
+    ),
+    (
+        (
+            r#"[["get"]],[["put",[7,9]]]"#,
+            "0,0,1,1,1,1,1,0,0,0,0,0,0,0,0",
+            2,
+        ),
+        &[
+            (1, r#"["put",[7,9]]"#, r#""done""#, 2, 6),
+            (0, r#"["get"]"#, "[7,9]", 0, 14),
+        ],
+    ),
+    (
+        (r#"[["get"]],[["put",[7,9]]]"#, "0,0,0,0,1,1,1,1,1", 2),
+        &[
+            (0, r#"["get"]"#, "[0,0]", 0, 3),
+            (1, r#"["put",[7,9]]"#, r#""done""#, 4, 8),
+        ],
+    ),
+    (
+        (r#"[["put_if",[0],[5]]]"#, "0,0,0,0,0,0,0", 1),
+        &[(0, r#"["put_if",[0],[5]]"#, r#""yes""#, 0, 6)],
+    ),
+    (
+        (r#"[["put_if",[3],[5]]]"#, "0,0,0,0,0", 1),
+        &[(0, r#"["put_if",[3],[5]]"#, r#""no""#, 0, 4)],
+    ),
+    (
+        (
+            r#"[["write_lock"]],[["try_write"]]"#,
+            "1,1,0,0,0,0,0,0,0,0,0,0",
+            0,
+        ),
+        &[(1, r#"["try_write"]"#, "384", 0, 1)],
+    ),
+    (
+        (r#"[["get"]]"#, "0,0,0,0,0,0,0,0,0,0,0,0,0,0,0,0,0,0", 16),
+        &[(0, r#"["get"]"#, "[0,0,0,0,0,0,0,0,0,0,0,0,0,0,0,0]", 0, 17)],
+    ),
+    ((r#"[],[]"#, "0,0,0", 0), &[]),
+];
+
 #[test]
 fn steps_of_threads_come_between_one_another(rt: HostRuntime) -> Result<(), Fail> {
-    let table: [(Plan, &[Short]); 11] = [
-        (
-            (r#"[["try_write"]],[["try_write"]]"#, "0,1,0,1", 0),
-            &[
-                (0, r#"["try_write"]"#, "384", 0, 2),
-                (1, r#"["try_write"]"#, "0", 1, 3),
-            ],
-        ),
-        (
-            (
-                r#"[["try_write"]],[["unlock_write",[0,0]],["unlock_write",[0,0]]]"#,
-                "0,1,0,1,1",
-                0,
-            ),
-            &[
-                (1, r#"["unlock_write",0]"#, r#""mismatch""#, 1, 1),
-                (0, r#"["try_write"]"#, "384", 0, 2),
-                (1, r#"["unlock_write",384]"#, r#""done""#, 3, 4),
-            ],
-        ),
-        (
-            (
-                r#"[["try_write"]],[["try_read"],["unlock_read",257]]"#,
-                "0,1,1,1,1,0",
-                0,
-            ),
-            &[
-                (1, r#"["try_read"]"#, "257", 1, 2),
-                (1, r#"["unlock_read",257]"#, r#""done""#, 3, 4),
-                (0, r#"["try_write"]"#, "384", 0, 5),
-            ],
-        ),
-        (
-            (
-                r#"[["optimistic"],["validate",[0,0]]],[["try_write"]]"#,
-                "0,1,1,0",
-                0,
-            ),
-            &[
-                (0, r#"["optimistic"]"#, "256", 0, 0),
-                (1, r#"["try_write"]"#, "384", 1, 2),
-                (0, r#"["validate",256]"#, r#""no""#, 3, 3),
-            ],
-        ),
-        (
-            (r#"[["unlock",[0,5]],["optimistic"]]"#, "0,0", 0),
-            &[
-                (0, r#"["unlock",0]"#, r#""mismatch""#, 0, 0),
-                (0, r#"["optimistic"]"#, "256", 1, 1),
-            ],
-        ),
-        (
-            (
-                r#"[["write_lock"]],[["read_lock"],["unlock_read",[1,0]]]"#,
-                "1,1,0,0,1,1,0,0",
-                0,
-            ),
-            &[
-                (1, r#"["read_lock"]"#, "257", 0, 1),
-                (1, r#"["unlock_read",257]"#, r#""done""#, 4, 5),
-                (0, r#"["write_lock"]"#, "384", 2, 7),
-            ],
-        ),
-        (
-            (
-                r#"[["get"]],[["put",[7,9]]]"#,
-                "0,0,1,1,1,1,1,0,0,0,0,0,0,0,0",
-                2,
-            ),
-            &[
-                (1, r#"["put",[7,9]]"#, r#""done""#, 2, 6),
-                (0, r#"["get"]"#, "[7,9]", 0, 14),
-            ],
-        ),
-        (
-            (r#"[["get"]],[["put",[7,9]]]"#, "0,0,0,0,1,1,1,1,1", 2),
-            &[
-                (0, r#"["get"]"#, "[0,0]", 0, 3),
-                (1, r#"["put",[7,9]]"#, r#""done""#, 4, 8),
-            ],
-        ),
-        (
-            (r#"[["put_if",[0],[5]]]"#, "0,0,0,0,0,0,0", 1),
-            &[(0, r#"["put_if",[0],[5]]"#, r#""yes""#, 0, 6)],
-        ),
-        (
-            (r#"[["put_if",[3],[5]]]"#, "0,0,0,0,0", 1),
-            &[(0, r#"["put_if",[3],[5]]"#, r#""no""#, 0, 4)],
-        ),
-        ((r#"[],[]"#, "0,0,0", 0), &[]),
-    ];
-    for (plan, entries) in table {
+    for (plan, entries) in INTERLEAVED {
         let script = script_of(rt.alloc(), plan)?;
         let line = ran(rt.alloc(), Order::Run, &script)?;
         assert_eq!(rt; line, history_of(rt.alloc(), entries, plan.2)?, "{script}");
+        assert_ok(&rt, &line, entries.len())?;
     }
     Ok(())
 }
 
 #[test]
 fn a_report_tells_own_steps_and_what_others_changed(rt: HostRuntime) -> Result<(), Fail> {
-    let table: [(Plan, &str); 4] = [
+    let table: [(Plan, &str, usize); 4] = [
         (
             (r#"[["try_write"]],[["try_write"]]"#, "0,1,0,1", 0),
             "[[2,0],[2,1]]",
+            2,
         ),
         (
             (
@@ -188,6 +216,7 @@ fn a_report_tells_own_steps_and_what_others_changed(rt: HostRuntime) -> Result<(
                 0,
             ),
             "[[2,0],[2,0],[4,2]]",
+            3,
         ),
         (
             (
@@ -196,15 +225,17 @@ fn a_report_tells_own_steps_and_what_others_changed(rt: HostRuntime) -> Result<(
                 1,
             ),
             "[[7,0],[11,0]]",
+            2,
         ),
-        ((r#"[["try_write"]]"#, "", 0), ""),
+        ((r#"[["try_write"]]"#, "", 0), "", 0),
     ];
-    for (plan, report) in table {
+    for (plan, report, count) in table {
         let script = script_of(rt.alloc(), plan)?;
         let line = ran(rt.alloc(), Order::RunReported, &script)?;
         let told = format!(in rt.alloc(); "\"report\":{report},")?;
         assert_eq!(rt; line.contains(&told), !report.is_empty(), "{script}");
         assert_eq!(rt; line.contains("report"), !report.is_empty(), "{script}");
+        assert_ok(&rt, &line, count)?;
     }
     Ok(())
 }

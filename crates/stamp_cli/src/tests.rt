@@ -304,7 +304,12 @@ fn a_call_that_waits_is_named(rt: HostRuntime) -> Result<(), Fail> {
 }
 
 /// So many times the same call, and then what follows.
-fn repeated(alloc: Global, call: &str, count: usize, last: &str) -> Result<String, AllocError> {
+pub(crate) fn repeated(
+    alloc: Global,
+    call: &str,
+    count: usize,
+    last: &str,
+) -> Result<String, AllocError> {
     let mut calls = String::new(alloc);
     for _ in 0..count {
         calls.push_str(call)?;
