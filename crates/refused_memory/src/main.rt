@@ -3,8 +3,10 @@
 //! than the right one is printed, and ends with status 0.
 #![tactic(auto)]
 
+mod running;
 mod schedules;
 
+use crate::running::{running_lock_outcome, running_record_outcome};
 use crate::schedules::{
     bad_script_outcome, history_outcome, judged_outcome, run_outcome, run_reported_outcome,
     steps_outcome,
@@ -174,6 +176,8 @@ fn outcome_of_all(alloc: Global) -> Outcome {
         run_outcome(alloc),
         run_reported_outcome(alloc),
         steps_outcome(alloc),
+        running_lock_outcome(alloc),
+        running_record_outcome(alloc),
     ];
     if outcomes.contains(&Outcome::Wrong) {
         Outcome::Wrong

@@ -11,3 +11,11 @@ pub mod NewLock
 pub mod ClosedLock
 pub mod LostExchanges
 pub mod CallSteps
+pub mod RecordWords
+pub mod RecordLogs
+pub mod RecordSteps
+pub mod PutSteps
+pub mod GetSteps
+pub mod RecordMoves
+pub mod NewRecord
+pub mod RecordPromises

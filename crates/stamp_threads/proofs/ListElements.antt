@@ -1,6 +1,6 @@
 -- Elements of short lists, and of a list with one more.
-use Rattle.std.proofs.Common.{◌≡◌, ◌⊎◌, ℕ, zero, suc, List, [], ◌∷◌, ◌++◌, length, refl, ap, sym}
-use Rattle.std.proofs.Common.{subst, ⊎_elim, inl, inr}
+use Rattle.std.proofs.Common.{◌≡◌, ◌⊎◌, ℕ, zero, suc, ◌<◌, List, [], ◌∷◌, ◌++◌, length, refl, ap}
+use Rattle.std.proofs.Common.{sym, subst, ⊎_elim, inl, inr, arith}
 use mathlib.Core.Option.{some, some-injective, some-ne-none}
 use lib.ListN.{get_elem?}
 
@@ -27,3 +27,8 @@ pub two_of : {V : Type 0} (P : ℕ → V → Type 0) (v u : V) → P 0 v → P 1
 two_of P v u a b zero w e = subst (P 0) (some-injective v w e) a
 two_of P v u a b (suc zero) w e = subst (P 1) (some-injective u w e) b
 two_of P v u a b (suc (suc k)) w e = absurd (some-ne-none w (sym e))
+
+pub in_range : {A : Type 0} (l : List A) (a : A) (j : ℕ) → get_elem? l j ≡ some a → j < length l
+in_range [] a j e = absurd (some-ne-none a (sym e))
+in_range (x ∷ xs) a zero e = omega arith
+in_range (x ∷ xs) a (suc j) e = let h = in_range xs a j e in omega arith

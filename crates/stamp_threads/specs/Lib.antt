@@ -9,3 +9,8 @@ pub mod HaveMet
 pub mod Closes
 pub mod LockRule
 pub mod LockStep
+pub mod RecordWord
+pub mod RecordLog
+pub mod RecordPass
+pub mod RecordCall
+pub mod RecordRule

@@ -1,19 +1,36 @@
-//! A lock in one word that threads share, with no lock round it.
+//! A lock in one word that threads share, and a record of words, with no lock round them.
 #![tactic(auto)]
 
+mod faults;
 mod lock_rule;
 mod lock_steps;
 mod lost;
 mod machine_steps;
 mod pass;
 mod pass_view;
+mod record_get;
+mod record_pass;
+mod record_put;
+mod record_rule;
+mod record_steps;
+#[cfg(test)]
+mod record_tests;
+#[cfg(test)]
+mod record_thread_tests;
+mod record_view;
+mod record_word;
 mod running_lock;
+mod running_record;
 #[cfg(test)]
 mod tests;
 #[cfg(test)]
 mod thread_tests;
 
+pub use faults::{GetFault, PutFault};
 pub use lost::Lost;
 pub use pass::Pass;
 pub use pass_view::{Entry, PassView};
+pub use record_pass::RecordPass;
+pub use record_view::{RecordEvent, RecordPhase, RecordShape};
 pub use running_lock::{LockError, RunningLock};
+pub use running_record::RunningRecord;

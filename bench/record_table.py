@@ -1,0 +1,55 @@
+"""Prints the tables of record.sh from its lines 'PROGRAM NAME THREADS CALLS NANOSECONDS GOOD'."""
+import collections
+import statistics
+import sys
+
+# What a row times: of the record, of C and of the JDK, and of the cell; and whether all succeed.
+ALONE = [
+    ("get_into, 2 words", "into2", "load2"),
+    ("get_once, 2 words", "get2", "load2"),
+    ("put_once, 2 words", "put2", "store2"),
+    ("get_into, 16 words", "into16", "load16"),
+    ("get_once, 16 words", "get16", "load16"),
+    ("put_once, 16 words", "put16", "store16"),
+]
+
+
+def rounds():
+    """The nanoseconds a call that succeeded, of all threads together, a round."""
+    times = collections.defaultdict(list)
+    for line in open(sys.argv[1]):
+        program, name, threads, calls, nanoseconds, good = line.split()
+        made = int(calls) * int(threads)
+        if int(good) < made * (0.5 if name == "beside" else 0.99):
+            sys.exit(f"too few calls succeeded: {line}")
+        times[program, name, int(threads)].append(int(nanoseconds) / int(good))
+    return times
+
+
+def main():
+    times = rounds()
+
+    def median(program, name, threads=1):
+        return statistics.median(times[program, name, threads])
+
+    print(f"{'ns a call':20}{'record':>9}{'C':>9}{'JDK':>9}{'SeqCell':>9}"
+          f"{'of C':>8}{'JDK/ours':>10}")
+    for title, ours, cell in ALONE:
+        peer = ours.replace("get", "into")
+        time, c = median("record_timing", ours), median("record_c", peer)
+        jdk, cells = median("StampedLock", peer), median("record_timing", cell)
+        print(f"{title:20}{time:9.2f}{c:9.2f}{jdk:9.2f}{cells:9.2f}{time / c:8.2f}"
+              f"{jdk / time:10.2f}")
+    print()
+    print(f"{'million gets a s':20}{'record':>9}{'C':>9}{'JDK':>9}{'growth':>9}{'of C':>9}")
+    for name in ("readers", "beside"):
+        for threads in range(1, 5):
+            rates = [1000 / median(program, name, threads)
+                     for program in ("record_timing", "record_c", "StampedLock")]
+            growths = [median(program, name, 1) / median(program, name, threads)
+                       for program in ("record_timing", "record_c")]
+            print(f"{name + ' ' + str(threads):20}" + "".join(f"{rate:9.0f}" for rate in rates)
+                  + f"{growths[0]:9.2f}{growths[1]:9.2f}")
+
+
+main()

@@ -1,0 +1,207 @@
+//! Times gets and puts of a running record, by one thread, and gets by several, with and without a
+//! thread that puts each 10 microseconds; and loads and stores of a `SeqCell` of the same words.
+//!
+//! `record_timing [CALLS [ROUNDS]]` writes a line for each kind of call and round to standard
+//! error: its name, how many threads, how many calls each made, the nanoseconds from the first to
+//! the last, and how many calls succeeded.
+#![tactic(auto)]
+
+ghost use Rattle.std.specs.Prelude.{◌≡◌, ◌≤◌, IfOk, IfSome};
+
+mod calls;
+mod cells;
+mod side_by_side;
+
+use calls::{gets, gets_into, puts};
+use cells::{loads, stores};
+use crossbeam_utils::atomic::SeqCell;
+use side_by_side::{beside_writer, read_by};
+use stamp_core::{Limits, Words};
+use stamp_threads::{RecordPass, RunningRecord};
+use std::alloc::Global;
+use std::rt::Env;
+use std::sync::Wait;
+use std::thread::Threads;
+use std::time::{Clock, Instant};
+use std::{env, io};
+
+/// How many calls are made where no argument says so.
+const FEW: u64 = 1_000;
+
+/// How many times as many calls each of several threads makes, since starting them takes time too.
+const MORE: u64 = 32;
+
+/// How many calls to make in a round, and how many rounds.
+#[derive(Clone, Copy)]
+struct Order {
+    calls: u64,
+    rounds: u64,
+}
+
+/// Reads the words after the program's name. A word that is no number is as if it weren't there.
+fn order_given(rt: &(impl Env + AllocGlobal)) -> io::Result<Order> {
+    let mut words = env::args(rt)?.skip(1);
+    let calls = words.next().and_then(|word| word.parse().ok());
+    let rounds = words.next().and_then(|word| word.parse().ok());
+    Ok(Order {
+        calls: calls.unwrap_or(FEW),
+        rounds: rounds.unwrap_or(1),
+    })
+}
+
+/// A record and its first pass, if there is memory for it.
+fn made(alloc: Global, width: usize) -> Option<(RunningRecord, RecordPass)>
+    requires { (1 ≤ width) × (width ≤ 16) }
+    ensures table { IfSome result (λ r. r.1.table ≡ r.0.table) }
+    ensures width { IfSome result (λ r. r.0.shape.width ≡ width) }
+{
+    let limits = Limits::new(127, 1 << 50).ok()?;
+    RunningRecord::new(alloc, limits, width).ok()
+}
+
+/// Tells the time of calls that began at the start.
+fn tell<R: Eprint + Clock>(
+    rt: &R,
+    name: &str,
+    threads: u64,
+    calls: u64,
+    start: &Instant,
+    good: u64,
+) -> io::Result<()> {
+    let nanoseconds = start.elapsed(rt)?.as_nanos();
+    eprintln!(rt; "{name} {threads} {calls} {nanoseconds} {good}")?;
+    Ok(())
+}
+
+/// Gets and puts of a record of two words by one thread, one after the other.
+fn two_words<R: Eprint + Clock>(
+    rt: &R,
+    shared: &RunningRecord,
+    pass: &mut RecordPass,
+    calls: u64,
+) -> io::Result<()>
+    requires { (pass.old.table ≡ shared.now.table) × (shared.now.shape.width ≡ 2) }
+    ensures { pass.new.table ≡ shared.now.table }
+{
+    let start = Instant::now(rt)?;
+    let good = gets(shared, pass, calls);
+    tell(rt, "get2", 1, calls, &start, good)?;
+    let mut row = [0u64; 2];
+    let start = Instant::now(rt)?;
+    let good = gets_into(shared, pass, &mut row, calls);
+    tell(rt, "into2", 1, calls, &start, good)?;
+    if let Some(words) = Words::new(&row) {
+        let start = Instant::now(rt)?;
+        let good = puts(shared, pass, &words, calls);
+        tell(rt, "put2", 1, calls, &start, good)?;
+    }
+    Ok(())
+}
+
+/// And of one of sixteen words.
+fn sixteen_words<R: Eprint + Clock>(
+    rt: &R,
+    shared: &RunningRecord,
+    pass: &mut RecordPass,
+    calls: u64,
+) -> io::Result<()>
+    requires { (pass.old.table ≡ shared.now.table) × (shared.now.shape.width ≡ 16) }
+    ensures { pass.new.table ≡ shared.now.table }
+{
+    let start = Instant::now(rt)?;
+    let good = gets(shared, pass, calls);
+    tell(rt, "get16", 1, calls, &start, good)?;
+    let mut row = [0u64; 16];
+    let start = Instant::now(rt)?;
+    let good = gets_into(shared, pass, &mut row, calls);
+    tell(rt, "into16", 1, calls, &start, good)?;
+    if let Some(words) = Words::new(&row) {
+        let start = Instant::now(rt)?;
+        let good = puts(shared, pass, &words, calls);
+        tell(rt, "put16", 1, calls, &start, good)?;
+    }
+    Ok(())
+}
+
+/// Loads and stores of a cell of two words, and of one of sixteen.
+fn both_cells<R: Eprint + Clock + Wait>(rt: &R, cells: &BothCells, calls: u64) -> io::Result<()> {
+    let start = Instant::now(rt)?;
+    let good = loads(rt, &cells.two, calls);
+    tell(rt, "load2", 1, calls, &start, good)?;
+    let start = Instant::now(rt)?;
+    let good = stores(rt, &cells.two, calls);
+    tell(rt, "store2", 1, calls, &start, good)?;
+    let start = Instant::now(rt)?;
+    let good = loads(rt, &cells.sixteen, calls);
+    tell(rt, "load16", 1, calls, &start, good)?;
+    let start = Instant::now(rt)?;
+    let good = stores(rt, &cells.sixteen, calls);
+    tell(rt, "store16", 1, calls, &start, good)
+}
+
+/// One to four threads that read two words, without a writer and beside one.
+fn together<R: Eprint + Clock + Threads + Sync>(
+    rt: &R,
+    shared: &RunningRecord,
+    mut pass: RecordPass,
+    calls: u64,
+) -> io::Result<RecordPass>
+    requires { (pass.table ≡ shared.now.table) × (shared.now.shape.width ≡ 2) }
+    ensures { IfOk result (λ back. back.table ≡ shared.now.table) }
+{
+    for threads in 1..=4u64 {
+        let start = Instant::now(rt)?;
+        let (good, back) = read_by(rt, shared, pass, threads, calls);
+        tell(rt, "readers", threads, calls, &start, good)?;
+        let start = Instant::now(rt)?;
+        let (good, back) = beside_writer(rt, shared, back, threads, calls);
+        tell(rt, "beside", threads, calls, &start, good)?;
+        pass = back;
+    }
+    Ok(pass)
+}
+
+/// What is timed.
+#[derive(Drop)]
+struct BothCells {
+    two: SeqCell<[u64; 2], 2>,
+    sixteen: SeqCell<[u64; 16], 16>,
+}
+
+/// One round after the other, of a record of two words and one of sixteen.
+fn all_rounds<R: Eprint + Clock + Threads + Wait + Sync>(
+    rt: &R,
+    cells: &BothCells,
+    two: &RunningRecord,
+    mut pass: RecordPass,
+    sixteen: &RunningRecord,
+    mut other: RecordPass,
+    order: Order,
+) -> io::Result<()>
+    requires two { (pass.table ≡ two.now.table) × (two.now.shape.width ≡ 2) }
+    requires sixteen { (other.table ≡ sixteen.now.table) × (sixteen.now.shape.width ≡ 16) }
+{
+    for _ in 0..order.rounds {
+        two_words(rt, two, &mut pass, order.calls)?;
+        sixteen_words(rt, sixteen, &mut other, order.calls)?;
+        both_cells(rt, cells, order.calls)?;
+        pass = together(rt, two, pass, order.calls.wrapping_mul(MORE))?;
+    }
+    Ok(())
+}
+
+fn main(rt: HostRuntime) -> io::Result<()> {
+    let order = order_given(&rt)?;
+    let (Some((narrow, pass)), Some((wide, other))) = (made(rt.alloc(), 2), made(rt.alloc(), 16))
+    else {
+        return Ok(());
+    };
+    let (Ok(two), Ok(sixteen)) = (
+        SeqCell::new(rt.alloc(), [0; 2]),
+        SeqCell::new(rt.alloc(), [0; 16]),
+    ) else {
+        return Ok(());
+    };
+    let cells = BothCells { two, sixteen };
+    all_rounds(&rt, &cells, &narrow, pass, &wide, other, order)
+}

@@ -1,0 +1,276 @@
+-- Each step of a get keeps the rule, and tells what it is to tell.
+use Rattle.std.proofs.Common.{◌≡◌, ◌≢◌, ℕ, ◌+◌, ◌<◌, eqb, Bool, true, false, true≢false, MatchBool}
+use Rattle.std.proofs.Common.{if◌then◌else◌, List, [], ◌∷◌, ◌++◌, length, get_or, refl, ap, sym}
+use Rattle.std.proofs.Common.{◌∙◌, subst, arith, le_refl, length-append}
+use Rattle.std.proofs.lemmas.Bool.{eqb-true}
+use Rattle.std.proofs.lemmas.List.{ext_get_or, get_or_push, get_or_append_left}
+use mathlib.Core.Logic.{dite}
+use native.Mathlib.Decide.{ℕ_discrete}
+use mathlib.Core.Option.{none, some}
+use lib.ListN.{get_elem?}
+use lib.Seq.{set-get_or}
+use Rattle.atomic_table.specs.Table.{State, Act, keeps, step, stepped, Valid, carried_after, Allows}
+use Rattle.stamp_core.specs.declared.call.Call.TheVariants.{Get}
+use Rattle.stamp_core.specs.declared.reply.Reply.TheVariants.{Content}
+use Rattle.stamp_threads.specs.declared.record_view.RecordShape.{RecordShape}
+use Rattle.stamp_threads.specs.declared.record_view.RecordEvent.{RecordEvent}
+use Rattle.stamp_threads.specs.declared.record_view.RecordPhase.{RecordPhase}
+use Rattle.stamp_threads.specs.declared.record_view.RecordPhase.TheVariants.{Idle, Reading}
+use Rattle.stamp_threads.specs.PassView.{entry, observing}
+use Rattle.stamp_threads.specs.Seats.{alone}
+use Rattle.stamp_threads.specs.RecordWord.{word_with}
+use Rattle.stamp_threads.specs.RecordLog.{puts, puts_in, content_in, is_locked, is_own}
+use Rattle.stamp_threads.specs.RecordPass.{RecordPassView, IsConsistentWith, marks_ahead, first_of}
+use Rattle.stamp_threads.specs.RecordRule.{KnowsReading, Knows, IsWriting, IsKept, Seated, calling}
+use Rattle.stamp_threads.specs.RecordRule.{opening, stopping, get_of, loading_one, loaded_one}
+use Rattle.stamp_threads.specs.RecordRule.{Confirmed, Overtaken, word_to_confirm, OpenTells}
+use Rattle.stamp_threads.specs.RecordRule.{LoadTells, ConfirmTells}
+use Rattle.stamp_threads.proofs.Beginnings.{begins_all}
+use Rattle.stamp_threads.proofs.MadeBy.{grows_one, made_by-same}
+use Rattle.stamp_threads.proofs.RecordWords.{free_of, same_word}
+use Rattle.stamp_threads.proofs.RecordLogs.{locked_longer, marker_longer, content_longer}
+use Rattle.stamp_threads.proofs.RecordLogs.{legal_longer, marks_called, puts_get, puts_in_get}
+use Rattle.stamp_threads.proofs.RecordSteps.{Brings, OthersKnow, fits_here, leaves_now}
+use Rattle.stamp_threads.proofs.RecordSteps.{others_mark, one_after, one_consistent, only_views}
+use Rattle.stamp_threads.proofs.RecordSteps.{only_consistent, observing_brings, same_knows}
+use Rattle.stamp_threads.proofs.RecordSteps.{idle_quiet, KeptBy}
+
+module _ (shape : RecordShape) (s : State (Unit {0}) (List RecordPassView)) (r : IsKept shape s)
+    (id : ℕ) (v : RecordPassView) (here : get_elem? s.views id ≡ some (v ∷ [])) (version : ℕ)
+    (xs : List ℕ) (reading : v.phase ≡ Reading version xs) where
+  pub reading_quiet : IsWriting v.phase → ⊥
+  reading_quiet w = subst IsWriting reading w
+
+  none_ahead : marks_ahead v.phase ≡ 0
+  none_ahead = ap marks_ahead reading
+
+  what : KnowsReading shape.width r.log version xs
+  what = subst (Knows shape.width s.words r.log v.name) reading
+      (fits_here shape s r id v here).knows
+
+  -- one more word is loaded
+  loads : (k : ℕ) → length xs ≡ k → k < shape.width →
+      KeptBy shape s id (loaded_one v (get_or s.words (k + 1) 0)) s.words
+  loads k long inside =
+      let x : ℕ = get_or s.words (k + 1) 0 in
+      let w = loaded_one v x in
+      let f = fits_here shape s r id v here in
+      let h = what in
+      let more : length (xs ++ x ∷ []) ≡ k + 1 =
+      length-append xs (x ∷ []) ∙ ap (λ (n : ℕ). n + 1) long in
+      let known : KnowsReading shape.width r.log version (xs ++ x ∷ []) = record {
+        before = h.before;
+        few = omega arith;
+        stand = λ e p j l. dite (ℕ_discrete j k)
+            (λ (i : j ≡ k). ap (λ (y : ℕ). get_or (xs ++ x ∷ []) y 0) i ∙
+            (get_or_push xs x 0 k long ∙ (r.rests e k inside ∙
+            ap (λ (y : ℕ). get_or (content_in shape.width r.log) y 0) (sym i))))
+            (λ (ne : j ≢ k). get_or_append_left xs (x ∷ []) 0 j (omega arith) ∙
+            h.stand e p j (omega arith));
+      } in
+      let ahead : marks_ahead v.phase ≡ marks_ahead w.phase =
+      ap marks_ahead reading ∙
+      sym (ap (λ (p : RecordPhase). marks_ahead (loading_one p x)) reading) in
+      only_views shape s r id v here reading_quiet w refl refl (record {
+        observed = f.part.observed;
+        own = f.part.own;
+        marks = f.marks ∙ ap (λ (n : ℕ). puts_in v.own + n) ahead;
+        knows = subst (Knows shape.width s.words r.log v.name)
+            (sym (ap (λ (z : RecordPhase). loading_one z x) reading)) known;
+      })
+
+  -- the lock word is as it was, and the words are the content
+  confirms : length xs ≡ shape.width →
+      get_or s.words 0 0 ≡ word_with shape.limits.layout version false →
+      KeptBy shape s id (calling v r.log (get_of xs)) s.words ×
+      IsConsistentWith shape.width (calling v r.log (get_of xs)) ×
+      (xs ≡ content_in shape.width r.log)
+  confirms long same =
+      let w = calling v r.log (get_of xs) in
+      let log' = r.log ++ entry v.name (get_of xs) ∷ [] in
+      let f = fits_here shape s r id v here in
+      let h = what in
+      let free = free_of shape.limits.layout (is_locked r.log) (puts r.log) version
+      (sym same ∙ r.word_is) in
+      let whole : xs ≡ content_in shape.width r.log =
+      ext_get_or 0 xs (content_in shape.width r.log) (long ∙ sym r.long)
+      (h.stand free.0 free.1) in
+      let p = puts_get r.log v.name xs in
+      let l = locked_longer r.log v.name (get_of xs) in
+      let m = marker_longer r.log v.name (get_of xs) in
+      let c = content_longer shape.width r.log v.name Get (Content xs) in
+      let grows = grows_one v r.log (get_of xs) in
+      let had = f.marks in
+      let quiet = none_ahead in
+      let brings : Brings shape.width s.words log' w = record {
+        observed = begins_all log';
+        own = made_by-same is_own v.name r.log (get_of xs) ∙
+            ap (λ (z : List RecordEvent). z ++ get_of xs ∷ []) f.part.own;
+        marks = (let a = marks_called v.name r.log Get (Content xs) in
+            let b = puts_in_get v.own xs in omega arith);
+        knows = tt;
+      } in
+      let others : OthersKnow shape s r.log id s.words log' =
+      λ i k u away st g. same_knows shape.width s.words r.log log' u.name u.phase p l m c g in
+      let legal = legal_longer shape.width r.log v.name Get (Content xs) refl (ap Content whole)
+      r.legal in (
+        record {
+          log = log';
+          legal = legal;
+          wide = r.wide;
+          word_is = r.word_is ∙ sym (same_word shape.limits.layout (puts log') (puts r.log)
+              (is_locked log') (is_locked r.log) p l);
+          few = (let z = r.few in omega (arith, p));
+          fewer = λ e. absurd (true≢false (sym e ∙ (l ∙ free.0)));
+          rests = λ e i b. r.rests (sym l ∙ e) i b ∙
+              ap (λ (d : List ℕ). get_or d i 0) (sym c);
+          long = ap length c ∙ r.long;
+          passes = one_after shape s r id v here w refl refl s.words log' grows brings others;
+          writer = λ e. absurd (true≢false (sym e ∙ (l ∙ free.0)));
+        },
+        one_consistent shape s r id v here w refl refl s.words log' grows brings others legal refl,
+        whole,
+      )
+
+  stopping_brings : Brings shape.width s.words r.log (stopping v r.log)
+  stopping_brings =
+      let f = fits_here shape s r id v here in
+      record {
+        observed = begins_all r.log;
+        own = f.part.own;
+        marks = f.marks ∙ ap (λ (n : ℕ). puts_in v.own + n) none_ahead;
+        knows = tt;
+      }
+
+-- the first load of a get, by whether somebody has write mode
+open_at : (shape : RecordShape) (s : State (Unit {0}) (List RecordPassView)) (r : IsKept shape s)
+    (id : ℕ) (v : RecordPassView) → get_elem? s.views id ≡ some (v ∷ []) → v.phase ≡ Idle →
+    (b : Bool) → is_locked r.log ≡ b →
+    KeptBy shape s id (if b then observing v r.log else opening v r.log) s.words
+open_at shape s r id v here idle true e =
+    only_views shape s r id v here (idle_quiet v.phase idle) (observing v r.log) refl refl
+    (observing_brings shape s r id v here)
+open_at shape s r id v here idle false e =
+    let f = fits_here shape s r id v here in
+    only_views shape s r id v here (idle_quiet v.phase idle) (opening v r.log) refl refl (record {
+      observed = begins_all r.log;
+      own = f.part.own;
+      marks = f.marks ∙ ap (λ (n : ℕ). puts_in v.own + n) (ap marks_ahead idle);
+      knows = record {
+        before = le_refl (puts r.log);
+        few = omega arith;
+        stand = λ _ _ j l. absurd (omega arith);
+      };
+    })
+
+pub allows_open : (shape : RecordShape) (slots id : ℕ) (me : Seated) →
+    me ≡ alone (first_of me.0) → (first_of me.0).phase ≡ Idle →
+    Allows (IsKept shape) slots id me 0 (λ n. n) (OpenTells shape (step slots 0 0 0 none) me)
+allows_open shape slots id me is idle s r _ at _ =
+    let v : RecordPassView = first_of me.0 in
+    let here : get_elem? s.views id ≡ some (v ∷ []) =
+    at ∙ ap (λ (m : Seated). some m.0) is in
+    let w : RecordPassView = if is_locked r.log then observing v r.log else opening v r.log in
+    let quiet = idle_quiet v.phase idle in (
+      w ∷ [],
+      keeps,
+      tt,
+      subst (KeptBy shape s id w) (sym (set-get_or s.words 0 0))
+          (open_at shape s r id v here idle (is_locked r.log) refl),
+      record {
+        log = r.log;
+        left = leaves_now shape s r id v here;
+        after = λ i. (w ∷ [], (is i).1);
+        others = others_mark shape s r id v here quiet;
+        consistent = only_consistent shape s r id v here quiet (observing v r.log) refl refl
+            (observing_brings shape s r id v here) refl;
+      },
+    )
+
+-- a load of a word of the record
+pub allows_load_word : (shape : RecordShape) (slots id : ℕ) (me : Seated) (version k : ℕ)
+    (xs : List ℕ) → me ≡ alone (first_of me.0) → (first_of me.0).phase ≡ Reading version xs →
+    length xs ≡ k → k < shape.width →
+    Allows (IsKept shape) slots id me (k + 1) (λ n. n)
+    (LoadTells (step slots (k + 1) 0 0 none) me)
+allows_load_word shape slots id me version k xs is reading long inside s r _ there _ =
+    let v : RecordPassView = first_of me.0 in
+    let here : get_elem? s.views id ≡ some (v ∷ []) =
+    there ∙ ap (λ (m : Seated). some m.0) is in
+    let w = loaded_one v (get_or s.words (k + 1) 0) in (
+      w ∷ [],
+      keeps,
+      tt,
+      subst (KeptBy shape s id w) (sym (set-get_or s.words (k + 1) 0))
+          (loads shape s r id v here version xs reading k long inside),
+      λ i. (w ∷ [], (is i).1),
+    )
+
+-- the second load of the lock word, by whether it is the word of the first
+confirm_at : (shape : RecordShape) (s : State (Unit {0}) (List RecordPassView))
+    (r : IsKept shape s) (id : ℕ) (me : Seated) (version : ℕ) (xs : List ℕ) →
+    me ≡ alone (first_of me.0) → get_elem? s.views id ≡ some (first_of me.0 ∷ []) →
+    (first_of me.0).phase ≡ Reading version xs → length xs ≡ shape.width → (b : Bool) →
+    eqb (get_or s.words 0 0) (word_with shape.limits.layout version false) ≡ b →
+    (w : List RecordPassView) × (a : Act (Unit {0})) × Valid s.homes me.1 a ×
+    IsKept shape (stepped s 0 (get_or s.words 0 0) id me.1 w a) ×
+    MatchBool b
+    (Confirmed shape (first_of me.0) (get_or s.words 0 0) (w, carried_after me.1 a) xs)
+    (Overtaken shape (first_of me.0) (get_or s.words 0 0) (w, carried_after me.1 a))
+confirm_at shape s r id me version xs is here reading long true e =
+    let v : RecordPassView = first_of me.0 in
+    let w = calling v r.log (get_of xs) in
+    let t = confirms shape s r id v here version xs reading long (eqb-true _ _ e) in (
+      w ∷ [],
+      keeps,
+      tt,
+      subst (KeptBy shape s id w) (sym (set-get_or s.words 0 0)) t.0,
+      record {
+        log = r.log;
+        content = t.2;
+        left = leaves_now shape s r id v here;
+        after = λ i. (w ∷ [], (is i).1);
+        consistent = t.1;
+      },
+    )
+confirm_at shape s r id me version xs is here reading long false e =
+    let v : RecordPassView = first_of me.0 in
+    let w = stopping v r.log in
+    let quiet = reading_quiet shape s r id v here version xs reading in
+    let brings = stopping_brings shape s r id v here version xs reading in (
+      w ∷ [],
+      keeps,
+      tt,
+      subst (KeptBy shape s id w) (sym (set-get_or s.words 0 0))
+          (only_views shape s r id v here quiet w refl refl brings),
+      record {
+        log = r.log;
+        left = leaves_now shape s r id v here;
+        after = λ i. (w ∷ [], (is i).1);
+        others = others_mark shape s r id v here quiet;
+        consistent = only_consistent shape s r id v here quiet w refl refl brings refl;
+      },
+    )
+
+pub allows_confirm : (shape : RecordShape) (slots id : ℕ) (me : Seated) (version : ℕ)
+    (xs : List ℕ) → me ≡ alone (first_of me.0) → (first_of me.0).phase ≡ Reading version xs →
+    length xs ≡ shape.width →
+    Allows (IsKept shape) slots id me 0 (λ n. n)
+    (ConfirmTells shape xs (step slots 0 0 0 none) me)
+allows_confirm shape slots id me version xs is reading long s r _ there _ =
+    let v : RecordPassView = first_of me.0 in
+    let here : get_elem? s.views id ≡ some (v ∷ []) =
+    there ∙ ap (λ (m : Seated). some m.0) is in
+    let n : ℕ = get_or s.words 0 0 in
+    let layout = shape.limits.layout in
+    let t = confirm_at shape s r id me version xs is here reading long
+    (eqb n (word_with layout version false)) refl in
+    let same : eqb n (word_with layout version false) ≡ eqb n (word_to_confirm layout v.phase) =
+    ap (λ (z : RecordPhase). eqb n (word_to_confirm layout z)) (sym reading) in (
+      t.0,
+      t.1,
+      t.2,
+      t.3,
+      subst (λ (b : Bool). MatchBool b (Confirmed shape v n (t.0, carried_after me.1 t.1) xs)
+          (Overtaken shape v n (t.0, carried_after me.1 t.1))) same t.4,
+    )

@@ -1,0 +1,268 @@
+-- Splits and joins of seats, and the load of two passes, keep the rule of a record's words. All are
+-- made between calls.
+use Rattle.std.proofs.Common.{◌≡◌, ◌≢◌, ℕ, ◌+◌, true, List, [], ◌∷◌, ◌++◌, map, take, drop, length}
+use Rattle.std.proofs.Common.{set, refl, ap, sym, ◌∙◌, subst, arith}
+use mathlib.Core.Option.{none, some, some-injective}
+use lib.ListN.{get_elem?}
+use lib.Seq.{set-get_or}
+use Rattle.atomic_table.specs.Seated.{TableId}
+use Rattle.atomic_table.specs.Table.{State, keeps, step, Allows, Splits, Joins}
+use Rattle.stamp_threads.specs.declared.record_view.RecordShape.{RecordShape}
+use Rattle.stamp_threads.specs.declared.record_view.RecordPhase.{RecordPhase}
+use Rattle.stamp_threads.specs.declared.record_view.RecordPhase.TheVariants.{Idle}
+use Rattle.stamp_threads.specs.PassName.{HasGivenAll}
+use Rattle.stamp_threads.specs.PassView.{observing, after_split, split_off}
+use Rattle.stamp_threads.specs.Seats.{StandsAt, AreSeated, alone, both}
+use Rattle.stamp_threads.specs.RecordLog.{RecordLog, is_locked, is_own, is_mark, marks_of}
+use Rattle.stamp_threads.specs.RecordPass.{RecordPassView, IsConsistentWith, IsConsistentIn}
+use Rattle.stamp_threads.specs.RecordPass.{marks_ahead, first_of, second_of}
+use Rattle.stamp_threads.specs.RecordRule.{Knows, Fits, IsWriting, HasWriter, IsKept, Seated}
+use Rattle.stamp_threads.specs.RecordRule.{MeetTells}
+use Rattle.stamp_threads.proofs.Beginnings.{begins_all}
+use Rattle.stamp_threads.proofs.ListElements.{only_one, two_of}
+use Rattle.stamp_threads.proofs.MadeBy.{grows_none}
+use Rattle.stamp_threads.proofs.GivenNames.{child_none, child_unused_all, given_more_all}
+use Rattle.stamp_threads.proofs.GivenNames.{part-after_split, part-split_off}
+use Rattle.stamp_threads.proofs.SeatSteps.{same_two}
+use Rattle.stamp_threads.proofs.SeatMoves.{gives, together, parted, stands_else, stands_before}
+use Rattle.stamp_threads.proofs.RecordSteps.{Brings, passes_after, consistent_after, idle_quiet}
+
+-- the views alone change
+with_views : (shape : RecordShape) (s : State (Unit {0}) (List RecordPassView))
+    (r : IsKept shape s) (views : List (List RecordPassView)) →
+    AreSeated (Fits shape.width s.words r.log) views →
+    (is_locked r.log ≡ true → HasWriter r.log views) →
+    IsKept shape record { words = s.words; homes = s.homes; views = views }
+with_views shape s r views passes writer = record {
+  log = r.log;
+  legal = r.legal;
+  wide = r.wide;
+  word_is = r.word_is;
+  few = r.few;
+  fewer = r.fewer;
+  rests = r.rests;
+  long = r.long;
+  passes = passes;
+  writer = writer;
+}
+
+idle_knows : (width : ℕ) (cells : List ℕ) (log : RecordLog) (name : List ℕ)
+    (phase : RecordPhase) → phase ≡ Idle → Knows width cells log name phase
+idle_knows width cells log name phase e = subst (Knows width cells log name) (sym e) tt
+
+fits-after_split : (width : ℕ) (cells : List ℕ) (log : RecordLog) (v : RecordPassView) →
+    Fits width cells log v → Fits width cells log (after_split v)
+fits-after_split width cells log v f = record {
+  part = part-after_split is_own log v f.part;
+  marks = f.marks;
+  knows = f.knows;
+}
+
+-- a new pass has no mark
+no_marks : (log : RecordLog) (v : RecordPassView) → HasGivenAll v.name v.splits log →
+    v.phase ≡ Idle → marks_of (split_off v).name log ≡ 0 + marks_ahead v.phase
+no_marks log v h idle =
+    let e : marks_of (split_off v).name log ≡ 0 =
+    ap length (child_none is_mark v.name v.splits log h) in
+    let f : marks_ahead v.phase ≡ 0 = ap marks_ahead idle in
+    omega arith
+
+fits-split_off : (width : ℕ) (cells : List ℕ) (log : RecordLog) (v : RecordPassView) →
+    v.phase ≡ Idle → Fits width cells log v → Fits width cells log (split_off v)
+fits-split_off width cells log v idle f = record {
+  part = part-split_off is_own log v f.part;
+  marks = no_marks log v f.part.given idle;
+  knows = idle_knows width cells log (split_off v).name v.phase idle;
+}
+
+-- the writer stands on no seat whose passes are idle
+not_on : (views : List (List RecordPassView)) (id : ℕ) (vs : List RecordPassView) →
+    get_elem? views id ≡ some vs →
+    ((k : ℕ) (u : RecordPassView) → get_elem? vs k ≡ some u → u.phase ≡ Idle) →
+    (i k : ℕ) (u : RecordPassView) → StandsAt views i k u → IsWriting u.phase → i ≢ id
+not_on views id vs at idle i k u st writes e =
+    let row : st.0 ≡ vs = some-injective _ _ (sym st.1 ∙ (ap (get_elem? views) e ∙ at)) in
+    idle_quiet u.phase
+    (idle k u (subst (λ (l : List RecordPassView). get_elem? l k ≡ some u) row st.2)) writes
+
+one_idle : (v : RecordPassView) → v.phase ≡ Idle → (k : ℕ) (u : RecordPassView) →
+    get_elem? (v ∷ []) k ≡ some u → u.phase ≡ Idle
+one_idle v e = only_one (λ _ u. u.phase ≡ Idle) v e
+
+two_idle : (v w : RecordPassView) → v.phase ≡ Idle → w.phase ≡ Idle → (k : ℕ)
+    (u : RecordPassView) → get_elem? (v ∷ w ∷ []) k ≡ some u → u.phase ≡ Idle
+two_idle v w e f = two_of (λ _ u. u.phase ≡ Idle) v w e f
+
+-- a seat of idle passes gets others, and maybe one more seat is there
+module _ (log : RecordLog) (views : List (List RecordPassView)) (id : ℕ)
+    (vs : List RecordPassView) (at : get_elem? views id ≡ some vs)
+    (idle : (k : ℕ) (u : RecordPassView) → get_elem? vs k ≡ some u → u.phase ≡ Idle)
+    (t : HasWriter log views) where
+  writer_stays : (ws : List RecordPassView) → HasWriter log (set views id ws)
+  writer_stays ws = record {
+    seat = t.seat;
+    place = t.place;
+    writer = t.writer;
+    stands = stands_else views id ws t.seat t.place t.writer
+        (not_on views id vs at idle t.seat t.place t.writer t.stands t.writes) t.stands;
+    writes = t.writes;
+    marker = t.marker;
+  }
+
+  writer_beside : (ws us : List RecordPassView) → HasWriter log (set views id ws ++ us ∷ [])
+  writer_beside ws us =
+      let h = writer_stays ws in
+      record {
+        seat = h.seat;
+        place = h.place;
+        writer = h.writer;
+        stands = stands_before (set views id ws) us h.seat h.place h.writer h.stands;
+        writes = h.writes;
+        marker = h.marker;
+      }
+
+split_kept : (shape : RecordShape) (s : State (Unit {0}) (List RecordPassView))
+    (r : IsKept shape s) (id : ℕ) (v : RecordPassView) →
+    get_elem? s.views id ≡ some (v ∷ []) → v.phase ≡ Idle →
+    IsKept shape record {
+      words = s.words;
+      homes = s.homes;
+      views = set s.views id (after_split v ∷ []) ++ (split_off v ∷ []) ∷ [];
+    }
+split_kept shape s r id v here idle =
+    let f = r.passes.fits id 0 v (v ∷ [], here, refl) in
+    with_views shape s r (set s.views id (after_split v ∷ []) ++ (split_off v ∷ []) ∷ [])
+    (gives (Fits shape.width s.words r.log) s.views r.passes id v here
+    (fits-after_split shape.width s.words r.log v f)
+    (fits-split_off shape.width s.words r.log v idle f))
+    (λ l. writer_beside r.log s.views id (v ∷ []) here (one_idle v idle) (r.writer l)
+    (after_split v ∷ []) (split_off v ∷ []))
+
+-- a pass gives a new one
+pub splits_give : (shape : RecordShape) (id : ℕ) (me : Seated) → me ≡ alone (first_of me.0) →
+    (first_of me.0).phase ≡ Idle →
+    Splits (IsKept shape) id me.0 (map after_split me.0) (map split_off me.0)
+splits_give shape id me is idle =
+    subst (λ (vs : List RecordPassView). Splits (IsKept shape) id vs (map after_split vs)
+    (map split_off vs)) (sym (ap (λ (m : Seated). m.0) is))
+    (λ s r at. split_kept shape s r id (first_of me.0) at idle)
+
+pub splits_consistent : (width : ℕ) (v : RecordPassView) → v.phase ≡ Idle →
+    IsConsistentWith width v →
+    IsConsistentWith width (after_split v) × IsConsistentWith width (split_off v)
+splits_consistent width v idle c = (
+  record {
+    legal = c.legal;
+    own = c.own;
+    marks = c.marks;
+    given = given_more_all v.name v.splits (v.splits + 1) v.observed (omega arith) c.given;
+  },
+  record {
+    legal = c.legal;
+    own = child_none is_own v.name v.splits v.observed c.given;
+    marks = no_marks v.observed v c.given idle;
+    given = child_unused_all v.name v.splits v.observed c.given;
+  },
+)
+
+-- the width of a pass's record is known by its table
+pub consistent_in : (table : TableId) (width : ℕ) (v : RecordPassView) →
+    table.words ≡ width + 1 → IsConsistentWith width v → IsConsistentIn table v
+consistent_in table width v is c other is' =
+    let same : width ≡ other = omega arith in
+    subst (λ (n : ℕ). IsConsistentWith n v) same c
+
+join_kept : (shape : RecordShape) (id : ℕ) (v : RecordPassView) (other : ℕ)
+    (u : RecordPassView) → v.phase ≡ Idle → u.phase ≡ Idle →
+    Joins (IsKept shape) id (v ∷ []) other (u ∷ []) (v ∷ u ∷ []) []
+join_kept shape id v other u idle still s r at away there =
+    let views' : List (List RecordPassView) = set s.views id (v ∷ u ∷ []) in
+    with_views shape s r (set views' other [])
+    (together (Fits shape.width s.words r.log) s.views r.passes id v other u at away there)
+    (λ l. writer_stays r.log views' other (u ∷ []) there (one_idle u still)
+    (writer_stays r.log s.views id (v ∷ []) at (one_idle v idle) (r.writer l) (v ∷ u ∷ [])) [])
+
+-- two passes go on one seat
+pub joins_share : (shape : RecordShape) (id : ℕ) (me : Seated) (other : ℕ) (them : Seated) →
+    me ≡ alone (first_of me.0) → them ≡ alone (first_of them.0) →
+    (first_of me.0).phase ≡ Idle → (first_of them.0).phase ≡ Idle →
+    Joins (IsKept shape) id me.0 other them.0 (me.0 ++ them.0) []
+joins_share shape id me other them is their idle still =
+    subst (λ (p : List RecordPassView × List RecordPassView).
+    Joins (IsKept shape) id p.0 other p.1 (p.0 ++ p.1) [])
+    (λ i. (sym (ap (λ (m : Seated). m.0) is) i, sym (ap (λ (m : Seated). m.0) their) i))
+    (join_kept shape id (first_of me.0) other (first_of them.0) idle still)
+
+part_kept : (shape : RecordShape) (id : ℕ) (v u : RecordPassView) → v.phase ≡ Idle →
+    u.phase ≡ Idle → Splits (IsKept shape) id (v ∷ u ∷ []) (v ∷ []) (u ∷ [])
+part_kept shape id v u idle still s r at =
+    with_views shape s r (set s.views id (v ∷ []) ++ (u ∷ []) ∷ [])
+    (parted (Fits shape.width s.words r.log) s.views r.passes id v u at)
+    (λ l. writer_beside r.log s.views id (v ∷ u ∷ []) at (two_idle v u idle still) (r.writer l)
+    (v ∷ []) (u ∷ []))
+
+-- and on two again
+pub splits_part : (shape : RecordShape) (id : ℕ) (me : Seated) →
+    me ≡ both (first_of me.0) (second_of me.0) → (first_of me.0).phase ≡ Idle →
+    (second_of me.0).phase ≡ Idle →
+    Splits (IsKept shape) id me.0 (take 1 me.0) (drop 1 me.0)
+splits_part shape id me is idle still =
+    subst (λ (vs : List RecordPassView). Splits (IsKept shape) id vs (take 1 vs) (drop 1 vs))
+    (sym (ap (λ (m : Seated). m.0) is))
+    (part_kept shape id (first_of me.0) (second_of me.0) idle still)
+
+-- a load by a seat that stands for two
+pub allows_meet : (shape : RecordShape) (slots id : ℕ) (me : Seated) →
+    me ≡ both (first_of me.0) (second_of me.0) → (first_of me.0).phase ≡ Idle →
+    (second_of me.0).phase ≡ Idle →
+    Allows (IsKept shape) slots id me 0 (λ n. n) (MeetTells shape (step slots 0 0 0 none) me)
+allows_meet shape slots id me is idle still s r _ at _ =
+    let v : RecordPassView = first_of me.0 in
+    let u : RecordPassView = second_of me.0 in
+    let vs : List RecordPassView = v ∷ u ∷ [] in
+    let here : get_elem? s.views id ≡ some vs = at ∙ ap (λ (m : Seated). some m.0) is in
+    let v' = observing v r.log in
+    let u' = observing u r.log in
+    let ws : List RecordPassView = v' ∷ u' ∷ [] in
+    let first = r.passes.fits id 0 v (vs, here, refl) in
+    let second = r.passes.fits id 1 u (vs, here, refl) in
+    let same = same_two v u v' u' (record { name = refl; splits = refl })
+    (record { name = refl; splits = refl }) in
+    let grows = grows_none vs r.log in
+    let a : Brings shape.width s.words r.log v' = record {
+      observed = begins_all r.log;
+      own = first.part.own;
+      marks = first.marks;
+      knows = first.knows;
+    } in
+    let b : Brings shape.width s.words r.log u' = record {
+      observed = begins_all r.log;
+      own = second.part.own;
+      marks = second.marks;
+      knows = second.knows;
+    } in
+    let brings = two_of (λ _ w. Brings shape.width s.words r.log w) v' u' a b in
+    let so = consistent_after shape s r id vs ws here same s.words r.log grows brings
+    (λ _ _ _ _ _ h. h) r.legal in (
+      ws,
+      keeps,
+      tt,
+      subst (λ (words : List ℕ). IsKept shape
+          record { words = words; homes = s.homes; views = set s.views id ws })
+          (sym (set-get_or s.words 0 0))
+          (with_views shape s r (set s.views id ws)
+          (passes_after shape s r id vs ws here same s.words r.log grows brings
+          (λ _ _ _ _ _ h. h))
+          (λ l. writer_stays r.log s.views id vs here (two_idle v u idle still) (r.writer l) ws)),
+      record {
+        log = r.log;
+        first_begins = first.part.observed;
+        second_begins = second.part.observed;
+        after = λ i. (ws, (is i).1);
+        apart = λ e.
+            let t = (r.passes.apart id 0 id 1 v u (vs, here, refl) (vs, here, refl) e).1 in
+            absurd (omega (arith, t));
+        first_consistent = so 0 v' refl refl;
+        second_consistent = so 1 u' refl refl;
+      },
+    )

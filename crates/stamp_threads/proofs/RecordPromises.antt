@@ -1,0 +1,344 @@
+-- What the steps of a call of a record tell, put together.
+use Rattle.std.proofs.Common.{◌≡◌, ◌≢◌, ℕ, ◌+◌, ◌<◌, ◌≤◌, ◌%◌, ◌/◌, ◌^◌, eqb, Bool, true, false}
+use Rattle.std.proofs.Common.{if◌then◌else◌, MatchBool, List, [], refl, ap, sym, ◌∙◌, subst}
+use Rattle.std.proofs.Common.{arith, eq-eqb, ne_eqb}
+use Rattle.stamp_core.specs.declared.call.Call.TheVariants.{Get}
+use Rattle.stamp_core.specs.declared.reply.Reply.TheVariants.{Content}
+use Rattle.stamp_threads.specs.declared.record_view.RecordPhase.{RecordPhase}
+use Rattle.stamp_core.specs.Limits.{AreInRange}
+use Rattle.stamp_threads.specs.declared.record_view.RecordShape.{RecordShape}
+use Rattle.stamp_threads.specs.declared.record_view.RecordPhase.TheVariants.{Idle, Reading}
+use Rattle.stamp_threads.specs.PassView.{observing}
+use Rattle.stamp_threads.specs.Seats.{alone, both}
+use Rattle.stamp_threads.specs.RecordWord.{version_unit, writer_unit, word_with}
+use Rattle.stamp_threads.specs.RecordLog.{RecordLog, puts, is_locked}
+use Rattle.stamp_threads.specs.RecordPass.{RecordPassView, LeavesLockWord, first_of, second_of}
+use Rattle.stamp_threads.specs.RecordRule.{Seated, with_phase, opening, Looked, Acquired, Opened}
+use Rattle.stamp_threads.specs.RecordRule.{Confirmed, Overtaken, word_to_confirm, Met}
+use Rattle.stamp_threads.specs.RecordCall.{Recorded, SawWord, WasBusy, WasLost, WasSpent}
+use Rattle.stamp_threads.specs.RecordCall.{HaveMet}
+use Rattle.stamp_threads.proofs.Beginnings.{begins_further}
+use Rattle.stamp_threads.proofs.RecordWords.{held_test, puts_of, held_is, same_word, word_small}
+
+-- two seats after a meeting
+pub have_met : (shape : RecordShape) (v u : RecordPassView) (me : Seated)
+    (v' u' : RecordPassView) → Met shape v u me → v' ≡ first_of me.0 → u' ≡ second_of me.0 →
+    HaveMet shape.width v u v' u'
+have_met shape v u me v' u' m first second =
+    let a : v' ≡ observing v m.log = first ∙ ap (λ (n : Seated). first_of n.0) m.after in
+    let b : u' ≡ observing u m.log = second ∙ ap (λ (n : Seated). second_of n.0) m.after in
+    subst (λ (p : RecordPassView × RecordPassView). HaveMet shape.width v u p.0 p.1)
+    (λ i. (sym a i, sym b i)) (record {
+      first_begins = m.first_begins;
+      second_begins = m.second_begins;
+      alike = refl;
+      apart = m.apart;
+      owns = (refl, refl);
+      same = (record { name = refl; splits = refl }, record { name = refl; splits = refl });
+      idle = (refl, refl);
+      all_consistent = (m.first_consistent, m.second_consistent);
+    })
+
+pub still_both : (shape : RecordShape) (v u : RecordPassView) (me : Seated) → Met shape v u me →
+    me ≡ both (first_of me.0) (second_of me.0)
+still_both shape v u me m =
+    m.after ∙ (λ i. both (first_of (sym m.after i).0) (second_of (sym m.after i).0))
+
+pub still_idle : (shape : RecordShape) (v u : RecordPassView) (me : Seated) →
+    Met shape v u me → v.phase ≡ Idle → u.phase ≡ Idle →
+    ((first_of me.0).phase ≡ Idle) × ((second_of me.0).phase ≡ Idle)
+still_idle shape v u me m a b = (
+  ap (λ (n : Seated). (first_of n.0).phase) m.after ∙ a,
+  ap (λ (n : Seated). (second_of n.0).phase) m.after ∙ b,
+)
+
+module _ (shape : RecordShape) (v : RecordPassView) (found : ℕ) where
+  -- nobody has write mode where the test says so
+  is_free : (log : RecordLog) → LeavesLockWord shape v found log →
+      eqb (found % version_unit shape.limits.layout) (writer_unit shape.limits.layout) ≡ false →
+      is_locked log ≡ false
+  is_free log left test =
+      sym (held_test shape.limits.layout (is_locked log) found (puts log) left.word_is) ∙ test
+
+  free_word : (log : RecordLog) → LeavesLockWord shape v found log → is_locked log ≡ false →
+      found ≡ word_with shape.limits.layout (puts log) false
+  free_word log left free = left.word_is ∙
+      same_word shape.limits.layout (puts log) (puts log) (is_locked log) false refl free
+
+  -- a put goes on
+  pub goes_on : (me : Seated) (t : Looked shape v found me) →
+      eqb (found % version_unit shape.limits.layout) (writer_unit shape.limits.layout) ≡ false →
+      found / version_unit shape.limits.layout ≤ shape.limits.versions →
+      (is_locked t.log ≡ false) × (found ≡ word_with shape.limits.layout (puts t.log) false) ×
+      (puts t.log < shape.limits.versions)
+  goes_on me t test le =
+      let free = is_free t.log t.left test in
+      let p = puts_of shape.limits.layout (is_locked t.log) found (puts t.log) t.left.word_is free
+      in
+      (free, free_word t.log t.left free, omega arith)
+
+  pub acquired_word : (me : Seated) (xs : List ℕ) (t : Acquired shape v found me xs) →
+      eqb (found % version_unit shape.limits.layout) (writer_unit shape.limits.layout) ≡ false →
+      found + writer_unit shape.limits.layout ≡ word_with shape.limits.layout (puts t.log) true
+  acquired_word me xs t test =
+      let is = free_word t.log t.left (is_free t.log t.left test) in
+      ap (λ (n : ℕ). n + writer_unit shape.limits.layout) is ∙
+      sym (held_is shape.limits.layout (puts t.log))
+
+  -- there is room for two more changes
+  pub found_small : (log : RecordLog) → LeavesLockWord shape v found log →
+      AreInRange shape.limits → found < 2 ^ 63
+  found_small log left range =
+      word_small shape.limits (is_locked log) found (puts log) range left.word_is left.few
+
+  -- a get goes on
+  pub opened : (me : Seated) (t : Opened shape v found me) →
+      eqb (found % version_unit shape.limits.layout) (writer_unit shape.limits.layout) ≡ false →
+      (first_of me.0).phase ≡ Reading (puts t.log) []
+  opened me t test =
+      let free = is_free t.log t.left test in
+      ap (λ (m : Seated). (first_of m.0).phase) t.after ∙
+      ap (λ (b : Bool). (if b then observing v t.log else opening v t.log).phase) free
+
+abbrev HeldTest : RecordShape → ℕ → Bool → Type 0
+HeldTest shape word b =
+    eqb (word % version_unit shape.limits.layout) (writer_unit shape.limits.layout) ≡ b
+
+-- refusals, and a get that is made; v is the pass before the call
+module _ (shape : RecordShape) (v : RecordPassView) (loaded : ℕ) where
+  looked_saw : (me : Seated) → Looked shape v loaded me → v.phase ≡ Idle →
+      SawWord shape v loaded (first_of me.0)
+  looked_saw me t idle =
+      subst (λ (m : Seated). SawWord shape v loaded (first_of m.0)) (sym t.after) (record {
+        left = t.left;
+        others = t.others;
+        own = refl;
+        same = record { name = refl; splits = refl };
+        idle = idle;
+        consistent = t.consistent;
+      })
+
+  locked_of : (log : RecordLog) → LeavesLockWord shape v loaded log → HeldTest shape loaded true →
+      is_locked log ≡ true
+  locked_of log left test =
+      sym (held_test shape.limits.layout (is_locked log) loaded (puts log) left.word_is) ∙ test
+
+  put_busy : (me : Seated) → Looked shape v loaded me → v.phase ≡ Idle →
+      HeldTest shape loaded true → WasBusy shape v loaded (first_of me.0)
+  put_busy me t idle test = record {
+    saw = looked_saw me t idle;
+    locked = ap (λ (m : Seated). is_locked (first_of m.0).observed) t.after ∙
+        locked_of t.log t.left test;
+  }
+
+  put_spent : (me : Seated) → Looked shape v loaded me → v.phase ≡ Idle →
+      HeldTest shape loaded false →
+      shape.limits.versions < loaded / version_unit shape.limits.layout →
+      WasSpent shape v loaded (first_of me.0)
+  put_spent me t idle test more =
+      let free = is_free shape v loaded t.log t.left test in
+      let p = puts_of shape.limits.layout (is_locked t.log) loaded (puts t.log) t.left.word_is free
+      in
+      let few = t.left.few in
+      let all : puts t.log ≡ shape.limits.versions = omega arith in
+      record {
+        saw = looked_saw me t idle;
+        free = ap (λ (m : Seated). is_locked (first_of m.0).observed) t.after ∙ free;
+        all = ap (λ (m : Seated). puts (first_of m.0).observed) t.after ∙ all;
+        last = free_word shape v loaded t.log t.left free ∙
+            ap (λ (n : ℕ). word_with shape.limits.layout n false) all;
+      }
+
+  -- the pass that had observed the first history has observed a longer one
+  lost_after : (first : RecordLog) (phase : RecordPhase) (found : ℕ) (w : RecordPassView) →
+      LeavesLockWord shape v loaded first → is_locked first ≡ false → found ≢ loaded →
+      SawWord shape (with_phase (observing v first) phase) found w → WasLost shape v loaded found w
+  lost_after first phase found w left free differ saw = record {
+    differ = λ e. differ (sym e);
+    first = first;
+    at_first = left;
+    free = free;
+    longer = saw.left.begins;
+    saw = record {
+      left = record {
+        begins = begins_further v.observed first w.observed left.begins saw.left.begins;
+        legal = saw.left.legal;
+        word_is = saw.left.word_is;
+        few = saw.left.few;
+      };
+      others = saw.others;
+      own = saw.own;
+      same = record { name = saw.same.name; splits = saw.same.splits };
+      idle = saw.idle;
+      consistent = saw.consistent;
+    };
+  }
+
+  get_busy : (me : Seated) → Opened shape v loaded me → v.phase ≡ Idle →
+      HeldTest shape loaded true → WasBusy shape v loaded (first_of me.0)
+  get_busy me t idle test =
+      let locked = locked_of t.log t.left test in
+      let after = t.after ∙
+      ap (λ (b : Bool). alone (if b then observing v t.log else opening v t.log)) locked in
+      put_busy me (record {
+        log = t.log;
+        left = t.left;
+        after = after;
+        others = t.others;
+        consistent = t.consistent;
+      }) idle test
+
+  -- what the pass knows when it has loaded the words
+  module _ (me me2 : Seated) (words : List ℕ) (t : Opened shape v loaded me)
+      (test : HeldTest shape loaded false)
+      (loads : (version : ℕ) → (first_of me.0).phase ≡ Reading version [] →
+      me2 ≡ alone (with_phase (first_of me.0) (Reading version words))) where
+    free_now : is_locked t.log ≡ false
+    free_now = is_free shape v loaded t.log t.left test
+
+    abbrev reads : RecordPassView
+    reads = with_phase (observing v t.log) (Reading (puts t.log) words)
+
+    opens : me ≡ alone (opening v t.log)
+    opens = t.after ∙
+        ap (λ (b : Bool). alone (if b then observing v t.log else opening v t.log)) free_now
+
+    reads_is : first_of me2.0 ≡ reads
+    reads_is = ap (λ (m : Seated). first_of m.0)
+        (loads (puts t.log) (ap (λ (m : Seated). (first_of m.0).phase) opens) ∙
+        ap (λ (m : Seated). alone (with_phase (first_of m.0) (Reading (puts t.log) words))) opens)
+
+    abbrev Told : ℕ → Seated → RecordPassView → Type 0
+    Told found me3 u = MatchBool (eqb found (word_to_confirm shape.limits.layout u.phase))
+        (Confirmed shape u found me3 words) (Overtaken shape u found me3)
+
+    abbrev ToldBy : ℕ → Seated → Bool → Type 0
+    ToldBy found me3 b = MatchBool b (Confirmed shape reads found me3 words)
+        (Overtaken shape reads found me3)
+
+    told_by : (found : ℕ) (me3 : Seated) (b : Bool) → eqb found loaded ≡ b →
+        Told found me3 (first_of me2.0) → ToldBy found me3 b
+    told_by found me3 b is told =
+        subst (ToldBy found me3)
+        (ap (λ (n : ℕ). eqb found n) (sym (free_word shape v loaded t.log t.left free_now)) ∙ is)
+        (subst (Told found me3) reads_is told)
+
+    get_lost : (found : ℕ) (me3 : Seated) → Told found me3 (first_of me2.0) → found ≢ loaded →
+        WasLost shape v loaded found (first_of me3.0)
+    get_lost found me3 told differ =
+        let o : Overtaken shape reads found me3 =
+        told_by found me3 false (ne_eqb found loaded differ) told in
+        subst (λ (m : Seated). WasLost shape v loaded found (first_of m.0)) (sym o.after)
+        (lost_after t.log (Reading (puts t.log) words) found _ t.left free_now differ (record {
+          left = o.left;
+          others = o.others;
+          own = refl;
+          same = record { name = refl; splits = refl };
+          idle = refl;
+          consistent = o.consistent;
+        }))
+
+    get_made : (found : ℕ) (me3 : Seated) → Told found me3 (first_of me2.0) → found ≡ loaded →
+        Recorded shape Get (Content words) v (first_of me3.0)
+    get_made found me3 told same =
+        let o : Confirmed shape reads found me3 words =
+        told_by found me3 true (eq-eqb found loaded same) told in
+        subst (λ (m : Seated). Recorded shape Get (Content words) v (first_of m.0)) (sym o.after)
+        (record {
+          log = o.log;
+          begins = begins_further v.observed t.log o.log t.left.begins o.left.begins;
+          replies = ap Content o.content;
+          observed = refl;
+          own = refl;
+          same = record { name = refl; splits = refl };
+          idle = refl;
+          consistent = o.consistent;
+        })
+
+  put_lost : (me : Seated) (t : Looked shape v loaded me) → v.phase ≡ Idle →
+      HeldTest shape loaded false → (found : ℕ) (me2 : Seated) →
+      Looked shape (first_of me.0) found me2 → found ≢ loaded →
+      WasLost shape v loaded found (first_of me2.0)
+  put_lost me t idle test found me2 told differ =
+      let is : first_of me.0 ≡ observing v t.log = ap (λ (m : Seated). first_of m.0) t.after in
+      let o : Looked shape (observing v t.log) found me2 =
+      subst (λ (u : RecordPassView). Looked shape u found me2) is told in
+      subst (λ (m : Seated). WasLost shape v loaded found (first_of m.0)) (sym o.after)
+      (lost_after t.log v.phase found _ t.left (is_free shape v loaded t.log t.left test) differ
+      (record {
+        left = o.left;
+        others = o.others;
+        own = refl;
+        same = record { name = refl; splits = refl };
+        idle = idle;
+        consistent = o.consistent;
+      }))
+
+-- the same where the code has a copy of the table's key
+module _ (key shape : RecordShape) (same : key ≡ shape) (v : RecordPassView) (loaded : ℕ) where
+  pub put_busy_of : (me : Seated) → Looked key v loaded me → v.phase ≡ Idle →
+      HeldTest shape loaded true → WasBusy shape v loaded (first_of me.0)
+  put_busy_of me t idle =
+      subst (λ (z : RecordShape). HeldTest z loaded true → WasBusy z v loaded (first_of me.0)) same
+      (put_busy key v loaded me t idle)
+
+  pub put_spent_of : (me : Seated) → Looked key v loaded me → v.phase ≡ Idle →
+      HeldTest shape loaded false →
+      shape.limits.versions < loaded / version_unit shape.limits.layout →
+      WasSpent shape v loaded (first_of me.0)
+  put_spent_of me t idle =
+      subst (λ (z : RecordShape). HeldTest z loaded false →
+      z.limits.versions < loaded / version_unit z.limits.layout →
+      WasSpent z v loaded (first_of me.0)) same
+      (put_spent key v loaded me t idle)
+
+  pub put_lost_of : (me : Seated) → Looked key v loaded me → v.phase ≡ Idle →
+      HeldTest shape loaded false → (found : ℕ) (me2 : Seated) →
+      Looked key (first_of me.0) found me2 → found ≢ loaded →
+      WasLost shape v loaded found (first_of me2.0)
+  put_lost_of me t idle test found me2 told differ =
+      subst (λ (z : RecordShape). HeldTest z loaded false →
+      WasLost z v loaded found (first_of me2.0)) same
+      (λ f. put_lost key v loaded me t idle f found me2 told differ) test
+
+  pub get_busy_of : (me : Seated) → Opened key v loaded me → v.phase ≡ Idle →
+      HeldTest shape loaded true → WasBusy shape v loaded (first_of me.0)
+  get_busy_of me t idle =
+      subst (λ (z : RecordShape). HeldTest z loaded true → WasBusy z v loaded (first_of me.0)) same
+      (get_busy key v loaded me t idle)
+
+  module _ (me me2 : Seated) (words : List ℕ) (t : Opened key v loaded me)
+      (test : HeldTest shape loaded false)
+      (loads : (version : ℕ) → (first_of me.0).phase ≡ Reading version [] →
+      me2 ≡ alone (with_phase (first_of me.0) (Reading version words))) (found : ℕ)
+      (me3 : Seated)
+      (told : MatchBool
+      (eqb found (word_to_confirm key.limits.layout (first_of me2.0).phase))
+      (Confirmed key (first_of me2.0) found me3 words)
+      (Overtaken key (first_of me2.0) found me3)) where
+    pub get_lost_of : found ≢ loaded → WasLost shape v loaded found (first_of me3.0)
+    get_lost_of differ =
+        subst (λ (z : RecordShape). HeldTest z loaded false →
+        WasLost z v loaded found (first_of me3.0)) same
+        (λ f. get_lost key v loaded me me2 words t f loads found me3 told differ) test
+
+    pub get_made_of : found ≡ loaded → Recorded shape Get (Content words) v (first_of me3.0)
+    get_made_of hit =
+        subst (λ (z : RecordShape). HeldTest z loaded false →
+        Recorded z Get (Content words) v (first_of me3.0)) same
+        (λ f. get_made key v loaded me me2 words t f loads found me3 told hit) test
+
+-- the same where the code has a copy of the table's key
+pub acquired_word_of : (key shape : RecordShape) → key ≡ shape → (v : RecordPassView)
+    (found loaded : ℕ) (me : Seated) (xs : List ℕ) (t : Acquired key v found me xs) →
+    found ≡ loaded →
+    eqb (loaded % version_unit shape.limits.layout) (writer_unit shape.limits.layout) ≡ false →
+    loaded + writer_unit shape.limits.layout ≡ word_with key.limits.layout (puts t.log) true
+acquired_word_of key shape same v found loaded me xs t hit =
+    subst (λ (z : RecordShape).
+    eqb (loaded % version_unit z.limits.layout) (writer_unit z.limits.layout) ≡ false →
+    loaded + writer_unit z.limits.layout ≡ word_with key.limits.layout (puts t.log) true) same
+    (subst (λ (n : ℕ).
+    eqb (n % version_unit key.limits.layout) (writer_unit key.limits.layout) ≡ false →
+    n + writer_unit key.limits.layout ≡ word_with key.limits.layout (puts t.log) true) hit
+    (acquired_word key v found me xs t))

@@ -1,0 +1,258 @@
+-- What every step of a seat on a record's words keeps, by what its passes know afterwards.
+use Rattle.std.proofs.Common.{◌≡◌, ◌≢◌, ◌⊎◌, ℕ, ◌+◌, ◌<◌, ◌≤◌, true, true≢false, List}
+use Rattle.std.proofs.Common.{[], ◌∷◌, length, set, get_or, refl, ap, sym, ◌∙◌, subst, ⊎_elim, arith}
+use mathlib.Core.Option.{some, some-injective}
+use mathlib.Core.List.{IsPrefix}
+use lib.ListN.{get_elem?}
+use Rattle.atomic_table.specs.Table.{State}
+use Rattle.atomic_table.proofs.Lists.{set_here}
+use Rattle.stamp_threads.specs.declared.record_view.RecordShape.{RecordShape}
+use Rattle.stamp_threads.specs.declared.record_view.RecordPhase.{RecordPhase}
+use Rattle.stamp_threads.specs.declared.record_view.RecordPhase.TheVariants.{Idle, Writing, Reading}
+use Rattle.stamp_threads.specs.PassName.{HasGivenAll}
+use Rattle.stamp_threads.specs.PassView.{made_by, observing}
+use Rattle.stamp_threads.specs.Seats.{StandsAt, AreSeated}
+use Rattle.stamp_threads.specs.RecordLog.{RecordLog, IsLegalRecord, puts, puts_in, is_locked}
+use Rattle.stamp_threads.specs.RecordLog.{marker_in, content_in, is_own, is_mark, marks_of}
+use Rattle.stamp_threads.specs.RecordPass.{RecordPassView, IsConsistentWith, LeavesLockWord}
+use Rattle.stamp_threads.specs.RecordPass.{marks_ahead}
+use Rattle.stamp_threads.specs.RecordRule.{Knows, Fits, IsWriting}
+use Rattle.stamp_threads.specs.RecordRule.{HasWriter, IsKept}
+use Rattle.stamp_threads.proofs.Beginnings.{begins_all}
+use Rattle.stamp_threads.proofs.ListElements.{in_range, only_one}
+use Rattle.stamp_threads.proofs.MadeBy.{Grows, grows_none}
+use Rattle.stamp_threads.proofs.SeatSteps.{Same, same_one, stands_on, apart_from, own_given}
+use Rattle.stamp_threads.proofs.SeatSteps.{other_part}
+use Rattle.stamp_threads.proofs.SeatMoves.{stands_else}
+
+-- what a pass of the seat that steps knows afterwards
+pub record Brings (width : ℕ) (cells : List ℕ) (log : RecordLog) (w : RecordPassView) : Type 0 where
+  pub observed : IsPrefix w.observed log
+  pub own : made_by is_own w.name log ≡ w.own
+  pub marks : marks_of w.name log ≡ puts_in w.own + marks_ahead w.phase
+  pub knows : Knows width cells log w.name w.phase
+
+-- every other pass knows what it knows still
+abbrev pub OthersKnow : RecordShape → State (Unit {0}) (List RecordPassView) → RecordLog → ℕ →
+    List ℕ → RecordLog → Type 0
+OthersKnow shape s log id cells' log' = (i k : ℕ) (u : RecordPassView) → i ≢ id →
+    StandsAt s.views i k u → Knows shape.width s.words log u.name u.phase →
+    Knows shape.width cells' log' u.name u.phase
+
+module _ (shape : RecordShape) (s : State (Unit {0}) (List RecordPassView)) (r : IsKept shape s)
+    (id : ℕ) (vs ws : List RecordPassView) (at : get_elem? s.views id ≡ some vs)
+    (same : Same vs ws) (cells' : List ℕ) (log' : RecordLog) (grows : Grows vs r.log log')
+    (brings : (k : ℕ) (w : RecordPassView) → get_elem? ws k ≡ some w →
+    Brings shape.width cells' log' w) (others : OthersKnow shape s r.log id cells' log') where
+  abbrev Now : RecordPassView → Type 0
+  Now = Fits shape.width s.words r.log
+
+  own_fits : (k : ℕ) (w : RecordPassView) → get_elem? ws k ≡ some w →
+      Fits shape.width cells' log' w
+  own_fits k w h = let b = brings k w h in
+      record {
+        part = record {
+          observed = b.observed;
+          own = b.own;
+          given = own_given Now s.views r.passes id vs ws at same is_own r.log log' grows
+              (λ v f. f.part) k w h;
+        };
+        marks = b.marks;
+        knows = b.knows;
+      }
+
+  other_fits : (i k : ℕ) (u : RecordPassView) → i ≢ id → StandsAt s.views i k u →
+      Fits shape.width cells' log' u
+  other_fits i k u away st =
+      let f = r.passes.fits i k u st in
+      let apart = apart_from Now s.views r.passes id vs ws at same i k u away st in
+      record {
+        part = other_part Now s.views r.passes id vs ws at same is_own r.log log' grows
+            (λ v g. g.part) i k u away st;
+        marks = ap length (grows.others is_mark u.name apart) ∙ f.marks;
+        knows = others i k u away st f.knows;
+      }
+
+  pub passes_after : AreSeated (Fits shape.width cells' log') (set s.views id ws)
+  passes_after = stands_on Now s.views r.passes id vs ws at same (Fits shape.width cells' log')
+      own_fits other_fits
+
+  pub consistent_after : IsLegalRecord shape.width log' → (k : ℕ) (w : RecordPassView) →
+      get_elem? ws k ≡ some w → w.observed ≡ log' → IsConsistentWith shape.width w
+  consistent_after legal k w h e =
+      let f = own_fits k w h in
+      record {
+        legal = subst (IsLegalRecord shape.width) (sym e) legal;
+        own = ap (made_by is_own w.name) e ∙ f.part.own;
+        marks = ap (marks_of w.name) e ∙ f.marks;
+        given = subst (HasGivenAll w.name w.splits) (sym e) f.part.given;
+      }
+
+module _ (shape : RecordShape) (s : State (Unit {0}) (List RecordPassView)) (r : IsKept shape s)
+    (id : ℕ) (v : RecordPassView) (here : get_elem? s.views id ≡ some (v ∷ [])) where
+  pub stands_here : StandsAt s.views id 0 v
+  stands_here = (v ∷ [], here, refl)
+
+  pub fits_here : Fits shape.width s.words r.log v
+  fits_here = r.passes.fits id 0 v stands_here
+
+  pub leaves_now : LeavesLockWord shape v (get_or s.words 0 0) r.log
+  leaves_now = record {
+    begins = fits_here.part.observed;
+    legal = r.legal;
+    word_is = r.word_is;
+    few = r.few;
+  }
+
+  -- a pass on this seat is v
+  pub is_here : (i k : ℕ) (u : RecordPassView) → StandsAt s.views i k u → i ≡ id → u ≡ v
+  is_here i k u st e =
+      let row : st.0 ≡ v ∷ [] =
+      some-injective _ _ (sym st.1 ∙ (ap (get_elem? s.views) e ∙ here)) in
+      only_one (λ _ w. w ≡ v) v refl k u
+      (subst (λ (l : List RecordPassView). get_elem? l k ≡ some u) row st.2)
+
+  -- no other pass made the mark that v made
+  pub not_other : {A : Type 0} (i k : ℕ) (u : RecordPassView) → i ≢ id → StandsAt s.views i k u →
+      marker_in r.log ≡ u.name → marker_in r.log ≡ v.name → A
+  not_other i k u away st a b =
+      absurd (away (r.passes.apart i k id 0 u v st stands_here (sym a ∙ b)).0)
+
+  module _ (quiet : IsWriting v.phase → ⊥) where
+    pub away_from : (i k : ℕ) (u : RecordPassView) → StandsAt s.views i k u → IsWriting u.phase →
+        i ≢ id
+    away_from i k u st writes e =
+        quiet (subst IsWriting (ap (λ (w : RecordPassView). w.phase) (is_here i k u st e)) writes)
+
+    -- a pass that is not writing did not make the mark that locks
+    pub others_mark : is_locked r.log ≡ true → marker_in r.log ≢ v.name
+    others_mark l m =
+        let t = r.writer l in
+        away_from t.seat t.place t.writer t.stands t.writes
+        (r.passes.apart t.seat t.place id 0 t.writer v t.stands stands_here
+        (sym t.marker ∙ m)).0
+
+    -- the writer stands where it stood
+    pub writer_else : (ws : List RecordPassView) → is_locked r.log ≡ true →
+        HasWriter r.log (set s.views id ws)
+    writer_else ws l =
+        let t = r.writer l in
+        record {
+          seat = t.seat;
+          place = t.place;
+          writer = t.writer;
+          stands = stands_else s.views id ws t.seat t.place t.writer
+              (away_from t.seat t.place t.writer t.stands t.writes) t.stands;
+          writes = t.writes;
+          marker = t.marker;
+        }
+
+  module _ (w : RecordPassView) (name : w.name ≡ v.name) (splits : w.splits ≡ v.splits)
+      (cells' : List ℕ) (log' : RecordLog) (grows : Grows (v ∷ []) r.log log')
+      (brings : Brings shape.width cells' log' w)
+      (others : OthersKnow shape s r.log id cells' log') where
+    pub one_after : AreSeated (Fits shape.width cells' log') (set s.views id (w ∷ []))
+    one_after = passes_after shape s r id (v ∷ []) (w ∷ []) here (same_one v w name splits) cells'
+        log' grows (only_one (λ _ u. Brings shape.width cells' log' u) w brings) others
+
+    pub one_consistent : IsLegalRecord shape.width log' → w.observed ≡ log' →
+        IsConsistentWith shape.width w
+    one_consistent legal = consistent_after shape s r id (v ∷ []) (w ∷ []) here
+        (same_one v w name splits) cells' log' grows
+        (only_one (λ _ u. Brings shape.width cells' log' u) w brings) others legal 0 w refl
+
+    pub one_stands : StandsAt (set s.views id (w ∷ [])) id 0 w
+    one_stands =
+        (w ∷ [], set_here s.views id (w ∷ []) (in_range s.views (v ∷ []) id here), refl)
+
+  -- no word and no entry changes
+  module _ (quiet : IsWriting v.phase → ⊥) (w : RecordPassView) (name : w.name ≡ v.name)
+      (splits : w.splits ≡ v.splits) (brings : Brings shape.width s.words r.log w) where
+    pub only_views : IsKept shape record {
+      words = s.words;
+      homes = s.homes;
+      views = set s.views id (w ∷ []);
+    }
+    only_views = record {
+      log = r.log;
+      legal = r.legal;
+      wide = r.wide;
+      word_is = r.word_is;
+      few = r.few;
+      fewer = r.fewer;
+      rests = r.rests;
+      long = r.long;
+      passes = one_after w name splits s.words r.log (grows_none (v ∷ []) r.log) brings
+          (λ _ _ _ _ _ h. h);
+      writer = writer_else quiet (w ∷ []);
+    }
+
+    pub only_consistent : w.observed ≡ r.log → IsConsistentWith shape.width w
+    only_consistent e = one_consistent w name splits s.words r.log (grows_none (v ∷ []) r.log)
+        brings (λ _ _ _ _ _ h. h) r.legal e
+
+  pub observing_brings : Brings shape.width s.words r.log (observing v r.log)
+  observing_brings =
+      let f = fits_here in
+      record {
+        observed = begins_all r.log;
+        own = f.part.own;
+        marks = f.marks;
+        knows = f.knows;
+      }
+
+pub locked_by : (width : ℕ) (cells : List ℕ) (log : RecordLog) (name : List ℕ)
+    (phase : RecordPhase) → IsWriting phase → Knows width cells log name phase →
+    (is_locked log ≡ true) × (marker_in log ≡ name)
+locked_by width cells log name Idle w h = absurd w
+locked_by width cells log name (Writing version words stored) w h = (h.locked, h.marker)
+locked_by width cells log name (Reading version words) w h = absurd w
+
+-- a reader knows nothing of a locked record, nor of later versions
+pub reader_knows : (width : ℕ) (cells cells' : List ℕ) (log log' : RecordLog) (name : List ℕ)
+    (phase : RecordPhase) → puts log ≤ puts log' →
+    (is_locked log' ≡ true) ⊎ (puts log < puts log') → (IsWriting phase → ⊥) →
+    Knows width cells log name phase → Knows width cells' log' name phase
+reader_knows width cells cells' log log' name Idle le why quiet h = tt
+reader_knows width cells cells' log log' name (Writing version words stored) le why quiet h =
+    absurd (quiet tt)
+reader_knows width cells cells' log log' name (Reading version words) le why quiet h =
+    let a = h.before in
+    record {
+      before = omega arith;
+      few = h.few;
+      stand = λ f e j l. absurd (⊎_elim (λ (t : is_locked log' ≡ true). true≢false (sym t ∙ f))
+          (λ (t : puts log < puts log'). omega arith) why);
+    }
+
+-- an event that changes neither lock nor content
+pub same_knows : (width : ℕ) (cells : List ℕ) (log log' : RecordLog) (name : List ℕ)
+    (phase : RecordPhase) → puts log' ≡ puts log → is_locked log' ≡ is_locked log →
+    marker_in log' ≡ marker_in log → content_in width log' ≡ content_in width log →
+    Knows width cells log name phase → Knows width cells log' name phase
+same_knows width cells log log' name Idle p l m c h = tt
+same_knows width cells log log' name (Writing version words stored) p l m c h = record {
+  locked = l ∙ h.locked;
+  version_is = p ∙ h.version_is;
+  marker = m ∙ h.marker;
+  long = h.long;
+  few = h.few;
+  stand = h.stand;
+}
+same_knows width cells log log' name (Reading version words) p l m c h =
+    let a = h.before in
+    record {
+      before = omega arith;
+      few = h.few;
+      stand = λ f e j b. h.stand (sym l ∙ f) (sym p ∙ e) j b ∙
+          ap (λ (d : List ℕ). get_or d j 0) (sym c);
+    }
+
+pub idle_quiet : (phase : RecordPhase) → phase ≡ Idle → IsWriting phase → ⊥
+idle_quiet phase e w = subst IsWriting e w
+
+-- the rule after a step of this seat, whose pass is w then, on these words
+abbrev pub KeptBy : RecordShape → State (Unit {0}) (List RecordPassView) → ℕ → RecordPassView →
+    List ℕ → Type 0
+KeptBy shape s id w words =
+    IsKept shape record { words = words; homes = s.homes; views = set s.views id (w ∷ []) }

@@ -1,0 +1,8 @@
+use Rattle.std.proofs.Common.{[]}
+use Rattle.stamp_threads.proofs.record_get.get_words.Given as goal
+
+abbrev pub ghosts-open : goal.ghosts-open
+ghosts-open a = record { shape = a.table.now.key; words = [] }
+
+abbrev pub ghosts-confirm : goal.ghosts-confirm
+ghosts-confirm a = record { shape = a.table.now.key; words = a.words.now }

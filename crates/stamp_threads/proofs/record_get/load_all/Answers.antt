@@ -1,0 +1,13 @@
+use Rattle.std.proofs.Common.{take, ap, arith, length-take-le}
+use Rattle.stamp_threads.specs.RecordPass.{first_of}
+use Rattle.stamp_threads.specs.RecordRule.{Seated}
+use Rattle.stamp_threads.proofs.record_get.load_all.Goals as goal
+
+pub load_word-requires-clause-reading : goal.load_word-requires-clause-reading
+load_word-requires-clause-reading c =
+    let r = c.requires.reading in (
+      r.0,
+      take c.loop-i.i c.loop-i.into,
+      ap (λ (m : Seated). (first_of m.0).phase) (c.loop-i.invariant.told r.0 r.1),
+      length-take-le c.loop-i.i c.loop-i.into (omega arith),
+    )

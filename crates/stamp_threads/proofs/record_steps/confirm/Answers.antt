@@ -1,0 +1,12 @@
+use Rattle.std.proofs.Common.{rules, arith}
+use Rattle.stamp_threads.proofs.GetSteps.{allows_confirm}
+use Rattle.stamp_threads.proofs.record_steps.confirm.Goals as goal
+
+pub load-requires : goal.load-requires
+load-requires g c = (
+  search rules,
+  omega arith,
+  rw (c.requires.step.0, c.requires.step.1)
+      (allows_confirm _ _ _ _ c.requires.reading.0 _ c.requires.alone c.requires.reading.1
+      c.requires.reading.2),
+)

@@ -1,0 +1,7 @@
+use Rattle.std.proofs.Common.{rules, arith}
+use Rattle.stamp_threads.proofs.RecordMoves.{splits_give}
+use Rattle.stamp_threads.proofs.record_steps.split.Goals as goal
+
+pub split_seat-requires : goal.split_seat-requires
+split_seat-requires c =
+    (search rules, omega arith, splits_give _ _ _ c.requires.alone c.requires.idle)

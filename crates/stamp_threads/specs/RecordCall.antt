@@ -1,0 +1,85 @@
+-- What the calls of a running record promise. v is the pass before the call, and w after it.
+use Rattle.std.specs.Prelude.{◌≡◌, ◌≢◌, ℕ, true, false, [], ◌∷◌, ◌++◌}
+use mathlib.Core.List.{IsPrefix}
+use Rattle.stamp_core.specs.Content.{RecordReplies}
+use Rattle.stamp_core.specs.declared.call.Call.{Call}
+use Rattle.stamp_core.specs.declared.reply.Reply.{Reply}
+use Rattle.stamp_threads.specs.declared.record_view.RecordShape.{RecordShape}
+use Rattle.stamp_threads.specs.declared.record_view.RecordEvent.TheVariants.{Called}
+use Rattle.stamp_threads.specs.declared.record_view.RecordPhase.TheVariants.{Idle}
+use Rattle.stamp_threads.specs.declared.faults.PutFault.{PutFault}
+use Rattle.stamp_threads.specs.declared.faults.PutFault.TheVariants.{Busy, Lost, Spent}
+use Rattle.stamp_threads.specs.declared.faults.GetFault.{GetFault}
+use Rattle.stamp_threads.specs.declared.faults.GetFault.TheVariants as get
+use Rattle.stamp_threads.specs.PassView.{entry, IsSamePass}
+use Rattle.stamp_threads.specs.RecordWord.{word_with}
+use Rattle.stamp_threads.specs.RecordLog.{RecordLog, content_in, is_locked, marker_in, puts}
+use Rattle.stamp_threads.specs.RecordPass.{RecordPassView, IsConsistentWith, LeavesLockWord}
+
+-- the history goes on from what the pass had observed and ends with this call and reply, which is
+-- the record's after the history before it, and one more of the pass's own
+pub record Recorded (shape : RecordShape) (call : Call) (reply : Reply) (v w : RecordPassView) :
+    Type 0 where
+  pub log : RecordLog
+  pub begins : IsPrefix v.observed log
+  pub replies : RecordReplies (content_in shape.width log) call reply
+  pub observed : w.observed ≡ log ++ entry v.name (Called call reply) ∷ []
+  pub own : w.own ≡ v.own ++ Called call reply ∷ []
+  pub same : IsSamePass v w
+  pub idle : w.phase ≡ Idle
+  pub consistent : IsConsistentWith shape.width w
+
+-- the pass has observed a history that leaves this word, and made no call: where that history is
+-- locked, another pass made its last mark
+pub record SawWord (shape : RecordShape) (v : RecordPassView) (word : ℕ) (w : RecordPassView) :
+    Type 0 where
+  pub left : LeavesLockWord shape v word w.observed
+  pub others : is_locked w.observed ≡ true → marker_in w.observed ≢ v.name
+  pub own : w.own ≡ v.own
+  pub same : IsSamePass v w
+  pub idle : w.phase ≡ Idle
+  pub consistent : IsConsistentWith shape.width w
+
+-- somebody else has write mode
+pub record WasBusy (shape : RecordShape) (v : RecordPassView) (word : ℕ) (w : RecordPassView) :
+    Type 0 where
+  pub saw : SawWord shape v word w
+  pub locked : is_locked w.observed ≡ true
+
+-- two histories left the two words: the first is not locked, and the second begins with it
+pub record WasLost (shape : RecordShape) (v : RecordPassView) (loaded found : ℕ)
+    (w : RecordPassView) : Type 0 where
+  pub differ : loaded ≢ found
+  pub first : RecordLog
+  pub at_first : LeavesLockWord shape v loaded first
+  pub free : is_locked first ≡ false
+  pub longer : IsPrefix first w.observed
+  pub saw : SawWord shape v found w
+
+-- as many puts as versions
+pub record WasSpent (shape : RecordShape) (v : RecordPassView) (word : ℕ) (w : RecordPassView) :
+    Type 0 where
+  pub saw : SawWord shape v word w
+  pub free : is_locked w.observed ≡ false
+  pub all : puts w.observed ≡ shape.limits.versions
+  pub last : word ≡ word_with shape.limits.layout shape.limits.versions false
+
+abbrev pub PutRefused : RecordShape → RecordPassView → PutFault → RecordPassView → Type 0
+PutRefused shape v (Busy word) w = WasBusy shape v word w
+PutRefused shape v (Lost loaded found) w = WasLost shape v loaded found w
+PutRefused shape v (Spent word) w = WasSpent shape v word w
+
+abbrev pub GetRefused : RecordShape → RecordPassView → GetFault → RecordPassView → Type 0
+GetRefused shape v (get.Busy word) w = WasBusy shape v word w
+GetRefused shape v (get.Lost loaded found) w = WasLost shape v loaded found w
+
+-- v' and w' are v and w after they met
+pub record HaveMet (width : ℕ) (v w v' w' : RecordPassView) : Type 0 where
+  pub first_begins : IsPrefix v.observed v'.observed
+  pub second_begins : IsPrefix w.observed v'.observed
+  pub alike : w'.observed ≡ v'.observed
+  pub apart : v.name ≢ w.name
+  pub owns : (v'.own ≡ v.own) × (w'.own ≡ w.own)
+  pub same : IsSamePass v v' × IsSamePass w w'
+  pub idle : (v'.phase ≡ v.phase) × (w'.phase ≡ w.phase)
+  pub all_consistent : IsConsistentWith width v' × IsConsistentWith width w'

@@ -1,0 +1,235 @@
+-- The rule of a record's words, and what each step on them tells.
+use Rattle.std.specs.Prelude.{◌≡◌, ◌≢◌, ℕ, ◌+◌, ◌<◌, ◌≤◌, ◌==◌, MatchBool, if◌then◌else◌, true}
+use Rattle.std.specs.Prelude.{false, List, [], ◌∷◌, ◌++◌, length, slice_index}
+use mathlib.Core.List.{IsPrefix}
+use Rattle.atomic_table.specs.Table.{State, Step, Me}
+use Rattle.stamp_core.specs.declared.layout.Layout.{Layout}
+use Rattle.stamp_core.specs.declared.call.Call.TheVariants.{Get, Put}
+use Rattle.stamp_core.specs.declared.reply.Reply.TheVariants.{Done, Content}
+use Rattle.stamp_threads.specs.declared.record_view.RecordShape.{RecordShape}
+use Rattle.stamp_threads.specs.declared.record_view.RecordEvent.{RecordEvent}
+use Rattle.stamp_threads.specs.declared.record_view.RecordEvent.TheVariants.{Mark, Called}
+use Rattle.stamp_threads.specs.declared.record_view.RecordPhase.{RecordPhase}
+use Rattle.stamp_threads.specs.declared.record_view.RecordPhase.TheVariants.{Idle, Writing, Reading}
+use Rattle.stamp_threads.specs.PassView.{IsPart, entry, observing}
+use Rattle.stamp_threads.specs.Seats.{StandsAt, AreSeated, alone, both}
+use Rattle.stamp_threads.specs.RecordWord.{word_with}
+use Rattle.stamp_threads.specs.RecordLog.{RecordLog, IsLegalRecord, content_in, puts, puts_in}
+use Rattle.stamp_threads.specs.RecordLog.{is_locked, marker_in, word_after, is_own, marks_of}
+use Rattle.stamp_threads.specs.RecordPass.{RecordPassView, IsConsistentWith, LeavesLockWord}
+use Rattle.stamp_threads.specs.RecordPass.{marks_ahead, first_of, second_of}
+
+-- what a writer knows: the history is locked by its mark, and what it has stored stands
+pub record KnowsWriting (width : ℕ) (cells : List ℕ) (log : RecordLog) (name : List ℕ)
+    (version : ℕ) (words : List ℕ) (stored : ℕ) : Type 0 where
+  pub locked : is_locked log ≡ true
+  pub version_is : puts log ≡ version
+  pub marker : marker_in log ≡ name
+  pub long : length words ≡ width
+  pub few : stored ≤ width
+  pub stand : (j : ℕ) → j < stored → slice_index cells (j + 1) ≡ slice_index words j
+
+-- what a reader knows: while nothing was put since, and nobody has write mode, the words that it
+-- has loaded are the first of the content
+pub record KnowsReading (width : ℕ) (log : RecordLog) (version : ℕ) (words : List ℕ) : Type 0 where
+  pub before : version ≤ puts log
+  pub few : length words ≤ width
+  pub stand : is_locked log ≡ false → puts log ≡ version → (j : ℕ) → j < length words →
+      slice_index words j ≡ slice_index (content_in width log) j
+
+abbrev pub Knows : ℕ → List ℕ → RecordLog → List ℕ → RecordPhase → Type 0
+Knows width cells log name Idle = Unit {0}
+Knows width cells log name (Writing version words stored) =
+    KnowsWriting width cells log name version words stored
+Knows width cells log name (Reading version words) = KnowsReading width log version words
+
+-- a pass knows a part of the history, and has a mark there for each of its puts
+pub record Fits (width : ℕ) (cells : List ℕ) (log : RecordLog) (v : RecordPassView) : Type 0 where
+  pub part : IsPart is_own log v
+  pub marks : marks_of v.name log ≡ puts_in v.own + marks_ahead v.phase
+  pub knows : Knows width cells log v.name v.phase
+
+abbrev pub IsWriting : RecordPhase → Type 0
+IsWriting (Writing version words stored) = Unit {0}
+IsWriting _ = ⊥
+
+-- some pass that stands is writing, and made the last mark
+pub record HasWriter (log : RecordLog) (views : List (List RecordPassView)) : Type 0 where
+  pub seat : ℕ
+  pub place : ℕ
+  pub writer : RecordPassView
+  pub stands : StandsAt views seat place writer
+  pub writes : IsWriting writer.phase
+  pub marker : marker_in log ≡ writer.name
+
+-- there is one legal history, which leaves the lock word; the other words are its content where it
+-- is not locked
+pub record IsKept (shape : RecordShape) (s : State (Unit {0}) (List RecordPassView)) : Type 0 where
+  pub log : RecordLog
+  pub legal : IsLegalRecord shape.width log
+  pub wide : length s.words ≡ shape.width + 1
+  pub word_is : slice_index s.words 0 ≡ word_after shape.limits.layout log
+  pub few : puts log ≤ shape.limits.versions
+  pub fewer : is_locked log ≡ true → puts log < shape.limits.versions
+  pub rests : is_locked log ≡ false → (i : ℕ) → i < shape.width →
+      slice_index s.words (i + 1) ≡ slice_index (content_in shape.width log) i
+  pub long : length (content_in shape.width log) ≡ shape.width
+  pub passes : AreSeated (Fits shape.width s.words log) s.views
+  pub writer : is_locked log ≡ true → HasWriter log s.views
+
+-- the view of a seat, and the slots that it holds: none here
+abbrev pub Seated : Type 0
+Seated = Me (Unit {0}) (List RecordPassView)
+
+abbrev pub with_phase : RecordPassView → RecordPhase → RecordPassView
+with_phase v phase = record {
+  name = v.name;
+  splits = v.splits;
+  observed = v.observed;
+  own = v.own;
+  phase = phase;
+}
+
+-- it has observed the whole history, and got write mode to put these words
+abbrev pub acquiring : RecordPassView → RecordLog → List ℕ → RecordPassView
+acquiring v log words = record {
+  name = v.name;
+  splits = v.splits;
+  observed = log ++ entry v.name Mark ∷ [];
+  own = v.own;
+  phase = Writing (puts log) words 0;
+}
+
+-- it has observed the whole history, and made a call
+abbrev pub calling : RecordPassView → RecordLog → RecordEvent → RecordPassView
+calling v log event = record {
+  name = v.name;
+  splits = v.splits;
+  observed = log ++ entry v.name event ∷ [];
+  own = v.own ++ event ∷ [];
+  phase = Idle;
+}
+
+-- it has observed the whole history, and begins to read
+abbrev pub opening : RecordPassView → RecordLog → RecordPassView
+opening v log = with_phase (observing v log) (Reading (puts log) [])
+
+-- it has observed the whole history, and made no call
+abbrev pub stopping : RecordPassView → RecordLog → RecordPassView
+stopping v log = with_phase (observing v log) Idle
+
+abbrev pub put_of : List ℕ → RecordEvent
+put_of words = Called (Put words) Done
+
+abbrev pub get_of : List ℕ → RecordEvent
+get_of words = Called Get (Content words)
+
+-- v is the pass before a step that has found this word, and me the seat after it
+module _ (shape : RecordShape) (v : RecordPassView) (found : ℕ) (me : Seated) where
+  pub record Looked : Type 0 where
+    pub log : RecordLog
+    pub left : LeavesLockWord shape v found log
+    pub after : me ≡ alone (observing v log)
+    pub others : is_locked log ≡ true → marker_in log ≢ v.name
+    pub consistent : IsConsistentWith shape.width (observing v log)
+
+  pub record Acquired (words : List ℕ) : Type 0 where
+    pub log : RecordLog
+    pub left : LeavesLockWord shape v found log
+    pub after : me ≡ alone (acquiring v log words)
+
+  pub record Released (words : List ℕ) : Type 0 where
+    pub log : RecordLog
+    pub begins : IsPrefix v.observed log
+    pub after : me ≡ alone (calling v log (put_of words))
+    pub consistent : IsConsistentWith shape.width (calling v log (put_of words))
+
+  -- the first load of a get: where nobody has write mode the pass begins to read
+  pub record Opened : Type 0 where
+    pub log : RecordLog
+    pub left : LeavesLockWord shape v found log
+    pub after : me ≡ alone (if is_locked log then observing v log else opening v log)
+    pub others : is_locked log ≡ true → marker_in log ≢ v.name
+    pub consistent : IsConsistentWith shape.width (observing v log)
+
+  -- the second load of the lock word, where it is the word of the first
+  pub record Confirmed (words : List ℕ) : Type 0 where
+    pub log : RecordLog
+    pub content : words ≡ content_in shape.width log
+    pub left : LeavesLockWord shape v found log
+    pub after : me ≡ alone (calling v log (get_of words))
+    pub consistent : IsConsistentWith shape.width (calling v log (get_of words))
+
+  -- and where it is another
+  pub record Overtaken : Type 0 where
+    pub log : RecordLog
+    pub left : LeavesLockWord shape v found log
+    pub after : me ≡ alone (stopping v log)
+    pub others : is_locked log ≡ true → marker_in log ≢ v.name
+    pub consistent : IsConsistentWith shape.width (stopping v log)
+
+-- a load by a seat that stands for two passes
+pub record Met (shape : RecordShape) (v w : RecordPassView) (me : Seated) : Type 0 where
+  pub log : RecordLog
+  pub first_begins : IsPrefix v.observed log
+  pub second_begins : IsPrefix w.observed log
+  pub after : me ≡ both (observing v log) (observing w log)
+  pub apart : v.name ≢ w.name
+  pub first_consistent : IsConsistentWith shape.width (observing v log)
+  pub second_consistent : IsConsistentWith shape.width (observing w log)
+
+-- one more word is stored
+abbrev pub storing_one : RecordPhase → RecordPhase
+storing_one Idle = Idle
+storing_one (Writing version words stored) = Writing version words (stored + 1)
+storing_one (Reading version words) = Reading version words
+
+-- one more word is loaded
+abbrev pub loading_one : RecordPhase → ℕ → RecordPhase
+loading_one Idle word = Idle
+loading_one (Writing version words stored) word = Writing version words stored
+loading_one (Reading version words) word = Reading version (words ++ word ∷ [])
+
+abbrev pub stored_one : RecordPassView → RecordPassView
+stored_one v = with_phase v (storing_one v.phase)
+
+abbrev pub loaded_one : RecordPassView → ℕ → RecordPassView
+loaded_one v word = with_phase v (loading_one v.phase word)
+
+-- the lock word that a reader has to find again
+abbrev pub word_to_confirm : Layout → RecordPhase → ℕ
+word_to_confirm layout Idle = 0
+word_to_confirm layout (Writing version words stored) = 0
+word_to_confirm layout (Reading version words) = word_with layout version false
+
+-- what each step tells the seat that makes it
+abbrev pub Tells : Type 1
+Tells = Step (Unit {0}) → Seated → ℕ → Seated → Type 0
+
+abbrev pub LookTells : RecordShape → Tells
+LookTells shape st m found n = Looked shape (first_of m.0) found n
+
+abbrev pub AcquireTells : RecordShape → List ℕ → Tells
+AcquireTells shape words st m found n =
+    MatchBool (found == st.first) (Acquired shape (first_of m.0) found n words)
+    (Looked shape (first_of m.0) found n)
+
+abbrev pub StoreTells : Tells
+StoreTells st m found n = n ≡ alone (stored_one (first_of m.0))
+
+abbrev pub ReleaseTells : RecordShape → List ℕ → Tells
+ReleaseTells shape words st m found n = Released shape (first_of m.0) found n words
+
+abbrev pub OpenTells : RecordShape → Tells
+OpenTells shape st m found n = Opened shape (first_of m.0) found n
+
+abbrev pub LoadTells : Tells
+LoadTells st m found n = n ≡ alone (loaded_one (first_of m.0) found)
+
+abbrev pub ConfirmTells : RecordShape → List ℕ → Tells
+ConfirmTells shape words st m found n =
+    MatchBool (found == word_to_confirm shape.limits.layout (first_of m.0).phase)
+    (Confirmed shape (first_of m.0) found n words) (Overtaken shape (first_of m.0) found n)
+
+abbrev pub MeetTells : RecordShape → Tells
+MeetTells shape st m found n = Met shape (first_of m.0) (second_of m.0) n

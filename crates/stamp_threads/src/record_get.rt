@@ -1,0 +1,68 @@
+//! A get, step by step.
+ghost use Rattle.std.specs.Prelude.{◌≡◌, ◌+◌, ◌≤◌, IfOk, IfErr, length, ℕ, []};
+ghost use Rattle.stamp_core.specs.declared.call.Call.TheVariants.{Get};
+ghost use Rattle.stamp_core.specs.declared.reply.Reply.TheVariants.{Content};
+ghost use Rattle.stamp_threads.specs.declared.record_view.RecordPhase.TheVariants.{Idle, Reading};
+ghost use Rattle.stamp_threads.specs.Seats.{alone};
+ghost use Rattle.stamp_threads.specs.RecordPass.{first_of};
+ghost use Rattle.stamp_threads.specs.RecordRule.{with_phase};
+ghost use Rattle.stamp_threads.specs.RecordCall.{Recorded, GetRefused};
+
+use crate::faults::GetFault;
+use crate::record_steps::{RecordSeat, RecordTable, confirm, load_word, open};
+use crate::record_view::RecordShape;
+use crate::record_word::is_held;
+use std::marker::Brand;
+
+/// Loads each of the words.
+#[inline(always)]
+fn load_all(table: &RecordTable, seat: &mut RecordSeat, into: &mut [u64])
+    requires table { (seat.old.table_id ≡ table.now.table_id)
+        × (table.now.table_id.words ≡ table.now.key.width + 1) }
+    requires alone { seat.old.me ≡ alone (first_of seat.old.me.0) }
+    requires long { (length into.old ≡ table.now.key.width) × (table.now.key.width ≤ 16) }
+    requires reading { (version : ℕ) × ((first_of seat.old.me.0).phase ≡ Reading version []) }
+    ensures table { seat.new.table_id ≡ seat.old.table_id }
+    ensures long { length into.new ≡ length into.old }
+    ensures told { let v = first_of seat.old.me.0 in
+        (version : ℕ) → v.phase ≡ Reading version []
+        → seat.new.me ≡ alone (with_phase v (Reading version into.new)) }
+{
+    for i in 0..into.len() {
+        into[i] = load_word(table, seat, i);
+    }
+}
+
+/// Gets the words: one load, a load a word, and one load.
+#[inline(always)]
+pub fn get_words(
+    table: &RecordTable,
+    shape: RecordShape,
+    seat: &mut RecordSeat,
+    into: &mut [u64],
+) -> Result<(), GetFault>
+    requires shape { (table.now.key ≡ shape) × (shape.width ≤ 16) }
+    requires long { length into.old ≡ shape.width }
+    requires table { (seat.old.table_id ≡ table.now.table_id)
+        × (table.now.table_id.words ≡ shape.width + 1) }
+    requires alone { seat.old.me ≡ alone (first_of seat.old.me.0) }
+    requires idle { (first_of seat.old.me.0).phase ≡ Idle }
+    ensures table { seat.new.table_id ≡ seat.old.table_id }
+    ensures long { length into.new ≡ length into.old }
+    ensures alone { seat.new.me ≡ alone (first_of seat.new.me.0) }
+    ensures ok { let v = first_of seat.old.me.0 in let w = first_of seat.new.me.0 in
+        IfOk result (λ _. Recorded shape Get (Content into.new) v w) }
+    ensures err { let v = first_of seat.old.me.0 in let w = first_of seat.new.me.0 in
+        IfErr result (λ fault. GetRefused shape v fault w) }
+{
+    let loaded = open::<Brand>(table, seat);
+    if is_held(shape.limits, loaded) {
+        return Err(GetFault::Busy(loaded));
+    }
+    load_all(table, seat, into);
+    let found = confirm::<Brand>(table, seat, into);
+    if found != loaded {
+        return Err(GetFault::Lost { loaded, found });
+    }
+    Ok(())
+}

@@ -1,0 +1,73 @@
+//! A put, step by step.
+ghost use Rattle.std.specs.Prelude.{◌≡◌, ◌+◌, ◌≤◌, IfOk, IfErr, length, ℕ};
+ghost use Rattle.stamp_core.specs.declared.call.Call.TheVariants.{Put};
+ghost use Rattle.stamp_core.specs.declared.reply.Reply.TheVariants.{Done};
+ghost use Rattle.stamp_threads.specs.declared.record_view.RecordPhase.TheVariants.{Idle, Writing};
+ghost use Rattle.stamp_threads.specs.Seats.{alone};
+ghost use Rattle.stamp_threads.specs.RecordPass.{first_of};
+ghost use Rattle.stamp_threads.specs.RecordRule.{with_phase};
+ghost use Rattle.stamp_threads.specs.RecordCall.{Recorded, PutRefused};
+
+use crate::faults::PutFault;
+use crate::record_steps::{RecordSeat, RecordTable, acquire, look, release, store};
+use crate::record_view::RecordShape;
+use crate::record_word::{is_held, turned, version};
+use std::marker::Brand;
+
+/// Stores each of the words.
+#[inline(always)]
+fn store_all(table: &RecordTable, seat: &mut RecordSeat, words: &[u64])
+    requires table { (seat.old.table_id ≡ table.now.table_id)
+        × (table.now.table_id.words ≡ table.now.key.width + 1) }
+    requires alone { seat.old.me ≡ alone (first_of seat.old.me.0) }
+    requires long { (length words.now ≡ table.now.key.width) × (table.now.key.width ≤ 16) }
+    requires writing { (version : ℕ)
+        × ((first_of seat.old.me.0).phase ≡ Writing version words.now 0) }
+    ensures table { seat.new.table_id ≡ seat.old.table_id }
+    ensures told { let v = first_of seat.old.me.0 in
+        (version : ℕ) → v.phase ≡ Writing version words.now 0
+        → seat.new.me ≡ alone (with_phase v (Writing version words.now table.now.key.width)) }
+{
+    for i in 0..words.len() {
+        store(table, seat, i, words[i]);
+    }
+}
+
+/// Puts the words: one load, one exchange, a store a word, and one exchange that releases.
+#[inline(always)]
+pub fn put_words(
+    table: &RecordTable,
+    shape: RecordShape,
+    seat: &mut RecordSeat,
+    words: &[u64],
+) -> Result<(), PutFault>
+    requires shape { (table.now.key ≡ shape) × (shape.width ≤ 16) }
+    requires long { length words.now ≡ shape.width }
+    requires table { (seat.old.table_id ≡ table.now.table_id)
+        × (table.now.table_id.words ≡ shape.width + 1) }
+    requires alone { seat.old.me ≡ alone (first_of seat.old.me.0) }
+    requires idle { (first_of seat.old.me.0).phase ≡ Idle }
+    ensures table { seat.new.table_id ≡ seat.old.table_id }
+    ensures alone { seat.new.me ≡ alone (first_of seat.new.me.0) }
+    ensures ok { let v = first_of seat.old.me.0 in let w = first_of seat.new.me.0 in
+        IfOk result (λ _. Recorded shape (Put words.now) Done v w) }
+    ensures err { let v = first_of seat.old.me.0 in let w = first_of seat.new.me.0 in
+        IfErr result (λ fault. PutRefused shape v fault w) }
+{
+    let loaded = look::<Brand>(table, seat);
+    if is_held(shape.limits, loaded) {
+        return Err(PutFault::Busy(loaded));
+    }
+    if version(shape.limits, loaded) > shape.limits.versions() {
+        return Err(PutFault::Spent(loaded));
+    }
+    let held = turned(shape.limits, loaded);
+    let found = acquire::<Brand>(table, seat, words, loaded, held);
+    if found != loaded {
+        return Err(PutFault::Lost { loaded, found });
+    }
+    store_all(table, seat, words);
+    let free = turned(shape.limits, held);
+    release::<Brand>(table, seat, words, held, free);
+    Ok(())
+}

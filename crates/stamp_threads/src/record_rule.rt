@@ -1,0 +1,147 @@
+//! The rule of a record's words, and what each step on them tells. These types are for proofs
+//! alone.
+use crate::lock_rule::{GivePass, PartSeats, ShareSeat};
+use crate::record_view::{RecordPasses, RecordShape};
+use atomic_table::{Join, Play, Split, TableRule};
+use std::marker::{Brand, PhantomData};
+
+pub struct RecordRule;
+
+impl TableRule<(), RecordPasses, RecordShape> for RecordRule {
+    ghost use Rattle.std.specs.Prelude.{[], ◌∷◌};
+    ghost use Rattle.stamp_threads.specs.RecordPass.{first_pass};
+    ghost use Rattle.stamp_threads.specs.RecordRule.{IsKept};
+
+    ghost holds = { IsKept };
+
+    ghost first = { λ shape. first_pass ∷ [] };
+}
+
+/// The shape of the record, and the words that a step puts or has loaded. Each step picks its own.
+pub trait WordsStep {
+    ghost use Rattle.std.specs.Prelude.{ℕ, List};
+    ghost use Rattle.stamp_threads.specs.declared.record_view.RecordShape.{RecordShape};
+
+    ghost shape: { RecordShape };
+
+    ghost words: { List ℕ };
+}
+
+impl WordsStep for Brand {
+    ghost use Rattle.std.specs.Prelude.{[]};
+    ghost use Rattle.stamp_core.specs.Limits.{bounds};
+    ghost use Rattle.stamp_core.specs.declared.layout.Layout.TheVariants.{One};
+
+    ghost shape = { record { limits = bounds One 1 0; width = 0 } };
+
+    ghost words = { [] };
+}
+
+/// The load that a put begins with.
+pub struct LookStep<C> {
+    of: PhantomData<C>,
+}
+
+impl<C: WordsStep> Play<(), RecordPasses> for LookStep<C> {
+    ghost use Rattle.stamp_threads.specs.RecordRule.{LookTells};
+
+    ghost then = { LookTells C.shape };
+}
+
+/// The exchange that gets write mode.
+pub struct AcquireStep<C> {
+    of: PhantomData<C>,
+}
+
+impl<C: WordsStep> Play<(), RecordPasses> for AcquireStep<C> {
+    ghost use Rattle.stamp_threads.specs.RecordRule.{AcquireTells};
+
+    ghost then = { AcquireTells C.shape C.words };
+}
+
+/// A store of a word of the record.
+pub struct StoreStep;
+
+impl Play<(), RecordPasses> for StoreStep {
+    ghost use Rattle.stamp_threads.specs.RecordRule.{StoreTells};
+
+    ghost then = { StoreTells };
+}
+
+/// The exchange that releases write mode.
+pub struct ReleaseStep<C> {
+    of: PhantomData<C>,
+}
+
+impl<C: WordsStep> Play<(), RecordPasses> for ReleaseStep<C> {
+    ghost use Rattle.stamp_threads.specs.RecordRule.{ReleaseTells};
+
+    ghost then = { ReleaseTells C.shape C.words };
+}
+
+/// The first load of a get.
+pub struct OpenStep<C> {
+    of: PhantomData<C>,
+}
+
+impl<C: WordsStep> Play<(), RecordPasses> for OpenStep<C> {
+    ghost use Rattle.stamp_threads.specs.RecordRule.{OpenTells};
+
+    ghost then = { OpenTells C.shape };
+}
+
+/// A load of a word of the record.
+pub struct LoadWordStep;
+
+impl Play<(), RecordPasses> for LoadWordStep {
+    ghost use Rattle.stamp_threads.specs.RecordRule.{LoadTells};
+
+    ghost then = { LoadTells };
+}
+
+/// The load by which a get sees whether the words that it loaded stood together.
+pub struct ConfirmStep<C> {
+    of: PhantomData<C>,
+}
+
+impl<C: WordsStep> Play<(), RecordPasses> for ConfirmStep<C> {
+    ghost use Rattle.stamp_threads.specs.RecordRule.{ConfirmTells};
+
+    ghost then = { ConfirmTells C.shape C.words };
+}
+
+/// A load by a seat that stands for two passes.
+pub struct MeetRecordStep<C> {
+    of: PhantomData<C>,
+}
+
+impl<C: WordsStep> Play<(), RecordPasses> for MeetRecordStep<C> {
+    ghost use Rattle.stamp_threads.specs.RecordRule.{MeetTells};
+
+    ghost then = { MeetTells C.shape };
+}
+
+impl Split<RecordPasses> for GivePass {
+    ghost use Rattle.std.specs.Prelude.{map};
+    ghost use Rattle.stamp_threads.specs.PassView.{after_split, split_off};
+
+    ghost left = { map after_split };
+
+    ghost right = { map split_off };
+}
+
+impl Join<RecordPasses> for ShareSeat {
+    ghost use Rattle.std.specs.Prelude.{[], ◌++◌};
+
+    ghost both = { λ vs ws. vs ++ ws };
+
+    ghost spent = { [] };
+}
+
+impl Split<RecordPasses> for PartSeats {
+    ghost use Rattle.std.specs.Prelude.{take, drop};
+
+    ghost left = { take 1 };
+
+    ghost right = { drop 1 };
+}

@@ -1,0 +1,214 @@
+//! The steps on a record's words, by the seats of their table.
+ghost use Rattle.std.specs.Prelude.{◌≡◌, ◌+◌, ◌<◌, ◌≤◌, ◌==◌, MatchBool, true, false, length};
+ghost use Rattle.std.specs.Prelude.{slice_index, ℕ, List};
+ghost use Rattle.stamp_threads.specs.declared.record_view.RecordPhase.TheVariants.{Idle, Writing};
+ghost use Rattle.stamp_threads.specs.declared.record_view.RecordPhase.TheVariants.{Reading};
+ghost use Rattle.stamp_threads.specs.PassView.{after_split, split_off};
+ghost use Rattle.stamp_threads.specs.Seats.{alone, both};
+ghost use Rattle.stamp_threads.specs.RecordWord.{word_with, writer_unit};
+ghost use Rattle.stamp_threads.specs.RecordPass.{first_of, second_of};
+ghost use Rattle.stamp_threads.specs.RecordRule.{Looked, Acquired, Released, stored_one, Opened};
+ghost use Rattle.stamp_threads.specs.RecordRule.{loaded_one, Confirmed, Overtaken, word_to_confirm};
+ghost use Rattle.stamp_threads.specs.RecordRule.{Met};
+
+use crate::lock_rule::{GivePass, PartSeats, ShareSeat};
+use crate::record_rule::{
+    AcquireStep, ConfirmStep, LoadWordStep, LookStep, MeetRecordStep, OpenStep, RecordRule,
+    ReleaseStep, StoreStep, WordsStep,
+};
+use crate::record_view::{RecordPasses, RecordShape};
+use atomic_table::{Seat, Shared};
+
+pub type RecordTable = Shared<(), RecordPasses, RecordShape, RecordRule>;
+
+pub type RecordSeat = Seat<(), RecordPasses>;
+
+/// Loads the lock word, before a put.
+#[inline(always)]
+pub fn look<C: WordsStep>(table: &RecordTable, seat: &mut RecordSeat) -> u64
+    requires step { C.shape ≡ table.now.key }
+    requires table { (seat.old.table_id ≡ table.now.table_id)
+        × (table.now.table_id.words ≡ table.now.key.width + 1) }
+    requires alone { seat.old.me ≡ alone (first_of seat.old.me.0) }
+    requires idle { (first_of seat.old.me.0).phase ≡ Idle }
+    ensures table { seat.new.table_id ≡ seat.old.table_id }
+    ensures told { Looked table.now.key (first_of seat.old.me.0) result seat.new.me }
+{
+    table.load::<LookStep<C>>(seat, 0)
+}
+
+/// Gets write mode by an exchange, to put these words. One that finds another word is as a load.
+#[inline(always)]
+pub fn acquire<C: WordsStep>(
+    table: &RecordTable,
+    seat: &mut RecordSeat,
+    words: &[u64],
+    free: u64,
+    held: u64,
+) -> u64
+    requires step { (C.shape ≡ table.now.key) × (C.words ≡ words.now) }
+    requires long { length words.now ≡ table.now.key.width }
+    requires table { (seat.old.table_id ≡ table.now.table_id)
+        × (table.now.table_id.words ≡ table.now.key.width + 1) }
+    requires alone { seat.old.me ≡ alone (first_of seat.old.me.0) }
+    requires idle { (first_of seat.old.me.0).phase ≡ Idle }
+    requires free { let limits = table.now.key.limits in
+        (n : ℕ) × (free ≡ word_with limits.layout n false)
+        × (held ≡ free + writer_unit limits.layout) × (n < limits.versions) }
+    ensures table { seat.new.table_id ≡ seat.old.table_id }
+    ensures told { let key = table.now.key in let v = first_of seat.old.me.0 in
+        MatchBool (result == free) (Acquired key v result seat.new.me words.now)
+        (Looked key v result seat.new.me) }
+{
+    let _ = words;
+    table.compare_exchange::<AcquireStep<C>>(seat, 0, free, held)
+}
+
+/// Stores the word of this place.
+#[inline(always)]
+pub fn store(table: &RecordTable, seat: &mut RecordSeat, place: usize, word: u64)
+    requires table { (seat.old.table_id ≡ table.now.table_id)
+        × (table.now.table_id.words ≡ table.now.key.width + 1) }
+    requires alone { seat.old.me ≡ alone (first_of seat.old.me.0) }
+    requires inside { (place < table.now.key.width) × (table.now.key.width ≤ 16) }
+    requires writing { (version : ℕ) × (words : List ℕ)
+        × ((first_of seat.old.me.0).phase ≡ Writing version words place)
+        × (word ≡ slice_index words place) }
+    ensures table { seat.new.table_id ≡ seat.old.table_id }
+    ensures told { seat.new.me ≡ alone (stored_one (first_of seat.old.me.0)) }
+{
+    table.store::<StoreStep>(seat, place + 1, word);
+}
+
+/// Releases write mode, by an exchange.
+#[inline(always)]
+pub fn release<C: WordsStep>(
+    table: &RecordTable,
+    seat: &mut RecordSeat,
+    words: &[u64],
+    held: u64,
+    free: u64,
+)
+    requires step { (C.shape ≡ table.now.key) × (C.words ≡ words.now) }
+    requires table { (seat.old.table_id ≡ table.now.table_id)
+        × (table.now.table_id.words ≡ table.now.key.width + 1) }
+    requires alone { seat.old.me ≡ alone (first_of seat.old.me.0) }
+    requires writing { let key = table.now.key in
+        (version : ℕ) × ((first_of seat.old.me.0).phase ≡ Writing version words.now key.width)
+        × (held ≡ word_with key.limits.layout version true)
+        × (free ≡ held + writer_unit key.limits.layout) }
+    ensures table { seat.new.table_id ≡ seat.old.table_id }
+    ensures told { let v = first_of seat.old.me.0 in
+        Released table.now.key v held seat.new.me words.now }
+{
+    let _ = words;
+    table.compare_exchange::<ReleaseStep<C>>(seat, 0, held, free);
+}
+
+/// Loads the lock word, before a get.
+#[inline(always)]
+pub fn open<C: WordsStep>(table: &RecordTable, seat: &mut RecordSeat) -> u64
+    requires step { C.shape ≡ table.now.key }
+    requires table { (seat.old.table_id ≡ table.now.table_id)
+        × (table.now.table_id.words ≡ table.now.key.width + 1) }
+    requires alone { seat.old.me ≡ alone (first_of seat.old.me.0) }
+    requires idle { (first_of seat.old.me.0).phase ≡ Idle }
+    ensures table { seat.new.table_id ≡ seat.old.table_id }
+    ensures told { Opened table.now.key (first_of seat.old.me.0) result seat.new.me }
+{
+    table.load::<OpenStep<C>>(seat, 0)
+}
+
+/// Loads the word of this place.
+#[inline(always)]
+pub fn load_word(table: &RecordTable, seat: &mut RecordSeat, place: usize) -> u64
+    requires table { (seat.old.table_id ≡ table.now.table_id)
+        × (table.now.table_id.words ≡ table.now.key.width + 1) }
+    requires alone { seat.old.me ≡ alone (first_of seat.old.me.0) }
+    requires inside { (place < table.now.key.width) × (table.now.key.width ≤ 16) }
+    requires reading { (version : ℕ) × (words : List ℕ)
+        × ((first_of seat.old.me.0).phase ≡ Reading version words) × (length words ≡ place) }
+    ensures table { seat.new.table_id ≡ seat.old.table_id }
+    ensures told { seat.new.me ≡ alone (loaded_one (first_of seat.old.me.0) result) }
+{
+    table.load::<LoadWordStep>(seat, place + 1)
+}
+
+/// Loads the lock word again. Where it is the word of the first load, these words stood together.
+#[inline(always)]
+pub fn confirm<C: WordsStep>(table: &RecordTable, seat: &mut RecordSeat, words: &[u64]) -> u64
+    requires step { (C.shape ≡ table.now.key) × (C.words ≡ words.now) }
+    requires table { (seat.old.table_id ≡ table.now.table_id)
+        × (table.now.table_id.words ≡ table.now.key.width + 1) }
+    requires alone { seat.old.me ≡ alone (first_of seat.old.me.0) }
+    requires reading { (version : ℕ)
+        × ((first_of seat.old.me.0).phase ≡ Reading version words.now)
+        × (length words.now ≡ table.now.key.width) }
+    ensures table { seat.new.table_id ≡ seat.old.table_id }
+    ensures told { let key = table.now.key in let v = first_of seat.old.me.0 in
+        MatchBool (result == word_to_confirm key.limits.layout v.phase)
+        (Confirmed key v result seat.new.me words.now) (Overtaken key v result seat.new.me) }
+{
+    let _ = words;
+    table.load::<ConfirmStep<C>>(seat, 0)
+}
+
+/// A new seat, whose pass has a name that the first one gives.
+pub fn split(table: &RecordTable, seat: &mut RecordSeat) -> RecordSeat
+    requires table { (seat.old.table_id ≡ table.now.table_id)
+        × (table.now.table_id.words ≡ table.now.key.width + 1) }
+    requires alone { seat.old.me ≡ alone (first_of seat.old.me.0) }
+    requires idle { (first_of seat.old.me.0).phase ≡ Idle }
+    ensures table { (seat.new.table_id ≡ seat.old.table_id)
+        × (result.table_id ≡ seat.old.table_id) }
+    ensures given { seat.new.me ≡ alone (after_split (first_of seat.old.me.0)) }
+    ensures new { result.me ≡ alone (split_off (first_of seat.old.me.0)) }
+{
+    table.split_seat::<GivePass>(seat)
+}
+
+/// Puts both passes on one seat.
+pub fn share_seat(table: &RecordTable, seat: &mut RecordSeat, other: RecordSeat)
+    requires table { (seat.old.table_id ≡ table.now.table_id)
+        × (table.now.table_id.words ≡ table.now.key.width + 1) }
+    requires other { other.table_id ≡ table.now.table_id }
+    requires alone { seat.old.me ≡ alone (first_of seat.old.me.0) }
+    requires other_alone { other.me ≡ alone (first_of other.me.0) }
+    requires idle { ((first_of seat.old.me.0).phase ≡ Idle)
+        × ((first_of other.me.0).phase ≡ Idle) }
+    ensures table { seat.new.table_id ≡ seat.old.table_id }
+    ensures both { seat.new.me ≡ both (first_of seat.old.me.0) (first_of other.me.0) }
+{
+    table.join_seat::<ShareSeat>(seat, other);
+}
+
+/// A load by a seat that stands for two passes: it tells that both had observed beginnings of one
+/// history.
+pub fn load_both<C: WordsStep>(table: &RecordTable, seat: &mut RecordSeat)
+    requires step { C.shape ≡ table.now.key }
+    requires table { (seat.old.table_id ≡ table.now.table_id)
+        × (table.now.table_id.words ≡ table.now.key.width + 1) }
+    requires both { seat.old.me ≡ both (first_of seat.old.me.0) (second_of seat.old.me.0) }
+    requires idle { ((first_of seat.old.me.0).phase ≡ Idle)
+        × ((second_of seat.old.me.0).phase ≡ Idle) }
+    ensures table { seat.new.table_id ≡ seat.old.table_id }
+    ensures told { let old = seat.old.me.0 in
+        Met table.now.key (first_of old) (second_of old) seat.new.me }
+{
+    table.load::<MeetRecordStep<C>>(seat, 0);
+}
+
+/// Puts the two passes of a seat on two seats.
+pub fn part_seats(table: &RecordTable, seat: &mut RecordSeat) -> RecordSeat
+    requires table { (seat.old.table_id ≡ table.now.table_id)
+        × (table.now.table_id.words ≡ table.now.key.width + 1) }
+    requires both { seat.old.me ≡ both (first_of seat.old.me.0) (second_of seat.old.me.0) }
+    requires idle { ((first_of seat.old.me.0).phase ≡ Idle)
+        × ((second_of seat.old.me.0).phase ≡ Idle) }
+    ensures table { (seat.new.table_id ≡ seat.old.table_id)
+        × (result.table_id ≡ seat.old.table_id) }
+    ensures first { seat.new.me ≡ alone (first_of seat.old.me.0) }
+    ensures second { result.me ≡ alone (second_of seat.old.me.0) }
+{
+    table.split_seat::<PartSeats>(seat)
+}

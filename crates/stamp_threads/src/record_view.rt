@@ -1,0 +1,39 @@
+//! What a pass of a record knows. But for the shape, no value of these types is made: they stand in
+//! contracts and proofs alone.
+use crate::pass_view::PassView;
+use stamp_core::{Call, Limits, Reply};
+use std::collections::LinkedList;
+
+/// The limits of a record's lock word, of which the readers don't matter, and its width in words.
+#[derive(Clone, Copy)]
+pub struct RecordShape {
+    pub limits: Limits,
+    pub width: usize,
+}
+
+/// What a pass made, in the one history of a record.
+pub enum RecordEvent {
+    /// A write mark: it got write mode.
+    Mark,
+    Called(Call, Reply),
+}
+
+/// Where a pass stands in what it is making.
+pub enum RecordPhase {
+    /// Between two calls.
+    Idle,
+    /// It has write mode after so many puts, and has stored so many of the words.
+    Writing {
+        version: u64,
+        words: LinkedList<u64>,
+        stored: u64,
+    },
+    /// It began to read after so many puts, and has loaded these words.
+    Reading {
+        version: u64,
+        words: LinkedList<u64>,
+    },
+}
+
+/// The passes that a seat of the table stands for: one, and two while they meet.
+pub type RecordPasses = LinkedList<PassView<RecordEvent, RecordPhase>>;

@@ -1,0 +1,151 @@
+//! The record that threads share.
+ghost use Rattle.std.specs.Prelude.{◌≡◌, ◌+◌, ◌≤◌, IfOk, IfErr, length};
+ghost use Rattle.stamp_core.specs.declared.call.Call.TheVariants.{Get, Put};
+ghost use Rattle.stamp_core.specs.declared.reply.Reply.TheVariants.{Done, Content};
+ghost use Rattle.stamp_threads.specs.PassView.{after_split, split_off};
+ghost use Rattle.stamp_threads.specs.RecordPass.{IsConsistentWith, first_pass};
+ghost use Rattle.stamp_threads.specs.RecordCall.{Recorded, PutRefused, GetRefused, HaveMet};
+
+use crate::faults::{GetFault, PutFault};
+use crate::record_get::get_words;
+use crate::record_pass::RecordPass;
+use crate::record_put::put_words;
+use crate::record_rule::RecordRule;
+use crate::record_steps;
+use crate::record_view::{RecordPasses, RecordShape};
+use crate::record_word::opening_word;
+use crate::running_lock::LockError;
+use atomic_table::Table;
+use stamp_core::{Limits, Words};
+use std::alloc::Global;
+use std::marker::{Brand, Model};
+
+/// A record of 1 to 16 words that threads share by reference, each with a pass of its own. The
+/// words stand under a lock word of their own, and a get that is Ok gives words that stood together.
+#[derive(Drop)]
+pub struct RunningRecord {
+    pub(crate) table: Table<(), RecordPasses, RecordShape, RecordRule, Global>,
+    pub(crate) shape: RecordShape,
+}
+
+impl Model for RunningRecord {
+    ghost use Rattle.std.specs.Prelude.{◌≡◌, ◌+◌, ◌≤◌};
+    ghost use Rattle.stamp_threads.specs.RecordPass.{RecordView};
+
+    ghost Value = { RecordView };
+
+    ghost view = { λ r. record { table = r.table.shared.table_id; shape = r.shape } };
+
+    ghost invariant = { λ r. (r.table.shared.key ≡ r.shape)
+        × (r.table.shared.table_id.words ≡ r.shape.width + 1)
+        × (1 ≤ r.shape.width) × (r.shape.width ≤ 16) };
+}
+
+impl RunningRecord {
+    /// A record of zeros, and its first pass. It refuses only for want of memory.
+    pub fn new(
+        alloc: Global,
+        limits: Limits,
+        width: usize,
+    ) -> Result<(RunningRecord, RecordPass), LockError>
+        requires { (1 ≤ width) × (width ≤ 16) }
+        ensures shape { IfOk result (λ r. r.0.shape ≡ record { limits = limits; width = width }) }
+        ensures table { IfOk result (λ r. r.1.table ≡ r.0.table) }
+        ensures pass { IfOk result (λ r. r.1.view ≡ first_pass) }
+        ensures consistent { IfOk result (λ r. IsConsistentWith width r.1.view) }
+    {
+        let shape = RecordShape { limits, width };
+        let mut row = [0u64; 17];
+        row[0] = opening_word(limits.layout());
+        match Table::of_words(alloc, &row[..width + 1], &shape) {
+            Ok((table, seat)) => Ok((RunningRecord { table, shape }, RecordPass { seat })),
+            Err(_) => Err(LockError::Unmade),
+        }
+    }
+
+    /// Puts the words, where nobody else has write mode: by one load, one exchange, a store a word
+    /// and one exchange that releases. It waits for nobody. A put that is refused got no write mode
+    /// and changed no word.
+    #[inline(always)]
+    pub fn put_once(&self, pass: &mut RecordPass, words: Words) -> Result<(), PutFault>
+        requires table { pass.old.table ≡ self.now.table }
+        requires width { length words ≡ self.now.shape.width }
+        ensures table { pass.new.table ≡ self.now.table }
+        ensures ok { let v = pass.old.view in let w = pass.new.view in
+            IfOk result (λ _. Recorded self.now.shape (Put words) Done v w) }
+        ensures err { let v = pass.old.view in let w = pass.new.view in
+            IfErr result (λ fault. PutRefused self.now.shape v fault w) }
+    {
+        put_words(
+            &self.table.shared,
+            self.shape,
+            &mut pass.seat,
+            words.as_slice(),
+        )
+    }
+
+    /// Gets the words, where nobody has write mode or comes in between: by one load, a load a word
+    /// and one load. It waits for nobody, and may fail for ever beside writers.
+    #[inline(always)]
+    pub fn get_once(&self, pass: &mut RecordPass) -> Result<Words, GetFault>
+        requires { pass.old.table ≡ self.now.table }
+        ensures table { pass.new.table ≡ self.now.table }
+        ensures width { IfOk result (λ words. length words ≡ self.now.shape.width) }
+        ensures ok { let v = pass.old.view in let w = pass.new.view in
+            IfOk result (λ words. Recorded self.now.shape Get (Content words) v w) }
+        ensures err { let v = pass.old.view in let w = pass.new.view in
+            IfErr result (λ fault. GetRefused self.now.shape v fault w) }
+    {
+        let mut row = [0u64; 16];
+        let got = &mut row[..self.shape.width];
+        self.get_into(pass, got)?;
+        match Words::new(&row[..self.shape.width]) {
+            Some(words) => Ok(words),
+            None => unreachable!(),
+        }
+    }
+
+    /// As `get_once`, into a place of the caller's that has the width, which is the fastest way.
+    /// Where it is refused, any words may stand there.
+    #[inline(always)]
+    pub fn get_into(&self, pass: &mut RecordPass, into: &mut [u64]) -> Result<(), GetFault>
+        requires table { pass.old.table ≡ self.now.table }
+        requires width { length into.old ≡ self.now.shape.width }
+        ensures table { pass.new.table ≡ self.now.table }
+        ensures width { length into.new ≡ length into.old }
+        ensures ok { let v = pass.old.view in let w = pass.new.view in
+            IfOk result (λ _. Recorded self.now.shape Get (Content into.new) v w) }
+        ensures err { let v = pass.old.view in let w = pass.new.view in
+            IfErr result (λ fault. GetRefused self.now.shape v fault w) }
+    {
+        get_words(&self.table.shared, self.shape, &mut pass.seat, into)
+    }
+
+    /// The pass that was handed in, and a new one, which has observed as much and made no call.
+    pub fn split(&self, mut pass: RecordPass) -> (RecordPass, RecordPass)
+        requires { pass.table ≡ self.now.table }
+        ensures table { (result.0.table ≡ self.now.table) × (result.1.table ≡ self.now.table) }
+        ensures given { result.0.view ≡ after_split pass.view }
+        ensures new { result.1.view ≡ split_off pass.view }
+        ensures all_consistent { let width = self.now.shape.width in
+            IsConsistentWith width result.0.view × IsConsistentWith width result.1.view }
+    {
+        let seat = record_steps::split(&self.table.shared, &mut pass.seat);
+        (pass, RecordPass { seat })
+    }
+
+    /// Both passes, each of which has then observed what either had. It makes three loads.
+    pub fn meet(&self, mut first: RecordPass, second: RecordPass) -> (RecordPass, RecordPass)
+        requires { (first.table ≡ self.now.table) × (second.table ≡ self.now.table) }
+        ensures table { (result.0.table ≡ self.now.table) × (result.1.table ≡ self.now.table) }
+        ensures met { let width = self.now.shape.width in
+            HaveMet width first.view second.view result.0.view result.1.view }
+    {
+        let RecordPass { seat } = second;
+        let table = &self.table.shared;
+        record_steps::share_seat(table, &mut first.seat, seat);
+        record_steps::load_both::<Brand>(table, &mut first.seat);
+        let seat = record_steps::part_seats(table, &mut first.seat);
+        (first, RecordPass { seat })
+    }
+}
