@@ -29,7 +29,7 @@ fn push_comma(text: &mut Vec<u8>, index: u64) -> Result<(), AllocError> {
     if index > 0 { push(text, ",") } else { Ok(()) }
 }
 
-/// A record of this word alone, so many times.
+/// The list of this word, as many times as the record has words.
 fn push_words(text: &mut Vec<u8>, word: u64) -> Result<(), AllocError> {
     push(text, "[")?;
     for index in 0..WIDTH {

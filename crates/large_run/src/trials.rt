@@ -1,6 +1,4 @@
 //! Each call, and how much it answers.
-ghost use Rattle.std.specs.Prelude.{◌≡◌};
-
 use crate::script_text::script_text;
 use stamp_cli::{Order, ReadSource, Verdict, WriteSink, serve};
 use stamp_history::{check, migrate, read_history, read_script, write_history};

@@ -2,14 +2,14 @@
 
 ghost use Rattle.std.specs.Prelude.{◌≡◌, map, is_some, option_map};
 ghost use Rattle.std.specs.List.{list_all};
-ghost use Rattle.serde_json.specs.Find.{get};
-ghost use Rattle.serde_json.specs.View.{view, items_view};
+ghost use Rattle.serde_json.specs.Find.{get, get_member, as_array};
+ghost use Rattle.serde_json.specs.View.{view, items_view, members_view};
 ghost use Rattle.stamp_history.specs.Gives.{Gives};
 ghost use Rattle.stamp_history.specs.JsonValue as spec;
 ghost use Rattle.stamp_history.specs.Reading.{json_of};
 
 use crate::read_error::ReadError;
-use serde_json::Value;
+use serde_json::{Map, Value};
 use std::alloc::Global;
 
 /// The JSON value that the bytes are.
@@ -65,4 +65,31 @@ pub(crate) fn list_under<'v>(value: &'v Value, key: &str) -> Option<&'v Vec<Valu
         ≡ spec.list_under key.now (view value.now) }
 {
     value.get(key)?.as_array()
+}
+
+/// The list that the value is.
+pub(crate) fn as_list(value: Value) -> Option<Vec<Value>>
+    ensures { option_map (λ list. items_view list.items) result ≡ as_array (view value) }
+{
+    match value {
+        Value::Array(list) => Some(list),
+        _ => None,
+    }
+}
+
+fn take_member(mut members: Map<String, Value>, key: &str) -> Option<Value>
+    ensures { option_map view result ≡ get_member key.now (members_view members.entries) }
+{
+    members.remove(key)
+}
+
+/// The list under a key, taken out of the value, the rest of which is let go.
+pub(crate) fn take_list(value: Value, key: &str) -> Option<Vec<Value>>
+    ensures { option_map (λ list. items_view list.items) result
+        ≡ spec.list_under key.now (view value) }
+{
+    match value {
+        Value::Object(members) => as_list(take_member(members, key)?),
+        _ => None,
+    }
 }

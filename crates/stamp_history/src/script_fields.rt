@@ -8,7 +8,7 @@ ghost use Rattle.stamp_history.specs.Reading.{each};
 ghost use Rattle.stamp_history.specs.ScriptValue as field;
 
 use crate::field::Field;
-use crate::json_values::{has_keys, list_under, whole_under};
+use crate::json_values::{as_list, has_keys, list_under, take_list, whole_under};
 use crate::read_error::ReadError;
 use crate::script_calls::script_call_of;
 use serde_json::Value;
@@ -50,12 +50,12 @@ fn are_lists(list: &[Value]) -> bool
     true
 }
 
-fn listed_threads(value: &Value) -> Result<&[Value], ReadError>
-    ensures { Gives ReadError.Memory (λ list. items_view list.now) result
-        (field.listed_threads (view value.now)) }
+fn listed_threads(value: Value) -> Result<Vec<Value>, ReadError>
+    ensures { Gives ReadError.Memory (λ list. items_view list.items) result
+        (field.listed_threads (view value)) }
 {
-    match list_under(value, "threads") {
-        Some(list) if are_lists(list) => Ok(list.as_slice()),
+    match take_list(value, "threads") {
+        Some(list) if are_lists(&list) => Ok(list),
         _ => Err(ReadError::NotScript(Field::Threads)),
     }
 }
@@ -66,42 +66,48 @@ fn call_at(thread: u64, index: u64, value: &Value) -> Result<ScriptCall, ReadErr
     script_call_of(value).ok_or(ReadError::NotScript(Field::ThreadCall(thread, index)))
 }
 
-fn calls_of_thread(alloc: Global, thread: u64, list: &[Value]) -> Result<Vec<ScriptCall>, ReadError>
+fn calls_of_thread(
+    alloc: Global,
+    thread: u64,
+    list: Vec<Value>,
+) -> Result<Vec<ScriptCall>, ReadError>
     ensures { Gives ReadError.Memory calls_in result
-        (each (field.call_at thread) 0 (items_view list.now)) }
+        (each (field.call_at thread) 0 (items_view list.items)) }
 {
     let mut calls = Vec::with_capacity(alloc, list.len().min(MOST_CALLS))?;
-    for (index, value) in list.iter().enumerate() {
-        calls.push(call_at(thread, index as u64, value)?)?;
+    for value in list {
+        calls.push(call_at(thread, calls.len() as u64, &value)?)?;
     }
     Ok(calls)
 }
 
-fn thread_at(alloc: Global, thread: u64, value: &Value) -> Result<Vec<ScriptCall>, ReadError>
-    ensures { Gives ReadError.Memory calls_in result (field.thread_at thread (view value.now)) }
+fn thread_at(alloc: Global, thread: u64, value: Value) -> Result<Vec<ScriptCall>, ReadError>
+    ensures { Gives ReadError.Memory calls_in result (field.thread_at thread (view value)) }
 {
-    match value.as_array() {
+    match as_list(value) {
         Some(list) => calls_of_thread(alloc, thread, list),
         None => Err(ReadError::NotScript(Field::Threads)),
     }
 }
 
-fn threads_in(alloc: Global, list: &[Value]) -> Result<Vec<Vec<ScriptCall>>, ReadError>
+/// The calls of each thread. Each value is let go once it is read, so that the memory of a thread's
+/// values can serve the next thread's calls.
+fn threads_in(alloc: Global, list: Vec<Value>) -> Result<Vec<Vec<ScriptCall>>, ReadError>
     ensures { Gives ReadError.Memory (λ threads. map calls_in threads.items) result
-        (each field.thread_at 0 (items_view list.now)) }
+        (each field.thread_at 0 (items_view list.items)) }
 {
     let mut threads = Vec::with_capacity(alloc, list.len())?;
-    for (index, value) in list.iter().enumerate() {
-        threads.push(thread_at(alloc, index as u64, value)?)?;
+    for value in list {
+        threads.push(thread_at(alloc, threads.len() as u64, value)?)?;
     }
     Ok(threads)
 }
 
 /// The calls of each thread. Every thread is found to be a list before any call is read.
 #[tactic(auto, unfolding(crate::specs::ScriptValue::threads))]
-pub(crate) fn read_threads(alloc: Global, value: &Value) -> Result<Vec<Vec<ScriptCall>>, ReadError>
+pub(crate) fn read_threads(alloc: Global, value: Value) -> Result<Vec<Vec<ScriptCall>>, ReadError>
     ensures { Gives ReadError.Memory (λ threads. map calls_in threads.items) result
-        (field.threads (view value.now)) }
+        (field.threads (view value)) }
 {
     threads_in(alloc, listed_threads(value)?)
 }

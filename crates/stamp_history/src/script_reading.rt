@@ -47,7 +47,9 @@ pub fn read_script(alloc: Global, bytes: &[u8]) -> Result<Script, ReadError>
     check_top(&value)?;
     let limits = read_limits(&value)?;
     let width = read_width(&value)?;
-    let threads = read_threads(alloc, &value)?;
-    let steps = read_steps(alloc, &value)?;
+    // The steps are read first, since the threads use the value up. Their fault comes second.
+    let steps = read_steps(alloc, &value);
+    let threads = read_threads(alloc, value)?;
+    let steps = steps?;
     script_from(limits, width, threads, steps)
 }

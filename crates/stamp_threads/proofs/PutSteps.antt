@@ -121,7 +121,7 @@ module _ (shape : RecordShape) (s : State (Unit {0}) (List RecordPassView)) (r :
           let z = r.wide in
           let grows = grows_none (v ∷ []) r.log in
           let k = what in
-          let known : KnowsWriting shape.width cells' r.log v.name version xs (stored + 1) = record {
+          let more : KnowsWriting shape.width cells' r.log v.name version xs (stored + 1) = record {
             locked = k.locked;
             version_is = k.version_is;
             marker = k.marker;
@@ -135,7 +135,7 @@ module _ (shape : RecordShape) (s : State (Unit {0}) (List RecordPassView)) (r :
                 k.stand j (omega arith));
           } in
           let knows : Knows shape.width cells' r.log v.name w.phase =
-          subst (Knows shape.width cells' r.log v.name) (sym (ap storing_one writing)) known in
+          subst (Knows shape.width cells' r.log v.name) (sym (ap storing_one writing)) more in
           let ahead : marks_ahead v.phase ≡ marks_ahead w.phase =
           ap marks_ahead writing ∙
           sym (ap (λ (p : RecordPhase). marks_ahead (storing_one p)) writing) in

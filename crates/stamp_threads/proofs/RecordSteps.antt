@@ -1,6 +1,7 @@
 -- What every step of a seat on a record's words keeps, by what its passes know afterwards.
 use Rattle.std.proofs.Common.{◌≡◌, ◌≢◌, ◌⊎◌, ℕ, ◌+◌, ◌<◌, ◌≤◌, true, true≢false, List}
-use Rattle.std.proofs.Common.{[], ◌∷◌, length, set, get_or, refl, ap, sym, ◌∙◌, subst, ⊎_elim, arith}
+use Rattle.std.proofs.Common.{[], ◌∷◌, length, set, get_or, refl, ap, sym, ◌∙◌, subst}
+use Rattle.std.proofs.Common.{⊎_elim, arith}
 use mathlib.Core.Option.{some, some-injective}
 use mathlib.Core.List.{IsPrefix}
 use lib.ListN.{get_elem?}

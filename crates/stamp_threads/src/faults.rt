@@ -1,28 +1,29 @@
-//! Why a call of a record was refused. It got no write mode and changed no word, and can be made
-//! again.
+//! Why a call of a record was refused.
 
-/// Why words were not put.
+/// Why words were not put. The put got no write mode and changed no word, and its pass has made no
+/// call more.
 #[derive(Clone, Copy, PartialEq, Eq, Debug, Drop)]
 pub enum PutFault {
-    /// 1: somebody else had write mode. The lock word was this one.
+    /// 1: somebody else had write mode. The lock word was this one. Try again later.
     Busy(u64),
-    /// 2: somebody else came between the load of the lock word and the exchange.
+    /// 2: somebody else came between the load of the lock word and the exchange. Try again.
     Lost {
         /// The lock word that the load found.
         loaded: u64,
         /// The one that the exchange found in place of that.
         found: u64,
     },
-    /// 3: no version is left. The lock word is this one, and nothing can be put any more.
+    /// 3: no version is left. The lock word is this one for good: nothing can be put any more.
     Spent(u64),
 }
 
-/// Why the words were not read.
+/// Why the words were not read. The get changed nothing, and its pass has made no call more. In the
+/// caller's place, where there is one, may stand any words.
 #[derive(Clone, Copy, PartialEq, Eq, Debug, Drop)]
 pub enum GetFault {
-    /// 1: somebody had write mode. The lock word was this one.
+    /// 1: somebody had write mode. The lock word was this one. Try again later.
     Busy(u64),
-    /// 2: somebody came between the two loads of the lock word.
+    /// 2: somebody came between the two loads of the lock word. Try again.
     Lost {
         /// The lock word that the first load found.
         loaded: u64,

@@ -12,6 +12,7 @@ use crate::faults::GetFault;
 use crate::record_steps::{RecordSeat, RecordTable, confirm, load_word, open};
 use crate::record_view::RecordShape;
 use crate::record_word::is_held;
+use stamp_core::Layout;
 use std::marker::Brand;
 
 /// Loads each of the words.
@@ -35,7 +36,7 @@ fn load_all(table: &RecordTable, seat: &mut RecordSeat, into: &mut [u64])
 
 /// Gets the words: one load, a load a word, and one load.
 #[inline(always)]
-pub fn get_words(
+fn got_words(
     table: &RecordTable,
     shape: RecordShape,
     seat: &mut RecordSeat,
@@ -65,4 +66,32 @@ pub fn get_words(
         return Err(GetFault::Lost { loaded, found });
     }
     Ok(())
+}
+
+/// The same, by code for each layout, whose numbers are constants there.
+#[inline(always)]
+pub fn get_words(
+    table: &RecordTable,
+    shape: RecordShape,
+    seat: &mut RecordSeat,
+    into: &mut [u64],
+) -> Result<(), GetFault>
+    requires shape { (table.now.key ≡ shape) × (shape.width ≤ 16) }
+    requires long { length into.old ≡ shape.width }
+    requires table { (seat.old.table_id ≡ table.now.table_id)
+        × (table.now.table_id.words ≡ shape.width + 1) }
+    requires alone { seat.old.me ≡ alone (first_of seat.old.me.0) }
+    requires idle { (first_of seat.old.me.0).phase ≡ Idle }
+    ensures table { seat.new.table_id ≡ seat.old.table_id }
+    ensures long { length into.new ≡ length into.old }
+    ensures alone { seat.new.me ≡ alone (first_of seat.new.me.0) }
+    ensures ok { let v = first_of seat.old.me.0 in let w = first_of seat.new.me.0 in
+        IfOk result (λ _. Recorded shape Get (Content into.new) v w) }
+    ensures err { let v = first_of seat.old.me.0 in let w = first_of seat.new.me.0 in
+        IfErr result (λ fault. GetRefused shape v fault w) }
+{
+    match shape.limits.layout() {
+        Layout::One => got_words(table, shape, seat, into),
+        Layout::Two => got_words(table, shape, seat, into),
+    }
 }

@@ -21,7 +21,8 @@ use std::alloc::Global;
 use std::marker::{Brand, Model};
 
 /// A record of 1 to 16 words that threads share by reference, each with a pass of its own. The
-/// words stand under a lock word of their own, and a get that is Ok gives words that stood together.
+/// words stand under a lock word of their own, and a get that is Ok gives words that stood
+/// together.
 #[derive(Drop)]
 pub struct RunningRecord {
     pub(crate) table: Table<(), RecordPasses, RecordShape, RecordRule, Global>,

@@ -5,7 +5,7 @@ use Rattle.stamp_threads.specs.RecordLog.{puts}
 use Rattle.stamp_threads.specs.RecordPass.{first_of}
 use Rattle.stamp_threads.specs.RecordRule.{Seated}
 use Rattle.stamp_threads.proofs.RecordPromises.{opened, get_busy_of, get_lost_of, get_made_of}
-use Rattle.stamp_threads.proofs.record_get.get_words.Goals as goal
+use Rattle.stamp_threads.proofs.record_get.got_words.Goals as goal
 
 pub load_all-requires-clause-reading : goal.load_all-requires-clause-reading
 load_all-requires-clause-reading c =
