@@ -5,8 +5,9 @@ ghost use Rattle.stamp_check.specs.Migration.{respelling, respelled_call, respel
 
 use stamp_core::{Call, CoreError, Entry, Layout, Limits, Record, Reply, respell};
 
-/// 1, its only cause: this entry is the first whose stamp reply is neither 0 nor a stamp of layout 1
-/// of a version up to 2^46-2. It hands the record back as it was.
+/// Why a record is not migrated (1): this entry, counted from 0, is the first whose answered number
+/// is neither 0 nor a stamp of layout 1 of a version up to 2^46-2. The record is handed back as it
+/// was.
 #[derive(Drop)]
 pub struct BadReply {
     pub entry: u64,

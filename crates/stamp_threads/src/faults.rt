@@ -1,4 +1,4 @@
-//! Why a call of a record was refused.
+//! Why a put or a get was refused.
 
 /// Why words were not put. The put got no write mode and changed no word, and its pass has made no
 /// call more.
@@ -13,7 +13,8 @@ pub enum PutFault {
         /// The one that the exchange found in place of that.
         found: u64,
     },
-    /// 3: no version is left. The lock word is this one for good: nothing can be put any more.
+    /// 3: as many puts were made as the limits have versions, and nobody had write mode. The lock
+    /// word was this one. To put again is of no use; gets go on.
     Spent(u64),
 }
 

@@ -3,7 +3,7 @@ use crate::lock_steps::LockSeat;
 use std::marker::Model;
 
 /// A token of what its holder has observed of a lock. It has no bytes, can be moved to another
-/// thread and can't be copied, and belongs to the lock that gave it.
+/// thread or dropped, can't be copied, and belongs to the lock that gave it.
 #[derive(Drop)]
 pub struct Pass {
     pub(crate) seat: LockSeat,

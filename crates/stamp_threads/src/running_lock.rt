@@ -20,10 +20,10 @@ use std::alloc::Global;
 use std::marker::{Brand, Model};
 use std::sync::Wait;
 
-/// Why a lock is not made.
+/// Why a lock or a record is not made.
 #[derive(Clone, Copy, PartialEq, Eq, Debug, Drop)]
 pub enum LockError {
-    /// 1: there was no table for the word. Nothing was made.
+    /// 1: there was no memory for the words. Nothing was made.
     Unmade,
 }
 
@@ -124,7 +124,8 @@ impl RunningLock {
         unreachable!()
     }
 
-    /// The pass that was handed in, and a new one, which has observed as much and made no call.
+    /// The pass that was handed in, and a new one, which has observed as much and made no call. It
+    /// makes one load and takes no memory.
     pub fn split(&self, mut pass: Pass) -> (Pass, Pass)
         requires { pass.table ≡ self.now.table }
         ensures lock { (result.0.table ≡ self.now.table) × (result.1.table ≡ self.now.table) }

@@ -43,7 +43,8 @@ impl Model for RunningRecord {
 }
 
 impl RunningRecord {
-    /// A record of zeros, and its first pass. It refuses only for want of memory.
+    /// A record of zeros, and its first pass. Of the limits only the layout and the versions count:
+    /// so many puts it will take in all. It refuses only for want of memory.
     pub fn new(
         alloc: Global,
         limits: Limits,
