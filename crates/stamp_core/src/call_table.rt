@@ -6,8 +6,8 @@ ghost use Rattle.stamp_core.specs.CountedDecision.{decision_of};
 ghost use Rattle.stamp_core.specs.LockDecision.{decision_as};
 
 use crate::call::Call;
-use crate::lock_decision::{LockDecision, LockReply};
 use crate::limits::Limits;
+use crate::lock_decision::{LockDecision, LockReply};
 use crate::word::Word;
 
 #[inline(always)]
