@@ -14,8 +14,9 @@ use crate::orders::Order;
 use crate::sources::Source;
 use crate::stamp_text::stamp_line;
 use stamp_core::Layout;
-use stamp_history::{check, migrate, read_history, read_script, replay_text, write_history};
-use stamp_machines::{run, run_reported};
+use stamp_history::{check, migrate, read_history, read_script, replay_text};
+use stamp_history::{write_history, write_run};
+use stamp_machines::run_reported;
 use std::alloc::Global;
 
 /// What the calls of a replay are replied.
@@ -34,8 +35,7 @@ fn line_of_script(alloc: Global, input: &[u8]) -> Result<Vec<u8>, ServeFault>
     ensures inner { IfErr result (λ e. is_of_end e ≡ false) }
 {
     let script = read_script(alloc, input)?;
-    let record = run(alloc, &script)?;
-    Ok(write_history(alloc, &record)?)
+    Ok(write_run(alloc, &script)?)
 }
 
 /// That history, with a report.

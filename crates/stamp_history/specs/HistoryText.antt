@@ -3,6 +3,7 @@ use Rattle.std.specs.Prelude.{ℕ, List, [], ◌∷◌, map, codes}
 use Rattle.serde_json.specs.Data.{Data, string, array, object, Items, no_items, item, Members, no_members, member}
 use Rattle.serde_json.specs.Written.{compact_text}
 use Rattle.serde_json.specs.View.{items_of}
+use Rattle.stamp_core.specs.Limits.{Bounds}
 use Rattle.stamp_core.specs.Record.{Recorded}
 use Rattle.stamp_core.specs.declared.call.Call.{Call}
 use Rattle.stamp_core.specs.declared.call.Call.TheVariants.{TryWrite, TryRead, WriteLock, ReadLock, Optimistic, Validate, UnlockWrite, UnlockRead, Unlock, ToWrite, ToRead, ToOptimistic, TryUnlockWrite, TryUnlockRead, IsWriteLocked, IsReadLocked, ReadCount, Get, Put, PutIf}
@@ -81,16 +82,20 @@ abbrev pub with_report : List (ℕ × ℕ) → Members → Members
 with_report [] rest = rest
 with_report (pair ∷ pairs) rest = member (codes "report") (report_data (pair ∷ pairs)) rest
 
--- the keys in the order of their bytes
+-- the keys in the order of their bytes, after the entries
+abbrev pub after_entries : Bounds → ℕ → List (ℕ × ℕ) → Members
+after_entries limits width report =
+    member (codes "format") (number_data (format_of limits.layout))
+    (with_layout limits.layout
+    (member (codes "readers") (number_data limits.readers)
+    (with_report report
+    (member (codes "versions") (number_data limits.versions)
+    (member (codes "width") (number_data width) no_members)))))
+
 abbrev pub history_data : Recorded → Data
 history_data r =
     object (member (codes "entries") (entries_data r.entries)
-    (member (codes "format") (number_data (format_of r.limits.layout))
-    (with_layout r.limits.layout
-    (member (codes "readers") (number_data r.limits.readers)
-    (with_report r.report
-    (member (codes "versions") (number_data r.limits.versions)
-    (member (codes "width") (number_data r.width) no_members)))))))
+    (after_entries r.limits r.width r.report))
 
 -- without spaces
 unfoldable pub history_text : Recorded → List ℕ

@@ -11,11 +11,12 @@ ghost use Rattle.stamp_history.specs.HistoryLaws.{IsU64, CallIsU64, EntryIsU64, 
 ghost use Rattle.stamp_history.specs.HistoryText as spec;
 ghost use Rattle.stamp_history.specs.HistoryText.{arguments, call_data, entry_data, entries_data};
 ghost use Rattle.stamp_history.specs.HistoryText.{pair_data, report_data, format_of, with_layout};
-ghost use Rattle.stamp_history.specs.HistoryText.{with_report, history_data, history_text};
+ghost use Rattle.stamp_history.specs.HistoryText.{with_report, after_entries, history_data};
+ghost use Rattle.stamp_history.specs.HistoryText.{history_text};
 
 use crate::json_text::{push_comma, push_numbered, push_reply, push_text, push_words};
 use crate::read_error::ReadError;
-use stamp_core::{Call, Entry, Layout, Record, Words};
+use stamp_core::{Call, Entry, Layout, Limits, Record, Words};
 use std::alloc::{AllocError, Global};
 
 /// About the bytes of an entry's text, where it has no words.
@@ -109,7 +110,7 @@ fn push_call(text: &mut Vec<u8>, call: &Call) -> Result<(), AllocError>
     Ok(())
 }
 
-fn push_entry(text: &mut Vec<u8>, entry: &Entry) -> Result<(), AllocError>
+pub(crate) fn push_entry(text: &mut Vec<u8>, entry: &Entry) -> Result<(), AllocError>
     ensures text { OnOk result (text.new.items
         ≡ text.old.items ++ compact_text (entry_data entry.now)) }
     ensures fits { OnOk result (EntryIsU64 entry.now) }
@@ -193,21 +194,36 @@ fn push_report(text: &mut Vec<u8>, report: &[(u64, u64)]) -> Result<(), AllocErr
     Ok(())
 }
 
+/// Appends what comes after the entries, and the end of the object.
+pub(crate) fn push_after_entries(
+    text: &mut Vec<u8>,
+    limits: &Limits,
+    width: u64,
+    report: &[(u64, u64)],
+) -> Result<(), AllocError>
+    ensures text { OnOk result (text.new.items ≡ text.old.items
+        ++ members_text true (after_entries limits.now width report.now)) }
+    ensures fits { OnOk result (All PairIsU64 report.now) }
+    ensures range { OnOk result (AreInRange limits.now) }
+{
+    push_format(text, limits.layout())?;
+    push_numbered(text, ",\"readers\":", limits.readers())?;
+    push_report(text, report)?;
+    push_numbered(text, ",\"versions\":", limits.versions())?;
+    push_numbered(text, ",\"width\":", width)?;
+    push_text(text, "}")?;
+    Ok(())
+}
+
 fn push_history(text: &mut Vec<u8>, history: &Record) -> Result<(), AllocError>
     ensures text { OnOk result (text.new.items
         ≡ text.old.items ++ compact_text (history_data history.now)) }
     ensures fits { OnOk result (AreU64 history.now) }
     ensures range { OnOk result (AreInRange history.now.limits) }
 {
-    let limits = history.limits();
     push_text(text, "{\"entries\":")?;
     push_entries(text, history.entries())?;
-    push_format(text, limits.layout())?;
-    push_numbered(text, ",\"readers\":", limits.readers())?;
-    push_report(text, history.report())?;
-    push_numbered(text, ",\"versions\":", limits.versions())?;
-    push_numbered(text, ",\"width\":", history.width())?;
-    push_text(text, "}")?;
+    push_after_entries(text, &history.limits(), history.width(), history.report())?;
     Ok(())
 }
 

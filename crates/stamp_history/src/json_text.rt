@@ -37,14 +37,21 @@ pub(crate) fn push_numbered(text: &mut Vec<u8>, before: &str, number: u64) -> Re
     push_number(text, number)
 }
 
+/// Appends the comma before a later item.
+pub(crate) fn push_comma_if(text: &mut Vec<u8>, is_later: bool) -> Result<(), AllocError>
+    ensures { OnOk result (text.new.items ≡ text.old.items ++ comma_if is_later) }
+{
+    if is_later {
+        push_text(text, ",")?;
+    }
+    Ok(())
+}
+
 /// Appends the comma before an item that is not the first.
 pub(crate) fn push_comma(text: &mut Vec<u8>, index: usize) -> Result<(), AllocError>
     ensures { OnOk result (text.new.items ≡ text.old.items ++ comma_if (nat_lt 0 index)) }
 {
-    if index > 0 {
-        push_text(text, ",")?;
-    }
-    Ok(())
+    push_comma_if(text, index > 0)
 }
 
 fn push_numbers(text: &mut Vec<u8>, numbers: &[u64]) -> Result<(), AllocError>

@@ -19,3 +19,4 @@ pub mod WorkerStamps
 pub mod WorkersLanded
 pub mod RunFacts
 pub mod ScriptsAreSound
+pub mod CompletedCalls

@@ -4,6 +4,7 @@ use Rattle.std.proofs.Common.{arith, inr}
 use Rattle.std.specs.Prelude.{slice_index}
 use Rattle.std.proofs.Common.{get_or}
 use Rattle.std.proofs.lemmas.List.{length-append}
+use Rattle.stamp_core.specs.declared.entry.Entry.{Entry}
 use Rattle.stamp_machines.specs.declared.state.State.{State}
 use Rattle.stamp_machines.specs.declared.running.Run.TheInside.{Inside}
 use Rattle.stamp_machines.specs.Script.{Scripted}
@@ -19,29 +20,29 @@ use Rattle.stamp_machines.proofs.StepsKeep.{always-kept, execution_of-more}
 use Rattle.stamp_machines.proofs.EntryOrder.{InOrder, always-in-order}
 use Rattle.stamp_machines.proofs.EntryCount.{completed-recorded}
 
-pub run-kept : (r : Inside) → IsAt r → Kept r.script.now (world_at r.state (length r.steps.items))
+pub run-kept : (r : Inside) → IsAt r → Kept r.script.now (world_at [] r.state (length r.steps.items))
 run-kept r h = rw h.world (always-kept r.script.now r.steps.items h.sound h.few)
 
-same_world : (old new : State) (n : ℕ) → SameState old new → world_at new n ≡ world_at old n
-same_world old new n s = simp (s.words, s.begun, s.entries)
+same_world : (gone : List Entry) (old new : State) (n : ℕ) → SameState old new → world_at gone new n ≡ world_at gone old n
+same_world gone old new n s = simp (s.words, s.begun, s.entries)
 
 pub world-more : (plan : Scripted) (old mid new : State) (names names' : List ℕ) (t : ℕ) →
-    world_at old (length names) ≡ execution_of plan names → SameState old mid →
-    world_at new (length names + 1) ≡ step plan (world_at mid (length names)) t →
-    names' ≡ names ++ t ∷ [] → world_at new (length names') ≡ execution_of plan names'
+    world_at [] old (length names) ≡ execution_of plan names → SameState old mid →
+    world_at [] new (length names + 1) ≡ step plan (world_at [] mid (length names)) t →
+    names' ≡ names ++ t ∷ [] → world_at [] new (length names') ≡ execution_of plan names'
 world-more plan old mid new names names' t w s n e =
-    rw (e, length-append) (n ∙ ap (λ x. step plan x t) (same_world old mid (length names) s ∙ w)
+    rw (e, length-append) (n ∙ ap (λ x. step plan x t) (same_world [] old mid (length names) s ∙ w)
     ∙ sym (execution_of-more plan names t))
 
 pub same-kept : (plan : Scripted) (old mid : State) (n : ℕ) → SameState old mid →
-    Kept plan (world_at old n) → Kept plan (world_at mid n)
-same-kept plan old mid n s k = rw (same_world old mid n s) k
+    Kept plan (world_at [] old n) → Kept plan (world_at [] mid n)
+same-kept plan old mid n s k = rw (same_world [] old mid n s) k
 
 pub run-memory : (r : Inside) → IsAt r → 0 < length r.state.words.items
 run-memory r h = let k = run-kept r h in omega (arith, k.memory)
 
 pub run-in-order : (r : Inside) → IsAt r →
-    InOrder r.script.now (world_at r.state (length r.steps.items))
+    InOrder r.script.now (world_at [] r.state (length r.steps.items))
 run-in-order r h = rw h.world (always-in-order r.script.now r.steps.items h.sound h.few)
 
 pub run-recorded : (r : Inside) → IsAt r →
@@ -88,7 +89,7 @@ pub run-admitted : (r : Inside) → IsAt r →
     IsAdmitted r.script.now.limits (word_at r.script.now.limits (slice_index r.state.words.items 0))
 run-admitted r h =
     record {
-      events = events_in r.script.now (world_at r.state (length r.steps.items));
+      events = events_in r.script.now (world_at [] r.state (length r.steps.items));
       represented = (run-kept r h).represented;
     }
 

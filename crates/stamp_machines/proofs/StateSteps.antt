@@ -150,39 +150,39 @@ told-reports plan world t progress.Ended entries is r =
     rw told_it r.1
 
 -- what a step of a thread that is in a call leaves
-pub record Taken (plan : Scripted) (old mid new : State) (t position : ℕ) (s : Progress) : Type 0
-  where
-    pub world : world_at new (position + 1) ≡ step plan (world_at old position) t
-    pub stamps : (u : ℕ) → stamps_at mid.workers.items u ≡ stamps_of u mid.entries.items →
-        stamps_at new.workers.items u ≡ stamps_of u new.entries.items
-    pub report : HasReport plan (world_at old position) t s
+pub record Taken (gone : List Entry) (plan : Scripted) (old mid new : State) (t position : ℕ)
+    (s : Progress) : Type 0 where
+    pub world : world_at gone new (position + 1) ≡ step plan (world_at gone old position) t
+    pub stamps : (u : ℕ) → stamps_at mid.workers.items u ≡ stamps_of u (gone ++ mid.entries.items) →
+        stamps_at new.workers.items u ≡ stamps_of u (gone ++ new.entries.items)
+    pub report : HasReport plan (world_at gone old position) t s
 
-pub taken : (plan : Scripted) (old mid new : State) (t position : ℕ) (s : Progress) →
-    is_some (current plan (world_at old position) t) ≡ true →
+pub taken : (gone : List Entry) (plan : Scripted) (old mid new : State) (t position : ℕ) (s : Progress) →
+    is_some (current plan (world_at gone old position) t) ≡ true →
     t < length (map begun_in old.workers.items) →
-    world_at mid position ≡ begun_with (world_at old position) t
-    (current plan (world_at old position) t) →
+    world_at gone mid position ≡ begun_with (world_at gone old position) t
+    (current plan (world_at gone old position) t) →
     IfSome (slice_index_or (map begun_in mid.workers.items) t None)
-    (λ b. StateLanded b t position mid new s) → Taken plan old mid new t position s
-taken plan old mid new t position s some h m landed =
-    go (current plan (world_at old position) t) refl some
+    (λ b. StateLanded gone b t position mid new s) → Taken gone plan old mid new t position s
+taken gone plan old mid new t position s some h m landed =
+    go (current plan (world_at gone old position) t) refl some
   where
-    go : (o : Option Begun) → current plan (world_at old position) t ≡ o → is_some o ≡ true →
-        Taken plan old mid new t position s
+    go : (o : Option Begun) → current plan (world_at gone old position) t ≡ o → is_some o ≡ true →
+        Taken gone plan old mid new t position s
     go None e is = cc
     go (Some b) e is =
-        let l : StateLanded b t position mid new s =
-        rw (begun-there plan (world_at old position) (world_at mid position) t b h e m) at
+        let l : StateLanded gone b t position mid new s =
+        rw (begun-there plan (world_at gone old position) (world_at gone mid position) t b h e m) at
         landed in
-        let w : world_at new (position + 1) ≡ step plan (world_at old position) t =
-        l.world ∙ step-begun plan (world_at old position) (world_at mid position) t b e m in
+        let w : world_at gone new (position + 1) ≡ step plan (world_at gone old position) t =
+        l.world ∙ step-begun plan (world_at gone old position) (world_at gone mid position) t b e m in
         record {
           world = w;
-          stamps = λ u before. stamps-taken (world_at mid position) (world_at new (position + 1)) u
+          stamps = λ u before. stamps-taken (world_at gone mid position) (world_at gone new (position + 1)) u
               t b _ _ _ _ (l.stamps u) before l.world;
           report = rw l.told_is
-              (has-report plan (world_at old position) t _
-              (report-begun plan (world_at old position) (world_at mid position) t b _ e m refl));
+              (has-report plan (world_at gone old position) t _
+              (report-begun plan (world_at gone old position) (world_at gone mid position) t b _ e m refl));
         }
 
 -- its access is safe

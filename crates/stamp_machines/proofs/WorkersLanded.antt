@@ -1,6 +1,6 @@
 -- An access of one worker's call, as all workers see it.
 use Rattle.std.proofs.Common.{◌≡◌, ℕ, ◌+◌, ◌<◌, List, [], ◌∷◌, ◌++◌, length, zero, suc, Option}
-use Rattle.std.proofs.Common.{Some, None, refl, ◌∙◌, ap, arith}
+use Rattle.std.proofs.Common.{Some, None, refl, sym, ◌∙◌, ap, append_assoc, arith}
 use Rattle.std.specs.Prelude.{slice_set, slice_index_or, map, IfSome}
 use Rattle.std.proofs.lemmas.List.{map-set}
 use Rattle.stamp_core.specs.Decision.{stamp_in}
@@ -16,6 +16,9 @@ use Rattle.stamp_machines.specs.Access.{words_after}
 use Rattle.stamp_machines.specs.Machine.{next_access}
 use Rattle.stamp_machines.specs.World.{World, landed, stamps_after}
 use Rattle.stamp_machines.specs.Stepped.{told}
+use Rattle.stamp_machines.specs.declared.running.Stepped.{Stepped}
+use Rattle.stamp_machines.specs.declared.running.Stepped.TheVariants.{Idle, Ended}
+use Rattle.stamp_machines.specs.declared.running.Stepped.TheVariants.{Going as Still}
 use Rattle.stamp_machines.specs.StateFields.{world_at, stamps_at, stamps_in, begun_in}
 use Rattle.stamp_machines.specs.Landed.{Landed, AllLanded, begun_after, stamps_with, told_at}
 use Rattle.stamp_machines.specs.Landed.{entries_with, turn_on}
@@ -76,19 +79,25 @@ told-same : (world : World) (t : ℕ) (b : Begun) (turned : Turn) →
 told-same world t b (Going m) = refl
 told-same world t b (Done r) = refl
 
-pub state-landed : (old new : State) (t position : ℕ) (words' : List ℕ) (workers' : List Worker)
+gone-before : (gone entries : List Entry) (s : Stepped) →
+    gone ++ entries_with entries s ≡ entries_with (gone ++ entries) s
+gone-before gone entries Idle = refl
+gone-before gone entries Still = refl
+gone-before gone entries (Ended e) = sym (append_assoc gone entries (e ∷ []))
+
+pub state-landed : (gone : List Entry) (old new : State) (t position : ℕ) (words' : List ℕ) (workers' : List Worker)
     (s : Progress) → new.words.items ≡ words' → new.workers.items ≡ workers' →
     IfSome (slice_index_or (map begun_in old.workers.items) t None)
     (λ b. AllLanded b t position old.words.items old.workers.items old.entries.items words' workers'
     new.entries.items s) →
     IfSome (slice_index_or (map begun_in old.workers.items) t None)
-    (λ b. StateLanded b t position old new s)
-state-landed old new t position words' workers' s words workers all =
+    (λ b. StateLanded gone b t position old new s)
+state-landed gone old new t position words' workers' s words workers all =
     go (slice_index_or (map begun_in old.workers.items) t None) all
   where
     go : (o : Option Begun) →
         IfSome o (λ b. AllLanded b t position old.words.items old.workers.items old.entries.items
-        words' workers' new.entries.items s) → IfSome o (λ b. StateLanded b t position old new s)
+        words' workers' new.entries.items s) → IfSome o (λ b. StateLanded gone b t position old new s)
     go None l = tt
     go (Some b) l =
         let turned : Turn = turn_on b old.words.items in
@@ -98,9 +107,9 @@ state-landed old new t position words' workers' s words workers all =
         ≡ slice_set (map begun_in old.workers.items) t (begun_after b turned) =
         ap (λ (ws : List Worker). map begun_in ws) workers ∙ l.begun_are in
         record {
-          world = rw (w, m, l.entries_are)
-              (world-landed (world_at old position) t b
+          world = rw (w, m, l.entries_are, gone-before)
+              (world-landed (world_at gone old position) t b
               (words_after (next_access b.machine) old.words.items) turned);
           stamps = λ u. ap (λ (ws : List Worker). stamps_at ws u) workers ∙ l.stamps_are u;
-          told_is = l.told ∙ ap progress_of (told-same (world_at old position) t b turned);
+          told_is = l.told ∙ ap progress_of (told-same (world_at gone old position) t b turned);
         }

@@ -29,3 +29,5 @@ pub mod Landed
 pub mod StateLanded
 pub mod RunFields
 pub mod RunRecord
+pub mod Completing
+pub mod CompletionsFields

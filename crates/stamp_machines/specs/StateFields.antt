@@ -1,6 +1,7 @@
 -- What the workers of a run keep of the finished calls.
 use Rattle.std.specs.Prelude.{◌≡◌, ℕ, List, [], map, Option, Some, None, slice_index_or, vec_len}
-use Rattle.std.specs.Prelude.{vec_capacity, ◌<◌}
+use Rattle.std.specs.Prelude.{vec_capacity, ◌<◌, ◌++◌}
+use Rattle.stamp_core.specs.declared.entry.Entry.{Entry}
 use Rattle.stamp_machines.specs.declared.state.Begun.{Begun}
 use Rattle.stamp_machines.specs.declared.state.Worker.{Worker}
 use Rattle.stamp_machines.specs.declared.state.State.{State}
@@ -21,12 +22,13 @@ abbrev pub HasRoom : Option Worker → Type 0
 HasRoom None = Unit {0}
 HasRoom (Some w) = vec_len w.stamps < vec_capacity w.stamps
 
-abbrev pub world_at : State → ℕ → World
-world_at s position =
+-- the schedule's world, where these entries came before those that are kept
+abbrev pub world_at : List Entry → State → ℕ → World
+world_at gone s position =
     record {
       words = s.words.items;
       begun = map begun_in s.workers.items;
-      entries = s.entries.items;
+      entries = gone ++ s.entries.items;
       position = position;
     }
 

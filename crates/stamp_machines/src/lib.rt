@@ -5,6 +5,7 @@
 mod access;
 #[cfg(test)]
 mod brute_tests;
+mod completions;
 #[cfg(test)]
 mod fixtures;
 pub mod laws;
@@ -26,6 +27,7 @@ mod tally;
 mod tests;
 
 pub use access::Access;
+pub use completions::Completions;
 pub use lock_phase::{Passage, after_lock_access, lock_access};
 pub use machine::{Machine, Turn};
 pub use run_whole::{run, run_reported};

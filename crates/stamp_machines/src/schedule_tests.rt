@@ -2,7 +2,8 @@
 ghost use Rattle.std.specs.Prelude.{◌≡◌, IfOk};
 
 use crate::fixtures::{entry, limits, script, script_under, words};
-use crate::{Arg, MOST_STEPS, Run, RunError, Script, ScriptCall, Stepped, run, run_reported};
+use crate::{Arg, Completions, MOST_STEPS, Run, RunError, Script, ScriptCall, Stepped};
+use crate::{run, run_reported};
 use stamp_core::{Call, Entry, Layout, Limits, Reply};
 use std::alloc::Global;
 use std::process::Abort;
@@ -40,7 +41,25 @@ fn steps_until(alloc: Global, script: &Script, calls: usize) -> Result<usize, Ru
     Ok(run.steps().len())
 }
 
-/// Run whole, run with a report and stepped through, the script has these entries and this word.
+/// The entries that are handed on, one at a time.
+fn handed_on(alloc: Global, script: &Script) -> Result<Vec<Entry>, Fail> {
+    let mut completions = Completions::start(alloc, script)?;
+    let mut entries = Vec::new(alloc);
+    for _ in script.steps() {
+        completions.advance()?;
+        if let Some(entry) = completions.get() {
+            entries.push(*entry)?;
+        }
+    }
+    completions.advance()?;
+    match completions.get() {
+        Some(_) => Err(Fail::from("one too many")),
+        None => Ok(entries),
+    }
+}
+
+/// Run whole, run with a report, handed on and stepped through, the script has these entries, and
+/// this word.
 fn ends_with(
     rt: &impl Abort,
     alloc: Global,
@@ -50,6 +69,7 @@ fn ends_with(
 ) -> Result<(), Fail> {
     assert_eq!(rt; run(alloc, script)?.entries(), entries);
     assert_eq!(rt; run_reported(alloc, script)?.entries(), entries);
+    assert_eq!(rt; handed_on(alloc, script)?.as_slice(), entries);
     let mut told = Vec::new(alloc);
     let stepped = stepped_through(alloc, script, &mut told)?;
     assert_eq!(rt; told.as_slice(), entries);

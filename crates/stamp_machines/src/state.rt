@@ -2,7 +2,7 @@
 ghost use Rattle.std.specs.Prelude.{◌≡◌, ◌<◌, ◌≤◌, ◌+◌, ◌^◌, ℕ, length, map, replicate, vec_len};
 ghost use Rattle.std.specs.Prelude.{vec_capacity, IfOk, OnOk, None, Some, slice_index};
 ghost use Rattle.std.specs.Prelude.{slice_index_or, slice_get, slice_set, ◌==◌, ◌++◌, ◌∷◌, []};
-ghost use Rattle.std.specs.Prelude.{if◌then◌else◌, is_some, IfSome, false};
+ghost use Rattle.std.specs.Prelude.{if◌then◌else◌, is_some, IfSome, false, List};
 
 use crate::machine::Machine;
 use crate::running::Stepped;
@@ -44,6 +44,7 @@ pub(crate) enum Progress {
     Ended,
 }
 
+ghost use Rattle.stamp_core.specs.declared.entry.Entry.{Entry};
 ghost use Rattle.stamp_machines.specs.StateFields.{stamps_at, begun_in, HasRoom};
 ghost use Rattle.stamp_machines.specs.World.{number_of, call_of, next_call, opening_word};
 ghost use Rattle.stamp_machines.specs.Landed.{IsSafeOn, AllLanded};
@@ -286,7 +287,7 @@ impl State {
     pub(crate) fn new(alloc: Global, shape: Shape, threads: usize) -> Result<State, AllocError>
         requires { shape.width ≤ 16 }
         ensures world { IfOk result
-            (λ s. world_at s 0 ≡ opening_of shape.limits shape.width threads) }
+            (λ s. world_at [] s 0 ≡ opening_of shape.limits shape.width threads) }
         ensures workers { IfOk result (λ s. vec_len s.workers ≡ threads) }
         ensures stamps { IfOk result (λ s. (t : ℕ) → stamps_at s.workers.items t ≡ []) }
     {
@@ -320,14 +321,15 @@ impl State {
     /// Begins the thread's next call where it is in none. Tells whether it is in one then.
     #[inline(always)]
     fn begin(&mut self, script: &Script, thread: usize, position: u64) -> bool
+        ghost gone: { List Entry }
         requires thread { thread < vec_len self.old.workers }
         requires workers { vec_len self.old.workers ≡ length script.now.threads }
         requires stamps { (t : ℕ) → stamps_at self.old.workers.items t
-            ≡ stamps_of t self.old.entries.items }
-        ensures begun { result ≡ is_some (current script.now (world_at self.old position) thread) }
-        ensures world { world_at self.new position
-            ≡ begun_with (world_at self.old position) thread
-            (current script.now (world_at self.old position) thread) }
+            ≡ stamps_of t (gone ++ self.old.entries.items) }
+        ensures begun { result ≡ is_some (current script.now (world_at gone self.old position) thread) }
+        ensures world { world_at gone self.new position
+            ≡ begun_with (world_at gone self.old position) thread
+            (current script.now (world_at gone self.old position) thread) }
         ensures stamps { (t : ℕ) → stamps_at self.new.workers.items t
             ≡ stamps_at self.old.workers.items t }
         ensures workers { vec_len self.new.workers ≡ vec_len self.old.workers }
@@ -341,16 +343,17 @@ impl State {
     /// Begins the next call of a thread that is in none. Tells whether it is in one then.
     #[inline(never)]
     fn begin_next(&mut self, script: &Script, thread: usize, position: u64) -> bool
+        ghost gone: { List Entry }
         requires none { is_some (slice_index_or (map begun_in self.old.workers.items) thread None)
             ≡ false }
         requires thread { thread < vec_len self.old.workers }
         requires workers { vec_len self.old.workers ≡ length script.now.threads }
         requires stamps { (t : ℕ) → stamps_at self.old.workers.items t
-            ≡ stamps_of t self.old.entries.items }
-        ensures begun { result ≡ is_some (current script.now (world_at self.old position) thread) }
-        ensures world { world_at self.new position
-            ≡ begun_with (world_at self.old position) thread
-            (current script.now (world_at self.old position) thread) }
+            ≡ stamps_of t (gone ++ self.old.entries.items) }
+        ensures begun { result ≡ is_some (current script.now (world_at gone self.old position) thread) }
+        ensures world { world_at gone self.new position
+            ≡ begun_with (world_at gone self.old position) thread
+            (current script.now (world_at gone self.old position) thread) }
         ensures stamps { (t : ℕ) → stamps_at self.new.workers.items t
             ≡ stamps_at self.old.workers.items t }
         ensures workers { vec_len self.new.workers ≡ vec_len self.old.workers }
@@ -368,13 +371,14 @@ impl State {
     /// Makes the next access of the call that the thread is in. There is room for what it may finish.
     #[inline(always)]
     fn land(&mut self, thread: usize, position: u64) -> Progress
+        ghost gone: { List Entry }
         requires safe { IfSome (slice_index_or (map begun_in self.old.workers.items) thread None)
             (λ b. IsSafeOn b self.old.words.items) }
         requires thread { thread < vec_len self.old.workers }
         requires room { HasRoom (slice_get self.old.workers.items thread) }
         requires entries { vec_len self.old.entries < vec_capacity self.old.entries }
         ensures landed { IfSome (slice_index_or (map begun_in self.old.workers.items) thread None)
-            (λ b. StateLanded b thread position self.old self.new result) }
+            (λ b. StateLanded gone b thread position self.old self.new result) }
         ensures workers { vec_len self.new.workers ≡ vec_len self.old.workers }
     {
         access(
@@ -391,21 +395,22 @@ impl State {
     /// by it is the last one.
     #[inline(always)]
     pub(crate) fn step(&mut self, script: &Script, thread: usize, position: u64) -> Progress
+        ghost gone: { List Entry }
         requires sound { IsSound script.now }
-        requires kept { Kept script.now (world_at self.old position) }
+        requires kept { Kept script.now (world_at gone self.old position) }
         requires few { position < 1000000 }
         requires thread { thread < vec_len self.old.workers }
         requires workers { vec_len self.old.workers ≡ length script.now.threads }
         requires stamps { (t : ℕ) → stamps_at self.old.workers.items t
-            ≡ stamps_of t self.old.entries.items }
+            ≡ stamps_of t (gone ++ self.old.entries.items) }
         requires room { HasRoom (slice_get self.old.workers.items thread) }
         requires entries { vec_len self.old.entries < vec_capacity self.old.entries }
-        ensures world { world_at self.new (position + 1)
-            ≡ step script.now (world_at self.old position) thread }
+        ensures world { world_at gone self.new (position + 1)
+            ≡ step script.now (world_at gone self.old position) thread }
         ensures workers { vec_len self.new.workers ≡ vec_len self.old.workers }
         ensures stamps { (t : ℕ) → stamps_at self.new.workers.items t
-            ≡ stamps_of t self.new.entries.items }
-        ensures report { HasReport script.now (world_at self.old position) thread result }
+            ≡ stamps_of t (gone ++ self.new.entries.items) }
+        ensures report { HasReport script.now (world_at gone self.old position) thread result }
     {
         if self.begin(script, thread, position) {
             self.land(thread, position)

@@ -11,18 +11,18 @@ use Rattle.stamp_machines.proofs.StateSteps.{begun-next}
 use Rattle.stamp_machines.proofs.state.State.begin_next.Goals as goal
 
 pub returns-clause-world : goal.returns-clause-world
-returns-clause-world c =
+returns-clause-world g c =
     let now : c.deref.result.now ≡ c.args.self.now.workers.items = grind (arith, common_steps) in
     let before : c.deref_mut.result.now ≡ c.args.self.now.workers.items =
     grind (arith, common_steps) in
     let none : is_some
     (slice_index_or (map begun_in c.args.self.now.workers.items) c.args.thread None) ≡ false =
-    c.requires.none in
-    let is : current c.args.script.now (world_at c.args.self.now c.args.position) c.args.thread
+    c.requires.0 in
+    let is : current c.args.script.now (world_at g.gone c.args.self.now c.args.position) c.args.thread
     ≡ Some c.in-Some.begun =
-    begun-next c.args.script.now (world_at c.args.self.now c.args.position)
+    begun-next c.args.script.now (world_at g.gone c.args.self.now c.args.position)
     (stamps_at c.deref.result.now) c.args.thread c.in-Some.begun none
-    (λ t. ap (λ (ws : List Worker). stamps_at ws t) now ∙ c.requires.stamps t) c.in-Some.ensures in
+    (λ t. ap (λ (ws : List Worker). stamps_at ws t) now ∙ c.requires.1.1.1 t) c.in-Some.ensures in
     let set : map begun_in c.set_begun.new.workers
     ≡ slice_set (map begun_in c.args.self.now.workers.items) c.args.thread
     (Some c.in-Some.begun) = rw before at c.set_begun.ensures.begun in
@@ -31,7 +31,7 @@ returns-clause-world c =
     let items : (with_items c.args.self.now.workers c.set_begun.new.workers).items
     ≡ c.set_begun.new.workers =
     with_items_is c.args.self.now.workers c.set_begun.new.workers many in
-    let world : World = world_at c.args.self.now c.args.position in
+    let world : World = world_at g.gone c.args.self.now c.args.position in
     ap (λ (bs : List (Option Begun)). record world { begun = bs })
     (ap (λ (ws : List Worker). map begun_in ws) items ∙ set)
     ∙ sym (ap (λ (o : Option Begun). begun_with world c.args.thread o) is)

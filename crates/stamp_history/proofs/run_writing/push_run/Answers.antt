@@ -1,0 +1,26 @@
+use Rattle.std.proofs.Common.{◌≡◌, ◌∙◌, ◌++◌, ℕ, List, [], true, codes, ap, refl}
+use Rattle.serde_json.specs.Written.{compact_text, members_text}
+use Rattle.serde_json.proofs.OnLiterals.{serde_json_on_literals}
+use Rattle.stamp_core.specs.Record.{Recorded}
+use Rattle.stamp_core.specs.declared.entry.Entry.{Entry}
+use Rattle.stamp_machines.specs.Script.{Scripted}
+use Rattle.stamp_machines.specs.Completing.{Completing}
+use Rattle.stamp_machines.specs.World.{completed_calls}
+use Rattle.stamp_machines.specs.RunRecord.{run_record}
+use Rattle.stamp_history.specs.HistoryText.{entries_data, after_entries, history_data}
+use Rattle.stamp_history.proofs.Appending.{onto}
+use Rattle.stamp_history.proofs.HistoryParts.{same_record}
+use Rattle.stamp_history.proofs.run_writing.push_run.Goals as goal
+
+pub returns : goal.returns
+unfolding serde_json_on_literals
+returns c =
+    let plan : Scripted = c.args.script.now in
+    let written : List Entry = c.in_ok-start.field-0.rest in
+    let all : written ≡ completed_calls plan plan.steps = ap (λ (d : Completing). d.rest) c.in_ok-start.ensures in
+    let r : Recorded = record { limits = c.limits.result; width = c.width.result; entries = written; report = [] } in
+    let same : r ≡ run_record plan = same_record (run_record plan) _ _ _ _ c.limits.ensures.limits c.width.ensures.width all refl in
+    let entries = compact_text (entries_data written) in
+    let rest = members_text true (after_entries r.limits r.width []) in
+    onto _ (codes "{\"entries\":") (entries ++ rest) c.in_ok-push_text.ensures (onto _ entries rest c.in_ok-push_completions.ensures c.in_ok-push_after_entries.ensures.text)
+    ∙ ap (λ (h : Recorded). c.args.text.now.items ++ compact_text (history_data h)) same

@@ -1,0 +1,188 @@
+-- What the steps of a script have finished, and what the later ones do.
+use Rattle.std.proofs.Common.{◌≡◌, ℕ, ◌+◌, ◌≤◌, ◌<◌, List, [], ◌∷◌, ◌++◌, length, take, drop, Option}
+use Rattle.std.proofs.Common.{Some, None, refl, sym, ◌∙◌, ap, append_assoc, arith}
+use Rattle.std.specs.Prelude.{fold, slice_get, vec_len}
+use Rattle.std.proofs.lemmas.List.{append-nil, append_cancel_left, take_all}
+use Rattle.std.proofs.lemmas.List.{length-take}
+use Rattle.std.proofs.Math.Seq.{drop-append_seam, drop-length}
+use Rattle.stamp_core.specs.declared.entry.Entry.{Entry}
+use Rattle.stamp_machines.specs.Script.{Scripted, IsSound}
+use Rattle.stamp_machines.specs.Kept.{Kept}
+use Rattle.stamp_machines.specs.World.{World, execution_of, completed_calls, step, stepped, landed}
+use Rattle.stamp_machines.specs.World.{current, stamps_of, opening}
+use Rattle.stamp_machines.specs.Progress.{HasReport}
+use Rattle.stamp_machines.specs.CompletionsFields.{IsAfter, calls_until, calls_after, HandsOn}
+use Rattle.stamp_machines.specs.CompletionsFields.{completing_at}
+use Rattle.stamp_machines.specs.CompletionsFields.{StepMade}
+use Rattle.stamp_machines.specs.StateFields.{world_at, stamps_at, SameState}
+use Rattle.stamp_machines.specs.declared.machine.Turn.{Turn}
+use Rattle.stamp_machines.specs.declared.machine.Turn.TheVariants as turned
+use Rattle.stamp_machines.specs.declared.state.Begun.{Begun}
+use Rattle.stamp_machines.specs.declared.state.State.{State}
+use Rattle.stamp_machines.specs.declared.state.Progress.{Progress}
+use Rattle.stamp_machines.specs.declared.state.Progress.TheVariants.{Idle, Going, Ended}
+use Rattle.stamp_machines.proofs.StepBound.{execution-rest}
+use Rattle.stamp_machines.proofs.StepsKeep.{execution_of-more, always-kept}
+
+-- a step takes no entry away
+landed-entries : (world : World) (t : ℕ) (b : Begun) (words : List ℕ) (now : Turn) →
+    (more : List Entry) × ((landed world t b words now).entries ≡ world.entries ++ more)
+landed-entries world t b words (turned.Going m) = ([], sym (append-nil world.entries))
+landed-entries world t b words (turned.Done r) = (_, refl)
+
+stepped-entries : (world : World) (t : ℕ) (o : Option Begun) →
+    (more : List Entry) × ((stepped world t o).entries ≡ world.entries ++ more)
+stepped-entries world t None = ([], sym (append-nil world.entries))
+stepped-entries world t (Some b) = landed-entries world t b _ _
+
+entries-more : (plan : Scripted) (world : World) (names : List ℕ) →
+    (more : List Entry) × ((fold (step plan) world names).entries ≡ world.entries ++ more)
+entries-more plan world [] = ([], sym (append-nil world.entries))
+entries-more plan world (t ∷ names) =
+    let one = stepped-entries world t (current plan world t) in
+    let rest = entries-more plan (step plan world t) names in (
+      one.0 ++ rest.0,
+      rest.1 ∙ ap (λ (es : List Entry). es ++ rest.0) one.1
+          ∙ append_assoc world.entries one.0 rest.0,
+    )
+
+-- all that a script finishes is what it has finished and what it still does
+until-and-after : (plan : Scripted) (made : ℕ) →
+    completed_calls plan plan.steps ≡ calls_until plan made ++ calls_after plan made
+until-and-after plan made =
+    let more = entries-more plan (execution_of plan (take made plan.steps)) (drop made plan.steps) in
+    let all : completed_calls plan plan.steps ≡ calls_until plan made ++ more.0 =
+    ap (λ (w : World). w.entries) (sym (execution-rest plan plan.steps made)) ∙ more.1 in
+    let rest : calls_after plan made ≡ more.0 =
+    ap (λ (es : List Entry). drop (length (calls_until plan made)) es) all
+    ∙ drop-append_seam (calls_until plan made) more.0 in
+    all ∙ ap (λ (es : List Entry). calls_until plan made ++ es) (sym rest)
+
+after-ended : (plan : Scripted) (made made' : ℕ) (e : Entry) →
+    calls_until plan made' ≡ calls_until plan made ++ e ∷ [] →
+    calls_after plan made ≡ e ∷ calls_after plan made'
+after-ended plan made made' e more =
+    let all : completed_calls plan plan.steps
+    ≡ calls_until plan made ++ (e ∷ calls_after plan made') =
+    until-and-after plan made'
+    ∙ ap (λ (es : List Entry). es ++ calls_after plan made') more
+    ∙ append_assoc (calls_until plan made) (e ∷ []) (calls_after plan made') in
+    ap (λ (es : List Entry). drop (length (calls_until plan made)) es) all
+    ∙ drop-append_seam (calls_until plan made) (e ∷ calls_after plan made')
+
+after-same : (plan : Scripted) (made made' : ℕ) → calls_until plan made' ≡ calls_until plan made →
+    calls_after plan made' ≡ calls_after plan made
+after-same plan made made' same =
+    ap (λ (es : List Entry). drop (length es) (completed_calls plan plan.steps)) same
+
+-- before the first step
+pub opening-after : (plan : Scripted) (s : State) → world_at [] s 0 ≡ opening plan →
+    vec_len s.workers ≡ length plan.threads →
+    ((t : ℕ) → stamps_at s.workers.items t ≡ []) → IsAfter plan s 0
+unfolding execution_of
+opening-after plan s world workers stamps =
+    record {
+      world = ap (λ (w : World). record w { entries = [] }) world;
+      workers = workers;
+      stamps = stamps;
+    }
+
+pub opening-completing : (plan : Scripted) (s : State) → world_at [] s 0 ≡ opening plan →
+    completing_at plan s 0
+    ≡ record { last = None; rest = completed_calls plan plan.steps }
+unfolding execution_of
+opening-completing plan s world =
+    ap (λ (es : List Entry). record {
+      last = slice_get es 0;
+      rest = completed_calls plan plan.steps;
+    }) (ap (λ (w : World). w.entries) world)
+
+-- the schedule's world, where the entries of the steps made are gone
+pub world-after : (plan : Scripted) (s : State) (made : ℕ) → IsAfter plan s made →
+    s.entries.items ≡ [] →
+    world_at (calls_until plan made) s made ≡ execution_of plan (take made plan.steps)
+world-after plan s made after none =
+    let until : calls_until plan made ++ s.entries.items ≡ calls_until plan made =
+    ap (λ (es : List Entry). calls_until plan made ++ es) none
+    ∙ append-nil (calls_until plan made) in
+    ap (λ (es : List Entry). record (world_at [] s made) { entries = es }) until ∙ after.world
+
+pub kept-after : (plan : Scripted) (s : State) (made : ℕ) → IsSound plan →
+    length plan.steps ≤ 1000000 → IsAfter plan s made → s.entries.items ≡ [] →
+    Kept plan (world_at (calls_until plan made) s made)
+kept-after plan s made sound few after none =
+    rw (world-after plan s made after none)
+    (always-kept plan (take made plan.steps) sound (simp length-take (omega (arith, few))))
+
+pub after-reserved : (plan : Scripted) (old mid : State) (made : ℕ) → SameState old mid →
+    IsAfter plan old made → IsAfter plan mid made
+after-reserved plan old mid made same after =
+    record {
+      world = simp (same.words, same.begun) after.world;
+      workers = same.workers ∙ after.workers;
+      stamps = λ t. same.stamps t ∙ after.stamps t;
+    }
+
+-- what is told of a step, and what it left
+going : (plan : Scripted) (old new : State) (made t : ℕ) → old.entries.items ≡ [] →
+    calls_until plan (made + 1) ≡ calls_until plan made ++ new.entries.items →
+    calls_until plan made ++ new.entries.items ≡ calls_until plan made ++ old.entries.items →
+    (new.entries.items ≡ []) × (calls_after plan (made + 1) ≡ calls_after plan made)
+going plan old new made t none until same =
+    let gone : List Entry = calls_until plan made in
+    let items : new.entries.items ≡ [] =
+    append_cancel_left gone new.entries.items old.entries.items same ∙ none in (
+      items,
+      after-same plan made (made + 1)
+          (until ∙ ap (λ (es : List Entry). gone ++ es) items ∙ append-nil gone),
+    )
+
+handed-on : (plan : Scripted) (old new : State) (made t : ℕ) (p : Progress) →
+    old.entries.items ≡ [] →
+    (step plan (world_at (calls_until plan made) old made) t).entries
+    ≡ calls_until plan made ++ new.entries.items →
+    calls_until plan (made + 1) ≡ calls_until plan made ++ new.entries.items →
+    HasReport plan (world_at (calls_until plan made) old made) t p → HandsOn plan new made p
+handed-on plan old new made t Idle none entries until told =
+    going plan old new made t none until
+    (sym entries ∙ ap (λ (o : Option Begun). (stepped (world_at (calls_until plan made) old made) t o).entries) told)
+handed-on plan old new made t Going none entries until told =
+    going plan old new made t none until (sym entries ∙ told.1)
+handed-on plan old new made t Ended none entries until told =
+    let gone : List Entry = calls_until plan made in
+    let one : new.entries.items ≡ told.0 ∷ [] =
+    append_cancel_left gone new.entries.items (told.0 ∷ [])
+    (sym entries ∙ told.1 ∙ ap (λ (es : List Entry). (gone ++ es) ++ told.0 ∷ []) none
+    ∙ ap (λ (es : List Entry). es ++ told.0 ∷ []) (append-nil gone)) in
+    let rest : calls_after plan made ≡ told.0 ∷ calls_after plan (made + 1) =
+    after-ended plan made (made + 1) told.0
+    (until ∙ ap (λ (es : List Entry). gone ++ es) one) in
+    rw (one, rest) refl
+
+pub step-made : (plan : Scripted) (old new : State) (made t : ℕ) (p : Progress) →
+    IsAfter plan old made → old.entries.items ≡ [] →
+    take (made + 1) plan.steps ≡ take made plan.steps ++ t ∷ [] →
+    world_at (calls_until plan made) new (made + 1)
+    ≡ step plan (world_at (calls_until plan made) old made) t →
+    vec_len new.workers ≡ vec_len old.workers →
+    ((u : ℕ) → stamps_at new.workers.items u
+    ≡ stamps_of u (calls_until plan made ++ new.entries.items)) →
+    HasReport plan (world_at (calls_until plan made) old made) t p → StepMade plan new made p
+step-made plan old new made t p after none names world workers stamps told =
+    let until' : List Entry = calls_until plan (made + 1) in
+    let here : world_at (calls_until plan made) new (made + 1)
+    ≡ execution_of plan (take (made + 1) plan.steps) =
+    world ∙ ap (λ (w : World). step plan w t) (world-after plan old made after none)
+    ∙ sym (execution_of-more plan (take made plan.steps) t)
+    ∙ ap (λ (ns : List ℕ). execution_of plan ns) (sym names) in
+    let until : until' ≡ calls_until plan made ++ new.entries.items =
+    ap (λ (w : World). w.entries) (sym here) in
+    record {
+      after = record {
+        world = ap (λ (w : World). record w { entries = until' }) here;
+        workers = workers ∙ after.workers;
+        stamps = λ u. stamps u ∙ ap (λ (es : List Entry). stamps_of u es) (sym until);
+      };
+      hands_on = handed-on plan old new made t p none
+          (ap (λ (w : World). w.entries) (sym world)) until told;
+    }

@@ -1,0 +1,49 @@
+-- How the fields of a script's finished calls are read, and what they keep to.
+use Rattle.std.specs.Prelude.{◌≡◌, ℕ, ◌+◌, List, [], length, take, drop, slice_get}
+use Rattle.std.specs.Prelude.{vec_len}
+use Rattle.stamp_core.specs.declared.entry.Entry.{Entry}
+use Rattle.stamp_machines.specs.Completing.{Completing, after_next}
+use Rattle.stamp_machines.specs.Script.{Scripted}
+use Rattle.stamp_machines.specs.World.{World, execution_of, completed_calls, stamps_of}
+use Rattle.stamp_machines.specs.StateFields.{world_at, stamps_at}
+use Rattle.stamp_machines.specs.declared.state.State.{State}
+use Rattle.stamp_machines.specs.declared.state.Progress.{Progress}
+use Rattle.stamp_machines.specs.declared.state.Progress.TheVariants.{Idle, Going, Ended}
+use Rattle.stamp_machines.specs.declared.completions.Completions.TheInside.{Inside}
+
+-- what so many of the script's steps finish, and what the later ones do
+abbrev pub calls_until : Scripted → ℕ → List Entry
+calls_until plan made = completed_calls plan (take made plan.steps)
+
+abbrev pub calls_after : Scripted → ℕ → List Entry
+calls_after plan made = drop (length (calls_until plan made)) (completed_calls plan plan.steps)
+
+-- no entry but the last one is kept
+abbrev pub completing_at : Scripted → State → ℕ → Completing
+completing_at plan s made =
+    record { last = slice_get s.entries.items 0; rest = calls_after plan made }
+
+abbrev pub completing_of : Inside → Completing
+completing_of c = completing_at c.script.now c.state c.made
+
+-- the words and the threads' calls are those of the schedule for the steps made
+pub record IsAfter (plan : Scripted) (s : State) (made : ℕ) : Type 0 where
+  pub world : record (world_at [] s made) { entries = calls_until plan made }
+      ≡ execution_of plan (take made plan.steps)
+  pub workers : vec_len s.workers ≡ length plan.threads
+  pub stamps : (t : ℕ) → stamps_at s.workers.items t ≡ stamps_of t (calls_until plan made)
+
+-- what is to come after a step that is told so
+abbrev pub HandsOn : Scripted → State → ℕ → Progress → Type 0
+HandsOn plan s made Ended = completing_at plan s (made + 1) ≡ after_next (calls_after plan made)
+HandsOn plan s made Idle =
+    (s.entries.items ≡ []) × (calls_after plan (made + 1) ≡ calls_after plan made)
+HandsOn plan s made Going =
+    (s.entries.items ≡ []) × (calls_after plan (made + 1) ≡ calls_after plan made)
+
+pub record StepMade (plan : Scripted) (s : State) (made : ℕ) (p : Progress) : Type 0 where
+  pub after : IsAfter plan s (made + 1)
+  pub hands_on : HandsOn plan s made p
+
+abbrev pub IsCompleting : Inside → Type 0
+IsCompleting c = IsAfter c.script.now c.state c.made

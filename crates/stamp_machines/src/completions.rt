@@ -1,0 +1,107 @@
+//! The finished calls of a script, one after the other.
+ghost use Rattle.std.specs.Prelude.{◌≡◌, ◌<◌, [], None, IfOk, OnOk, OnErr, length, option_copied};
+ghost use Rattle.stamp_machines.specs.CompletionsFields.{IsAfter, StepMade, completing_at};
+ghost use Rattle.stamp_machines.specs.CompletionsFields.{calls_after};
+ghost use Rattle.stamp_machines.specs.Completing.{after_next};
+
+use crate::script::Script;
+use crate::state::{Progress, State};
+use stamp_core::Entry;
+use std::alloc::{AllocError, Global};
+use std::marker::Model;
+
+/// The finished calls of a script that is run by its own steps, in the order of their last steps:
+/// the entries of `run`, handed on one at a time. `advance` runs on to the next one, and `get` has
+/// it until then. No other entry is kept: of a call before it there is only the stamp that it
+/// answered.
+#[derive(Drop)]
+pub struct Completions<'a> {
+    script: &'a Script,
+    state: State,
+    made: usize,
+}
+
+impl<'a> Model for Completions<'a> {
+    ghost use Rattle.stamp_machines.specs.Completing.{Completing};
+
+    ghost Value = { Completing };
+
+    ghost use Rattle.stamp_machines.specs.CompletionsFields.{completing_of, IsCompleting};
+
+    ghost view = { completing_of };
+
+    ghost invariant = { IsCompleting };
+}
+
+/// Makes the script's step after those made, where no entry is kept. There is none either where
+/// memory is refused.
+#[inline(always)]
+fn make_step(script: &Script, state: &mut State, made: usize) -> Result<Progress, AllocError>
+    requires few { made < length script.now.steps }
+    requires after { IsAfter script.now state.old made }
+    requires none { state.old.entries.items ≡ [] }
+    ensures ok { IfOk result (λ progress. StepMade script.now state.new made progress) }
+    ensures after { OnErr result (IsAfter script.now state.new made) }
+    ensures none { OnErr result (state.new.entries.items ≡ []) }
+{
+    let thread = script.steps()[made] as usize;
+    state.reserve(thread)?;
+    Ok(state.step(script, thread, made as u64))
+}
+
+/// Makes the script's steps after those made, up to the one by which a call ends, or else all.
+fn run_on(script: &Script, state: &mut State, made: &mut usize) -> Result<(), AllocError>
+    requires after { IsAfter script.now state.old made.old }
+    requires none { state.old.entries.items ≡ [] }
+    ensures after { IsAfter script.now state.new made.new }
+    ensures ok { OnOk result (completing_at script.now state.new made.new
+        ≡ after_next (calls_after script.now made.old)) }
+    ensures err { OnErr result (completing_at script.now state.new made.new
+        ≡ record { last = None; rest = calls_after script.now made.old }) }
+{
+    let steps = script.steps().len();
+    while *made < steps {
+        let progress = make_step(script, state, *made)?;
+        *made += 1;
+        if let Progress::Ended = progress {
+            return Ok(());
+        }
+    }
+    Ok(())
+}
+
+impl<'a> Completions<'a> {
+    ghost use Rattle.stamp_machines.specs.World.{completed_calls};
+
+    /// Before the script's first step.
+    pub fn start(alloc: Global, script: &'a Script) -> Result<Completions<'a>, AllocError>
+        ensures { IfOk result (λ r. r ≡ record {
+          last = None;
+          rest = completed_calls script.now script.now.steps;
+        }) }
+    {
+        let state = State::new(alloc, script.shape(), script.thread_count())?;
+        Ok(Completions {
+            script,
+            state,
+            made: 0,
+        })
+    }
+
+    /// Runs on until one more call has ended, or else to the script's end. Where memory is refused,
+    /// no entry is lost: made again, it goes on from there.
+    pub fn advance(&mut self) -> Result<(), AllocError>
+        ensures ok { OnOk result (self.new ≡ after_next self.old.rest) }
+        ensures err { OnErr result (self.new ≡ record { last = None; rest = self.old.rest }) }
+    {
+        self.state.entries.clear();
+        run_on(self.script, &mut self.state, &mut self.made)
+    }
+
+    /// The entry of the call by whose end `advance` stopped; none before it, and after the last.
+    pub fn get(&self) -> Option<&Entry>
+        ensures { option_copied result ≡ self.now.last }
+    {
+        self.state.entries.first()
+    }
+}
