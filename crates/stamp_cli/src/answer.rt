@@ -14,8 +14,9 @@ use crate::orders::Order;
 use crate::sources::Source;
 use crate::stamp_text::stamp_line;
 use stamp_core::Layout;
-use stamp_history::{check, migrate, read_history, read_script, replay_text};
-use stamp_history::{write_history, write_run};
+use stamp_history::{
+    check, migrate, read_history, read_script, replay_text, write_history, write_run,
+};
 use stamp_machines::run_reported;
 use std::alloc::Global;
 

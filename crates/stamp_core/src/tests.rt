@@ -1,8 +1,8 @@
 use crate::{
-    Call, CoreError, Decision, Entry, Layout, Limits, Record, ReplayError, Reply, StampKind, Word,
-    Words, decide, is_lock_stamp, is_lock_stamp_in, is_optimistic_stamp, is_optimistic_stamp_in,
-    is_read_stamp, is_read_stamp_in, is_write_stamp, is_write_stamp_in, replay, respell,
-    stamp_kind, stamp_kind_in, step,
+    Call, CoreError, Decision, Entry, Layout, Limits, LockDecision, LockReply, Record, ReplayError,
+    Reply, StampKind, Word, Words, decide, decide_lock, is_lock_stamp, is_lock_stamp_in,
+    is_optimistic_stamp, is_optimistic_stamp_in, is_read_stamp, is_read_stamp_in, is_write_stamp,
+    is_write_stamp_in, replay, respell, stamp_kind, stamp_kind_in, step,
 };
 use std::alloc::{AllocError, Global};
 use std::test::Fail;
@@ -146,6 +146,21 @@ fn a_decision_answers_changes_or_waits(rt: HostRuntime) -> Result<(), Fail> {
     assert_eq!(rt; valid, Some((256, Reply::Yes)));
     let waits = decided(limits, 257, Call::WriteLock)?;
     assert_eq!(rt; waits, None);
+    Ok(())
+}
+
+#[test]
+fn the_lock_decides_alike_without_room_for_words(rt: HostRuntime) -> Result<(), Fail> {
+    let limits = limits(127, 1000)?;
+    let opening = Word::opening();
+    assert!(rt; limits.admits(opening));
+    for call in [Call::TryRead, Call::Validate(256), Call::ReadCount] {
+        assert!(rt; call.is_lock_call());
+        let decision = decide_lock(limits, opening, &call);
+        assert_eq!(rt; decision.as_decision(), decide(limits, opening, call));
+    }
+    assert_eq!(rt; LockReply::Count(3).as_reply(), Reply::Count(3));
+    assert_eq!(rt; LockDecision::Wait.as_decision(), Decision::Wait);
     Ok(())
 }
 

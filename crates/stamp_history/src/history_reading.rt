@@ -1,6 +1,6 @@
 //! A record out of its text.
 
-ghost use Rattle.std.specs.Prelude.{◌≡◌};
+ghost use Rattle.std.specs.Prelude.{◌≡◌, ◌<◌, IfErr, length};
 ghost use Rattle.serde_json.specs.View.{view};
 ghost use Rattle.stamp_core.specs.Record.{recorded, IsRecorded};
 ghost use Rattle.stamp_history.specs.Gives.{Gives};
@@ -47,7 +47,8 @@ fn history_from(alloc: Global, value: &Value) -> Result<Record, ReadError>
 /// `Memory`, which may come before these. Nothing is kept after any.
 #[tactic(auto, unfolding(crate::specs::History::history_of))]
 pub fn read_history(alloc: Global, bytes: &[u8]) -> Result<Record, ReadError>
-    ensures { Gives ReadError.Memory (λ found. found) result (history_of bytes.now) }
+    ensures read { Gives ReadError.Memory (λ found. found) result (history_of bytes.now) }
+    ensures memory { IfErr result (λ e. e ≡ ReadError.Memory → 0 < length bytes.now) }
 {
     let value = json(alloc, bytes)?;
     history_from(alloc, &value)

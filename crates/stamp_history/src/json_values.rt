@@ -1,6 +1,6 @@
 //! What is asked of a JSON value.
 
-ghost use Rattle.std.specs.Prelude.{◌≡◌, map, is_some, option_map};
+ghost use Rattle.std.specs.Prelude.{◌≡◌, ◌<◌, IfOk, IfErr, length, map, is_some, option_map};
 ghost use Rattle.std.specs.List.{list_all};
 ghost use Rattle.serde_json.specs.Find.{get, get_member, as_array};
 ghost use Rattle.serde_json.specs.View.{view, items_view, members_view};
@@ -14,7 +14,9 @@ use std::alloc::Global;
 
 /// The JSON value that the bytes are.
 pub(crate) fn json(alloc: Global, bytes: &[u8]) -> Result<Value, ReadError>
-    ensures { Gives ReadError.Memory view result (json_of bytes.now) }
+    ensures read { Gives ReadError.Memory view result (json_of bytes.now) }
+    ensures some { IfOk result (λ _. 0 < length bytes.now) }
+    ensures memory { IfErr result (λ e. e ≡ ReadError.Memory → 0 < length bytes.now) }
 {
     match Value::from_slice(alloc, bytes) {
         Ok(value) => Ok(value),

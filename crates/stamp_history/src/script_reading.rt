@@ -1,6 +1,6 @@
 //! A script out of its text.
 
-ghost use Rattle.std.specs.Prelude.{◌≡◌, map};
+ghost use Rattle.std.specs.Prelude.{◌≡◌, ◌<◌, IfErr, length, map};
 ghost use Rattle.stamp_machines.specs.ScriptFault.{calls_in};
 ghost use Rattle.stamp_history.specs.Gives.{Gives};
 ghost use Rattle.stamp_history.specs.ScriptReading.{faultless, script_of};
@@ -41,7 +41,8 @@ fn script_from(
 /// which may come before these. Nothing is kept after any.
 #[tactic(auto, unfolding(crate::specs::ScriptReading::script_of, crate::specs::ScriptReading::plan_in))]
 pub fn read_script(alloc: Global, bytes: &[u8]) -> Result<Script, ReadError>
-    ensures { Gives ReadError.Memory (λ script. script) result (script_of bytes.now) }
+    ensures read { Gives ReadError.Memory (λ script. script) result (script_of bytes.now) }
+    ensures memory { IfErr result (λ e. e ≡ ReadError.Memory → 0 < length bytes.now) }
 {
     let value = json(alloc, bytes)?;
     check_top(&value)?;

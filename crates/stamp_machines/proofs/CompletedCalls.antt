@@ -1,10 +1,10 @@
 -- What the steps of a script have finished, and what the later ones do.
-use Rattle.std.proofs.Common.{◌≡◌, ℕ, ◌+◌, ◌≤◌, ◌<◌, List, [], ◌∷◌, ◌++◌, length, take, drop, Option}
-use Rattle.std.proofs.Common.{Some, None, refl, sym, ◌∙◌, ap, append_assoc, arith}
+use Rattle.std.proofs.Common.{◌≡◌, ℕ, ◌+◌, ◌≤◌, List, [], ◌∷◌, ◌++◌, length, take, drop}
+use Rattle.std.proofs.Common.{Option, Some, None, refl, sym, ◌∙◌, ap, append_assoc, arith}
 use Rattle.std.specs.Prelude.{fold, slice_get, vec_len}
-use Rattle.std.proofs.lemmas.List.{append-nil, append_cancel_left, take_all}
+use Rattle.std.proofs.lemmas.List.{append-nil, append_cancel_left}
 use Rattle.std.proofs.lemmas.List.{length-take}
-use Rattle.std.proofs.Math.Seq.{drop-append_seam, drop-length}
+use Rattle.std.proofs.Math.Seq.{drop-append_seam}
 use Rattle.stamp_core.specs.declared.entry.Entry.{Entry}
 use Rattle.stamp_machines.specs.Script.{Scripted, IsSound}
 use Rattle.stamp_machines.specs.Kept.{Kept}
@@ -50,7 +50,8 @@ entries-more plan world (t ∷ names) =
 until-and-after : (plan : Scripted) (made : ℕ) →
     completed_calls plan plan.steps ≡ calls_until plan made ++ calls_after plan made
 until-and-after plan made =
-    let more = entries-more plan (execution_of plan (take made plan.steps)) (drop made plan.steps) in
+    let more =
+    entries-more plan (execution_of plan (take made plan.steps)) (drop made plan.steps) in
     let all : completed_calls plan plan.steps ≡ calls_until plan made ++ more.0 =
     ap (λ (w : World). w.entries) (sym (execution-rest plan plan.steps made)) ∙ more.1 in
     let rest : calls_after plan made ≡ more.0 =
@@ -144,8 +145,9 @@ handed-on : (plan : Scripted) (old new : State) (made t : ℕ) (p : Progress) �
     calls_until plan (made + 1) ≡ calls_until plan made ++ new.entries.items →
     HasReport plan (world_at (calls_until plan made) old made) t p → HandsOn plan new made p
 handed-on plan old new made t Idle none entries until told =
+    let world : World = world_at (calls_until plan made) old made in
     going plan old new made t none until
-    (sym entries ∙ ap (λ (o : Option Begun). (stepped (world_at (calls_until plan made) old made) t o).entries) told)
+    (sym entries ∙ ap (λ (o : Option Begun). (stepped world t o).entries) told)
 handed-on plan old new made t Going none entries until told =
     going plan old new made t none until (sym entries ∙ told.1)
 handed-on plan old new made t Ended none entries until told =

@@ -20,10 +20,12 @@ use Rattle.stamp_machines.proofs.StepsKeep.{always-kept, execution_of-more}
 use Rattle.stamp_machines.proofs.EntryOrder.{InOrder, always-in-order}
 use Rattle.stamp_machines.proofs.EntryCount.{completed-recorded}
 
-pub run-kept : (r : Inside) → IsAt r → Kept r.script.now (world_at [] r.state (length r.steps.items))
+pub run-kept : (r : Inside) → IsAt r →
+    Kept r.script.now (world_at [] r.state (length r.steps.items))
 run-kept r h = rw h.world (always-kept r.script.now r.steps.items h.sound h.few)
 
-same_world : (gone : List Entry) (old new : State) (n : ℕ) → SameState old new → world_at gone new n ≡ world_at gone old n
+same_world : (gone : List Entry) (old new : State) (n : ℕ) → SameState old new →
+    world_at gone new n ≡ world_at gone old n
 same_world gone old new n s = simp (s.words, s.begun, s.entries)
 
 pub world-more : (plan : Scripted) (old mid new : State) (names names' : List ℕ) (t : ℕ) →

@@ -18,7 +18,7 @@ use Rattle.stamp_machines.specs.declared.running.Stepped.TheVariants.{Idle, Ende
 use Rattle.stamp_machines.specs.declared.running.Stepped.TheVariants.{Going as Still}
 use Rattle.stamp_machines.specs.declared.state.Progress.{Progress}
 use Rattle.stamp_machines.specs.declared.state.Progress.TheVariants as progress
-use Rattle.stamp_machines.specs.Progress.{HasReport, progress_of, with_entry, told_by}
+use Rattle.stamp_machines.specs.Progress.{HasReport, progress_of, told_by}
 use Rattle.stamp_core.specs.Decision.{stamp_in}
 use Rattle.stamp_machines.specs.Script.{IsSound}
 use Rattle.stamp_machines.specs.Kept.{Kept}
@@ -152,12 +152,13 @@ told-reports plan world t progress.Ended entries is r =
 -- what a step of a thread that is in a call leaves
 pub record Taken (gone : List Entry) (plan : Scripted) (old mid new : State) (t position : ℕ)
     (s : Progress) : Type 0 where
-    pub world : world_at gone new (position + 1) ≡ step plan (world_at gone old position) t
-    pub stamps : (u : ℕ) → stamps_at mid.workers.items u ≡ stamps_of u (gone ++ mid.entries.items) →
-        stamps_at new.workers.items u ≡ stamps_of u (gone ++ new.entries.items)
-    pub report : HasReport plan (world_at gone old position) t s
+  pub world : world_at gone new (position + 1) ≡ step plan (world_at gone old position) t
+  pub stamps : (u : ℕ) → stamps_at mid.workers.items u ≡ stamps_of u (gone ++ mid.entries.items) →
+      stamps_at new.workers.items u ≡ stamps_of u (gone ++ new.entries.items)
+  pub report : HasReport plan (world_at gone old position) t s
 
-pub taken : (gone : List Entry) (plan : Scripted) (old mid new : State) (t position : ℕ) (s : Progress) →
+pub taken : (gone : List Entry) (plan : Scripted) (old mid new : State) (t position : ℕ)
+    (s : Progress) →
     is_some (current plan (world_at gone old position) t) ≡ true →
     t < length (map begun_in old.workers.items) →
     world_at gone mid position ≡ begun_with (world_at gone old position) t
@@ -175,14 +176,16 @@ taken gone plan old mid new t position s some h m landed =
         rw (begun-there plan (world_at gone old position) (world_at gone mid position) t b h e m) at
         landed in
         let w : world_at gone new (position + 1) ≡ step plan (world_at gone old position) t =
-        l.world ∙ step-begun plan (world_at gone old position) (world_at gone mid position) t b e m in
+        l.world
+        ∙ step-begun plan (world_at gone old position) (world_at gone mid position) t b e m in
         record {
           world = w;
-          stamps = λ u before. stamps-taken (world_at gone mid position) (world_at gone new (position + 1)) u
-              t b _ _ _ _ (l.stamps u) before l.world;
+          stamps = λ u before. stamps-taken (world_at gone mid position)
+              (world_at gone new (position + 1)) u t b _ _ _ _ (l.stamps u) before l.world;
           report = rw l.told_is
               (has-report plan (world_at gone old position) t _
-              (report-begun plan (world_at gone old position) (world_at gone mid position) t b _ e m refl));
+              (report-begun plan (world_at gone old position) (world_at gone mid position) t b _ e m
+              refl));
         }
 
 -- its access is safe

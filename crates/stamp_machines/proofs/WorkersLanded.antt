@@ -85,8 +85,8 @@ gone-before gone entries Idle = refl
 gone-before gone entries Still = refl
 gone-before gone entries (Ended e) = sym (append_assoc gone entries (e ∷ []))
 
-pub state-landed : (gone : List Entry) (old new : State) (t position : ℕ) (words' : List ℕ) (workers' : List Worker)
-    (s : Progress) → new.words.items ≡ words' → new.workers.items ≡ workers' →
+pub state-landed : (gone : List Entry) (old new : State) (t position : ℕ) (words' : List ℕ)
+    (workers' : List Worker) (s : Progress) → new.words.items ≡ words' → new.workers.items ≡ workers' →
     IfSome (slice_index_or (map begun_in old.workers.items) t None)
     (λ b. AllLanded b t position old.words.items old.workers.items old.entries.items words' workers'
     new.entries.items s) →
@@ -97,7 +97,8 @@ state-landed gone old new t position words' workers' s words workers all =
   where
     go : (o : Option Begun) →
         IfSome o (λ b. AllLanded b t position old.words.items old.workers.items old.entries.items
-        words' workers' new.entries.items s) → IfSome o (λ b. StateLanded gone b t position old new s)
+        words' workers' new.entries.items s) →
+        IfSome o (λ b. StateLanded gone b t position old new s)
     go None l = tt
     go (Some b) l =
         let turned : Turn = turn_on b old.words.items in

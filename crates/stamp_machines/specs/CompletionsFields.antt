@@ -4,7 +4,7 @@ use Rattle.std.specs.Prelude.{vec_len}
 use Rattle.stamp_core.specs.declared.entry.Entry.{Entry}
 use Rattle.stamp_machines.specs.Completing.{Completing, after_next}
 use Rattle.stamp_machines.specs.Script.{Scripted}
-use Rattle.stamp_machines.specs.World.{World, execution_of, completed_calls, stamps_of}
+use Rattle.stamp_machines.specs.World.{execution_of, completed_calls, stamps_of}
 use Rattle.stamp_machines.specs.StateFields.{world_at, stamps_at}
 use Rattle.stamp_machines.specs.declared.state.State.{State}
 use Rattle.stamp_machines.specs.declared.state.Progress.{Progress}

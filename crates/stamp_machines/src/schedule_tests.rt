@@ -2,8 +2,9 @@
 ghost use Rattle.std.specs.Prelude.{◌≡◌, IfOk};
 
 use crate::fixtures::{entry, limits, script, script_under, words};
-use crate::{Arg, Completions, MOST_STEPS, Run, RunError, Script, ScriptCall, Stepped};
-use crate::{run, run_reported};
+use crate::{
+    Arg, Completions, MOST_STEPS, Run, RunError, Script, ScriptCall, Stepped, run, run_reported,
+};
 use stamp_core::{Call, Entry, Layout, Limits, Reply};
 use std::alloc::Global;
 use std::process::Abort;

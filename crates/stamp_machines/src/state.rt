@@ -326,7 +326,8 @@ impl State {
         requires workers { vec_len self.old.workers ≡ length script.now.threads }
         requires stamps { (t : ℕ) → stamps_at self.old.workers.items t
             ≡ stamps_of t (gone ++ self.old.entries.items) }
-        ensures begun { result ≡ is_some (current script.now (world_at gone self.old position) thread) }
+        ensures begun { result ≡ is_some
+            (current script.now (world_at gone self.old position) thread) }
         ensures world { world_at gone self.new position
             ≡ begun_with (world_at gone self.old position) thread
             (current script.now (world_at gone self.old position) thread) }
@@ -350,7 +351,8 @@ impl State {
         requires workers { vec_len self.old.workers ≡ length script.now.threads }
         requires stamps { (t : ℕ) → stamps_at self.old.workers.items t
             ≡ stamps_of t (gone ++ self.old.entries.items) }
-        ensures begun { result ≡ is_some (current script.now (world_at gone self.old position) thread) }
+        ensures begun { result ≡ is_some
+            (current script.now (world_at gone self.old position) thread) }
         ensures world { world_at gone self.new position
             ≡ begun_with (world_at gone self.old position) thread
             (current script.now (world_at gone self.old position) thread) }

@@ -36,4 +36,5 @@ closes limits id v me words slots word is end at =
             subst (λ (n : ℕ). RepresentsAt limits n (events_after limits r.log)) last r.represents;
       };
       own = part.own;
+      given = part.given;
     }

@@ -346,6 +346,7 @@ allows_release shape slots id me version held free xs is writing down up s r _ t
         log = r.log;
         begins = (fits_here shape s r id v here).part.observed;
         after = λ i. (w ∷ [], (is i).1);
+        few = (let l = r.fewer k.locked in let p = puts_put r.log v.name xs in omega arith);
         consistent = t.1;
       },
     )

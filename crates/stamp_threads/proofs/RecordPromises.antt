@@ -18,6 +18,7 @@ use Rattle.stamp_threads.specs.RecordRule.{Confirmed, Overtaken, word_to_confirm
 use Rattle.stamp_threads.specs.RecordCall.{Recorded, SawWord, WasBusy, WasLost, WasSpent}
 use Rattle.stamp_threads.specs.RecordCall.{HaveMet}
 use Rattle.stamp_threads.proofs.Beginnings.{begins_further}
+use Rattle.stamp_threads.proofs.RecordLogs.{puts_get}
 use Rattle.stamp_threads.proofs.RecordWords.{held_test, puts_of, held_is, same_word, word_small}
 
 -- two seats after a meeting
@@ -252,6 +253,7 @@ module _ (shape : RecordShape) (v : RecordPassView) (loaded : ℕ) where
           own = refl;
           same = record { name = refl; splits = refl };
           idle = refl;
+          few = (let p = puts_get o.log v.name words in let l = o.left.few in omega arith);
           consistent = o.consistent;
         })
 

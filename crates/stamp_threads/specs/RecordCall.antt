@@ -1,5 +1,5 @@
 -- What the calls of a running record promise. v is the pass before the call, and w after it.
-use Rattle.std.specs.Prelude.{◌≡◌, ◌≢◌, ℕ, true, false, [], ◌∷◌, ◌++◌}
+use Rattle.std.specs.Prelude.{◌≡◌, ◌≢◌, ℕ, ◌≤◌, true, false, [], ◌∷◌, ◌++◌}
 use mathlib.Core.List.{IsPrefix}
 use Rattle.stamp_core.specs.Content.{RecordReplies}
 use Rattle.stamp_core.specs.declared.call.Call.{Call}
@@ -27,6 +27,7 @@ pub record Recorded (shape : RecordShape) (call : Call) (reply : Reply) (v w : R
   pub own : w.own ≡ v.own ++ Called call reply ∷ []
   pub same : IsSamePass v w
   pub idle : w.phase ≡ Idle
+  pub few : puts w.observed ≤ shape.limits.versions
   pub consistent : IsConsistentWith shape.width w
 
 -- the pass has observed a history that leaves this word, and made no call: where that history is

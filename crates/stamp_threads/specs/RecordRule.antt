@@ -142,6 +142,7 @@ module _ (shape : RecordShape) (v : RecordPassView) (found : ℕ) (me : Seated) 
     pub log : RecordLog
     pub begins : IsPrefix v.observed log
     pub after : me ≡ alone (calling v log (put_of words))
+    pub few : puts (log ++ entry v.name (put_of words) ∷ []) ≤ shape.limits.versions
     pub consistent : IsConsistentWith shape.width (calling v log (put_of words))
 
   -- the first load of a get: where nobody has write mode the pass begins to read

@@ -1,8 +1,8 @@
-use Rattle.std.proofs.Common.{◌≡◌, ◌∙◌, ◌++◌, true, codes, ap, sym, subst}
+use Rattle.std.proofs.Common.{◌≡◌, ◌∙◌, ◌++◌, true, codes, ap}
 use Rattle.serde_json.specs.Data.{member, no_members}
 use Rattle.serde_json.specs.Written.{compact_text, members_text}
 use Rattle.serde_json.proofs.OnLiterals.{serde_json_on_literals}
-use Rattle.stamp_core.specs.Limits.{Bounds, AreInRange, bounds}
+use Rattle.stamp_core.specs.Limits.{Bounds, bounds}
 use Rattle.stamp_history.specs.ReplayText.{number_data}
 use Rattle.stamp_history.specs.HistoryText.{after_entries, with_report}
 use Rattle.stamp_history.proofs.Appending.{onto, before}

@@ -1,14 +1,12 @@
 use Rattle.std.proofs.Common.{◌≡◌, ◌∙◌, ◌+◌, ◌<◌, ◌++◌, ◌∷◌, ℕ, List, [], length, take, get_or}
 use Rattle.std.proofs.Common.{ap, sym, arith}
 use Rattle.std.specs.Prelude.{vec_len}
-use Rattle.std.specs.List.{All}
 use Rattle.std.proofs.lemmas.List.{take_more, append-nil}
 use Rattle.std.proofs.lemmas.List.Elements.{All-get_or}
 use Rattle.stamp_core.specs.declared.entry.Entry.{Entry}
 use Rattle.stamp_machines.specs.Script.{Scripted}
-use Rattle.stamp_machines.specs.Kept.{Kept}
 use Rattle.stamp_machines.specs.World.{stamps_of}
-use Rattle.stamp_machines.specs.StateFields.{world_at, stamps_at}
+use Rattle.stamp_machines.specs.StateFields.{stamps_at}
 use Rattle.stamp_machines.specs.CompletionsFields.{IsAfter, calls_until}
 use Rattle.stamp_machines.specs.declared.state.State.{State}
 use Rattle.stamp_machines.proofs.CompletedCalls.{step-made, after-reserved, kept-after}
@@ -33,9 +31,8 @@ step-requires c =
     let stamps : (t : ℕ) → stamps_at old.workers.items t
     ≡ stamps_of t (calls_until plan made ++ old.entries.items) =
     λ t. after.stamps t ∙ ap (λ (es : List Entry). stamps_of t es)
-        (sym (append-nil (calls_until plan made))
-        ∙ ap (λ (es : List Entry). calls_until plan made ++ es) (sym none)) in
-    (
+    (sym (append-nil (calls_until plan made))
+    ∙ ap (λ (es : List Entry). calls_until plan made ++ es) (sym none)) in (
       c.steps.ensures.sound,
       (
         kept-after plan old made c.steps.ensures.sound c.steps.ensures.few after none,

@@ -27,8 +27,7 @@ step-requires c =
     let stamps : (t : ℕ) → stamps_at c.reserve-2.new.self.workers.items t
     ≡ stamps_of t c.reserve-2.new.self.entries.items =
     λ t. same.stamps t ∙ c.self.invariant.stamps t
-        ∙ ap (λ (es : List Entry). stamps_of t es) (sym same.entries) in
-    (
+    ∙ ap (λ (es : List Entry). stamps_of t es) (sym same.entries) in (
       c.self.invariant.sound,
       (kept, (few, (thread, (workers, (stamps, (room.room, room.entries)))))),
     )

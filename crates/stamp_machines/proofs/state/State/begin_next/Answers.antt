@@ -1,4 +1,4 @@
-use Rattle.std.proofs.Common.{◌≡◌, ℕ, List, Option, Some, None, false, sym, ◌∙◌, ap, arith}
+use Rattle.std.proofs.Common.{◌≡◌, List, Option, Some, None, false, sym, ◌∙◌, ap, arith}
 use Rattle.std.specs.Prelude.{map, slice_index_or, slice_set, is_some, length}
 use Rattle.std.proofs.lemmas.Grind.{common_steps}
 use Rattle.std.specs.Vec.{with_items}
@@ -18,8 +18,8 @@ returns-clause-world g c =
     let none : is_some
     (slice_index_or (map begun_in c.args.self.now.workers.items) c.args.thread None) ≡ false =
     c.requires.0 in
-    let is : current c.args.script.now (world_at g.gone c.args.self.now c.args.position) c.args.thread
-    ≡ Some c.in-Some.begun =
+    let is : current c.args.script.now (world_at g.gone c.args.self.now c.args.position)
+    c.args.thread ≡ Some c.in-Some.begun =
     begun-next c.args.script.now (world_at g.gone c.args.self.now c.args.position)
     (stamps_at c.deref.result.now) c.args.thread c.in-Some.begun none
     (λ t. ap (λ (ws : List Worker). stamps_at ws t) now ∙ c.requires.1.1.1 t) c.in-Some.ensures in

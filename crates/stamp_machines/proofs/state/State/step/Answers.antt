@@ -1,4 +1,4 @@
-use Rattle.std.proofs.Common.{◌≡◌, ◌<◌, ◌++◌, ◌∙◌, ℕ, length, true, map, sym, ap, arith}
+use Rattle.std.proofs.Common.{◌≡◌, ◌<◌, ◌++◌, ◌∙◌, length, true, map, sym, ap, arith}
 use Rattle.std.specs.Prelude.{is_some, Vec, vec_len, vec_capacity, slice_get}
 use Rattle.std.specs.declared.alloc.Global.{Global}
 use Rattle.std.proofs.lemmas.Grind.{common_steps}
@@ -19,8 +19,7 @@ land-requires g c =
     let room : HasRoom (slice_get c.begin.new.self.workers.items c.args.thread) =
     c.begin.ensures.room c.requires.1.1.1.1.1.1.0 in
     let entries : vec_len c.begin.new.self.entries < vec_capacity c.begin.new.self.entries =
-    rw c.begin.ensures.entries c.requires.1.1.1.1.1.1.1 in
-    (
+    rw c.begin.ensures.entries c.requires.1.1.1.1.1.1.1 in (
       taken-safe c.args.script.now (world_at g.gone c.args.self.now c.args.position)
           (world_at g.gone c.begin.new.self c.args.position) c.args.thread c.requires.1.0
           c.requires.0 c.requires.1.1.0 some there c.begin.ensures.world,
@@ -45,8 +44,8 @@ returns-then-begin-clause-stamps g c =
     ≡ true = sym c.begin.ensures.begun ∙ c.if-begin.true in
     let there : c.args.thread < length (map begun_in c.args.self.now.workers.items) =
     rw length-map (grind (arith, common_steps)) in
-    λ t. (taken g.gone c.args.script.now c.args.self.now c.begin.new.self c.land.new.self c.args.thread
-    c.args.position c.land.result some there c.begin.ensures.world
+    λ t. (taken g.gone c.args.script.now c.args.self.now c.begin.new.self c.land.new.self
+    c.args.thread c.args.position c.land.result some there c.begin.ensures.world
     c.land.ensures.landed).stamps t
     (c.begin.ensures.stamps t ∙ c.requires.1.1.1.1.1.0 t
     ∙ ap (λ (v : Vec Entry Global). stamps_of t (g.gone ++ v.items)) (sym c.begin.ensures.entries))
