@@ -1,0 +1,79 @@
+"""Runs the program where each read gives one byte and each write takes one, and fails each in turn.
+
+    failing_io.py SHIM STAMPED
+
+A read that fails is told as `read fault`, and nothing is written; a write that fails, or that takes
+no byte, is told as `write fault`, and what went out is the front of the line that came before it."""
+import os
+import subprocess
+import sys
+
+REPLAY = b'{"calls":[["try_read"],["to_write",257]],"readers":1,"versions":1}'
+SCRIPT = b'{"readers":1,"steps":[0,0],"threads":[[["try_write"]]],"versions":1,"width":0}'
+ENTRY = b'{"call":["try_write"],"first":0,"last":1,"point":1,"reply":%s,"thread":0}'
+HISTORY = b'{"entries":[' + ENTRY + b'],"format":%s,"readers":1%s,"versions":1,"width":0}'
+OLD = HISTORY % (b"384", b"1", b"")
+TOLD = HISTORY % (b"384", b"1", b',"report":[[2,0]]')
+NEW = (HISTORY % (b"196608", b"2", b"")).replace(b'"readers"', b'"layout":2,"readers"')
+WRONG = HISTORY % (b"640", b"1", b"")
+TABLE = [
+    (["replay"], REPLAY, b'{"replies":[257,384],"word":384}', 0),
+    (["run"], SCRIPT, OLD, 0),
+    (["run", "--report"], SCRIPT, TOLD, 0),
+    (["check"], OLD, b"ok 1", 0),
+    (["check"], WRONG, b"bad 0 reply", 1),
+    (["migrate"], OLD, NEW, 0),
+    (["stamp", "384"], b"", b"write 1", 0),
+    (["stamp", "--layout", "2", "131073"], b"", b"read 0 1", 0),
+]
+READ_FAULT = (1, b"", b"stamped: read fault\n")
+WRITE_FAULT = b"stamped: write fault\n"
+
+
+def ended(words, text, shim, **failing):
+    """How a run ended: its status, what it wrote, and what it told."""
+    env = dict(os.environ, LD_PRELOAD=shim, **{name: str(at) for name, at in failing.items()})
+    ran = subprocess.run(words, input=text, capture_output=True, env=env, timeout=60)
+    return ran.returncode, ran.stdout, ran.stderr
+
+
+def assert_ended(words, answer, wanted, when):
+    if answer != wanted:
+        sys.exit(f"{words}, {when}: {answer}, and not {wanted}")
+
+
+def reads_of(words, text, shim, ample):
+    """Fails each read in turn, that of the end among them; returns how many there were."""
+    reads = 0 if words[1] == "stamp" else len(text) + 1
+    for number in range(1, reads + 1):
+        answer = ended(words, text, shim, FAIL_READ=number)
+        assert_ended(words, answer, READ_FAULT, f"read {number} fails")
+    answer = ended(words, text, shim, FAIL_READ=reads + 1)
+    assert_ended(words, answer, ample, "no read fails")
+    return reads
+
+
+def writes_of(words, text, shim, ample):
+    """Fails each write in turn, in both ways; returns how many there were."""
+    line = ample[1]
+    for number in range(1, len(line) + 1):
+        front = (1, line[: number - 1], WRITE_FAULT)
+        for way in ["FAIL_WRITE", "FULL_WRITE"]:
+            answer = ended(words, text, shim, **{way: number})
+            assert_ended(words, answer, front, f"{way} {number}")
+    answer = ended(words, text, shim, FAIL_WRITE=len(line) + 1)
+    assert_ended(words, answer, ample, "no write fails")
+    return len(line)
+
+
+def main():
+    shim, stamped = (os.path.abspath(path) for path in sys.argv[1:])
+    for order, text, line, status in TABLE:
+        words = [stamped, *order]
+        ample = (status, line + b"\n", b"")
+        reads = reads_of(words, text, shim, ample)
+        writes = writes_of(words, text, shim, ample)
+        print(f"{order}: {reads} reads and {writes} writes failed in turn")
+
+
+main()
