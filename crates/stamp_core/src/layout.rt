@@ -53,7 +53,8 @@ impl Layout {
         }
     }
 
-    /// The number of the word that a writer with this stamp leaves behind.
+    /// The number of the word that a writer leaves behind, for the stamp that it had: one writer's
+    /// unit more.
     pub fn released(self, stamp: u64) -> u64
         requires { stamp < 2 ^ 63 }
         ensures { result ≡ stamp + (units_of self).writer }

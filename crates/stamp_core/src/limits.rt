@@ -36,7 +36,8 @@ impl Model for Limits {
 }
 
 impl Limits {
-    /// Limits of layout 1: 1 to 127 readers, and up to 2^55-2 write acquisitions.
+    /// Limits of layout 1: 1 to 127 readers, and up to 2^55-2 write acquisitions; others are refused
+    /// as 1 `LimitsOutOfRange`.
     pub fn new(readers: u64, versions: u64) -> Result<Limits, CoreError>
         ensures ok { IfOk result (λ limits. limits ≡ bounds Layout.One readers versions) }
         ensures in_range { IsOk result ↔ AreInRange (bounds Layout.One readers versions) }
@@ -44,7 +45,8 @@ impl Limits {
         Limits::in_layout(Layout::One, readers, versions)
     }
 
-    /// Limits of a layout; in layout 2 up to 65,535 readers and 2^46-2 write acquisitions.
+    /// Limits of a layout; in layout 2 up to 65,535 readers and 2^46-2 write acquisitions. Others are
+    /// refused as 1 `LimitsOutOfRange`.
     pub fn in_layout(layout: Layout, readers: u64, versions: u64) -> Result<Limits, CoreError>
         ensures ok { IfOk result (λ limits. limits ≡ bounds layout readers versions) }
         ensures in_range { IsOk result ↔ AreInRange (bounds layout readers versions) }
@@ -71,6 +73,7 @@ impl Limits {
         }
     }
 
+    /// How the lock's words and stamps are laid out.
     pub fn layout(&self) -> Layout
         ensures layout { result ≡ self.now.layout }
         ensures in_range { AreInRange self.now }
@@ -78,6 +81,7 @@ impl Limits {
         self.layout
     }
 
+    /// The most readers at a time.
     pub fn readers(&self) -> u64
         ensures readers { result ≡ self.now.readers }
         ensures in_range { AreInRange self.now }
@@ -85,6 +89,7 @@ impl Limits {
         self.readers
     }
 
+    /// The most write acquisitions in all.
     pub fn versions(&self) -> u64
         ensures versions { result ≡ self.now.versions }
         ensures in_range { AreInRange self.now }

@@ -25,12 +25,14 @@ pub enum LockReply {
     Count(u64),
 }
 
-/// What a call of the lock is to do with the word that it finds: as `Decision`, in 40 bytes and not
-/// in 176.
+/// What a call of the lock is to do with the word that it finds: as `Decision`, in fewer bytes.
 #[derive(Clone, Copy, Debug, PartialEq, Eq)]
 pub enum LockDecision {
+    /// To leave the word, and answer this.
     Answer(LockReply),
+    /// To put this word in its place, and answer this.
     Change(Word, LockReply),
+    /// To look again later.
     Wait,
 }
 

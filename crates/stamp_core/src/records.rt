@@ -70,8 +70,9 @@ fn all_suit(width: u64, entries: &[Entry]) -> bool
 }
 
 impl Record {
-    /// A record with no report. There is none exactly where the entries are too many, or the width
-    /// is, or an entry does not suit the width.
+    /// A record with no report. There is none exactly where the entries are over 640,000, the width
+    /// is over 16, a thread is 64 or more, or a call does not suit the width; the entries are dropped
+    /// then.
     pub fn of(limits: Limits, width: u64, entries: Vec<Entry>) -> Option<Record>
         ensures some { IsSome result ↔ IsRecorded (recorded limits width entries.items []) }
         ensures same { IfSome result (λ made. made ≡ recorded limits width entries.items []) }
@@ -80,7 +81,8 @@ impl Record {
         Record::of_reported(limits, width, entries, report)
     }
 
-    /// A record with a report, which is empty or has a pair for each entry.
+    /// A record with a report, which is empty or has a pair for each entry: where it isn't, and where
+    /// `of` gives none, there is none, and both lists are dropped.
     pub fn of_reported(
         limits: Limits,
         width: u64,
@@ -124,18 +126,21 @@ impl Record {
         (limits, width, entries, report)
     }
 
+    /// The limits of the lock.
     pub fn limits(&self) -> Limits
         ensures { result ≡ self.now.limits }
     {
         self.limits
     }
 
+    /// How many words the guarded record has; 0 where there is none.
     pub fn width(&self) -> u64
         ensures { result ≡ self.now.width }
     {
         self.width
     }
 
+    /// The calls, in the order in which they are listed.
     pub fn entries(&self) -> &[Entry]
         ensures entries { result.now ≡ self.now.entries }
         ensures known { IsRecorded self.now }
@@ -144,6 +149,7 @@ impl Record {
         self.entries.as_slice()
     }
 
+    /// For each entry its own steps and the changes of others meanwhile, or nothing at all.
     pub fn report(&self) -> &[(u64, u64)]
         ensures { result.now ≡ self.now.report }
     {

@@ -14,7 +14,9 @@ use std::alloc::{AllocError, AllocFailed, Global};
 /// What calls were answered, and the word that they left.
 #[derive(Drop)]
 pub struct Replayed {
+    /// One for each call.
     pub replies: Vec<Reply>,
+    /// The word after the last call.
     pub word: Word,
 }
 
@@ -47,7 +49,8 @@ impl<T: Drop> From<AllocFailed<T>> for ReplayError {
     }
 }
 
-/// Takes calls of the lock one after the other, from the opening word.
+/// Takes calls of the lock one after the other, from the opening word. It refuses as 1 `Waits` or
+/// 2 `Memory`, the second perhaps before the first, and keeps nothing then.
 pub fn replay(alloc: Global, limits: Limits, calls: &[Call]) -> Result<Replayed, ReplayError>
     requires { All (λ call. IsTrue (is_lock_call call)) calls.now }
     ensures { Replays limits calls.now result }

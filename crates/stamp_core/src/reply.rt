@@ -6,13 +6,18 @@ use crate::words::Words;
 /// What a call is answered. A stamp of 0 is the stamp of failure.
 #[derive(Clone, Copy, Debug, PartialEq, Eq)]
 pub enum Reply {
+    /// A stamp, or 0 where the mode was not acquired.
     Stamp(u64),
+    /// To a test, a stampless release and `PutIf`.
     Yes,
     No,
+    /// To a release by a stamp, and to `Put`.
     Done,
     /// The state does not match the stamp (`IllegalMonitorStateException` in Java).
     Mismatch,
+    /// How many readers there are.
     Count(u64),
+    /// The words of the record.
     Content(Words),
 }
 

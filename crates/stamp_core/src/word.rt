@@ -106,6 +106,7 @@ impl Word {
         Word::from_bits_in(Layout::One, bits)
     }
 
+    /// The layout whose word it is.
     pub fn layout(&self) -> Layout
         ensures { result ≡ self.now.layout }
     {

@@ -73,7 +73,7 @@ fn run_on(script: &Script, state: &mut State, made: &mut usize) -> Result<(), Al
 impl<'a> Completions<'a> {
     ghost use Rattle.stamp_machines.specs.World.{completed_calls};
 
-    /// Before the script's first step.
+    /// Before the script's first step. Only want of memory refuses, and leaves nothing.
     pub fn start(alloc: Global, script: &'a Script) -> Result<Completions<'a>, AllocError>
         ensures { IfOk result (λ r. r ≡ record {
           last = None;

@@ -17,6 +17,7 @@ use stamp_core::{Call, Limits, LockDecision, Reply, decide_lock};
 /// What an access of a lock call leads to.
 #[derive(Clone, Copy)]
 pub enum Passage {
+    /// It goes on: to an exchange from this word, which was seen, or to a load.
     Still(Option<u64>),
     /// Its reply was written where the caller asked.
     Ended,

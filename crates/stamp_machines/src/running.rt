@@ -74,7 +74,7 @@ impl<'a> Run<'a> {
     ghost use Rattle.stamp_machines.specs.Progress.{HasReport, told_by};
     ghost use Rattle.stamp_machines.specs.Tally.{tally_of, IsTallied};
 
-    /// The run before its first step: it refuses for want of memory alone.
+    /// The run before its first step. It refuses as 6 `Memory` alone.
     pub fn start(alloc: Global, script: &'a Script) -> Result<Run<'a>, RunError>
         ensures ok { IfOk result (λ r. r ≡ record { plan = script.now; names = [] }) }
         ensures memory { OnErr result (result ≡ Err RunError.Memory) }
@@ -87,7 +87,9 @@ impl<'a> Run<'a> {
         })
     }
 
-    /// One access of the thread's current call. A refused step leaves the run as it was.
+    /// One access of the thread's current call. It refuses as 3 `TooManySteps` exactly where 1,000,000
+    /// steps were made, and as 6 `Memory`; a refused step leaves the run as it was, and can be made
+    /// again.
     pub fn step(&mut self, thread: u64) -> Result<Stepped, RunError>
         requires { thread < length self.old.plan.threads }
         ensures ok { OnOk result

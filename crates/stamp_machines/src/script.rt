@@ -15,6 +15,7 @@ pub const MOST_CALLS: usize = 10_000;
 /// A stamp argument.
 #[derive(Clone, Copy)]
 pub enum Arg {
+    /// This number, whoever issued it, if anyone did.
     Number(u64),
     /// The stamp that this thread's call of this index, from 0, has answered when the call with the
     /// argument makes its first step; 0 where it has not finished, answered none or does not exist.

@@ -6,7 +6,7 @@
 pub enum PutFault {
     /// 1: somebody else had write mode. The lock word was this one. Try again later.
     Busy(u64),
-    /// 2: somebody else came between the load of the lock word and the exchange. Try again.
+    /// 2: the exchange found another lock word than the load. Try again.
     Lost {
         /// The lock word that the load found.
         loaded: u64,
@@ -14,7 +14,7 @@ pub enum PutFault {
         found: u64,
     },
     /// 3: as many puts were made as the limits have versions, and nobody had write mode. The lock
-    /// word was this one. To put again is of no use; gets go on.
+    /// word was this one. To put again is of no use.
     Spent(u64),
 }
 
@@ -24,7 +24,7 @@ pub enum PutFault {
 pub enum GetFault {
     /// 1: somebody had write mode. The lock word was this one. Try again later.
     Busy(u64),
-    /// 2: somebody came between the two loads of the lock word. Try again.
+    /// 2: the second load of the lock word found another one than the first. Try again.
     Lost {
         /// The lock word that the first load found.
         loaded: u64,
