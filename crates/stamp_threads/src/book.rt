@@ -70,6 +70,7 @@ impl Book {
         self.enter(thread, &call)
     }
 
+    /// `act`, with the call by reference.
     fn enter(&mut self, thread: u64, call: &Call) -> Result<Reply, BookError>
         requires call { IsTrue (is_lock_call call.now) }
         requires thread { thread < 64 }

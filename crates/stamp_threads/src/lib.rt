@@ -4,6 +4,8 @@
 
 mod book;
 mod book_error;
+#[cfg(test)]
+mod book_tests;
 mod faults;
 mod lock_rule;
 mod lock_steps;
@@ -25,6 +27,8 @@ mod record_word;
 mod running_lock;
 mod running_record;
 mod shared;
+#[cfg(test)]
+mod shared_tests;
 #[cfg(test)]
 mod tests;
 #[cfg(test)]
