@@ -3,9 +3,11 @@
 //! than the right one is printed, and ends with status 0.
 #![tactic(auto)]
 
+mod booking;
 mod running;
 mod schedules;
 
+use crate::booking::book_outcome;
 use crate::running::{running_lock_outcome, running_record_outcome};
 use crate::schedules::{
     bad_script_outcome, history_outcome, judged_outcome, run_outcome, run_reported_outcome,
@@ -178,6 +180,7 @@ fn outcome_of_all(alloc: Global) -> Outcome {
         steps_outcome(alloc),
         running_lock_outcome(alloc),
         running_record_outcome(alloc),
+        book_outcome(alloc),
     ];
     if outcomes.contains(&Outcome::Wrong) {
         Outcome::Wrong

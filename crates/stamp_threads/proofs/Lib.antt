@@ -19,3 +19,4 @@ pub mod GetSteps
 pub mod RecordMoves
 pub mod NewRecord
 pub mod RecordPromises
+pub mod BookSteps

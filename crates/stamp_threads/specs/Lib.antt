@@ -14,3 +14,4 @@ pub mod RecordLog
 pub mod RecordPass
 pub mod RecordCall
 pub mod RecordRule
+pub mod Book

@@ -1,6 +1,11 @@
-//! A lock in one word that threads share, and a record of words, with no lock round them.
+//! A lock in one word that threads share, and a record of words, with no lock round them; and a lock
+//! whose calls are made and recorded one at a time.
 #![tactic(auto)]
 
+mod book;
+mod book_error;
+#[cfg(test)]
+mod book_tests;
 mod faults;
 mod lock_rule;
 mod lock_steps;
@@ -21,11 +26,16 @@ mod record_view;
 mod record_word;
 mod running_lock;
 mod running_record;
+mod shared;
+#[cfg(test)]
+mod shared_tests;
 #[cfg(test)]
 mod tests;
 #[cfg(test)]
 mod thread_tests;
 
+pub use book::Book;
+pub use book_error::BookError;
 pub use faults::{GetFault, PutFault};
 pub use lost::Lost;
 pub use pass::Pass;
@@ -34,3 +44,4 @@ pub use record_pass::RecordPass;
 pub use record_view::{RecordEvent, RecordPhase, RecordShape};
 pub use running_lock::{LockError, RunningLock};
 pub use running_record::RunningRecord;
+pub use shared::Shared;

@@ -1,0 +1,36 @@
+//! Why a book refuses.
+ghost use Rattle.std.specs.Prelude.{◌≡◌};
+
+use std::alloc::{AllocError, AllocFailed};
+
+/// Why a book refuses a call, or a copy of its history. The book is as before, and nothing is kept.
+/// Of a call they come in this order: 3, 1, 2.
+#[derive(Clone, Copy, PartialEq, Eq, Debug, Drop)]
+pub enum BookError {
+    /// 1: the call can be made, and the book has as many entries as it may have.
+    Full,
+    /// 2: a growth was refused. The call can be made again.
+    Memory,
+    /// 3: the call waits for others, whether the book is full or not.
+    Waits,
+}
+
+impl From<AllocError> for BookError {
+    ghost use Rattle.stamp_threads.specs.declared.book_error.BookError.TheVariants.{Memory};
+
+    ghost from_gives = { λ _ e. e ≡ Memory };
+
+    fn from(_refused: AllocError) -> BookError {
+        BookError::Memory
+    }
+}
+
+impl<T: Drop> From<AllocFailed<T>> for BookError {
+    ghost use Rattle.stamp_threads.specs.declared.book_error.BookError.TheVariants.{Memory};
+
+    ghost from_gives = { λ _ e. e ≡ Memory };
+
+    fn from(_refused: AllocFailed<T>) -> BookError {
+        BookError::Memory
+    }
+}

@@ -1,0 +1,68 @@
+//! A book that threads share.
+ghost use Rattle.std.specs.Prelude.{◌≡◌, ◌<◌, IfOk, OnErr, IsTrue};
+ghost use Rattle.stamp_core.specs.Call.{is_lock_call};
+ghost use Rattle.stamp_threads.specs.Book.{IsBook, IsDue, IsAnswer, IsOfBook};
+
+use crate::book::Book;
+use crate::book_error::BookError;
+use stamp_core::{Call, Record, Reply};
+use std::sync::{Condvar, Mutex, Wait};
+
+/// A book under a lock: threads make calls on it by reference, one at a time.
+#[derive(Drop)]
+pub struct Shared {
+    book: Mutex<Book>,
+    /// Waited on by calls that wait, and told of each change of the word.
+    changed: Condvar,
+}
+
+impl Shared {
+    /// Takes no memory.
+    pub fn new(book: Book) -> Shared {
+        Shared {
+            book: Mutex::new(book),
+            changed: Condvar::new(),
+        }
+    }
+
+    /// Makes the call as `Book::act` does, and never answers 3 `Waits`: a call that waits is tried
+    /// again whenever others have changed the word. It may wait for ever.
+    pub fn call<R: Wait>(&self, rt: &R, thread: u64, call: Call) -> Result<Reply, BookError>
+        requires call { IsTrue (is_lock_call call) }
+        requires thread { thread < 64 }
+        ensures { IsAnswer call result }
+    {
+        let mut book = self.book.lock(rt);
+        for _ in rt.forever() {
+            match self.act_on(&mut book, thread, &call) {
+                Err(BookError::Waits) => book = self.changed.wait(rt, book),
+                answer => return answer,
+            }
+        }
+        unreachable!()
+    }
+
+    /// Makes the call if it needn't wait, and wakes all that wait where it has changed the word.
+    fn act_on(&self, book: &mut Book, thread: u64, call: &Call) -> Result<Reply, BookError>
+        requires call { IsTrue (is_lock_call call.now) }
+        requires thread { thread < 64 }
+        ensures due { IsDue book.old call.now result }
+        ensures book { IsBook book.old }
+    {
+        let before = book.word();
+        let _ = book.entries();
+        let answer = book.act(thread, *call);
+        if book.word() != before {
+            self.changed.notify_all();
+        }
+        answer
+    }
+
+    /// A copy of the history so far, as `Book::record` gives.
+    pub fn record<R: Wait>(&self, rt: &R) -> Result<Record, BookError>
+        ensures book { IfOk result (λ r. IsOfBook r) }
+        ensures memory { OnErr result (result ≡ Err BookError.Memory) }
+    {
+        self.book.lock(rt).record()
+    }
+}
