@@ -5,7 +5,10 @@
 With ample memory each ends as the table says. A refused run of `stamped` ends with the memory line
 (or with none, where memory for the line is refused too), status 1 and nothing on standard output, or
 as with ample memory. One of TRIAL ends with status 1 and no output, or as with ample memory. A
-refused step of a schedule is made again there, so some refused runs end as with ample memory."""
+refused step of a schedule is made again there, so some refused runs end as with ample memory.
+
+TRIAL makes as many allocations where it makes records and judges or migrates them as where it only
+makes them: so judging and migrating take no memory."""
 import os
 import subprocess
 import sys
@@ -91,12 +94,20 @@ def main():
         ([stamped], b"", BAD_LINE, told),
         ([stamped, b"\xff"], b"", BAD_LINE, told),
         ([trial], b"", (0, b"right\n", b""), [(1, b"", b"")]),
+        ([trial, "make"], b"", (0, b"right\n", b""), [(1, b"", b"")]),
+        ([trial, "check"], b"", (0, b"right\n", b""), [(1, b"", b"")]),
+        ([trial, "migrate"], b"", (0, b"right\n", b""), [(1, b"", b"")]),
     ]
+    trials = {}
     for words, text, wanted, refusals in table:
         count, borne = runs_of(words, text, shim, wanted, refusals)
-        if words == [trial] and not borne:
-            sys.exit(f"{words}: no refused step was made again")
         print(f"{[os.path.basename(words[0]), *words[1:]]}: {count} allocations refused in turn")
+        if words[0] == trial:
+            trials[words[-1]] = count, borne
+    if trials[trial][1] <= trials["make"][1]:
+        sys.exit(f"{trial}: no refused step was made again")
+    if not 0 < trials["make"][0] == trials["check"][0] == trials["migrate"][0]:
+        sys.exit(f"{trial}: judging or migrating took memory: {trials}")
 
 
 main()

@@ -1,13 +1,16 @@
 //! Makes each call that takes memory, once. `test` runs this with each allocation refused in turn.
 //! A run in which a call answers that memory was refused ends with status 1; each other answer
-//! than the right one is printed, and ends with status 0.
+//! than the right one is printed, and ends with status 0. With a word, `make`, `check` or `migrate`,
+//! it makes records, and does no more than that with them.
 #![tactic(auto)]
 
 mod booking;
+mod judging;
 mod running;
 mod schedules;
 
 use crate::booking::book_outcome;
+use crate::judging::{Task, task_outcome};
 use crate::running::{running_lock_outcome, running_record_outcome};
 use crate::schedules::{
     bad_script_outcome, history_outcome, judged_outcome, run_outcome, run_reported_outcome,
@@ -17,9 +20,10 @@ use stamp_cli::{Order, ReadSource, ServeFault, Verdict, WriteSink, fault_line, s
 use stamp_core::{Call, Layout, Limits, ReplayError, Replayed, replay};
 use stamp_history::{AnswerError, Field, ReadError, read_replay, replay_text, write_replay};
 use std::alloc::Global;
-use std::io;
 use std::io::{Read, Write};
 use std::process::ExitCode;
+use std::rt::Env;
+use std::{env, io};
 
 const TEXT: &[u8] = br#"{"calls":[["try_read"],["to_write",257]],"readers":1,"versions":1}"#;
 
@@ -191,8 +195,33 @@ fn outcome_of_all(alloc: Global) -> Outcome {
     }
 }
 
+/// The task that the word after the program's name gives, if there is a word.
+fn task_given(rt: &(impl Env + AllocGlobal)) -> Result<Option<Task>, Outcome> {
+    let mut words = env::args(rt).map_err(|fault| match fault.kind() {
+        io::ErrorKind::OutOfMemory => Outcome::Refused,
+        _ => Outcome::Wrong,
+    })?;
+    let Some(word) = words.nth(1) else {
+        return Ok(None);
+    };
+    match word.as_str() {
+        "make" => Ok(Some(Task::Make)),
+        "check" => Ok(Some(Task::Check)),
+        "migrate" => Ok(Some(Task::Migrate)),
+        _ => Err(Outcome::Wrong),
+    }
+}
+
+fn outcome_given(rt: &(impl Env + AllocGlobal)) -> Outcome {
+    match task_given(rt) {
+        Ok(None) => outcome_of_all(rt.alloc()),
+        Ok(Some(task)) => task_outcome(rt.alloc(), task),
+        Err(outcome) => outcome,
+    }
+}
+
 fn main(rt: HostRuntime) -> io::Result<ExitCode> {
-    match outcome_of_all(rt.alloc()) {
+    match outcome_given(&rt) {
         Outcome::Right => {
             println!(rt; "right")?;
             Ok(ExitCode::SUCCESS)

@@ -4,3 +4,4 @@ pub mod Sent
 pub mod OneReplay
 pub mod OneAnswer
 pub mod Replayed
+pub mod HandedOn

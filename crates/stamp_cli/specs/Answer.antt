@@ -25,7 +25,7 @@ use Rattle.stamp_cli.specs.declared.line.Verdict.{Verdict}
 use Rattle.stamp_cli.specs.declared.line.Verdict.TheVariants.{Accepted}
 use Rattle.stamp_cli.specs.CheckText.{verdict_text, verdict_of}
 use Rattle.stamp_cli.specs.Refusal.{refusal}
-use Rattle.stamp_cli.specs.Source.{most_bytes, most_reads, Reads, ReadsNone}
+use Rattle.stamp_cli.specs.Source.{most_bytes, most_reads, most_taken, Reads, ReadsNone}
 use Rattle.stamp_cli.specs.StampText.{IsStampText}
 
 -- a line without its line feed, and what it says
@@ -139,6 +139,16 @@ most_reads_of order.Check = most_reads
 most_reads_of order.Migrate = most_reads
 most_reads_of (order.Stamp n) = 0
 most_reads_of (order.StampIn layout n) = 0
+
+-- and takes nothing
+abbrev pub most_taken_of : Order → ℕ
+most_taken_of order.Replay = most_taken
+most_taken_of order.Run = most_taken
+most_taken_of order.RunReported = most_taken
+most_taken_of order.Check = most_taken
+most_taken_of order.Migrate = most_taken
+most_taken_of (order.Stamp n) = 0
+most_taken_of (order.StampIn layout n) = 0
 
 -- a source was read as far as the order asks, and this is the answer to it
 pub record Answers (order : Order) (old new : Option (List ℕ)) (answer : Result Answered ServeFault) : Type 0 where

@@ -10,6 +10,14 @@ most_bytes = 16777216
 abbrev pub most_reads : ℕ
 most_reads = 16777217
 
+-- the most bytes that are taken as an input: one past the most shows that it is too long
+abbrev pub most_taken : ℕ
+most_taken = most_bytes + 1
+
+-- no more than so many bytes were taken
+abbrev pub TakesAtMost : Option (List ℕ) → Option (List ℕ) → ℕ → Type 0
+TakesAtMost old new most = (taken : List ℕ) × Consumes old new taken × (length taken ≤ most)
+
 -- what was read is input: all to the end, or to one byte past the most
 pub record Reads (old new : Option (List ℕ)) (input : List ℕ) : Type 0 where
   pub took : Consumes old new input

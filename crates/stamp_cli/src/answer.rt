@@ -2,9 +2,9 @@
 
 ghost use Rattle.std.specs.Prelude.{◌≡◌, ◌≢◌, ◌↔◌, ◌+◌, ◌<◌, ◌≤◌, length, true, false, IfOk, IfErr, Ok, Err};
 ghost use Rattle.stamp_cli.specs.Refusal.{is_of_end};
-ghost use Rattle.stamp_cli.specs.Source.{most_bytes};
+ghost use Rattle.stamp_cli.specs.Source.{TakesAtMost, most_bytes};
 ghost use Rattle.stamp_cli.specs.Answer.{Answers, AnswersCheck, AnswersMigrate, AnswersReplay, AnswersReportedRun, AnswersRun};
-ghost use Rattle.stamp_cli.specs.Answer.{IsInputAnswer, LineUnlessMemory, UnlessMemory, line_in, most_reads_of};
+ghost use Rattle.stamp_cli.specs.Answer.{IsInputAnswer, LineUnlessMemory, UnlessMemory, line_in, most_reads_of, most_taken_of};
 
 use crate::check_text::verdict_line;
 use crate::faults::ServeFault;
@@ -127,6 +127,7 @@ pub(crate) fn line_of<S: Source>(
     requires unread { S.reads source.old ≡ 0 }
     requires unfailed { S.has_failed source.old ≡ false }
     ensures few { S.reads source.new ≤ most_reads_of order }
+    ensures took { TakesAtMost (S.left source.old) (S.left source.new) (most_taken_of order) }
     ensures ok { IfOk result (λ line. Answers order (S.left source.old) (S.left source.new) (Ok (line_in line))) }
     ensures err { IfErr result (λ e. e ≢ ServeFault.ReadFault → e ≢ ServeFault.Memory
         → Answers order (S.left source.old) (S.left source.new) (Err e)) }

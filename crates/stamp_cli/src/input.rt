@@ -1,7 +1,7 @@
 //! The input of a command, read to its end.
 
-ghost use Rattle.std.specs.Prelude.{◌≡◌, ◌↔◌, ◌⊎◌, ◌+◌, ◌<◌, ◌≤◌, length, vec_len, true, false, IfOk, IfErr, Err};
-ghost use Rattle.stamp_cli.specs.Source.{most_bytes, most_reads, Reads, ReadsMore};
+ghost use Rattle.std.specs.Prelude.{◌≡◌, ◌↔◌, ◌⊎◌, ◌+◌, ◌-◌, ◌<◌, ◌≤◌, length, vec_len, true, false, IfOk, IfErr, Err};
+ghost use Rattle.stamp_cli.specs.Source.{most_bytes, most_reads, most_taken, Reads, ReadsMore, TakesAtMost};
 
 use crate::faults::ServeFault;
 use crate::sources::Source;
@@ -32,6 +32,7 @@ fn read_more<S: Source>(
     ensures counted { S.reads source.new ≡ S.reads source.old + 1 }
     ensures more { IfOk result (λ more. ReadsMore (S.left source.old) (S.left source.new)
         input.old.items input.new.items more) }
+    ensures took { TakesAtMost (S.left source.old) (S.left source.new) (most_taken - vec_len input.old) }
     ensures failed { (result ≡ Err ServeFault.ReadFault) ↔ (S.has_failed source.new ≡ true) }
     ensures only { IfErr result (λ e. (e ≡ ServeFault.ReadFault) ⊎ (e ≡ ServeFault.Memory)) }
 {
@@ -48,6 +49,7 @@ pub(crate) fn read_input<S: Source>(alloc: Global, source: &mut S) -> Result<Vec
     requires unread { S.reads source.old ≡ 0 }
     requires unfailed { S.has_failed source.old ≡ false }
     ensures few { S.reads source.new ≤ most_reads }
+    ensures took { TakesAtMost (S.left source.old) (S.left source.new) most_taken }
     ensures read { IfOk result (λ input. Reads (S.left source.old) (S.left source.new) input.items) }
     ensures failed { (result ≡ Err ServeFault.ReadFault) ↔ (S.has_failed source.new ≡ true) }
     ensures only { IfErr result (λ e. (e ≡ ServeFault.ReadFault) ⊎ (e ≡ ServeFault.Memory)) }

@@ -3,7 +3,8 @@
 ghost use Rattle.std.specs.Prelude.{◌≡◌, ◌≢◌, ◌↔◌, ◌++◌, ◌∷◌, ◌≤◌, [], List, ℕ, true, false, IfOk, IfErr, OnOk, Ok, Err};
 ghost use Rattle.std.specs.Io.KnownBytes.{Appends, Keeps};
 ghost use Rattle.stamp_cli.specs.Sink.{AppendsFront};
-ghost use Rattle.stamp_cli.specs.Answer.{Answered, Answers, most_reads_of};
+ghost use Rattle.stamp_cli.specs.Source.{TakesAtMost};
+ghost use Rattle.stamp_cli.specs.Answer.{Answered, Answers, most_reads_of, most_taken_of};
 
 use crate::answer::line_of;
 use crate::faults::ServeFault;
@@ -15,8 +16,9 @@ use crate::sources::Source;
 use std::alloc::Global;
 
 /// Answers the order: reads what it needs of the source and writes one line, or says why not. What
-/// was read of the source is gone also after a refusal. No more than 16,777,216 bytes are taken as
-/// an input; the readings of `stamp_history` by themselves have no such limit.
+/// was read of the source is gone also after a refusal. An input has at most 16,777,216 bytes (one
+/// more may be taken, which shows that it is too long); the readings of `stamp_history` by themselves
+/// have no such limit.
 pub fn serve<S: Source, K: Sink>(
     alloc: Global,
     order: Order,
@@ -26,7 +28,10 @@ pub fn serve<S: Source, K: Sink>(
     requires unread { S.reads source.old ≡ 0 }
     requires source { S.has_failed source.old ≡ false }
     requires sink { K.has_failed sink.old ≡ false }
+
+    // However it ends, there are no more reads than these, and they take no more bytes than these.
     ensures few { S.reads source.new ≤ most_reads_of order }
+    ensures took { TakesAtMost (S.left source.old) (S.left source.new) (most_taken_of order) }
 
     // The answer to what was read is written with a line feed, and nothing else; the verdict is its.
     ensures ok { IfOk result (λ verdict. (line : Answered)
