@@ -1,5 +1,6 @@
 //! The words of a guarded record.
-ghost use Rattle.std.specs.Prelude.{◌≡◌, ◌≤◌, ◌<◌, ◌↔◌, ◌∷◌, ◌++◌, [], IsTrue, IsSome, IfSome, length, replicate};
+ghost use Rattle.std.specs.Prelude.{◌≡◌, ◌≤◌, ◌<◌, ◌-◌, ◌↔◌, ◌∷◌, ◌++◌, [], IsTrue, IsSome, IfSome, length, replicate};
+ghost use Rattle.std.specs.Prelude.{take, drop};
 ghost use Rattle.stamp_core.specs.Content.{same_words};
 
 use std::marker::Model;
@@ -54,6 +55,17 @@ impl Words {
             len: words.len(),
             words: held,
         })
+    }
+
+    /// The first `len` words of a row in which zeros stand behind them.
+    #[inline(always)]
+    pub fn of_row(row: [u64; 16], len: usize) -> Words
+        requires some { 1 ≤ len }
+        requires few { len ≤ 16 }
+        requires zeros { drop len row ≡ replicate (16 - len) 0 }
+        ensures { result ≡ take len row }
+    {
+        Words { len, words: row }
     }
 
     /// So many zeros: what a record of this width holds at first.

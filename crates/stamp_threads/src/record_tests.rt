@@ -90,6 +90,29 @@ fn a_record_of_one_word(rt: HostRuntime) -> Result<(), Fail> {
     Ok(())
 }
 
+/// Whether a record of so many words gives what was put, by both gets.
+fn gives_every_word(alloc: Global, width: usize) -> Result<bool, Fail>
+    requires { (1 ≤ width) × (width ≤ 16) }
+{
+    let row = [1, 2, 3, 4, 5, 6, 7, 8, 9, 10, 11, 12, 13, 14, 15, 16];
+    let (record, mut pass) = made_record(alloc, Layout::One, 2, width)?;
+    let put = words_of(&row[..width])?;
+    if record.put_once(&mut pass, put).is_err() {
+        return Ok(false);
+    }
+    let mut got = [0; 16];
+    let is_got = record.get_into(&mut pass, &mut got[..width]).is_ok();
+    Ok(is_got && got[..width] == row[..width] && record.get_once(&mut pass) == Ok(put))
+}
+
+#[test]
+fn a_record_of_any_width_gives_every_word(rt: HostRuntime) -> Result<(), Fail> {
+    for width in 1..=16usize {
+        assert!(rt; gives_every_word(rt.alloc(), width)?);
+    }
+    Ok(())
+}
+
 #[test]
 fn the_widest_record_gives_every_word(rt: HostRuntime) -> Result<(), Fail> {
     let row = [1, 2, 3, 4, 5, 6, 7, 8, 9, 10, 11, 12, 13, 14, 15, 16];

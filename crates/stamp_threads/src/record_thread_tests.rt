@@ -301,42 +301,98 @@ fn three_read_what_two_put_and_all_meet(rt: HostRuntime) -> Result<(), Fail> {
     Ok(())
 }
 
-/// Puts again and again until the other thread is refused both ways, or so many times.
-fn put_beside(shared: &RunningRecord, mut pass: RecordPass, is_over: &AtomicBool)
-    requires { (pass.table ≡ shared.now.table) × (shared.now.shape.width ≡ 16) }
-{
-    for i in 0..20_000_000u64 {
-        let Some(words) = Words::new(&[i; 16]) else {
-            return;
-        };
-        if is_over.load(Ordering::SeqCst) || shared.put_once(&mut pass, words).is_err() {
-            return;
+/// Which refusals a thread has seen.
+#[derive(Clone, Copy)]
+struct Refusals {
+    was_busy: bool,
+    was_lost: bool,
+}
+
+impl Refusals {
+    fn none() -> Refusals {
+        Refusals {
+            was_busy: false,
+            was_lost: false,
         }
+    }
+
+    fn put(&mut self, fault: PutFault) {
+        match fault {
+            PutFault::Busy(_) => self.was_busy = true,
+            PutFault::Lost { .. } => self.was_lost = true,
+            PutFault::Spent(_) => {}
+        }
+    }
+
+    fn get(&mut self, fault: GetFault) {
+        match fault {
+            GetFault::Busy(_) => self.was_busy = true,
+            GetFault::Lost { .. } => self.was_lost = true,
+        }
+    }
+
+    fn are_both(&self) -> bool {
+        self.was_busy && self.was_lost
     }
 }
 
-/// Gets until it is refused both ways, or so many times; whether it was.
+/// Puts again and again until the other thread is done.
+fn put_beside(shared: &RunningRecord, mut pass: RecordPass, is_over: &AtomicBool)
+    requires { (pass.table ≡ shared.now.table) × (shared.now.shape.width ≡ 16) }
+{
+    for i in 0..u64::MAX {
+        let Some(words) = Words::new(&[i; 16]) else {
+            return;
+        };
+        if is_over.load(Ordering::SeqCst) {
+            return;
+        }
+        let _ = shared.put_once(&mut pass, words);
+    }
+}
+
+/// Gets until it was refused both ways, or so many times; whether it was. A get that finds a writer
+/// lets it go on, in case it was stopped in its put.
 fn get_until_refused(shared: &RunningRecord, mut pass: RecordPass, is_over: &AtomicBool) -> bool
     requires { pass.table ≡ shared.now.table }
 {
-    let mut was_busy = false;
-    let mut was_lost = false;
-    for _ in 0..20_000_000u64 {
-        match shared.get_once(&mut pass) {
-            Ok(_) => {}
-            Err(GetFault::Busy(_)) => was_busy = true,
-            Err(GetFault::Lost { .. }) => was_lost = true,
+    let mut seen = Refusals::none();
+    for _ in 0..1_000_000_000u64 {
+        if let Err(fault) = shared.get_once(&mut pass) {
+            seen.get(fault);
+            thread::yield_now();
         }
-        if was_busy && was_lost {
+        if seen.are_both() {
             break;
         }
     }
     is_over.store(true, Ordering::SeqCst);
-    was_busy && was_lost
+    seen.are_both()
+}
+
+/// Puts until it was refused both ways, or so many times; whether it was.
+fn put_until_refused(shared: &RunningRecord, mut pass: RecordPass, is_over: &AtomicBool) -> bool
+    requires { (pass.table ≡ shared.now.table) × (shared.now.shape.width ≡ 16) }
+{
+    let mut seen = Refusals::none();
+    for i in 0..100_000_000u64 {
+        let Some(words) = Words::new(&[i; 16]) else {
+            break;
+        };
+        if let Err(fault) = shared.put_once(&mut pass, words) {
+            seen.put(fault);
+            thread::yield_now();
+        }
+        if seen.are_both() {
+            break;
+        }
+    }
+    is_over.store(true, Ordering::SeqCst);
+    seen.are_both()
 }
 
 #[test]
-fn a_get_is_refused_beside_a_writer(rt: HostRuntime) -> Result<(), Fail> {
+fn a_get_is_busy_and_is_lost_beside_a_writer(rt: HostRuntime) -> Result<(), Fail> {
     let (shared, pass) = made_record(rt.alloc(), Layout::Two, 1 << 40, 16)?;
     let (first, second) = shared.split(pass);
     let is_over = AtomicBool::new(false);
@@ -344,6 +400,20 @@ fn a_get_is_refused_beside_a_writer(rt: HostRuntime) -> Result<(), Fail> {
         &rt,
         || put_beside(&shared, first, &is_over),
         || get_until_refused(&shared, second, &is_over),
+    );
+    assert!(rt; was_refused);
+    Ok(())
+}
+
+#[test]
+fn a_put_is_busy_and_is_lost_beside_a_writer(rt: HostRuntime) -> Result<(), Fail> {
+    let (shared, pass) = made_record(rt.alloc(), Layout::One, 1 << 40, 16)?;
+    let (first, second) = shared.split(pass);
+    let is_over = AtomicBool::new(false);
+    let (_, was_refused) = join(
+        &rt,
+        || put_beside(&shared, first, &is_over),
+        || put_until_refused(&shared, second, &is_over),
     );
     assert!(rt; was_refused);
     Ok(())

@@ -98,13 +98,51 @@ impl RunningRecord {
         ensures err { let v = pass.old.view in let w = pass.new.view in
             IfErr result (λ fault. GetRefused self.now.shape v fault w) }
     {
-        let mut row = [0u64; 16];
-        let got = &mut row[..self.shape.width];
-        self.get_into(pass, got)?;
-        match Words::new(&row[..self.shape.width]) {
+        match self.shape.width {
+            1 => self.get_fixed::<1>(pass),
+            2 => self.get_fixed::<2>(pass),
+            4 => self.get_fixed::<4>(pass),
+            8 => self.get_fixed::<8>(pass),
+            16 => self.get_fixed::<16>(pass),
+            _ => self.get_any(pass),
+        }
+    }
+
+    /// `get_once` of a width that is known where it is compiled: words that the caller uses one by
+    /// one aren't stored anywhere.
+    #[inline(always)]
+    fn get_fixed<const N: usize>(&self, pass: &mut RecordPass) -> Result<Words, GetFault>
+        requires table { pass.old.table ≡ self.now.table }
+        requires width { (N ≡ self.now.shape.width) × (1 ≤ N) × (N ≤ 16) }
+        ensures table { pass.new.table ≡ self.now.table }
+        ensures width { IfOk result (λ words. length words ≡ self.now.shape.width) }
+        ensures ok { let v = pass.old.view in let w = pass.new.view in
+            IfOk result (λ words. Recorded self.now.shape Get (Content words) v w) }
+        ensures err { let v = pass.old.view in let w = pass.new.view in
+            IfErr result (λ fault. GetRefused self.now.shape v fault w) }
+    {
+        let mut row = [0u64; N];
+        self.get_into(pass, &mut row)?;
+        match Words::new(&row) {
             Some(words) => Ok(words),
             None => unreachable!(),
         }
+    }
+
+    /// `get_once` of any width.
+    #[inline(always)]
+    fn get_any(&self, pass: &mut RecordPass) -> Result<Words, GetFault>
+        requires { pass.old.table ≡ self.now.table }
+        ensures table { pass.new.table ≡ self.now.table }
+        ensures width { IfOk result (λ words. length words ≡ self.now.shape.width) }
+        ensures ok { let v = pass.old.view in let w = pass.new.view in
+            IfOk result (λ words. Recorded self.now.shape Get (Content words) v w) }
+        ensures err { let v = pass.old.view in let w = pass.new.view in
+            IfErr result (λ fault. GetRefused self.now.shape v fault w) }
+    {
+        let mut row = [0u64; 16];
+        self.get_into(pass, &mut row[..self.shape.width])?;
+        Ok(Words::of_row(row, self.shape.width))
     }
 
     /// As `get_once`, into a place of the caller's that has the width, which is the fastest way.
