@@ -46,7 +46,10 @@ fn line_of_reported_script(alloc: Global, input: &[u8]) -> Result<Vec<u8>, Serve
     ensures inner { IfErr result (λ e. is_of_end e ≡ false) }
 {
     let script = read_script(alloc, input)?;
-    let record = run_reported(alloc, &script)?;
+    // A script has no more steps than a run can make, so that memory alone ends one early.
+    let Ok(record) = run_reported(alloc, &script) else {
+        return Err(ServeFault::Memory);
+    };
     Ok(write_history(alloc, &record)?)
 }
 

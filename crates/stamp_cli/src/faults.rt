@@ -7,7 +7,6 @@ ghost use Rattle.stamp_cli.specs.FaultText.{script_error_text, read_error_text, 
 
 use stamp_core::ScriptError;
 use stamp_history::{AnswerError, ReadError};
-use stamp_machines::RunError;
 use std::alloc::{AllocError, AllocFailed, Global};
 use std::fmt;
 use thiserror::Error;
@@ -33,8 +32,8 @@ pub enum ServeFault {
     /// 6: a write answered an error or took no byte. A front of the line may have gone out.
     #[error("a write failed")]
     WriteFault,
-    /// 7: this entry of the history, counted from 0, is the first whose stamp has no place in
-    /// layout 2.
+    /// 7: this entry of the history, counted from 0, is the first that was answered a number other
+    /// than 0 that is no stamp with a place in layout 2.
     #[error("bad reply at entry {0}")]
     BadReply(u64),
 }
@@ -63,15 +62,6 @@ impl From<ReadError> for ServeFault {
             ReadError::Memory => ServeFault::Memory,
             error => ServeFault::Refused(error),
         }
-    }
-}
-
-impl From<RunError> for ServeFault {
-    ghost from_gives = { λ _ e. e ≡ Memory };
-
-    /// A script has no more steps than a run can make, so that memory alone ends one early.
-    fn from(_refused: RunError) -> ServeFault {
-        ServeFault::Memory
     }
 }
 

@@ -16,7 +16,8 @@ pub trait Sink {
     // Whether a write has failed so far, or has taken no byte.
     ghost has_failed: { Self → Bool };
 
-    // There is a byte to take, so that one that takes none has failed.
+    /// Writes the front of the bytes, and tells how many it took. There is a byte to take, so that
+    /// a write that takes none has failed.
     fn write(&mut self, bytes: &[u8]) -> io::Result<usize>
         requires { 0 < length bytes.now }
         ensures bound { WritesAtMost result bytes.now }

@@ -19,6 +19,7 @@ pub trait Source {
     // How many reads were made.
     ghost reads: { Self → ℕ };
 
+    /// Reads bytes into the front of the buffer, and tells how many; 0 at the end.
     fn read(&mut self, buffer: &mut [u8]) -> io::Result<usize>
         requires { reads self.old < most_reads }
         ensures counted { reads self.new ≡ reads self.old + 1 }

@@ -1,12 +1,13 @@
 //! The answer to the text of a replay, without its calls and replies as lists.
 
-ghost use Rattle.std.specs.Prelude.{◌≡◌, List, map, IfOk};
+ghost use Rattle.std.specs.Prelude.{◌≡◌, ◌<◌, List, length, map, IfOk, IfErr};
 ghost use Rattle.serde_json.specs.View.{view};
 ghost use Rattle.stamp_history.specs.ReplayText.{reply_data, replayed_data};
 ghost use Rattle.stamp_history.specs.ReplayAnswer.{Answers, RepliesTo};
 ghost use Rattle.stamp_history.specs.StoredCall.{call_of};
 
 use crate::answer_error::AnswerError;
+use crate::read_error::ReadError;
 use crate::replay_reading::read_stored;
 use crate::replay_writing::reply_value;
 use crate::stored_call::StoredCall;
@@ -45,7 +46,9 @@ fn answer_value(alloc: Global, replies: Vec<Value>, word: u64) -> Result<Value, 
 /// it. Unlike `read_replay`, `replay` and `write_replay` together it keeps no list of `Call` or of
 /// `Reply`, each of which has room for the words of a record.
 pub fn replay_text(alloc: Global, bytes: &[u8]) -> Result<Vec<u8>, AnswerError>
-    ensures { Answers bytes.now result }
+    ensures answers { Answers bytes.now result }
+    ensures memory { IfErr result (λ e. e ≡ AnswerError.Refused ReadError.Memory
+        → 0 < length bytes.now) }
 {
     let (limits, calls) = read_stored(alloc, bytes)?;
     let (replies, word) = replies_to(alloc, limits, &calls)?;

@@ -1,6 +1,6 @@
 //! A replay out of its text.
 
-ghost use Rattle.std.specs.Prelude.{◌≡◌, IsTrue, IfOk, map};
+ghost use Rattle.std.specs.Prelude.{◌≡◌, ◌<◌, IsTrue, IfOk, IfErr, length, map};
 ghost use Rattle.std.specs.List.{All};
 ghost use Rattle.stamp_core.specs.Call.{is_lock_call};
 ghost use Rattle.stamp_history.specs.Gives.{Gives};
@@ -21,7 +21,9 @@ pub(crate) fn read_stored(
     alloc: Global,
     bytes: &[u8],
 ) -> Result<(Limits, Vec<StoredCall>), ReadError>
-    ensures { Gives ReadError.Memory stored_view result (replay_of bytes.now) }
+    ensures replay { Gives ReadError.Memory stored_view result (replay_of bytes.now) }
+    ensures some { IfOk result (λ _. 0 < length bytes.now) }
+    ensures memory { IfErr result (λ e. e ≡ ReadError.Memory → 0 < length bytes.now) }
 {
     let value = json(alloc, bytes)?;
     check_top(&value)?;
@@ -48,6 +50,7 @@ fn calls_of(alloc: Global, stored: &[StoredCall]) -> Result<Vec<Call>, AllocErro
 pub fn read_replay(alloc: Global, bytes: &[u8]) -> Result<(Limits, Vec<Call>), ReadError>
     ensures replay { Gives ReadError.Memory replay_view result (replay_of bytes.now) }
     ensures lock { IfOk result (λ read. All (λ call. IsTrue (is_lock_call call)) read.1.items) }
+    ensures memory { IfErr result (λ e. e ≡ ReadError.Memory → 0 < length bytes.now) }
 {
     let (limits, stored) = read_stored(alloc, bytes)?;
     Ok((limits, calls_of(alloc, &stored)?))

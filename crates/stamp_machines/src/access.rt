@@ -7,9 +7,11 @@ ghost use Rattle.stamp_machines.specs.Access.{place_of, words_after, seen_by};
 /// stood there before it.
 #[derive(Clone, Copy, Debug, PartialEq, Eq)]
 pub enum Access {
+    /// Leaves the word.
     Load(usize),
     /// Puts the second value where the first one is found.
     Cas(usize, u64, u64),
+    /// Puts the value.
     Store(usize, u64),
 }
 

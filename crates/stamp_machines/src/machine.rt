@@ -37,7 +37,9 @@ pub struct Machine {
 /// What an access leads to.
 #[derive(Drop)]
 pub enum Turn {
+    /// The call goes on.
     Going(Machine),
+    /// The call has ended, with this reply.
     Done(Reply),
 }
 

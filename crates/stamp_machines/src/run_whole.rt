@@ -30,6 +30,7 @@ pub fn run(alloc: Global, script: &Script) -> Result<Record, RunError>
 pub fn run_reported(alloc: Global, script: &Script) -> Result<Record, RunError>
     ensures record { IfOk result (λ r. r ≡ reported_record script.now) }
     ensures linearized { IfOk result (λ r. IsLinearized r) }
+    ensures points { IfOk result (λ r. All (λ e. e.point ≡ e.last) r.entries) }
     ensures memory { OnErr result (result ≡ Err RunError.Memory) }
 {
     let mut run = Run::start(alloc, script)?;

@@ -243,6 +243,7 @@ impl<'a> Run<'a> {
           report = report.items;
         } }
         ensures linearized { IsLinearized result }
+        ensures points { All (λ e. e.point ≡ e.last) result.entries }
     {
         Record::of_reported(
             self.script.limits(),

@@ -22,7 +22,8 @@ pub enum Arg {
     Of(u64, u64),
 }
 
-/// A call of a script: a call of the lock or the record whose stamp may be one still to come.
+/// A call of a script: the call of `stamp_core` that has its name, whose stamp may be one still to
+/// come.
 #[derive(Clone, Copy)]
 pub enum ScriptCall {
     TryWrite,

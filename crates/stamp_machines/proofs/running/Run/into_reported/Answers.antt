@@ -20,3 +20,14 @@ returns-clause-linearized c =
     rw c.unwrap.ensures at c.of_reported.ensures.same in
     rw (made, c.limits.ensures.limits, c.width.ensures.width)
     (run-in-order c.self.inside c.self.invariant).linearized
+
+pub returns-clause-points : goal.returns-clause-points
+returns-clause-points c =
+    let made : c.unwrap.result ≡ record {
+      limits = c.limits.result;
+      width = c.width.result;
+      entries = c.self.inside.state.entries.items;
+      report = c.args.report.items;
+    } =
+    rw c.unwrap.ensures at c.of_reported.ensures.same in
+    rw made (run-in-order c.self.inside c.self.invariant).points
