@@ -7,9 +7,11 @@ import sys
 ALONE = [
     ("get_into, 2 words", "into2", "load2"),
     ("get_once, 2 words", "get2", "load2"),
+    ("  handed on", "hand2", "load2"),
     ("put_once, 2 words", "put2", "store2"),
     ("get_into, 16 words", "into16", "load16"),
     ("get_once, 16 words", "get16", "load16"),
+    ("  handed on", "hand16", "load16"),
     ("put_once, 16 words", "put16", "store16"),
 ]
 
@@ -39,7 +41,7 @@ def main():
     print(f"{'ns a call':20}{'record':>9}{'C':>9}{'JDK':>9}{'SeqCell':>9}"
           f"{'of C':>8}{'JDK/ours':>10}")
     for title, ours, cell in ALONE:
-        peer = ours.replace("get", "into")
+        peer = ours.replace("get", "into").replace("hand", "into")
         time, c = median("record_timing", ours), median("record_c", peer)
         jdk, cells = median("StampedLock", peer), median("record_timing", cell)
         print(f"{title:20}{time:9.2f}{c:9.2f}{jdk:9.2f}{cells:9.2f}{time / c:8.2f}"

@@ -12,7 +12,7 @@ mod calls;
 mod cells;
 mod side_by_side;
 
-use calls::{gets, gets_into, puts};
+use calls::{gets, gets_handed, gets_into, puts};
 use cells::{loads, stores};
 use crossbeam_utils::atomic::SeqCell;
 use side_by_side::{beside_writer, read_by};
@@ -86,6 +86,9 @@ fn two_words<R: Eprint + Clock>(
     let start = Instant::now(rt)?;
     let good = gets(shared, pass, calls);
     tell(rt, "get2", 1, calls, &start, good)?;
+    let start = Instant::now(rt)?;
+    let good = gets_handed(shared, pass, calls);
+    tell(rt, "hand2", 1, calls, &start, good)?;
     let mut row = [0u64; 2];
     let start = Instant::now(rt)?;
     let good = gets_into(shared, pass, &mut row, calls);
@@ -111,6 +114,9 @@ fn sixteen_words<R: Eprint + Clock>(
     let start = Instant::now(rt)?;
     let good = gets(shared, pass, calls);
     tell(rt, "get16", 1, calls, &start, good)?;
+    let start = Instant::now(rt)?;
+    let good = gets_handed(shared, pass, calls);
+    tell(rt, "hand16", 1, calls, &start, good)?;
     let mut row = [0u64; 16];
     let start = Instant::now(rt)?;
     let good = gets_into(shared, pass, &mut row, calls);

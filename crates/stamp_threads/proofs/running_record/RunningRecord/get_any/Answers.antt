@@ -7,6 +7,6 @@ pub of_row-requires-clause-zeros : goal.of_row-requires-clause-zeros
 of_row-requires-clause-zeros c =
     let w = c.self.inside.shape.width in
     drop-append-drop w (replicate 16 0) c.get_into.new.into w (omega arith)
-        (c.get_into.ensures.width ∙
-            length-take-le w (replicate 16 0) (omega (arith, c.self.invariant)))
-        ∙ drop-replicate w 16 0
+    (c.get_into.ensures.width ∙
+    length-take-le w (replicate 16 0) (omega (arith, c.self.invariant)))
+    ∙ drop-replicate w 16 0
