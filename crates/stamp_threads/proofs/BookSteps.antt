@@ -78,6 +78,7 @@ module _ (b : Booked) (thread : ℕ) (call : Call) (is_book : IsBook b) (lock : 
       let e : Entry = entry_at (length b.entries) thread call found.1 in
       record {
         book = record {
+          in_range = is_book.in_range;
           most = is_book.most;
           room = omega (arith, length-append b.entries (e ∷ []));
           entries = record {

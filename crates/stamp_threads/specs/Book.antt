@@ -3,7 +3,7 @@ use Rattle.std.specs.Prelude.{ℕ, ◌≡◌, ◌≤◌, ◌<◌, List, [], ◌�
 use Rattle.std.specs.Prelude.{Option, None, IsSome, Result, Ok, Err}
 use Rattle.std.specs.List.{All}
 use Rattle.stamp_core.specs.LockEvent.{LockEvent}
-use Rattle.stamp_core.specs.Limits.{Bounds}
+use Rattle.stamp_core.specs.Limits.{Bounds, AreInRange}
 use Rattle.stamp_core.specs.Word.{LockWord, Represents}
 use Rattle.stamp_core.specs.Transition.{Transition, transition}
 use Rattle.stamp_core.specs.History.{Replies, events_of}
@@ -73,6 +73,7 @@ pub record AreBooked (limits : Bounds) (entries : List Entry) : Type 0 where
 
 -- so it is in each book; its entries are no more than it may have
 pub record IsBook (b : Booked) : Type 0 where
+  pub in_range : AreInRange b.limits
   pub most : b.most ≤ 640000
   pub room : length b.entries ≤ b.most
   pub entries : AreBooked b.limits b.entries
