@@ -13,8 +13,8 @@ use crate::booking::book_outcome;
 use crate::judging::{Task, task_outcome};
 use crate::running::{running_lock_outcome, running_record_outcome};
 use crate::schedules::{
-    bad_script_outcome, history_outcome, judged_outcome, run_outcome, run_reported_outcome,
-    steps_outcome,
+    bad_script_outcome, completions_outcome, history_outcome, judged_outcome, run_outcome,
+    run_reported_outcome, run_text_outcome, steps_outcome,
 };
 use stamp_cli::{Order, ReadSource, ServeFault, Verdict, WriteSink, fault_line, serve};
 use stamp_core::{Call, Layout, Limits, ReplayError, Replayed, replay};
@@ -182,6 +182,8 @@ fn outcome_of_all(alloc: Global) -> Outcome {
         run_outcome(alloc),
         run_reported_outcome(alloc),
         steps_outcome(alloc),
+        completions_outcome(alloc),
+        run_text_outcome(alloc),
         running_lock_outcome(alloc),
         running_record_outcome(alloc),
         book_outcome(alloc),

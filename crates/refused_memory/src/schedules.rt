@@ -1,11 +1,14 @@
 //! Scripts, whose runs ask for memory as they go.
 ghost use Rattle.std.specs.Prelude.{◌≡◌, ◌<◌, ◌++◌, ◌∷◌, [], length, OnOk, OnErr};
+ghost use Rattle.stamp_machines.specs.Completing.{after_next};
 
 use crate::{Outcome, right_if};
 use stamp_core::{Call, Entry, Limits, Words};
-use stamp_history::{ReadError, check, migrate, read_history, read_script, write_history};
+use stamp_history::{
+    ReadError, check, migrate, read_history, read_script, write_history, write_run,
+};
 use stamp_machines::{
-    Arg, Run, RunError, Script, ScriptCall, ScriptError, Stepped, run, run_reported,
+    Arg, Completions, Run, RunError, Script, ScriptCall, ScriptError, Stepped, run, run_reported,
 };
 use std::alloc::{AllocError, Global};
 
@@ -121,6 +124,35 @@ fn is_stepped_again(alloc: Global) -> Result<bool, Outcome> {
     ends_alike(alloc, &script, record.entries()).map_err(refusal)
 }
 
+/// Goes on to the next finished call, and once more where memory was refused.
+fn advance_again(completions: &mut Completions) -> Result<(), AllocError>
+    ensures { OnOk result (completions.new ≡ after_next completions.old.rest) }
+{
+    match completions.advance() {
+        Err(_) => completions.advance(),
+        Ok(()) => Ok(()),
+    }
+}
+
+/// The finished calls are handed on, each once; none is lost where memory was refused.
+fn are_handed_on(alloc: Global, script: &Script, entries: &[Entry]) -> Result<bool, AllocError> {
+    let mut completions = Completions::start(alloc, script)?;
+    for entry in entries {
+        advance_again(&mut completions)?;
+        if completions.get() != Some(entry) {
+            return Ok(false);
+        }
+    }
+    advance_again(&mut completions)?;
+    Ok(completions.get().is_none())
+}
+
+fn is_handed_on_again(alloc: Global) -> Result<bool, Outcome> {
+    let script = script(alloc)?;
+    let record = run(alloc, &script).map_err(refusal)?;
+    are_handed_on(alloc, &script, record.entries()).map_err(|_| Outcome::Refused)
+}
+
 fn outcome_of(answer: Result<bool, Outcome>) -> Outcome {
     match answer {
         Ok(holds) => right_if(holds),
@@ -141,6 +173,22 @@ pub(crate) fn steps_outcome(alloc: Global) -> Outcome {
     outcome_of(is_stepped_again(alloc))
 }
 
+/// Finished calls that are asked for again after a refusal are right; what comes before them may be
+/// refused.
+pub(crate) fn completions_outcome(alloc: Global) -> Outcome {
+    outcome_of(is_handed_on_again(alloc))
+}
+
+/// The text of the history that a script's text is run to, the run's entries not kept.
+fn run_text(alloc: Global) -> Result<Vec<u8>, ReadError> {
+    let script = read_script(alloc, SCRIPT)?;
+    write_run(alloc, &script)
+}
+
+pub(crate) fn run_text_outcome(alloc: Global) -> Outcome {
+    history_outcome_of(run_text(alloc))
+}
+
 /// The text of the history that a script's text is run to.
 fn history(alloc: Global) -> Result<Vec<u8>, ReadError> {
     let script = read_script(alloc, SCRIPT)?;
@@ -151,7 +199,11 @@ fn history(alloc: Global) -> Result<Vec<u8>, ReadError> {
 }
 
 pub(crate) fn history_outcome(alloc: Global) -> Outcome {
-    match history(alloc) {
+    history_outcome_of(history(alloc))
+}
+
+fn history_outcome_of(written: Result<Vec<u8>, ReadError>) -> Outcome {
+    match written {
         Ok(text) => right_if(text.as_slice() == HISTORY),
         Err(ReadError::Memory) => Outcome::Refused,
         Err(_) => Outcome::Wrong,

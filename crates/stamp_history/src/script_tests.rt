@@ -1,6 +1,6 @@
-use crate::{Field, ReadError, read_script};
+use crate::{Field, ReadError, read_script, write_history, write_run};
 use stamp_core::{Layout, ScriptError};
-use stamp_machines::{Arg, Script, ScriptCall};
+use stamp_machines::{Arg, Script, ScriptCall, run};
 use std::alloc::{AllocError, Global};
 use std::process::Abort;
 use std::test::Fail;
@@ -408,4 +408,37 @@ fn a_script_whose_parts_do_not_suit_is_refused(rt: HostRuntime) {
         let wanted = Some(ReadError::BadScript(fault));
         assert_eq!(rt; fault_of(rt.alloc(), text), wanted, "{text}");
     }
+}
+
+/// Scripts, and the histories that they are run to: none that finishes a call, one that does, and
+/// one whose second writer loses an exchange.
+const RUNS: [(&str, &str); 3] = [
+    (
+        r#"{"layout":2,"readers":5,"steps":[0],"threads":[[["try_write"]]],"versions":1,"width":2}"#,
+        r#"{"entries":[],"format":2,"layout":2,"readers":5,"versions":1,"width":2}"#,
+    ),
+    (
+        r#"{"readers":1,"steps":[0,0],"threads":[[["validate",256]]],"versions":1,"width":0}"#,
+        r#"{"entries":[{"call":["validate",256],"first":0,"last":0,"point":0,"reply":"yes","thread":0}],"format":1,"readers":1,"versions":1,"width":0}"#,
+    ),
+    (
+        r#"{"readers":127,"steps":[0,1,1,1,1,0,0],"threads":[[["try_write"]],[["try_write"],["unlock_write",[1,0]]]],"versions":1000,"width":0}"#,
+        r#"{"entries":[{"call":["try_write"],"first":1,"last":2,"point":2,"reply":384,"thread":1},{"call":["unlock_write",384],"first":3,"last":4,"point":4,"reply":"done","thread":1},{"call":["try_write"],"first":0,"last":6,"point":6,"reply":640,"thread":0}],"format":1,"readers":127,"versions":1000,"width":0}"#,
+    ),
+];
+
+#[test]
+fn a_script_is_written_as_the_history_of_its_run(rt: HostRuntime) -> Result<(), Fail> {
+    let alloc = rt.alloc();
+    for (script, history) in RUNS {
+        let script = read_script(alloc, script.as_bytes())?;
+        assert_eq!(rt;
+            write_run(alloc, &script)?.as_slice(),
+            history.as_bytes(),
+            "{history}"
+        );
+        let kept = write_history(alloc, &run(alloc, &script)?)?;
+        assert_eq!(rt; kept.as_slice(), history.as_bytes(), "{history}");
+    }
+    Ok(())
 }
