@@ -5,18 +5,20 @@
 #![tactic(auto)]
 
 mod booking;
+mod fault_lines;
 mod judging;
 mod running;
 mod schedules;
 
 use crate::booking::book_outcome;
+use crate::fault_lines::fault_lines_outcome;
 use crate::judging::{Task, task_outcome};
 use crate::running::{running_lock_outcome, running_record_outcome};
 use crate::schedules::{
     bad_script_outcome, completions_outcome, history_outcome, judged_outcome, run_outcome,
     run_reported_outcome, run_text_outcome, steps_outcome,
 };
-use stamp_cli::{Order, ReadSource, ServeFault, Verdict, WriteSink, fault_line, serve};
+use stamp_cli::{Order, ReadSource, ServeFault, Verdict, WriteSink, serve};
 use stamp_core::{Call, Layout, Limits, ReplayError, Replayed, replay};
 use stamp_history::{AnswerError, Field, ReadError, read_replay, replay_text, write_replay};
 use std::alloc::Global;
@@ -135,14 +137,6 @@ fn answer_outcome(alloc: Global) -> Outcome {
     }
 }
 
-fn fault_line_outcome(alloc: Global, fault: ServeFault, expected: &str) -> Outcome {
-    match fault_line(alloc, &fault) {
-        Ok(line) => right_if(line.as_str() == expected),
-        Err(ServeFault::Memory) => Outcome::Refused,
-        Err(_) => Outcome::Wrong,
-    }
-}
-
 /// Serving fails without a write, or writes the line.
 fn serve_outcome(alloc: Global, order: Order, line: &[u8]) -> Outcome {
     let mut source = ReadSource::new(TEXT);
@@ -159,16 +153,13 @@ fn serve_outcome(alloc: Global, order: Order, line: &[u8]) -> Outcome {
 
 /// All calls, one after the other: wrong where one is, or else refused where one is.
 fn outcome_of_all(alloc: Global) -> Outcome {
-    let not_json = ServeFault::Refused(ReadError::NotJson);
-    let call_12 = ServeFault::Refused(ReadError::NotScript(Field::Call(12)));
     let outcomes = [
         replay_outcome(alloc),
         read_outcome(alloc),
         bad_text_outcome(alloc),
         write_outcome(alloc),
         answer_outcome(alloc),
-        fault_line_outcome(alloc, not_json, "stamped: not json"),
-        fault_line_outcome(alloc, call_12, "stamped: not a script: call 12"),
+        fault_lines_outcome(alloc),
         serve_outcome(
             alloc,
             Order::Replay,

@@ -1,4 +1,4 @@
-//! A lock whose calls are made one at a time, and entered.
+//! A lock whose calls are made one at a time, each kept as an entry.
 ghost use Rattle.std.specs.Prelude.{◌≡◌, ◌<◌, ◌≤◌, [], IfOk, OnErr, IsTrue};
 ghost use Rattle.stamp_core.specs.Call.{is_lock_call};
 ghost use Rattle.stamp_core.specs.Record.{recorded};
@@ -11,8 +11,8 @@ use stamp_core::{Call, Entry, Limits, Record, Reply, Word, step};
 use std::alloc::Global;
 use std::marker::Model;
 
-/// A lock with the history of its calls, up to so many: the record of whoever makes them under a
-/// lock round it, as `Shared` does.
+/// A lock and the history of its calls, at most `most` of them, for one caller at a time. An entry
+/// takes 456 bytes, so that 640,000 of them take some 292 MB.
 #[derive(Drop)]
 pub struct Book {
     limits: Limits,
@@ -59,7 +59,9 @@ impl Book {
         }
     }
 
-    /// Makes the call for this thread, and enters it with its reply.
+    /// Makes the call for this thread, and enters it with its reply. Refuses in this order: 3 `Waits`,
+    /// 1 `Full`, 2 `Memory`; the book is as before then. The thread is the caller's number for whoever
+    /// calls, and only stands in the entry.
     pub fn act(&mut self, thread: u64, call: Call) -> Result<Reply, BookError>
         requires call { IsTrue (is_lock_call call) }
         requires thread { thread < 64 }
@@ -71,6 +73,7 @@ impl Book {
     }
 
     /// `act`, with the call by reference.
+    /// `act` of a call by reference, of which the proof can speak more than once.
     fn enter(&mut self, thread: u64, call: &Call) -> Result<Reply, BookError>
         requires call { IsTrue (is_lock_call call.now) }
         requires thread { thread < 64 }
@@ -102,6 +105,7 @@ impl Book {
         Ok(Record::of(self.limits, 0, entries).unwrap())
     }
 
+    /// The limits of its lock.
     pub fn limits(&self) -> Limits
         ensures { result ≡ self.now.limits }
     {

@@ -3,11 +3,12 @@ ghost use Rattle.std.specs.Prelude.{◌≡◌};
 
 use std::alloc::{AllocError, AllocFailed};
 
-/// Why a book refuses a call, or a copy of its history. The book is as before, and nothing is kept.
+/// Why a book refuses a call, or a copy of its history. The book is as before: no entry was made.
 /// Of a call they come in this order: 3, 1, 2.
 #[derive(Clone, Copy, PartialEq, Eq, Debug, Drop)]
 pub enum BookError {
-    /// 1: the call can be made, and the book has as many entries as it may have.
+    /// 1: the call can be made, and the book has as many entries as it may have. It stays so: a call
+    /// that releases is refused, too.
     Full,
     /// 2: a growth was refused. The call can be made again.
     Memory,

@@ -101,8 +101,6 @@ impl RunningRecord {
         match self.shape.width {
             1 => self.get_fixed::<1>(pass),
             2 => self.get_fixed::<2>(pass),
-            4 => self.get_fixed::<4>(pass),
-            8 => self.get_fixed::<8>(pass),
             16 => self.get_fixed::<16>(pass),
             _ => self.get_any(pass),
         }
@@ -145,7 +143,7 @@ impl RunningRecord {
         Ok(Words::of_row(row, self.shape.width))
     }
 
-    /// As `get_once`, into a place of the caller's that has the width, which is the fastest way.
+    /// As `get_once`, into a place of the caller's that has the width.
     /// Where it is refused, any words may stand there.
     #[inline(always)]
     pub fn get_into(&self, pass: &mut RecordPass, into: &mut [u64]) -> Result<(), GetFault>

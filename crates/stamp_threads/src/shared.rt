@@ -26,7 +26,8 @@ impl Shared {
     }
 
     /// Makes the call as `Book::act` does, and never answers 3 `Waits`: a call that waits is tried
-    /// again whenever others have changed the word. It may wait for ever.
+    /// again whenever others have changed the word. It may wait for ever, as it does where the book is
+    /// full by then. Refuses as 1 `Full` and 2 `Memory`, and has entered nothing then.
     pub fn call<R: Wait>(&self, rt: &R, thread: u64, call: Call) -> Result<Reply, BookError>
         requires call { IsTrue (is_lock_call call) }
         requires thread { thread < 64 }
@@ -52,6 +53,7 @@ impl Shared {
         ensures book { IsBook book.old }
     {
         let before = book.word();
+        // By its contract the prover knows that this is a book.
         let _ = book.entries();
         let answer = book.act(thread, *call);
         if book.word() != before {

@@ -2,8 +2,8 @@
 ghost use Rattle.std.specs.Prelude.{◌≡◌, ◌<◌, ◌≤◌, IsTrue};
 ghost use Rattle.stamp_core.specs.Call.{is_lock_call};
 
-use crate::Shared;
 use crate::book_tests::opened;
+use crate::{BookError, Shared};
 use stamp_check::check;
 use stamp_core::{Call, Record, Reply};
 use std::alloc::Global;
@@ -86,6 +86,23 @@ fn two_threads_read_and_their_calls_are_entered(rt: HostRuntime) -> Result<(), F
     assert!(rt; is_kept(&record, &zero.ok_or("refused")?));
     assert!(rt; is_kept(&record, &one.ok_or("refused")?));
     assert_eq!(rt; shared.call(&rt, 2, Call::ReadCount), Ok(Reply::Count(0)));
+    Ok(())
+}
+
+#[test]
+fn a_full_book_is_told_to_those_who_share_it(rt: HostRuntime) -> Result<(), Fail> {
+    let shared = Shared::new(opened(rt.alloc(), 1)?);
+    assert_eq!(rt; shared.call(&rt, 7, Call::TryWrite), Ok(Reply::Stamp(384)));
+    assert_eq!(rt;
+        shared.call(&rt, 7, Call::UnlockWrite(384)),
+        Err(BookError::Full)
+    );
+    let record = shared.record(&rt)?;
+    assert_eq!(rt; record.entries().len(), 1);
+    assert_eq!(rt; check(&record), Ok(1));
+    let none = Shared::new(opened(rt.alloc(), 0)?);
+    assert_eq!(rt; none.call(&rt, 7, Call::Optimistic), Err(BookError::Full));
+    assert_eq!(rt; none.record(&rt)?.entries().len(), 0);
     Ok(())
 }
 

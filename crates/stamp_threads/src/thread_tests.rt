@@ -17,7 +17,10 @@ fn write_once<R: Wait>(rt: &R, lock: &RunningLock, mut pass: Pass) -> Pass
     ensures { result.table ≡ lock.now.table }
 {
     if let Reply::Stamp(stamp) = lock.call(rt, &mut pass, Call::WriteLock) {
-        lock.call(rt, &mut pass, Call::UnlockWrite(stamp));
+        // 0 where no version was left.
+        if stamp != 0 {
+            lock.call(rt, &mut pass, Call::UnlockWrite(stamp));
+        }
     }
     pass
 }
