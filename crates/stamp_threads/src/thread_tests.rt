@@ -125,8 +125,8 @@ fn four_threads_of_mixed_calls_leave_their_count(rt: HostRuntime) -> Result<(), 
     let (first, second) = lock.split(pass);
     let ((a, first), (b, second)) = join(
         &rt,
-        || two_mixed(&rt, &lock, first, 15_000),
-        || two_mixed(&rt, &lock, second, 15_000),
+        || two_mixed(&rt, &lock, first, 20_000),
+        || two_mixed(&rt, &lock, second, 20_000),
     );
     let (mut first, second) = lock.meet(first, second);
     drop(second);
