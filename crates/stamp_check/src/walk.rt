@@ -20,7 +20,7 @@ pub(crate) struct Walk {
 }
 
 /// The point lies in the interval.
-pub(crate) fn is_within(entry: &Entry) -> bool
+fn is_within(entry: &Entry) -> bool
     ensures { IsTrue result ↔ IsWithin entry.now }
 {
     entry.first <= entry.point && entry.point <= entry.last

@@ -4,21 +4,15 @@
 mod answer;
 mod check_text;
 mod faults;
-#[cfg(test)]
-mod history_tests;
 mod input;
 pub mod laws;
 mod line;
 mod orders;
 mod output;
-#[cfg(test)]
-mod run_tests;
 mod serving;
 mod sinks;
 mod sources;
 mod stamp_text;
-#[cfg(test)]
-mod tests;
 
 pub use faults::{ServeFault, fault_line};
 pub use line::Verdict;

@@ -16,8 +16,6 @@ mod reply;
 mod respelling;
 mod script_error;
 mod stamps;
-#[cfg(test)]
-mod tests;
 mod word;
 mod words;
 

@@ -7,10 +7,6 @@ mod history_calls;
 mod history_entries;
 mod history_fields;
 mod history_reading;
-#[cfg(test)]
-mod history_reading_tests;
-#[cfg(test)]
-mod history_tests;
 mod history_writing;
 mod json_text;
 mod json_values;
@@ -26,11 +22,7 @@ mod run_writing;
 mod script_calls;
 mod script_fields;
 mod script_reading;
-#[cfg(test)]
-mod script_tests;
 mod stored_call;
-#[cfg(test)]
-mod tests;
 mod words_value;
 
 pub use answer_error::AnswerError;

@@ -3,28 +3,18 @@
 #![tactic(auto)]
 
 mod access;
-#[cfg(test)]
-mod brute_tests;
 mod completions;
-#[cfg(test)]
-mod fixtures;
 pub mod laws;
 mod loaded;
 mod lock_phase;
 mod machine;
-#[cfg(test)]
-mod plain_lock;
 mod run_whole;
 mod running;
-#[cfg(test)]
-mod schedule_tests;
 mod script;
 mod shape;
 mod stage;
 mod state;
 mod tally;
-#[cfg(test)]
-mod tests;
 
 pub use access::Access;
 pub use completions::Completions;

@@ -4,8 +4,6 @@
 
 mod book;
 mod book_error;
-#[cfg(test)]
-mod book_tests;
 mod faults;
 mod lock_rule;
 mod lock_steps;
@@ -18,21 +16,11 @@ mod record_pass;
 mod record_put;
 mod record_rule;
 mod record_steps;
-#[cfg(test)]
-mod record_tests;
-#[cfg(test)]
-mod record_thread_tests;
 mod record_view;
 mod record_word;
 mod running_lock;
 mod running_record;
 mod shared;
-#[cfg(test)]
-mod shared_tests;
-#[cfg(test)]
-mod tests;
-#[cfg(test)]
-mod thread_tests;
 
 pub use book::Book;
 pub use book_error::BookError;

@@ -1,0 +1,62 @@
+//! What the tests make their schedules of.
+use stamp_core::{Call, Entry, Limits, Reply, Words};
+use stamp_machines::{Script, ScriptCall};
+use std::alloc::Global;
+use std::test::Fail;
+
+pub(crate) fn limits(readers: u64, versions: u64) -> Result<Limits, Fail> {
+    Limits::new(readers, versions).map_err(|_| Fail::from("limits"))
+}
+
+pub(crate) fn words(words: &[u64]) -> Result<Words, Fail> {
+    Ok(Words::new(words).ok_or("words")?)
+}
+
+fn calls(alloc: Global, calls: &[ScriptCall]) -> Result<Vec<ScriptCall>, Fail> {
+    let mut made = Vec::new(alloc);
+    for call in calls {
+        made.push(*call)?;
+    }
+    Ok(made)
+}
+
+/// A script of two threads, under these limits.
+pub(crate) fn script_under(
+    alloc: Global,
+    limits: Limits,
+    width: u64,
+    threads: [&[ScriptCall]; 2],
+    steps: &[u64],
+) -> Result<Script, Fail> {
+    let mut made = Vec::new(alloc);
+    for thread in threads {
+        made.push(calls(alloc, thread)?)?;
+    }
+    let mut names = Vec::new(alloc);
+    for name in steps {
+        names.push(*name)?;
+    }
+    Script::new(limits, width, made, names).map_err(|_| Fail::from("script"))
+}
+
+/// A script of two threads, with 127 readers and 1000 versions.
+pub(crate) fn script(
+    alloc: Global,
+    width: u64,
+    threads: [&[ScriptCall]; 2],
+    steps: &[u64],
+) -> Result<Script, Fail> {
+    script_under(alloc, limits(127, 1000)?, width, threads, steps)
+}
+
+/// A call that took effect at its last step.
+pub(crate) fn entry(thread: u64, call: Call, reply: Reply, first: u64, last: u64) -> Entry {
+    Entry {
+        thread,
+        call,
+        reply,
+        first,
+        point: last,
+        last,
+    }
+}

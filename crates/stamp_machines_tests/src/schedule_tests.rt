@@ -1,0 +1,402 @@
+//! Schedules worked out by hand: who steps when, what each call is answered, and the last word.
+ghost use Rattle.std.specs.Prelude.{◌≡◌, IfOk};
+
+use crate::fixtures::{entry, limits, script, script_under, words};
+use stamp_core::{Call, Entry, Layout, Limits, Reply};
+use stamp_machines::{
+    Arg, Completions, MOST_STEPS, Run, RunError, Script, ScriptCall, Stepped, run, run_reported,
+};
+use std::alloc::Global;
+use std::process::Abort;
+use std::test::Fail;
+
+/// Steps through the whole script, and puts down the entries that the steps tell.
+fn stepped_through<'a>(
+    alloc: Global,
+    script: &'a Script,
+    told: &mut Vec<Entry>,
+) -> Result<Run<'a>, Fail>
+    ensures { IfOk result (λ run. run.plan ≡ script.now) }
+{
+    let mut run = Run::start(alloc, script)?;
+    for name in script.steps() {
+        let stepped = run.step(*name)?;
+        if let Stepped::Ended(entry) = &stepped {
+            // The types that a step holds have to be named where one is dropped.
+            let (_call, _reply): (Call, Reply) = (entry.call, entry.reply);
+            told.push(*entry)?;
+        }
+    }
+    Ok(run)
+}
+
+/// How many of the script's steps there are until so many calls have finished.
+fn steps_until(alloc: Global, script: &Script, calls: usize) -> Result<usize, RunError> {
+    let mut run = Run::start(alloc, script)?;
+    for name in script.steps() {
+        if run.finished().len() >= calls {
+            break;
+        }
+        let _ = run.step(*name)?;
+    }
+    Ok(run.steps().len())
+}
+
+/// The entries that are handed on, one at a time.
+fn handed_on(alloc: Global, script: &Script) -> Result<Vec<Entry>, Fail> {
+    let mut completions = Completions::start(alloc, script)?;
+    let mut entries = Vec::new(alloc);
+    for _ in script.steps() {
+        completions.advance()?;
+        if let Some(entry) = completions.get() {
+            entries.push(*entry)?;
+        }
+    }
+    completions.advance()?;
+    match completions.get() {
+        Some(_) => Err(Fail::from("one too many")),
+        None => Ok(entries),
+    }
+}
+
+/// Run whole, run with a report, handed on and stepped through, the script has these entries, and
+/// this word.
+fn ends_with(
+    rt: &impl Abort,
+    alloc: Global,
+    script: &Script,
+    entries: &[Entry],
+    word: u64,
+) -> Result<(), Fail> {
+    assert_eq!(rt; run(alloc, script)?.entries(), entries);
+    assert_eq!(rt; run_reported(alloc, script)?.entries(), entries);
+    assert_eq!(rt; handed_on(alloc, script)?.as_slice(), entries);
+    let mut told = Vec::new(alloc);
+    let stepped = stepped_through(alloc, script, &mut told)?;
+    assert_eq!(rt; told.as_slice(), entries);
+    assert_eq!(rt; stepped.finished(), entries);
+    assert_eq!(rt; stepped.word().bits(), word);
+    assert_eq!(rt; stepped.steps(), script.steps());
+    Ok(())
+}
+
+/// The script's report has these pairs.
+fn costs(
+    rt: &impl Abort,
+    alloc: Global,
+    script: &Script,
+    report: &[(u64, u64)],
+) -> Result<(), Fail> {
+    assert_eq!(rt; run_reported(alloc, script)?.report(), report);
+    assert!(rt; run(alloc, script)?.report().is_empty());
+    Ok(())
+}
+
+#[test]
+fn a_lost_exchange_tries_again_on_the_free_word_that_it_found(rt: HostRuntime) -> Result<(), Fail> {
+    let second = [ScriptCall::TryWrite, ScriptCall::UnlockWrite(Arg::Of(1, 0))];
+    let script = script(
+        rt.alloc(),
+        0,
+        [&[ScriptCall::TryWrite], &second],
+        &[0, 1, 1, 1, 1, 0, 0],
+    )?;
+    let entries = [
+        entry(1, Call::TryWrite, Reply::Stamp(384), 1, 2),
+        entry(1, Call::UnlockWrite(384), Reply::Done, 3, 4),
+        entry(0, Call::TryWrite, Reply::Stamp(640), 0, 6),
+    ];
+    ends_with(&rt, rt.alloc(), &script, &entries, 640)?;
+    costs(&rt, rt.alloc(), &script, &[(2, 0), (2, 0), (3, 2)])
+}
+
+#[test]
+fn a_run_is_stopped_between_two_steps(rt: HostRuntime) -> Result<(), Fail> {
+    let calls = [ScriptCall::TryWrite];
+    let script = script(rt.alloc(), 0, [&calls, &calls], &[0, 1, 0, 1])?;
+    assert_eq!(rt; steps_until(rt.alloc(), &script, 0)?, 0);
+    assert_eq!(rt; steps_until(rt.alloc(), &script, 1)?, 3);
+    assert_eq!(rt; steps_until(rt.alloc(), &script, 3)?, 4);
+    Ok(())
+}
+
+#[test]
+fn a_schedule_in_the_second_layout(rt: HostRuntime) -> Result<(), Fail> {
+    let second = [ScriptCall::TryWrite, ScriptCall::UnlockWrite(Arg::Of(1, 0))];
+    let limits = Limits::in_layout(Layout::Two, 127, 1000).map_err(|_| Fail::from("limits"))?;
+    let script = script_under(
+        rt.alloc(),
+        limits,
+        0,
+        [&[ScriptCall::TryWrite], &second],
+        &[0, 1, 1, 1, 1, 0, 0],
+    )?;
+    let entries = [
+        entry(1, Call::TryWrite, Reply::Stamp(196_608), 1, 2),
+        entry(1, Call::UnlockWrite(196_608), Reply::Done, 3, 4),
+        entry(0, Call::TryWrite, Reply::Stamp(327_680), 0, 6),
+    ];
+    ends_with(&rt, rt.alloc(), &script, &entries, 327_680)?;
+    costs(&rt, rt.alloc(), &script, &[(2, 0), (2, 0), (3, 2)])
+}
+
+#[test]
+fn a_lost_exchange_decides_on_the_held_word_that_it_found(rt: HostRuntime) -> Result<(), Fail> {
+    let calls = [ScriptCall::TryWrite];
+    let script = script(rt.alloc(), 0, [&calls, &calls], &[0, 1, 0, 1])?;
+    let entries = [
+        entry(0, Call::TryWrite, Reply::Stamp(384), 0, 2),
+        entry(1, Call::TryWrite, Reply::Stamp(0), 1, 3),
+    ];
+    ends_with(&rt, rt.alloc(), &script, &entries, 384)?;
+    costs(&rt, rt.alloc(), &script, &[(2, 0), (2, 1)])
+}
+
+#[test]
+fn an_exchange_wins_where_the_word_came_back(rt: HostRuntime) -> Result<(), Fail> {
+    let second = [
+        ScriptCall::TryRead,
+        ScriptCall::UnlockRead(Arg::Number(257)),
+    ];
+    let script = script(
+        rt.alloc(),
+        0,
+        [&[ScriptCall::TryWrite], &second],
+        &[0, 1, 1, 1, 1, 0],
+    )?;
+    let entries = [
+        entry(1, Call::TryRead, Reply::Stamp(257), 1, 2),
+        entry(1, Call::UnlockRead(257), Reply::Done, 3, 4),
+        entry(0, Call::TryWrite, Reply::Stamp(384), 0, 5),
+    ];
+    ends_with(&rt, rt.alloc(), &script, &entries, 384)
+}
+
+#[test]
+fn each_change_by_another_costs_one_step_at_most(rt: HostRuntime) -> Result<(), Fail> {
+    let second = [ScriptCall::TryRead, ScriptCall::TryRead];
+    let script = script(
+        rt.alloc(),
+        0,
+        [&[ScriptCall::TryRead], &second],
+        &[0, 1, 1, 0, 1, 1, 0, 0],
+    )?;
+    let entries = [
+        entry(1, Call::TryRead, Reply::Stamp(257), 1, 2),
+        entry(1, Call::TryRead, Reply::Stamp(258), 4, 5),
+        entry(0, Call::TryRead, Reply::Stamp(259), 0, 7),
+    ];
+    ends_with(&rt, rt.alloc(), &script, &entries, 259)?;
+    costs(&rt, rt.alloc(), &script, &[(2, 0), (2, 0), (4, 2)])
+}
+
+#[test]
+fn a_call_that_waits_has_no_entry(rt: HostRuntime) -> Result<(), Fail> {
+    let mut steps = vec![in rt.alloc(); 1, 1]?;
+    for _ in 0..1000 {
+        steps.push(0)?;
+    }
+    let script = script(
+        rt.alloc(),
+        0,
+        [&[ScriptCall::WriteLock], &[ScriptCall::TryWrite]],
+        steps.as_slice(),
+    )?;
+    let entries = [entry(1, Call::TryWrite, Reply::Stamp(384), 0, 1)];
+    ends_with(&rt, rt.alloc(), &script, &entries, 384)
+}
+
+#[test]
+fn a_waiting_writer_goes_on_once_the_reader_has_left(rt: HostRuntime) -> Result<(), Fail> {
+    let second = [ScriptCall::ReadLock, ScriptCall::UnlockRead(Arg::Of(1, 0))];
+    let script = script(
+        rt.alloc(),
+        0,
+        [&[ScriptCall::WriteLock], &second],
+        &[1, 1, 0, 0, 1, 1, 0, 0],
+    )?;
+    let entries = [
+        entry(1, Call::ReadLock, Reply::Stamp(257), 0, 1),
+        entry(1, Call::UnlockRead(257), Reply::Done, 4, 5),
+        entry(0, Call::WriteLock, Reply::Stamp(384), 2, 7),
+    ];
+    ends_with(&rt, rt.alloc(), &script, &entries, 384)
+}
+
+#[test]
+fn an_observation_is_invalid_once_somebody_wrote(rt: HostRuntime) -> Result<(), Fail> {
+    let first = [ScriptCall::Optimistic, ScriptCall::Validate(Arg::Of(0, 0))];
+    let script = script(
+        rt.alloc(),
+        0,
+        [&first, &[ScriptCall::TryWrite]],
+        &[0, 1, 1, 0],
+    )?;
+    let entries = [
+        entry(0, Call::Optimistic, Reply::Stamp(256), 0, 0),
+        entry(1, Call::TryWrite, Reply::Stamp(384), 1, 2),
+        entry(0, Call::Validate(256), Reply::No, 3, 3),
+    ];
+    ends_with(&rt, rt.alloc(), &script, &entries, 384)
+}
+
+#[test]
+fn a_stamp_of_an_unfinished_call_is_0_at_the_first_step(rt: HostRuntime) -> Result<(), Fail> {
+    let second = [
+        ScriptCall::UnlockWrite(Arg::Of(0, 0)),
+        ScriptCall::UnlockWrite(Arg::Of(0, 0)),
+    ];
+    let script = script(
+        rt.alloc(),
+        0,
+        [&[ScriptCall::TryWrite], &second],
+        &[0, 1, 0, 1, 1],
+    )?;
+    let entries = [
+        entry(1, Call::UnlockWrite(0), Reply::Mismatch, 1, 1),
+        entry(0, Call::TryWrite, Reply::Stamp(384), 0, 2),
+        entry(1, Call::UnlockWrite(384), Reply::Done, 3, 4),
+    ];
+    ends_with(&rt, rt.alloc(), &script, &entries, 512)
+}
+
+#[test]
+fn a_stamp_of_a_call_that_does_not_exist_is_0(rt: HostRuntime) -> Result<(), Fail> {
+    let first = [ScriptCall::Unlock(Arg::Of(0, 5)), ScriptCall::Optimistic];
+    let script = script(rt.alloc(), 0, [&first, &[]], &[0, 0])?;
+    let entries = [
+        entry(0, Call::Unlock(0), Reply::Mismatch, 0, 0),
+        entry(0, Call::Optimistic, Reply::Stamp(256), 1, 1),
+    ];
+    ends_with(&rt, rt.alloc(), &script, &entries, 256)
+}
+
+#[test]
+fn a_get_beside_a_put_reads_words_that_were_held_together(rt: HostRuntime) -> Result<(), Fail> {
+    let put = [ScriptCall::Put(words(&[7, 9])?)];
+    let script = script(
+        rt.alloc(),
+        2,
+        [&[ScriptCall::Get], &put],
+        &[0, 0, 1, 1, 1, 1, 1, 0, 0, 0, 0, 0, 0, 0, 0],
+    )?;
+    let entries = [
+        entry(1, Call::Put(words(&[7, 9])?), Reply::Done, 2, 6),
+        entry(0, Call::Get, Reply::Content(words(&[7, 9])?), 0, 14),
+    ];
+    ends_with(&rt, rt.alloc(), &script, &entries, 256)
+}
+
+#[test]
+fn a_get_before_a_put_reads_the_words_before(rt: HostRuntime) -> Result<(), Fail> {
+    let put = [ScriptCall::Put(words(&[7, 9])?)];
+    let script = script(
+        rt.alloc(),
+        2,
+        [&[ScriptCall::Get], &put],
+        &[0, 0, 0, 0, 1, 1, 1, 1, 1],
+    )?;
+    let entries = [
+        entry(0, Call::Get, Reply::Content(words(&[0, 0])?), 0, 3),
+        entry(1, Call::Put(words(&[7, 9])?), Reply::Done, 4, 8),
+    ];
+    ends_with(&rt, rt.alloc(), &script, &entries, 256)
+}
+
+#[test]
+fn the_widest_record_is_read_in_eighteen_steps(rt: HostRuntime) -> Result<(), Fail> {
+    let script = script(rt.alloc(), 16, [&[ScriptCall::Get], &[]], &[0; 18])?;
+    let zeros = Reply::Content(words(&[0; 16])?);
+    ends_with(
+        &rt,
+        rt.alloc(),
+        &script,
+        &[entry(0, Call::Get, zeros, 0, 17)],
+        256,
+    )
+}
+
+#[test]
+fn a_record_is_written_where_the_lock_has_no_version_left(rt: HostRuntime) -> Result<(), Fail> {
+    let first = [ScriptCall::Put(words(&[7])?), ScriptCall::Get];
+    let spent = limits(127, 0)?;
+    let script = script_under(rt.alloc(), spent, 1, [&first, &[]], &[0; 7])?;
+    let entries = [
+        entry(0, Call::Put(words(&[7])?), Reply::Done, 0, 3),
+        entry(0, Call::Get, Reply::Content(words(&[7])?), 4, 6),
+    ];
+    ends_with(&rt, rt.alloc(), &script, &entries, 256)
+}
+
+#[test]
+fn a_conditional_put_alone_stores_after_seven_steps(rt: HostRuntime) -> Result<(), Fail> {
+    let first = [ScriptCall::PutIf(words(&[0])?, words(&[5])?)];
+    let script = script(rt.alloc(), 1, [&first, &[]], &[0; 7])?;
+    let call = Call::PutIf(words(&[0])?, words(&[5])?);
+    ends_with(
+        &rt,
+        rt.alloc(),
+        &script,
+        &[entry(0, call, Reply::Yes, 0, 6)],
+        256,
+    )?;
+    costs(&rt, rt.alloc(), &script, &[(7, 0)])
+}
+
+#[test]
+fn a_conditional_put_of_other_words_answers_no(rt: HostRuntime) -> Result<(), Fail> {
+    let first = [ScriptCall::PutIf(words(&[3])?, words(&[5])?)];
+    let script = script(rt.alloc(), 1, [&first, &[]], &[0; 5])?;
+    let call = Call::PutIf(words(&[3])?, words(&[5])?);
+    ends_with(
+        &rt,
+        rt.alloc(),
+        &script,
+        &[entry(0, call, Reply::No, 0, 4)],
+        256,
+    )
+}
+
+#[test]
+fn two_conditional_puts_beside_each_other_store_once(rt: HostRuntime) -> Result<(), Fail> {
+    let first = [ScriptCall::PutIf(words(&[0])?, words(&[5])?)];
+    let second = [ScriptCall::PutIf(words(&[0])?, words(&[6])?)];
+    let script = script(
+        rt.alloc(),
+        1,
+        [&first, &second],
+        &[0, 0, 1, 1, 0, 1, 0, 0, 0, 0, 1, 1, 1, 1, 0, 0, 0, 0],
+    )?;
+    let stored = Call::PutIf(words(&[0])?, words(&[6])?);
+    let refused = Call::PutIf(words(&[0])?, words(&[5])?);
+    let entries = [
+        entry(1, stored, Reply::Yes, 2, 13),
+        entry(0, refused, Reply::No, 0, 17),
+    ];
+    ends_with(&rt, rt.alloc(), &script, &entries, 256)?;
+    costs(&rt, rt.alloc(), &script, &[(7, 0), (11, 0)])
+}
+
+#[test]
+fn a_thread_without_calls_moves_nothing(rt: HostRuntime) -> Result<(), Fail> {
+    let script = script(rt.alloc(), 0, [&[], &[]], &[0, 0, 0])?;
+    ends_with(&rt, rt.alloc(), &script, &[], 256)?;
+    costs(&rt, rt.alloc(), &script, &[])
+}
+
+#[test]
+fn a_run_makes_a_million_steps_and_no_more(rt: HostRuntime) -> Result<(), Fail> {
+    let mut steps = Vec::new(rt.alloc());
+    for _ in 0..MOST_STEPS {
+        steps.push(0)?;
+    }
+    let script = script(rt.alloc(), 0, [&[], &[]], steps.as_slice())?;
+    assert_eq!(rt; script.threads().len(), 2);
+    let mut run = stepped_through(rt.alloc(), &script, &mut Vec::new(rt.alloc()))?;
+    assert!(rt; matches!(run.step(0), Err(RunError::TooManySteps)));
+    assert!(rt; matches!(run.step(1), Err(RunError::TooManySteps)));
+    assert_eq!(rt; run.word().bits(), 256);
+    assert!(rt; run.finished().is_empty());
+    assert_eq!(rt; run.steps().len(), 1_000_000);
+    Ok(())
+}

@@ -1,0 +1,73 @@
+//! The book, by worked rows.
+ghost use Rattle.std.specs.Prelude.{◌≤◌};
+
+use stamp_check::check;
+use stamp_core::{Call, Entry, Limits, Reply};
+use stamp_threads::{Book, BookError};
+use std::alloc::Global;
+use std::test::Fail;
+
+/// A book of a lock with at most 127 readers.
+pub fn opened(alloc: Global, most: u64) -> Result<Book, Fail>
+    requires { most ≤ 640000 }
+{
+    let limits = Limits::new(127, 1_000_000)?;
+    Ok(Book::new(alloc, limits, most))
+}
+
+/// Whether the book has this word, and so many entries.
+fn is_at(book: &Book, word: u64, entries: usize) -> bool {
+    book.word().bits() == word && book.entries().len() == entries
+}
+
+#[test]
+fn a_call_that_waits_is_told_so_by_a_full_book_too(rt: HostRuntime) -> Result<(), Fail> {
+    let mut book = opened(rt.alloc(), 1)?;
+    assert_eq!(rt; book.act(0, Call::TryWrite), Ok(Reply::Stamp(384)));
+    assert_eq!(rt; book.act(1, Call::ReadLock), Err(BookError::Waits));
+    assert!(rt; is_at(&book, 384, 1));
+    assert_eq!(rt; book.act(1, Call::TryRead), Err(BookError::Full));
+    assert!(rt; is_at(&book, 384, 1));
+    let record = book.record()?;
+    assert_eq!(rt; check(&record), Ok(1));
+    let entry = Entry {
+        thread: 0,
+        call: Call::TryWrite,
+        reply: Reply::Stamp(384),
+        first: 0,
+        point: 0,
+        last: 0,
+    };
+    assert!(rt; record.entries().first() == Some(&entry));
+    Ok(())
+}
+
+#[test]
+fn a_book_is_that_of_a_new_lock(rt: HostRuntime) -> Result<(), Fail> {
+    let mut book = opened(rt.alloc(), 3)?;
+    assert!(rt; is_at(&book, 256, 0));
+    assert_eq!(rt; book.most(), 3);
+    assert_eq!(rt; book.limits(), Limits::new(127, 1_000_000)?);
+    assert_eq!(rt; check(&book.record()?), Ok(0));
+    assert_eq!(rt; book.act(63, Call::WriteLock), Ok(Reply::Stamp(384)));
+    assert_eq!(rt; book.act(5, Call::Unlock(384)), Ok(Reply::Done));
+    assert_eq!(rt; book.act(63, Call::Validate(256)), Ok(Reply::No));
+    assert!(rt; is_at(&book, 512, 3));
+    let record = book.record()?;
+    assert_eq!(rt; check(&record), Ok(3));
+    assert_eq!(rt; record.limits(), book.limits());
+    assert_eq!(rt; record.width(), 0);
+    Ok(())
+}
+
+#[test]
+fn a_book_of_64_000_calls_is_full(rt: HostRuntime) -> Result<(), Fail> {
+    let mut book = opened(rt.alloc(), 64_000)?;
+    for _ in 0..32_000u64 {
+        assert_eq!(rt; book.act(0, Call::TryRead), Ok(Reply::Stamp(257)));
+        assert_eq!(rt; book.act(0, Call::TryUnlockRead), Ok(Reply::Yes));
+    }
+    assert_eq!(rt; book.act(0, Call::TryRead), Err(BookError::Full));
+    assert_eq!(rt; check(&book.record()?), Ok(64_000));
+    Ok(())
+}
