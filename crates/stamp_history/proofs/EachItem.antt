@@ -1,19 +1,28 @@
 -- Reading items one after the other, as a loop does.
-use Rattle.std.proofs.Common.{◌≡◌, ℕ, List, [], ◌∷◌, ◌++◌, Option, Some, None, Result, Ok, Err, refl, ap, sym, subst}
+use Rattle.std.proofs.Common.{◌≡◌, ◌∙◌, ℕ, ◌+◌, List, [], ◌∷◌, ◌++◌, Option, Some, None, Result, Ok, Err, refl, ap, sym, subst, append_assoc}
 use Rattle.std.specs.List.{All}
 use Rattle.std.proofs.lemmas.List.Elements.{All-nil, All-cons, All-append}
 use Rattle.stamp_history.specs.declared.read_error.ReadError.{ReadError}
-use Rattle.serde_json.specs.Data.{Data}
+use Rattle.serde_json.specs.Data.{Data, Items, item}
 use Rattle.stamp_core.specs.declared.call.Call.{Call}
 use Rattle.stamp_history.specs.declared.field.Field.TheVariants as part
 use Rattle.stamp_history.specs.declared.read_error.ReadError.TheVariants.{NotScript}
 use Rattle.stamp_history.specs.LockCall.{lock_call}
-use Rattle.stamp_history.specs.Reading.{◌>>=◌, kind}
+use Rattle.stamp_history.specs.Reading.{◌>>=◌, each, kind}
 use Rattle.stamp_history.specs.ReplayFields.{call_at}
 
 -- what was read before, and what is still read
 abbrev pub with_front : {A : Type 0} → List A → Result (List A) ReadError → Result (List A) ReadError
 with_front front reading = reading >>= λ later. Ok (front ++ later)
+
+-- one item more was read, and is no longer to read
+pub front_more : {A : Type 0} (one : ℕ → Data → Result A ReadError) (front next : List A) (i : ℕ) (d : Data) (ds : Items) (x : A) (whole : Result (List A) ReadError) → one i d ≡ Ok x → next ≡ front ++ x ∷ [] →
+    with_front front (each one i (item d ds)) ≡ whole → with_front next (each one (i + 1) ds) ≡ whole
+front_more {A} one front next i d ds x whole read pushed before = subst (λ (ys : List A). with_front ys (each one (i + 1) ds) ≡ whole) (sym pushed) (moved (each one (i + 1) ds) ∙ sym (ap (λ (r : Result A ReadError). with_front front (r >>= λ y. each one (i + 1) ds >>= λ later. Ok (y ∷ later))) read) ∙ before)
+  where
+    moved : (later : Result (List A) ReadError) → with_front (front ++ x ∷ []) later ≡ with_front front (later >>= λ ys. Ok (x ∷ ys))
+    moved (Ok ys) = ap Ok (append_assoc front (x ∷ []) ys)
+    moved (Err e) = refl
 
 -- what holds of each, and of one more
 pub All-pushed : {A : Type 0} (P : A → Type 0) (xs : List A) (x : A) (ys : List A) → ys ≡ xs ++ x ∷ [] → All P xs → P x → All P ys

@@ -10,6 +10,7 @@ pub mod OnlyLockCalls
 pub mod ScriptCallLengths
 pub mod NumbersSoFar
 pub mod PlanFaults
+pub mod ItemByItem
 pub mod ItemsText
 pub mod Appending
 pub mod CallText

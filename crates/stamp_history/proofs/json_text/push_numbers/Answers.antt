@@ -1,0 +1,25 @@
+use Rattle.std.proofs.Common.{◌≤◌, length, get_or, refl, arith, subst}
+use Rattle.std.specs.List.{All}
+use Rattle.std.proofs.lemmas.List.{take_all}
+use Rattle.std.proofs.lemmas.Grind.{common_steps}
+use Rattle.stamp_history.specs.HistoryLaws.{IsU64}
+use Rattle.stamp_history.specs.ReplayText.{number_data}
+use Rattle.stamp_history.proofs.ItemByItem.{next_left, all_and_next}
+use Rattle.stamp_history.proofs.ItemsText.{item_written}
+use Rattle.stamp_history.proofs.json_text.push_numbers.Goals as goal
+
+pub loop-index-preserved : goal.loop-index-preserved
+loop-index-preserved c =
+    let xs = c.args.numbers.now in
+    let i = c.loop-index.index in
+    let x = get_or xs i 0 in
+    record {
+      text = item_written number_data xs i x _ _ _ _ (next_left xs i 0 x c.loop-index-test.true refl) c.in_ok-push_comma.ensures c.in_ok-push_number.ensures.text c.loop-index.invariant.text;
+      fits = all_and_next IsU64 xs i 0 x c.loop-index-test.true refl c.loop-index.invariant.fits c.in_ok-push_number.ensures.fits;
+    }
+
+pub returns-clause-fits : goal.returns-clause-fits
+returns-clause-fits c =
+    let xs = c.args.numbers.now in
+    let end : length xs ≤ c.loop-index.index = grind (arith, common_steps) in
+    subst (All IsU64) (take_all c.loop-index.index xs end) c.loop-index.invariant.fits
