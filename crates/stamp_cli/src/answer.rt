@@ -1,10 +1,10 @@
 //! The line that answers an order.
 
-ghost use Rattle.std.specs.Prelude.{◌≡◌, ◌≢◌, ◌↔◌, ◌+◌, ◌<◌, ◌≤◌, length, true, false, IfOk, IfErr, Ok, Err};
+ghost use Rattle.std.specs.Prelude.{◌≡◌, ◌≢◌, ◌↔◌, ◌⊎◌, ◌+◌, ◌<◌, ◌≤◌, length, true, false, IfOk, IfErr, Ok, Err};
 ghost use Rattle.stamp_cli.specs.Refusal.{is_of_end};
 ghost use Rattle.stamp_cli.specs.Source.{TakesAtMost, most_bytes};
 ghost use Rattle.stamp_cli.specs.Answer.{Answers, AnswersCheck, AnswersMigrate, AnswersReplay, AnswersReportedRun, AnswersRun};
-ghost use Rattle.stamp_cli.specs.Answer.{IsInputAnswer, LineUnlessMemory, UnlessMemory, line_in, most_reads_of, most_taken_of};
+ghost use Rattle.stamp_cli.specs.Answer.{IsAnswer, IsInputAnswer, IsRead, LineUnlessMemory, UnlessMemory, line_in, most_reads_of, most_taken_of};
 
 use crate::check_text::verdict_line;
 use crate::faults::ServeFault;
@@ -121,7 +121,41 @@ fn line_of_migrate(alloc: Global, input: &[u8]) -> Result<Vec<u8>, ServeFault>
     line_of_migration(alloc, within(input)?)
 }
 
-/// The line that answers the order, without its line feed. A stamp makes no read.
+/// What the order reads of its source. A stamp makes no read.
+fn input_of<S: Source>(alloc: Global, order: Order, source: &mut S) -> Result<Vec<u8>, ServeFault>
+    requires unread { S.reads source.old ≡ 0 }
+    requires unfailed { S.has_failed source.old ≡ false }
+    ensures few { S.reads source.new ≤ most_reads_of order }
+    ensures took { TakesAtMost (S.left source.old) (S.left source.new) (most_taken_of order) }
+    ensures read { IfOk result (λ input. IsRead order (S.left source.old) (S.left source.new) input.items) }
+    ensures failed { (result ≡ Err ServeFault.ReadFault) ↔ (S.has_failed source.new ≡ true) }
+    ensures only { IfErr result (λ e. (e ≡ ServeFault.ReadFault) ⊎ (e ≡ ServeFault.Memory)) }
+{
+    match order {
+        Order::Stamp(_) | Order::StampIn(_, _) => Ok(Vec::new(alloc)),
+        Order::Replay | Order::Run | Order::RunReported | Order::Check | Order::Migrate => {
+            read_input(alloc, source)
+        }
+    }
+}
+
+/// The line that answers the order on what it read.
+fn line_on(alloc: Global, order: Order, input: &[u8]) -> Result<Line, ServeFault>
+    ensures answer { LineUnlessMemory (IsAnswer order input.now) result }
+    ensures inner { IfErr result (λ e. is_of_end e ≡ false) }
+{
+    match order {
+        Order::Replay => Ok(accepted(line_of_replay(alloc, input)?)),
+        Order::Run => Ok(accepted(line_of_run(alloc, input)?)),
+        Order::RunReported => Ok(accepted(line_of_reported_run(alloc, input)?)),
+        Order::Check => line_of_check(alloc, input),
+        Order::Migrate => Ok(accepted(line_of_migrate(alloc, input)?)),
+        Order::Stamp(stamp) => Ok(accepted(stamp_line(alloc, Layout::One, stamp)?)),
+        Order::StampIn(layout, stamp) => Ok(accepted(stamp_line(alloc, layout, stamp)?)),
+    }
+}
+
+/// The line that answers the order, without its line feed.
 pub(crate) fn line_of<S: Source>(
     alloc: Global,
     order: Order,
@@ -137,28 +171,6 @@ pub(crate) fn line_of<S: Source>(
     ensures failed { (result ≡ Err ServeFault.ReadFault) ↔ (S.has_failed source.new ≡ true) }
     ensures not_written { result ≢ Err ServeFault.WriteFault }
 {
-    match order {
-        Order::Replay => {
-            let input = read_input(alloc, source)?;
-            Ok(accepted(line_of_replay(alloc, &input)?))
-        }
-        Order::Run => {
-            let input = read_input(alloc, source)?;
-            Ok(accepted(line_of_run(alloc, &input)?))
-        }
-        Order::RunReported => {
-            let input = read_input(alloc, source)?;
-            Ok(accepted(line_of_reported_run(alloc, &input)?))
-        }
-        Order::Check => {
-            let input = read_input(alloc, source)?;
-            line_of_check(alloc, &input)
-        }
-        Order::Migrate => {
-            let input = read_input(alloc, source)?;
-            Ok(accepted(line_of_migrate(alloc, &input)?))
-        }
-        Order::Stamp(stamp) => Ok(accepted(stamp_line(alloc, Layout::One, stamp)?)),
-        Order::StampIn(layout, stamp) => Ok(accepted(stamp_line(alloc, layout, stamp)?)),
-    }
+    let input = input_of(alloc, order, source)?;
+    line_on(alloc, order, &input)
 }
