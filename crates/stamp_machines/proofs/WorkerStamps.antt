@@ -54,6 +54,14 @@ stamps_at-more ws i t s w h e = go (t == i) refl
     go false q = stamps_at-set_other ws i t w q
     go true q = let same : t ≡ i = grind (arith, q) in rw same (stamps_at-set_same ws i w h ∙ e)
 
+-- a worker added that has kept no stamp
+pub stamps_at-none_more : (ws : List Worker) (w : Worker) (t : ℕ) → stamps_in w ≡ [] →
+    stamps_at ws t ≡ [] → stamps_at (ws ++ w ∷ []) t ≡ []
+stamps_at-none_more [] w zero e h = e
+stamps_at-none_more [] w (suc t) e h = refl
+stamps_at-none_more (x ∷ ws) w zero e h = h
+stamps_at-none_more (x ∷ ws) w (suc t) e h = stamps_at-none_more ws w t e h
+
 pub room_at : (ws : List Worker) (i : ℕ) (d : Worker) → i < length ws → HasRoom (slice_get ws i) →
     vec_len (slice_index_or ws i d).stamps < vec_capacity (slice_index_or ws i d).stamps
 room_at [] i d h r = absurd (omega arith)

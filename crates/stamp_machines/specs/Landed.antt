@@ -2,7 +2,6 @@
 use Rattle.std.specs.Prelude.{◌≡◌, ◌<◌, ℕ, List, [], ◌∷◌, ◌++◌, length, map, slice_set, Option}
 use Rattle.std.specs.Prelude.{Some, None}
 use Rattle.stamp_core.specs.Decision.{stamp_in}
-use Rattle.stamp_core.specs.declared.reply.Reply.{Reply}
 use Rattle.stamp_core.specs.declared.entry.Entry.{Entry}
 use Rattle.stamp_machines.specs.Access.{place_of, words_after, seen_by}
 use Rattle.stamp_machines.specs.Machine.{next_access, after_access, IsFound}

@@ -1,4 +1,4 @@
-use Rattle.std.proofs.Common.{◌≡◌, ◌≢◌, ℕ, Some, sym}
+use Rattle.std.proofs.Common.{◌≢◌, Some, sym}
 use Rattle.stamp_core.specs.Decision.{Decides}
 use Rattle.stamp_core.specs.LockDecision.{reply_as}
 use Rattle.stamp_core.specs.Word.{word_at}

@@ -5,6 +5,6 @@ pub loop-name-init : goal.loop-name-init
 loop-name-init c =
     record {
       run = c.in_ok-run.ensures.ok;
-      tallied = rw c.in_ok-tally.ensures
+      tallied = rw (c.in_ok-run.ensures.ok, c.in_ok-tally.ensures)
           (none-tallied c.args.script.now c.thread_count.result c.thread_count.ensures.count);
     }

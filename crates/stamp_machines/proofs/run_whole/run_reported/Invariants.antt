@@ -6,5 +6,5 @@ abbrev pub invariant-loop-name : goal.invariant-loop-name
 invariant-loop-name l =
     record {
       run : l.run ≡ record { plan = l.script; names = take l.name-index l.script.steps };
-      tallied : IsTallied l.script (take l.name-index l.script.steps) (tally_of l.tally);
+      tallied : IsTallied l.run.plan l.run.names (tally_of l.tally);
     }
