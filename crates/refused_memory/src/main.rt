@@ -9,6 +9,7 @@ mod fault_lines;
 mod judging;
 mod running;
 mod schedules;
+mod sharing;
 
 use crate::booking::book_outcome;
 use crate::fault_lines::fault_lines_outcome;
@@ -18,6 +19,7 @@ use crate::schedules::{
     bad_script_outcome, completions_outcome, history_outcome, judged_outcome, run_outcome,
     run_reported_outcome, run_text_outcome, steps_outcome,
 };
+use crate::sharing::shared_outcome;
 use stamp_cli::{Order, ReadSource, ServeFault, Verdict, WriteSink, serve};
 use stamp_core::{Call, Layout, Limits, ReplayError, Replayed, replay};
 use stamp_history::{AnswerError, Field, ReadError, read_replay, replay_text, write_replay};
@@ -25,6 +27,7 @@ use std::alloc::Global;
 use std::io::{Read, Write};
 use std::process::ExitCode;
 use std::rt::Env;
+use std::sync::Wait;
 use std::{env, io};
 
 const TEXT: &[u8] = br#"{"calls":[["try_read"],["to_write",257]],"readers":1,"versions":1}"#;
@@ -152,7 +155,8 @@ fn serve_outcome(alloc: Global, order: Order, line: &[u8]) -> Outcome {
 }
 
 /// All calls, one after the other: wrong where one is, or else refused where one is.
-fn outcome_of_all(alloc: Global) -> Outcome {
+fn outcome_of_all(rt: &(impl Wait + AllocGlobal)) -> Outcome {
+    let alloc = rt.alloc();
     let outcomes = [
         replay_outcome(alloc),
         read_outcome(alloc),
@@ -178,6 +182,7 @@ fn outcome_of_all(alloc: Global) -> Outcome {
         running_lock_outcome(alloc),
         running_record_outcome(alloc),
         book_outcome(alloc),
+        shared_outcome(rt, alloc),
     ];
     if outcomes.contains(&Outcome::Wrong) {
         Outcome::Wrong
@@ -205,9 +210,9 @@ fn task_given(rt: &(impl Env + AllocGlobal)) -> Result<Option<Task>, Outcome> {
     }
 }
 
-fn outcome_given(rt: &(impl Env + AllocGlobal)) -> Outcome {
+fn outcome_given(rt: &(impl Env + Wait + AllocGlobal)) -> Outcome {
     match task_given(rt) {
-        Ok(None) => outcome_of_all(rt.alloc()),
+        Ok(None) => outcome_of_all(rt),
         Ok(Some(task)) => task_outcome(rt.alloc(), task),
         Err(outcome) => outcome,
     }

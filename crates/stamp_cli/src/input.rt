@@ -29,9 +29,11 @@ fn read_more<S: Source>(
     requires within { vec_len input.old ≤ most_bytes }
     requires unfailed { S.has_failed source.old ≡ false }
     requires few { S.reads source.old ≤ vec_len input.old }
+    requires open { (S.reads source.old ≡ 0) ⊎ (S.has_ended source.old ≡ false) }
     ensures counted { S.reads source.new ≡ S.reads source.old + 1 }
     ensures more { IfOk result (λ more. ReadsMore (S.left source.old) (S.left source.new)
         input.old.items input.new.items more) }
+    ensures open { IfOk result (λ more. more ≡ true → S.has_ended source.new ≡ false) }
     ensures took { TakesAtMost (S.left source.old) (S.left source.new) (most_taken - vec_len input.old) }
     ensures failed { (result ≡ Err ServeFault.ReadFault) ↔ (S.has_failed source.new ≡ true) }
     ensures only { IfErr result (λ e. (e ≡ ServeFault.ReadFault) ⊎ (e ≡ ServeFault.Memory)) }

@@ -11,7 +11,7 @@ pub enum Call {
     TryWrite,
     /// Acquires read mode if there is no writer and room for a reader.
     TryRead,
-    /// Acquires write mode, and waits while it is not free.
+    /// Acquires write mode, and waits while it is not free. Where no version is left it answers 0.
     WriteLock,
     /// Acquires read mode, and waits while there is a writer or no room.
     ReadLock,

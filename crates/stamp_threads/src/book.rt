@@ -72,7 +72,6 @@ impl Book {
         self.enter(thread, &call)
     }
 
-    /// `act`, with the call by reference.
     /// `act` of a call by reference, of which the proof can speak more than once.
     fn enter(&mut self, thread: u64, call: &Call) -> Result<Reply, BookError>
         requires call { IsTrue (is_lock_call call.now) }

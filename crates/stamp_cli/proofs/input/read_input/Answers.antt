@@ -6,4 +6,4 @@ use Rattle.stamp_cli.proofs.input.read_input.Goals as goal
 pub returns-in_err-read_more-clause-took : goal.returns-in_err-read_more-clause-took
 returns-in_err-read_more-clause-took g c =
     let more = c.read_more.ensures.took in
-    (c.loop-source.input.items ++ more.0, Consumes-trans _ _ _ c.loop-source.input.items more.0 c.loop-source.invariant.4 more.1, omega (arith, length-append c.loop-source.input.items more.0))
+    (c.loop-source.input.items ++ more.0, Consumes-trans _ _ _ c.loop-source.input.items more.0 c.loop-source.invariant.5 more.1, omega (arith, length-append c.loop-source.input.items more.0))
