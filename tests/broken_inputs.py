@@ -2,8 +2,9 @@
 
     broken_inputs.py STAMPED
 
-Each field's faults alone and in pairs (the earlier one of the table of FORMATS is told), numbers at
-their edges, keys that stand twice, texts that are no JSON, each text cut off at each place."""
+Each field's faults alone and in pairs (the earlier one of the table of FORMATS is told, whichever
+stands first in the text), numbers at their edges, keys that stand twice, texts that are no JSON, each
+text cut off at each place."""
 import copy
 import json
 import os
@@ -224,7 +225,16 @@ def broken_by(text, *faults):
     text = copy.deepcopy(text)
     for fault in sorted(faults, key=lambda fault: fault.comes_last):
         fault.change(text)
-    return text_of(text)
+    return text
+
+
+def backwards(value):
+    """The same, with the keys of each object in the opposite order."""
+    if isinstance(value, dict):
+        return {key: backwards(of) for key, of in reversed(value.items())}
+    if isinstance(value, list):
+        return [backwards(of) for of in value]
+    return value
 
 
 def with_number(text, place, number):
@@ -234,16 +244,17 @@ def with_number(text, place, number):
 
 
 def give_faults(program, reading):
-    """Each fault alone, and each two that touch other parts: the first is told."""
+    """Each fault alone, and each two that touch other parts, in both orders: the first is told."""
     program.assert_told(reading.orders, text_of(reading.text), None)
     for i, first in enumerate(reading.faults):
-        broken = broken_by(reading.text, first)
+        broken = text_of(broken_by(reading.text, first))
         program.assert_told(reading.orders, broken, first.line)
         program.assert_told(reading.orders, broken[:-1], NOT_JSON)
         for second in reading.faults[i + 1 :]:
             if not first.touches & second.touches:
                 both = broken_by(reading.text, first, second)
-                program.assert_told(reading.orders, both, first.line)
+                program.assert_told(reading.orders, text_of(both), first.line)
+                program.assert_told(reading.orders, text_of(backwards(both)), first.line)
 
 
 def give_numbers(program, reading):

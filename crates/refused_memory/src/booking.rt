@@ -9,7 +9,7 @@ use stamp_threads::{Book, BookError};
 use std::alloc::Global;
 
 /// More calls than a list begins with room for.
-const CALLS: u64 = 12;
+pub(crate) const CALLS: u64 = 12;
 
 /// Makes a call, and once more where memory was refused and the book is as it was.
 fn act_again(book: &mut Book, call: &Call) -> Result<Reply, BookError>

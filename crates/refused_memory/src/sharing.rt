@@ -2,15 +2,13 @@
 ghost use Rattle.std.specs.Prelude.{IsTrue};
 ghost use Rattle.stamp_core.specs.Call.{is_lock_call};
 
+use crate::booking::CALLS;
 use crate::{Outcome, right_if};
 use stamp_check::check;
 use stamp_core::{Call, Limits, Record, Reply};
 use stamp_threads::{Book, BookError, Shared};
 use std::alloc::Global;
 use std::sync::Wait;
-
-/// More calls than a list begins with room for.
-const CALLS: u64 = 12;
 
 /// Whether the book has as many entries as there were calls so far.
 fn is_at(rt: &impl Wait, shared: &Shared, made: usize) -> bool {

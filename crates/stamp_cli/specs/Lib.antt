@@ -1,3 +1,4 @@
+pub mod TakesNone
 pub mod Source
 pub mod Sink
 pub mod Order

@@ -1,18 +1,12 @@
 -- What reads of a source did.
-use Rattle.std.specs.Prelude.{ℕ, ◌+◌, ◌≡◌, ◌==◌, ◌<◌, ◌≤◌, ◌++◌, List, [], length, Bool, true, false}
-use Rattle.std.specs.Prelude.{Option, Result, Ok, Err}
+use Rattle.std.specs.Prelude.{ℕ, ◌+◌, ◌≡◌, ◌<◌, ◌≤◌, ◌++◌, List, [], length, Bool, true, false, Option}
 use Rattle.std.specs.Io.KnownBytes.{Keeps, Consumes, IsAtEnd}
 
 -- the most bytes of an input
 abbrev pub most_bytes : ℕ
 most_bytes = 16777216
 
--- a read gave no byte: it failed, or came to the end
-abbrev pub gives_none : {E : Type 0} → Result ℕ E → Bool
-gives_none (Ok n) = n == 0
-gives_none (Err e) = true
-
--- the most reads of an input: each but the last gives a byte
+-- the most reads of an input: each but the last takes a byte
 abbrev pub most_reads : ℕ
 most_reads = 16777217
 

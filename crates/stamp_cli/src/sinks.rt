@@ -3,7 +3,7 @@
 ghost use Rattle.std.specs.Prelude.{◌≡◌, ◌||◌, ◌<◌, ℕ, List, Option, Bool, false, length};
 ghost use Rattle.std.specs.Io.{WritesAtMost};
 ghost use Rattle.std.specs.Io.KnownBytes.{WriteAppends};
-ghost use Rattle.stamp_cli.specs.Sink.{takes_none};
+ghost use Rattle.stamp_cli.specs.TakesNone.{takes_none};
 
 use std::io;
 use std::io::Write;

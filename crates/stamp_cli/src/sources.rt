@@ -3,7 +3,8 @@
 ghost use Rattle.std.specs.Prelude.{◌≡◌, ◌⊎◌, ◌||◌, ◌+◌, ◌<◌, ℕ, List, Option, Bool, false, is_err};
 ghost use Rattle.std.specs.Io.{ReadsAtMost};
 ghost use Rattle.std.specs.Io.KnownBytes.{ReadConsumes};
-ghost use Rattle.stamp_cli.specs.Source.{gives_none, most_reads};
+ghost use Rattle.stamp_cli.specs.Source.{most_reads};
+ghost use Rattle.stamp_cli.specs.TakesNone.{takes_none};
 
 use std::io;
 use std::io::Read;
@@ -19,11 +20,11 @@ pub trait Source {
     // How many reads were made.
     ghost reads: { Self → ℕ };
 
-    // Whether the last read gave no byte: it failed, or came to the end.
+    // Whether the last read took no byte: it failed, or came to the end.
     ghost has_ended: { Self → Bool };
 
     /// Reads bytes into the front of the buffer, and tells how many; 0 at the end. After a read that
-    /// gave none no other is made.
+    /// took none no other is made.
     fn read(&mut self, buffer: &mut [u8]) -> io::Result<usize>
         requires few { reads self.old < most_reads }
         requires open { (reads self.old ≡ 0) ⊎ (has_ended self.old ≡ false) }
@@ -31,7 +32,7 @@ pub trait Source {
         ensures bound { ReadsAtMost result buffer.new }
         ensures bytes { ReadConsumes (left self.old) (left self.new) result buffer.new }
         ensures failed { has_failed self.new ≡ has_failed self.old || is_err result }
-        ensures ended { has_ended self.new ≡ gives_none result };
+        ensures ended { has_ended self.new ≡ takes_none result };
 }
 
 /// A reader of std as a `Source`.
