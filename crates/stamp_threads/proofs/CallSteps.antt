@@ -13,7 +13,7 @@ use Rattle.stamp_machines.specs.PhaseState.{PhaseState}
 use Rattle.stamp_machines.specs.Passage.{LeadsOn}
 use Rattle.stamp_machines.specs.declared.lock_phase.Passage.{Passage}
 use Rattle.stamp_machines.specs.declared.lock_phase.Passage.TheVariants.{Still, Ended}
-use Rattle.stamp_threads.specs.PassView.{observing, adding}
+use Rattle.stamp_threads.specs.PassView.{observing, adding, finding}
 use Rattle.stamp_threads.specs.LockLog.{LockLog, events_after}
 use Rattle.stamp_threads.specs.LockPass.{LockPass, IsConsistentWith, LeavesWord}
 use Rattle.stamp_threads.specs.LockRule.{Loaded, Won, Exchanged, making, reading, answering}
@@ -22,7 +22,8 @@ use Rattle.stamp_threads.specs.Answered.{Answered}
 
 module _ (limits : Bounds) (call : Call) (v : LockPass) (found : ℕ) (w : LockPass) where
   answered_at : (log : LockLog) (reply : Reply) → LeavesWord limits v found log →
-      w ≡ adding v log (call, reply) → IsConsistentWith limits w → Answered limits call reply v w
+      w ≡ adding (finding v found) log (call, reply) → IsConsistentWith limits w →
+      Answered limits call reply v w
   answered_at log reply left is consistent = record {
     log = log;
     begins = left.begins;
@@ -33,7 +34,7 @@ module _ (limits : Bounds) (call : Call) (v : LockPass) (found : ℕ) (w : LockP
     consistent = consistent;
   }
 
-  went_at : (log : LockLog) → LeavesWord limits v found log → w ≡ observing v log →
+  went_at : (log : LockLog) → LeavesWord limits v found log → w ≡ observing (finding v found) log →
       IsConsistentWith limits w → WentOn limits v found w
   went_at log left is consistent = record {
     left = subst (LeavesWord limits v found) (sym (ap (λ (u : LockPass). u.observed) is)) left;
@@ -46,8 +47,8 @@ module _ (limits : Bounds) (call : Call) (v : LockPass) (found : ℕ) (w : LockP
   by_answer : (reply : Reply) → Loaded limits call v found w →
       Answers limits (word_at limits found) call reply → Answered limits call reply v w
   by_answer reply l answers =
-      let is : w ≡ adding v l.log (call, reply) =
-      l.after ∙ ap (λ (o : Option Transition). reading o call v l.log)
+      let is : w ≡ adding (finding v found) l.log (call, reply) =
+      l.after ∙ ap (λ (o : Option Transition). reading o call (finding v found) l.log)
       (answers (events_after limits l.log) l.left.represents) in
       answered_at l.log reply l.left is l.consistent
 
@@ -57,12 +58,13 @@ module _ (limits : Bounds) (call : Call) (v : LockPass) (found : ℕ) (w : LockP
   by_change_made new reply won changes =
       let m : Moves limits (events_after limits won.log) call (word_at limits found)
       (word_at limits new) reply = changes (events_after limits won.log) won.left.represents in
-      let is : w ≡ adding v won.log (call, reply) =
-      won.after ∙ ap (λ (o : Option Transition). making o call v won.log) m.transition_is in
+      let is : w ≡ adding (finding v found) won.log (call, reply) =
+      won.after ∙
+      ap (λ (o : Option Transition). making o call (finding v found) won.log) m.transition_is in
       answered_at won.log reply won.left is won.consistent
 
   only_observed : (appended : List LockEvent) (reply : Reply) (log : LockLog) → appended ≢ [] →
-      answering appended reply call v log ≡ observing v log
+      answering appended reply call (finding v found) log ≡ observing (finding v found) log
   only_observed [] reply log some = absurd (some refl)
   only_observed (event ∷ appended) reply log some = refl
 
@@ -72,16 +74,16 @@ module _ (limits : Bounds) (call : Call) (v : LockPass) (found : ℕ) (w : LockP
   by_change new reply l changes =
       let m : Moves limits (events_after limits l.log) call (word_at limits found)
       (word_at limits new) reply = changes (events_after limits l.log) l.left.represents in
-      let is : w ≡ observing v l.log = l.after ∙
-      (ap (λ (o : Option Transition). reading o call v l.log) m.transition_is ∙
+      let is : w ≡ observing (finding v found) l.log = l.after ∙
+      (ap (λ (o : Option Transition). reading o call (finding v found) l.log) m.transition_is ∙
       only_observed m.appended reply l.log m.some) in
       went_at l.log l.left is l.consistent
 
   by_wait : Loaded limits call v found w → HasNone limits (word_at limits found) call →
       WentOn limits v found w
   by_wait l none =
-      let is : w ≡ observing v l.log = l.after ∙
-      ap (λ (o : Option Transition). reading o call v l.log)
+      let is : w ≡ observing (finding v found) l.log = l.after ∙
+      ap (λ (o : Option Transition). reading o call (finding v found) l.log)
       (none (events_after limits l.log) l.left.represents) in
       went_at l.log l.left is l.consistent
 

@@ -16,7 +16,7 @@ use Rattle.stamp_threads.specs.declared.record_view.RecordShape.{RecordShape}
 use Rattle.stamp_threads.specs.declared.record_view.RecordEvent.{RecordEvent}
 use Rattle.stamp_threads.specs.declared.record_view.RecordPhase.{RecordPhase}
 use Rattle.stamp_threads.specs.declared.record_view.RecordPhase.TheVariants.{Idle, Reading}
-use Rattle.stamp_threads.specs.PassView.{entry, observing}
+use Rattle.stamp_threads.specs.PassView.{entry, observing, finding}
 use Rattle.stamp_threads.specs.Seats.{alone}
 use Rattle.stamp_threads.specs.RecordWord.{word_with}
 use Rattle.stamp_threads.specs.RecordLog.{puts, puts_in, content_in, is_locked, is_own}
@@ -82,11 +82,11 @@ module _ (shape : RecordShape) (s : State (Unit {0}) (List RecordPassView)) (r :
   -- the lock word is as it was, and the words are the content
   confirms : length xs ≡ shape.width →
       get_or s.words 0 0 ≡ word_with shape.limits.layout version false →
-      KeptBy shape s id (calling v r.log (get_of xs)) s.words ×
-      IsConsistentWith shape.width (calling v r.log (get_of xs)) ×
+      KeptBy shape s id (calling (finding v (get_or s.words 0 0)) r.log (get_of xs)) s.words ×
+      IsConsistentWith shape.width (calling (finding v (get_or s.words 0 0)) r.log (get_of xs)) ×
       (xs ≡ content_in shape.width r.log)
   confirms long same =
-      let w = calling v r.log (get_of xs) in
+      let w = calling (finding v (get_or s.words 0 0)) r.log (get_of xs) in
       let log' = r.log ++ entry v.name (get_of xs) ∷ [] in
       let f = fits_here shape s r id v here in
       let h = what in
@@ -132,8 +132,8 @@ module _ (shape : RecordShape) (s : State (Unit {0}) (List RecordPassView)) (r :
         whole,
       )
 
-  stopping_brings : Brings shape.width s.words r.log (stopping v r.log)
-  stopping_brings =
+  stopping_brings : (word : ℕ) → Brings shape.width s.words r.log (stopping (finding v word) r.log)
+  stopping_brings word =
       let f = fits_here shape s r id v here in
       record {
         observed = begins_all r.log;
@@ -146,13 +146,15 @@ module _ (shape : RecordShape) (s : State (Unit {0}) (List RecordPassView)) (r :
 open_at : (shape : RecordShape) (s : State (Unit {0}) (List RecordPassView)) (r : IsKept shape s)
     (id : ℕ) (v : RecordPassView) → get_elem? s.views id ≡ some (v ∷ []) → v.phase ≡ Idle →
     (b : Bool) → is_locked r.log ≡ b →
-    KeptBy shape s id (if b then observing v r.log else opening v r.log) s.words
-open_at shape s r id v here idle true e =
-    only_views shape s r id v here (idle_quiet v.phase idle) (observing v r.log) refl refl
-    (observing_brings shape s r id v here)
-open_at shape s r id v here idle false e =
+    (word : ℕ) → KeptBy shape s id (if b then observing (finding v word) r.log
+    else opening (finding v word) r.log) s.words
+open_at shape s r id v here idle true e word =
+    only_views shape s r id v here (idle_quiet v.phase idle) (observing (finding v word) r.log)
+    refl refl (observing_brings shape s r id v here word)
+open_at shape s r id v here idle false e word =
     let f = fits_here shape s r id v here in
-    only_views shape s r id v here (idle_quiet v.phase idle) (opening v r.log) refl refl (record {
+    only_views shape s r id v here (idle_quiet v.phase idle) (opening (finding v word) r.log)
+    refl refl (record {
       observed = begins_all r.log;
       own = f.part.own;
       marks = f.marks ∙ ap (λ (n : ℕ). puts_in v.own + n) (ap marks_ahead idle);
@@ -170,20 +172,23 @@ allows_open shape slots id me is idle s r _ at _ =
     let v : RecordPassView = first_of me.0 in
     let here : get_elem? s.views id ≡ some (v ∷ []) =
     at ∙ ap (λ (m : Seated). some m.0) is in
-    let w : RecordPassView = if is_locked r.log then observing v r.log else opening v r.log in
+    let word : ℕ = get_or s.words 0 0 in
+    let w : RecordPassView = if is_locked r.log then observing (finding v word) r.log
+    else opening (finding v word) r.log in
     let quiet = idle_quiet v.phase idle in (
       w ∷ [],
       keeps,
       tt,
       subst (KeptBy shape s id w) (sym (set-get_or s.words 0 0))
-          (open_at shape s r id v here idle (is_locked r.log) refl),
+          (open_at shape s r id v here idle (is_locked r.log) refl word),
       record {
         log = r.log;
         left = leaves_now shape s r id v here;
         after = λ i. (w ∷ [], (is i).1);
         others = others_mark shape s r id v here quiet;
-        consistent = only_consistent shape s r id v here quiet (observing v r.log) refl refl
-            (observing_brings shape s r id v here) refl;
+        consistent = only_consistent shape s r id v here quiet
+            (observing (finding v word) r.log) refl refl
+            (observing_brings shape s r id v here word) refl;
       },
     )
 
@@ -219,7 +224,7 @@ confirm_at : (shape : RecordShape) (s : State (Unit {0}) (List RecordPassView))
     (Overtaken shape (first_of me.0) (get_or s.words 0 0) (w, carried_after me.1 a))
 confirm_at shape s r id me version xs is here reading long true e =
     let v : RecordPassView = first_of me.0 in
-    let w = calling v r.log (get_of xs) in
+    let w = calling (finding v (get_or s.words 0 0)) r.log (get_of xs) in
     let t = confirms shape s r id v here version xs reading long (eqb-true _ _ e) in (
       w ∷ [],
       keeps,
@@ -235,9 +240,9 @@ confirm_at shape s r id me version xs is here reading long true e =
     )
 confirm_at shape s r id me version xs is here reading long false e =
     let v : RecordPassView = first_of me.0 in
-    let w = stopping v r.log in
+    let w = stopping (finding v (get_or s.words 0 0)) r.log in
     let quiet = reading_quiet shape s r id v here version xs reading in
-    let brings = stopping_brings shape s r id v here version xs reading in (
+    let brings = stopping_brings shape s r id v here version xs reading (get_or s.words 0 0) in (
       w ∷ [],
       keeps,
       tt,

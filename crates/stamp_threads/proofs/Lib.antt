@@ -11,6 +11,7 @@ pub mod NewLock
 pub mod ClosedLock
 pub mod LostExchanges
 pub mod CallSteps
+pub mod Looks
 pub mod RecordWords
 pub mod RecordLogs
 pub mod RecordSteps
@@ -20,3 +21,4 @@ pub mod RecordMoves
 pub mod NewRecord
 pub mod RecordPromises
 pub mod BookSteps
+pub mod OneHistory

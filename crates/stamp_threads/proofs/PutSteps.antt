@@ -18,7 +18,7 @@ use Rattle.stamp_threads.specs.declared.record_view.RecordEvent.{RecordEvent}
 use Rattle.stamp_threads.specs.declared.record_view.RecordEvent.TheVariants.{Mark}
 use Rattle.stamp_threads.specs.declared.record_view.RecordPhase.{RecordPhase}
 use Rattle.stamp_threads.specs.declared.record_view.RecordPhase.TheVariants.{Idle, Writing}
-use Rattle.stamp_threads.specs.PassView.{entry, observing}
+use Rattle.stamp_threads.specs.PassView.{entry, observing, finding}
 use Rattle.stamp_threads.specs.Seats.{StandsAt, alone}
 use Rattle.stamp_threads.specs.RecordWord.{word_with, writer_unit}
 use Rattle.stamp_threads.specs.RecordLog.{puts, puts_in, is_locked, is_own}
@@ -45,9 +45,10 @@ module _ (shape : RecordShape) (s : State (Unit {0}) (List RecordPassView)) (r :
   acquires : (n held : ℕ) (xs : List ℕ) → v.phase ≡ Idle →
       get_or s.words 0 0 ≡ word_with shape.limits.layout n false →
       held ≡ word_with shape.limits.layout n true → n < shape.limits.versions →
-      length xs ≡ shape.width → KeptBy shape s id (acquiring v r.log xs) (set s.words 0 held)
+      length xs ≡ shape.width →
+      KeptBy shape s id (acquiring (finding v (get_or s.words 0 0)) r.log xs) (set s.words 0 held)
   acquires n held xs idle at is room long =
-      let w = acquiring v r.log xs in
+      let w = acquiring (finding v (get_or s.words 0 0)) r.log xs in
       let log' = r.log ++ entry v.name Mark ∷ [] in
       let cells' : List ℕ = set s.words 0 held in
       let free = free_of shape.limits.layout (is_locked r.log) (puts r.log) n
@@ -172,10 +173,11 @@ module _ (shape : RecordShape) (s : State (Unit {0}) (List RecordPassView)) (r :
   -- the words are the record's
   releases : (version free : ℕ) (xs : List ℕ) → v.phase ≡ Writing version xs shape.width →
       free ≡ word_with shape.limits.layout (version + 1) false →
-      KeptBy shape s id (calling v r.log (put_of xs)) (set s.words 0 free) ×
-      IsConsistentWith shape.width (calling v r.log (put_of xs))
-  releases version free xs writing is =
-      let w = calling v r.log (put_of xs) in
+      (held : ℕ) →
+      KeptBy shape s id (calling (finding v held) r.log (put_of xs)) (set s.words 0 free) ×
+      IsConsistentWith shape.width (calling (finding v held) r.log (put_of xs))
+  releases version free xs writing is held =
+      let w = calling (finding v held) r.log (put_of xs) in
       let log' = r.log ++ entry v.name (put_of xs) ∷ [] in
       let cells' : List ℕ = set s.words 0 free in
       let f = fits_here shape s r id v here in
@@ -222,14 +224,15 @@ module _ (shape : RecordShape) (s : State (Unit {0}) (List RecordPassView)) (r :
 look_at : (shape : RecordShape) (s : State (Unit {0}) (List RecordPassView)) (r : IsKept shape s)
     (id : ℕ) (me : Seated) → me ≡ alone (first_of me.0) → (first_of me.0).phase ≡ Idle →
     get_elem? s.views id ≡ some (first_of me.0 ∷ []) →
-    KeptBy shape s id (observing (first_of me.0) r.log) s.words ×
+    KeptBy shape s id (observing (finding (first_of me.0) (get_or s.words 0 0)) r.log) s.words ×
     Looked shape (first_of me.0) (get_or s.words 0 0)
-    (observing (first_of me.0) r.log ∷ [], me.1)
+    (observing (finding (first_of me.0) (get_or s.words 0 0)) r.log ∷ [], me.1)
 look_at shape s r id me is idle here =
     let v : RecordPassView = first_of me.0 in
-    let w = observing v r.log in
+    let word : ℕ = get_or s.words 0 0 in
+    let w = observing (finding v word) r.log in
     let quiet = idle_quiet v.phase idle in
-    let brings = observing_brings shape s r id v here in (
+    let brings = observing_brings shape s r id v here word in (
       only_views shape s r id v here quiet w refl refl brings,
       record {
         log = r.log;
@@ -247,7 +250,7 @@ allows_look shape slots id me is idle s r _ at _ =
     let v : RecordPassView = first_of me.0 in
     let here : get_elem? s.views id ≡ some (v ∷ []) =
     at ∙ ap (λ (m : Seated). some m.0) is in
-    let w = observing v r.log in
+    let w = observing (finding v (get_or s.words 0 0)) r.log in
     let t = look_at shape s r id me is idle here in
     (w ∷ [], keeps, tt, subst (KeptBy shape s id w) (sym (set-get_or s.words 0 0)) t.0, t.1)
 
@@ -266,7 +269,7 @@ acquire_at : (shape : RecordShape) (s : State (Unit {0}) (List RecordPassView))
     (Looked shape (first_of me.0) (get_or s.words 0 0) (w, carried_after me.1 a))
 acquire_at shape s r id me n old held xs is idle here free up room long true e =
     let v : RecordPassView = first_of me.0 in
-    let w = acquiring v r.log xs in
+    let w = acquiring (finding v (get_or s.words 0 0)) r.log xs in
     let hit : get_or s.words 0 0 ≡ old = eqb-true _ _ e in
     let up' : held ≡ word_with shape.limits.layout n true =
     up ∙ (ap (λ (y : ℕ). y + writer_unit shape.limits.layout) free ∙
@@ -283,7 +286,7 @@ acquire_at shape s r id me n old held xs is idle here free up room long true e =
     )
 acquire_at shape s r id me n old held xs is idle here free up room long false e =
     let v : RecordPassView = first_of me.0 in
-    let w = observing v r.log in
+    let w = observing (finding v (get_or s.words 0 0)) r.log in
     let t = look_at shape s r id me is idle here in
     (w ∷ [], keeps, tt, subst (KeptBy shape s id w) (sym (set-get_or s.words 0 0)) t.0, t.1)
 
@@ -328,7 +331,7 @@ allows_release shape slots id me version held free xs is writing down up s r _ t
     let v : RecordPassView = first_of me.0 in
     let here : get_elem? s.views id ≡ some (v ∷ []) =
     there ∙ ap (λ (m : Seated). some m.0) is in
-    let w = calling v r.log (put_of xs) in
+    let w = calling (finding v held) r.log (put_of xs) in
     let k = what shape s r id v here version shape.width xs writing in
     let same : get_or s.words 0 0 ≡ held =
     r.word_is ∙ (same_word shape.limits.layout (puts r.log) version (is_locked r.log) true
@@ -336,7 +339,7 @@ allows_release shape slots id me version held free xs is writing down up s r _ t
     let up' : free ≡ word_with shape.limits.layout (version + 1) false =
     up ∙ (ap (λ (y : ℕ). y + writer_unit shape.limits.layout) down ∙
     sym (released_is shape.limits.layout version)) in
-    let t = releases shape s r id v here version free xs writing up' in (
+    let t = releases shape s r id v here version free xs writing up' held in (
       w ∷ [],
       keeps,
       tt,

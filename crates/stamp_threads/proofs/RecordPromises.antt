@@ -1,14 +1,14 @@
 -- What the steps of a call of a record tell, put together.
 use Rattle.std.proofs.Common.{◌≡◌, ◌≢◌, ℕ, ◌+◌, ◌<◌, ◌≤◌, ◌%◌, ◌/◌, ◌^◌, eqb, Bool, true, false}
 use Rattle.std.proofs.Common.{if◌then◌else◌, MatchBool, List, [], refl, ap, sym, ◌∙◌, subst}
-use Rattle.std.proofs.Common.{arith, eq-eqb, ne_eqb}
+use Rattle.std.proofs.Common.{◌∷◌, ◌++◌, append_assoc, arith, eq-eqb, ne_eqb}
 use Rattle.stamp_core.specs.declared.call.Call.TheVariants.{Get}
 use Rattle.stamp_core.specs.declared.reply.Reply.TheVariants.{Content}
 use Rattle.stamp_threads.specs.declared.record_view.RecordPhase.{RecordPhase}
 use Rattle.stamp_core.specs.Limits.{AreInRange}
 use Rattle.stamp_threads.specs.declared.record_view.RecordShape.{RecordShape}
 use Rattle.stamp_threads.specs.declared.record_view.RecordPhase.TheVariants.{Idle, Reading}
-use Rattle.stamp_threads.specs.PassView.{observing}
+use Rattle.stamp_threads.specs.PassView.{observing, finding, HasFound}
 use Rattle.stamp_threads.specs.Seats.{alone, both}
 use Rattle.stamp_threads.specs.RecordWord.{version_unit, writer_unit, word_with}
 use Rattle.stamp_threads.specs.RecordLog.{RecordLog, puts, is_locked}
@@ -35,6 +35,7 @@ have_met shape v u me v' u' m first second =
       alike = refl;
       apart = m.apart;
       owns = (refl, refl);
+      finds = (refl, refl);
       same = (record { name = refl; splits = refl }, record { name = refl; splits = refl });
       idle = (refl, refl);
       all_consistent = (m.first_consistent, m.second_consistent);
@@ -99,7 +100,8 @@ module _ (shape : RecordShape) (v : RecordPassView) (found : ℕ) where
   opened me t test =
       let free = is_free t.log t.left test in
       ap (λ (m : Seated). (first_of m.0).phase) t.after ∙
-      ap (λ (b : Bool). (if b then observing v t.log else opening v t.log).phase) free
+      ap (λ (b : Bool). (if b then observing (finding v found) t.log
+      else opening (finding v found) t.log).phase) free
 
 abbrev HeldTest : RecordShape → ℕ → Bool → Type 0
 HeldTest shape word b =
@@ -127,6 +129,7 @@ module _ (shape : RecordShape) (v : RecordPassView) (loaded : ℕ) where
   put_busy : (me : Seated) → Looked shape v loaded me → v.phase ≡ Idle →
       HeldTest shape loaded true → WasBusy shape v loaded (first_of me.0)
   put_busy me t idle test = record {
+    looks = ap (λ (m : Seated). (first_of m.0).found) t.after;
     saw = looked_saw me t idle;
     locked = ap (λ (m : Seated). is_locked (first_of m.0).observed) t.after ∙
         locked_of t.log t.left test;
@@ -143,6 +146,7 @@ module _ (shape : RecordShape) (v : RecordPassView) (loaded : ℕ) where
       let few = t.left.few in
       let all : puts t.log ≡ shape.limits.versions = omega arith in
       record {
+        looks = ap (λ (m : Seated). (first_of m.0).found) t.after;
         saw = looked_saw me t idle;
         free = ap (λ (m : Seated). is_locked (first_of m.0).observed) t.after ∙ free;
         all = ap (λ (m : Seated). puts (first_of m.0).observed) t.after ∙ all;
@@ -153,9 +157,11 @@ module _ (shape : RecordShape) (v : RecordPassView) (loaded : ℕ) where
   -- the pass that had observed the first history has observed a longer one
   lost_after : (first : RecordLog) (phase : RecordPhase) (found : ℕ) (w : RecordPassView) →
       LeavesLockWord shape v loaded first → is_locked first ≡ false → found ≢ loaded →
-      SawWord shape (with_phase (observing v first) phase) found w → WasLost shape v loaded found w
-  lost_after first phase found w left free differ saw = record {
+      SawWord shape (with_phase (observing (finding v loaded) first) phase) found w →
+      HasFound (finding v loaded) (found ∷ []) w → WasLost shape v loaded found w
+  lost_after first phase found w left free differ saw looks = record {
     differ = λ e. differ (sym e);
+    looks = looks ∙ append_assoc v.found (loaded ∷ []) (found ∷ []);
     first = first;
     at_first = left;
     free = free;
@@ -180,7 +186,8 @@ module _ (shape : RecordShape) (v : RecordPassView) (loaded : ℕ) where
   get_busy me t idle test =
       let locked = locked_of t.log t.left test in
       let after = t.after ∙
-      ap (λ (b : Bool). alone (if b then observing v t.log else opening v t.log)) locked in
+      ap (λ (b : Bool). alone (if b then observing (finding v loaded) t.log
+      else opening (finding v loaded) t.log)) locked in
       put_busy me (record {
         log = t.log;
         left = t.left;
@@ -198,11 +205,11 @@ module _ (shape : RecordShape) (v : RecordPassView) (loaded : ℕ) where
     free_now = is_free shape v loaded t.log t.left test
 
     abbrev reads : RecordPassView
-    reads = with_phase (observing v t.log) (Reading (puts t.log) words)
+    reads = with_phase (observing (finding v loaded) t.log) (Reading (puts t.log) words)
 
-    opens : me ≡ alone (opening v t.log)
-    opens = t.after ∙
-        ap (λ (b : Bool). alone (if b then observing v t.log else opening v t.log)) free_now
+    opens : me ≡ alone (opening (finding v loaded) t.log)
+    opens = t.after ∙ ap (λ (b : Bool). alone (if b then observing (finding v loaded) t.log
+        else opening (finding v loaded) t.log)) free_now
 
     reads_is : first_of me2.0 ≡ reads
     reads_is = ap (λ (m : Seated). first_of m.0)
@@ -237,7 +244,7 @@ module _ (shape : RecordShape) (v : RecordPassView) (loaded : ℕ) where
           same = record { name = refl; splits = refl };
           idle = refl;
           consistent = o.consistent;
-        }))
+        }) refl)
 
     get_made : (found : ℕ) (me3 : Seated) → Told found me3 (first_of me2.0) → found ≡ loaded →
         Recorded shape Get (Content words) v (first_of me3.0)
@@ -255,6 +262,9 @@ module _ (shape : RecordShape) (v : RecordPassView) (loaded : ℕ) where
           idle = refl;
           few = (let p = puts_get o.log v.name words in let l = o.left.few in omega arith);
           consistent = o.consistent;
+          word = loaded;
+          looks = append_assoc v.found (loaded ∷ []) (found ∷ []) ∙
+              ap (λ (n : ℕ). v.found ++ loaded ∷ n ∷ []) same;
         })
 
   put_lost : (me : Seated) (t : Looked shape v loaded me) → v.phase ≡ Idle →
@@ -262,9 +272,10 @@ module _ (shape : RecordShape) (v : RecordPassView) (loaded : ℕ) where
       Looked shape (first_of me.0) found me2 → found ≢ loaded →
       WasLost shape v loaded found (first_of me2.0)
   put_lost me t idle test found me2 told differ =
-      let is : first_of me.0 ≡ observing v t.log = ap (λ (m : Seated). first_of m.0) t.after in
-      let o : Looked shape (observing v t.log) found me2 =
-      subst (λ (u : RecordPassView). Looked shape u found me2) is told in
+      let u : RecordPassView = observing (finding v loaded) t.log in
+      let is : first_of me.0 ≡ u = ap (λ (m : Seated). first_of m.0) t.after in
+      let o : Looked shape u found me2 =
+      subst (λ (x : RecordPassView). Looked shape x found me2) is told in
       subst (λ (m : Seated). WasLost shape v loaded found (first_of m.0)) (sym o.after)
       (lost_after t.log v.phase found _ t.left (is_free shape v loaded t.log t.left test) differ
       (record {
@@ -274,7 +285,7 @@ module _ (shape : RecordShape) (v : RecordPassView) (loaded : ℕ) where
         same = record { name = refl; splits = refl };
         idle = idle;
         consistent = o.consistent;
-      }))
+      }) refl)
 
 -- the same where the code has a copy of the table's key
 module _ (key shape : RecordShape) (same : key ≡ shape) (v : RecordPassView) (loaded : ℕ) where

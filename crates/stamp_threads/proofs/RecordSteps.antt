@@ -11,7 +11,7 @@ use Rattle.stamp_threads.specs.declared.record_view.RecordShape.{RecordShape}
 use Rattle.stamp_threads.specs.declared.record_view.RecordPhase.{RecordPhase}
 use Rattle.stamp_threads.specs.declared.record_view.RecordPhase.TheVariants.{Idle, Writing, Reading}
 use Rattle.stamp_threads.specs.PassName.{HasGivenAll}
-use Rattle.stamp_threads.specs.PassView.{made_by, observing}
+use Rattle.stamp_threads.specs.PassView.{made_by, observing, finding}
 use Rattle.stamp_threads.specs.Seats.{StandsAt, AreSeated}
 use Rattle.stamp_threads.specs.RecordLog.{RecordLog, IsLegalRecord, puts, puts_in, is_locked}
 use Rattle.stamp_threads.specs.RecordLog.{marker_in, content_in, is_own, is_mark, marks_of}
@@ -192,8 +192,9 @@ module _ (shape : RecordShape) (s : State (Unit {0}) (List RecordPassView)) (r :
     only_consistent e = one_consistent w name splits s.words r.log (grows_none (v ∷ []) r.log)
         brings (λ _ _ _ _ _ h. h) r.legal e
 
-  pub observing_brings : Brings shape.width s.words r.log (observing v r.log)
-  observing_brings =
+  pub observing_brings : (word : ℕ) →
+      Brings shape.width s.words r.log (observing (finding v word) r.log)
+  observing_brings word =
       let f = fits_here in
       record {
         observed = begins_all r.log;

@@ -21,6 +21,7 @@ use Rattle.stamp_core.specs.declared.reply.Reply.{Reply}
 use Rattle.stamp_machines.specs.LockNumber.{RepresentsAt}
 use Rattle.stamp_threads.specs.PassName.{HasGivenAll}
 use Rattle.stamp_threads.specs.PassView.{entry, every, made_by, IsPart, observing, adding}
+use Rattle.stamp_threads.specs.PassView.{finding}
 use Rattle.stamp_threads.specs.Seats.{alone, both}
 use Rattle.stamp_threads.specs.LockLog.{LockLog, events_after, transition_after, IsLegalLog}
 use Rattle.stamp_threads.specs.LockPass.{LockPass, IsConsistentWith, LeavesWord, first_of}
@@ -89,9 +90,13 @@ module _ (limits : Bounds) (s : State (Unit {0}) (List LockPass)) (r : IsKept li
     pub leaves_now : LeavesWord limits v (get_or s.words 0 0) r.log
     leaves_now = record { begins = part_now.observed; legal = r.legal; represents = r.represents }
 
-    pub observes_all : Steps limits s id (get_or s.words 0 0) homes (observing v r.log)
+    -- the pass once it has found the word that stands there
+    abbrev looked : LockPass
+    looked = finding v (get_or s.words 0 0)
+
+    pub observes_all : Steps limits s id (get_or s.words 0 0) homes (observing looked r.log)
     observes_all =
-        let w : LockPass = observing v r.log in
+        let w : LockPass = observing looked r.log in
         let same = same_one v w refl refl in
         let grows = grows_none (v ∷ []) r.log in
         let all = only_one (λ k u. (u.observed ≡ r.log) × (made_by every u.name r.log ≡ u.own)) w
@@ -108,11 +113,11 @@ module _ (limits : Bounds) (s : State (Unit {0}) (List LockPass)) (r : IsKept li
           →
           RepresentsAt limits word (events_after limits
           (r.log ++ entry v.name (call, t.reply) ∷ []))
-          → Steps limits s id word homes (adding v r.log (call, t.reply))
+          → Steps limits s id word homes (adding looked r.log (call, t.reply))
       makes_call t word is represents =
           let m : Call × Reply = (call, t.reply) in
           let log' : LockLog = r.log ++ entry v.name m ∷ [] in
-          let w : LockPass = adding v r.log m in
+          let w : LockPass = adding looked r.log m in
           let same = same_one v w refl refl in
           let grows = grows_one v r.log m in
           let own = made_by-same every v.name r.log m ∙
@@ -129,7 +134,7 @@ module _ (limits : Bounds) (s : State (Unit {0}) (List LockPass)) (r : IsKept li
       by_appended : (appended : List LockEvent) (reply : Reply) →
           transition_after limits r.log call ≡
           Some (record { appended = appended; reply = reply }) →
-          Steps limits s id (get_or s.words 0 0) homes (answering appended reply call v r.log)
+          Steps limits s id (get_or s.words 0 0) homes (answering appended reply call looked r.log)
       by_appended [] reply is = makes_call (record { appended = []; reply = reply })
           (get_or s.words 0 0) is (represents_unchanged limits r.log call v.name
           (record { appended = []; reply = reply }) is _ refl r.represents)
@@ -137,16 +142,16 @@ module _ (limits : Bounds) (s : State (Unit {0}) (List LockPass)) (r : IsKept li
 
       by_transition : (o : Rattle.std.proofs.Common.Option Transition) →
           transition_after limits r.log call ≡ o →
-          Steps limits s id (get_or s.words 0 0) homes (reading o call v r.log)
+          Steps limits s id (get_or s.words 0 0) homes (reading o call looked r.log)
       by_transition None is = observes_all
       by_transition (Some t) is = by_appended t.appended t.reply is
 
-      pub loads : Steps limits s id (get_or s.words 0 0) homes (after_load limits call v r.log)
+      pub loads : Steps limits s id (get_or s.words 0 0) homes (after_load limits call looked r.log)
       loads = by_transition (transition_after limits r.log call) refl
 
       pub wins : (old new : ℕ) (reply : Reply) → get_or s.words 0 0 ≡ old →
           Changes limits (word_at limits old) call (word_at limits new) reply →
-          Steps limits s id new homes (after_win limits call v r.log)
+          Steps limits s id new homes (after_win limits call looked r.log)
       wins old new reply hit changes =
           let m : Moves limits (events_after limits r.log) call (word_at limits old)
           (word_at limits new) reply = changes (events_after limits r.log)
@@ -154,8 +159,8 @@ module _ (limits : Bounds) (s : State (Unit {0}) (List LockPass)) (r : IsKept li
           let t : Transition = record { appended = m.appended; reply = reply } in
           let made = makes_call t new m.transition_is
           (represents_changed limits r.log call v.name t m.transition_is new m.represented) in
-          subst (λ (u : LockPass). Steps limits s id new homes u)
-          (sym (ap (λ (o : Rattle.std.proofs.Common.Option Transition). making o call v r.log)
+          subst (λ (w : LockPass). Steps limits s id new homes w)
+          (sym (ap (λ (o : Rattle.std.proofs.Common.Option Transition). making o call looked r.log)
           m.transition_is)) made
 
 -- a load
@@ -166,7 +171,7 @@ allows_load limits call slots id me lock is s r _ at _ =
     let v : LockPass = first_of me.0 in
     let here : get_elem? s.views id ≡ some (v ∷ []) =
     at ∙ ap (λ (m : Me (Unit {0}) (List LockPass)). some m.0) is in
-    let w : LockPass = after_load limits call v r.log in
+    let w : LockPass = after_load limits call (finding v (get_or s.words 0 0)) r.log in
     let t = loads limits s r id v s.homes here call lock in (
       w ∷ [],
       keeps,
@@ -200,7 +205,7 @@ exchange_at : (limits : Bounds) (s : State (Unit {0}) (List LockPass)) (r : IsKe
     × TellsBy b limits call (first_of me.0) (get_or s.words 0 0) (w, carried_after me.1 a)
 exchange_at limits s r id me call old new reply lock is here changes true e =
     let v : LockPass = first_of me.0 in
-    let w : LockPass = after_win limits call v r.log in
+    let w : LockPass = after_win limits call (finding v (get_or s.words 0 0)) r.log in
     let t = wins limits s r id v s.homes here call lock old new reply (eqb-true _ _ e) changes in (
       w ∷ [],
       keeps,
@@ -219,7 +224,7 @@ exchange_at limits s r id me call old new reply lock is here changes true e =
     )
 exchange_at limits s r id me call old new reply lock is here changes false e =
     let v : LockPass = first_of me.0 in
-    let w : LockPass = after_load limits call v r.log in
+    let w : LockPass = after_load limits call (finding v (get_or s.words 0 0)) r.log in
     let t = loads limits s r id v s.homes here call lock in (
       w ∷ [],
       keeps,
@@ -284,6 +289,7 @@ allows_meet limits slots id me is s r _ at _ =
           apart = λ e. let t = (r.passes.apart id 0 id 1 v u (vs, here, refl) (vs, here, refl) e).1
               in absurd (omega (arith, t));
           owns = (refl, refl);
+          finds = (refl, refl);
           names = (refl, refl);
           splits = (refl, refl);
           all_consistent = (so 0 v' refl, so 1 u' refl);

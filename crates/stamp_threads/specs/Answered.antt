@@ -1,11 +1,11 @@
 -- A call that was made.
-use Rattle.std.specs.Prelude.{◌≡◌, ◌⊎◌, [], ◌∷◌, ◌++◌}
+use Rattle.std.specs.Prelude.{◌≡◌, ◌⊎◌, ℕ, [], ◌∷◌, ◌++◌}
 use mathlib.Core.List.{IsPrefix}
 use Rattle.stamp_core.specs.Limits.{Bounds}
 use Rattle.stamp_core.specs.declared.call.Call.{Call}
 use Rattle.stamp_core.specs.declared.call.Call.TheVariants.{TryWrite, TryRead, WriteLock, ReadLock}
 use Rattle.stamp_core.specs.declared.reply.Reply.{Reply}
-use Rattle.stamp_threads.specs.PassView.{entry}
+use Rattle.stamp_threads.specs.PassView.{entry, HasFound}
 use Rattle.stamp_threads.specs.LockLog.{LockLog}
 use Rattle.stamp_threads.specs.LockPass.{LockPass, IsConsistentWith}
 
@@ -29,3 +29,8 @@ pub record Answered (limits : Bounds) (call : Call) (reply : Reply) (v w : LockP
   pub name : w.name ≡ v.name
   pub splits : w.splits ≡ v.splits
   pub consistent : IsConsistentWith limits w
+
+-- one access of the word was made, or two
+abbrev pub LooksOnceOrTwice : LockPass → LockPass → Type 0
+LooksOnceOrTwice v w = ((word : ℕ) × HasFound v (word ∷ []) w)
+    ⊎ ((loaded : ℕ) × (found : ℕ) × HasFound v (loaded ∷ found ∷ []) w)

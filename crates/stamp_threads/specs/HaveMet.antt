@@ -12,6 +12,7 @@ pub record HaveMet (limits : Bounds) (v w v' w' : LockPass) : Type 0 where
   pub same : w'.observed ≡ v'.observed
   pub apart : v.name ≢ w.name
   pub owns : (v'.own ≡ v.own) × (w'.own ≡ w.own)
+  pub finds : (v'.found ≡ v.found) × (w'.found ≡ w.found)
   pub names : (v'.name ≡ v.name) × (w'.name ≡ w.name)
   pub splits : (v'.splits ≡ v.splits) × (w'.splits ≡ w.splits)
   pub all_consistent : IsConsistentWith limits v' × IsConsistentWith limits w'

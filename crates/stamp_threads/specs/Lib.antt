@@ -15,3 +15,5 @@ pub mod RecordPass
 pub mod RecordCall
 pub mod RecordRule
 pub mod Book
+pub mod OneHistory
+pub mod Laws

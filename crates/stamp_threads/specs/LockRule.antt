@@ -8,7 +8,7 @@ use Rattle.stamp_core.specs.Transition.{Transition}
 use Rattle.stamp_core.specs.declared.call.Call.{Call}
 use Rattle.stamp_core.specs.declared.reply.Reply.{Reply}
 use Rattle.stamp_machines.specs.LockNumber.{RepresentsAt}
-use Rattle.stamp_threads.specs.PassView.{IsPart, every, observing, adding}
+use Rattle.stamp_threads.specs.PassView.{IsPart, every, observing, adding, finding}
 use Rattle.stamp_threads.specs.Seats.{AreSeated, alone, both}
 use Rattle.stamp_threads.specs.LockLog.{LockLog, events_after, transition_after, IsLegalLog}
 use Rattle.stamp_threads.specs.LockPass.{LockPass, IsConsistentWith, LeavesWord, first_of}
@@ -50,13 +50,13 @@ module _ (limits : Bounds) (call : Call) (v : LockPass) (found : ℕ) (w : LockP
   pub record Loaded : Type 0 where
     pub log : LockLog
     pub left : LeavesWord limits v found log
-    pub after : w ≡ after_load limits call v log
+    pub after : w ≡ after_load limits call (finding v found) log
     pub consistent : IsConsistentWith limits w
 
   pub record Won : Type 0 where
     pub log : LockLog
     pub left : LeavesWord limits v found log
-    pub after : w ≡ after_win limits call v log
+    pub after : w ≡ after_win limits call (finding v found) log
     pub consistent : IsConsistentWith limits w
 
 -- an exchange that finds another word than the old one is as a load

@@ -1,17 +1,19 @@
 -- An exchange that lost, where the call can't be answered without a change.
-use Rattle.std.specs.Prelude.{◌≡◌, ◌≢◌, ℕ}
+use Rattle.std.specs.Prelude.{◌≡◌, ◌≢◌, ℕ, [], ◌∷◌}
 use mathlib.Core.List.{IsPrefix}
 use Rattle.stamp_core.specs.Limits.{Bounds}
 use Rattle.stamp_core.specs.declared.call.Call.{Call}
+use Rattle.stamp_threads.specs.PassView.{HasFound}
 use Rattle.stamp_threads.specs.LockLog.{LockLog, Appends}
 use Rattle.stamp_threads.specs.LockPass.{LockPass, IsConsistentWith, LeavesWord}
 
--- two legal histories, of which the second begins with the first, left the two words, and after
--- each the call changes the lock. The pass v has observed the second, and made no call: it is w
+-- the load of the call and its exchange found the two words. Two legal histories, of which the second
+-- begins with the first, left them, and after each the call changes the lock. The pass v has observed the second, and made no call: it is w
 -- then
 pub record LostExchange (limits : Bounds) (call : Call) (loaded found : ℕ) (v w : LockPass) : Type 0
   where
     pub differ : loaded ≢ found
+    pub looks : HasFound v (loaded ∷ found ∷ []) w
     pub first : LockLog
     pub at_first : LeavesWord limits v loaded first
     pub at_second : LeavesWord limits v found w.observed

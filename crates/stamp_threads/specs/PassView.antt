@@ -30,51 +30,34 @@ module _ {E P : Type 0} where
 
   -- the pass after it observed the whole history
   abbrev pub observing : PassView E P → List (Entry E) → PassView E P
-  observing v log = record {
-    name = v.name;
-    splits = v.splits;
-    observed = log;
-    own = v.own;
-    phase =
-        v.phase;
-  }
+  observing v log = record v { observed = log }
 
   -- the pass after it added an entry of its own to the whole history
   abbrev pub adding : PassView E P → List (Entry E) → E → PassView E P
-  adding v log made = record {
-    name = v.name;
-    splits = v.splits;
-    observed =
-        log ++ entry v.name made ∷ [];
-    own = v.own ++ made ∷ [];
-    phase = v.phase;
-  }
+  adding v log made =
+      record v { observed = log ++ entry v.name made ∷ []; own = v.own ++ made ∷ [] }
+
+  -- the pass after one more access of the lock word, which found this
+  abbrev pub finding : PassView E P → ℕ → PassView E P
+  finding v word = record v { found = v.found ++ word ∷ [] }
+
+  -- v is the pass before some accesses of the lock word, which found these words, and w after them
+  abbrev pub HasFound : PassView E P → List ℕ → PassView E P → Type 0
+  HasFound v words w = w.found ≡ v.found ++ words
 
   -- the pass after a split
   abbrev pub after_split : PassView E P → PassView E P
-  after_split v = record {
-    name = v.name;
-    splits = v.splits + 1;
-    observed = v.observed;
-    own =
-        v.own;
-    phase = v.phase;
-  }
+  after_split v = record v { splits = v.splits + 1 }
 
   -- the new pass: it has observed as much, and made nothing
   abbrev pub split_off : PassView E P → PassView E P
-  split_off v = record {
-    name = v.name ++ v.splits ∷ [];
-    splits = 0;
-    observed = v.observed;
-    own =
-        [];
-    phase = v.phase;
-  }
+  split_off v =
+      record v { name = v.name ++ v.splits ∷ []; splits = 0; own = []; found = [] }
 
   -- the first pass of all
   abbrev pub first_pass : P → PassView E P
-  first_pass phase = record { name = []; splits = 0; observed = []; own = []; phase = phase }
+  first_pass phase =
+      record { name = []; splits = 0; observed = []; own = []; phase = phase; found = [] }
 
   -- it is the same pass still
   pub record IsSamePass (v w : PassView E P) : Type 0 where

@@ -1,8 +1,10 @@
 -- What the calls of a running record promise. v is the pass before the call, and w after it.
-use Rattle.std.specs.Prelude.{◌≡◌, ◌≢◌, ℕ, ◌≤◌, true, false, [], ◌∷◌, ◌++◌}
+use Rattle.std.specs.Prelude.{◌≡◌, ◌≢◌, ℕ, ◌+◌, ◌≤◌, true, false, List, [], ◌∷◌, ◌++◌}
 use mathlib.Core.List.{IsPrefix}
 use Rattle.stamp_core.specs.Content.{RecordReplies}
 use Rattle.stamp_core.specs.declared.call.Call.{Call}
+use Rattle.stamp_core.specs.declared.call.Call.TheVariants.{Put}
+use Rattle.stamp_core.specs.declared.layout.Layout.{Layout}
 use Rattle.stamp_core.specs.declared.reply.Reply.{Reply}
 use Rattle.stamp_threads.specs.declared.record_view.RecordShape.{RecordShape}
 use Rattle.stamp_threads.specs.declared.record_view.RecordEvent.TheVariants.{Called}
@@ -11,10 +13,16 @@ use Rattle.stamp_threads.specs.declared.faults.PutFault.{PutFault}
 use Rattle.stamp_threads.specs.declared.faults.PutFault.TheVariants.{Busy, Lost, Spent}
 use Rattle.stamp_threads.specs.declared.faults.GetFault.{GetFault}
 use Rattle.stamp_threads.specs.declared.faults.GetFault.TheVariants as get
-use Rattle.stamp_threads.specs.PassView.{entry, IsSamePass}
-use Rattle.stamp_threads.specs.RecordWord.{word_with}
+use Rattle.stamp_threads.specs.PassView.{entry, HasFound, IsSamePass}
+use Rattle.stamp_threads.specs.RecordWord.{word_with, writer_unit}
 use Rattle.stamp_threads.specs.RecordLog.{RecordLog, content_in, is_locked, marker_in, puts}
 use Rattle.stamp_threads.specs.RecordPass.{RecordPassView, IsConsistentWith, LeavesLockWord}
+
+-- what a call that was made found at the lock word: a get's two loads found one word, and so did a
+-- put's load and exchange; its release found that word with write mode held
+abbrev pub words_found : Layout → Call → ℕ → List ℕ
+words_found layout (Put words) word = word ∷ word ∷ (word + writer_unit layout) ∷ []
+words_found layout _ word = word ∷ word ∷ []
 
 -- the history goes on from what the pass had observed and ends with this call and reply, which is
 -- the record's after the history before it, and one more of the pass's own
@@ -29,6 +37,8 @@ pub record Recorded (shape : RecordShape) (call : Call) (reply : Reply) (v w : R
   pub idle : w.phase ≡ Idle
   pub few : puts w.observed ≤ shape.limits.versions
   pub consistent : IsConsistentWith shape.width w
+  pub word : ℕ
+  pub looks : HasFound v (words_found shape.limits.layout call word) w
 
 -- the pass has observed a history that leaves this word, and made no call: where that history is
 -- locked, another pass made its last mark
@@ -41,25 +51,29 @@ pub record SawWord (shape : RecordShape) (v : RecordPassView) (word : ℕ) (w : 
   pub idle : w.phase ≡ Idle
   pub consistent : IsConsistentWith shape.width w
 
--- somebody else has write mode
+-- somebody else has write mode: the first load found it so, and no other access was made
 pub record WasBusy (shape : RecordShape) (v : RecordPassView) (word : ℕ) (w : RecordPassView) :
     Type 0 where
+  pub looks : HasFound v (word ∷ []) w
   pub saw : SawWord shape v word w
   pub locked : is_locked w.observed ≡ true
 
--- two histories left the two words: the first is not locked, and the second begins with it
+-- two histories left the two words that the call found, the first by its first load: that one is
+-- not locked, and the second history begins with it
 pub record WasLost (shape : RecordShape) (v : RecordPassView) (loaded found : ℕ)
     (w : RecordPassView) : Type 0 where
   pub differ : loaded ≢ found
+  pub looks : HasFound v (loaded ∷ found ∷ []) w
   pub first : RecordLog
   pub at_first : LeavesLockWord shape v loaded first
   pub free : is_locked first ≡ false
   pub longer : IsPrefix first w.observed
   pub saw : SawWord shape v found w
 
--- as many puts as versions
+-- as many puts as versions: the first load found it so
 pub record WasSpent (shape : RecordShape) (v : RecordPassView) (word : ℕ) (w : RecordPassView) :
     Type 0 where
+  pub looks : HasFound v (word ∷ []) w
   pub saw : SawWord shape v word w
   pub free : is_locked w.observed ≡ false
   pub all : puts w.observed ≡ shape.limits.versions
@@ -81,6 +95,7 @@ pub record HaveMet (width : ℕ) (v w v' w' : RecordPassView) : Type 0 where
   pub alike : w'.observed ≡ v'.observed
   pub apart : v.name ≢ w.name
   pub owns : (v'.own ≡ v.own) × (w'.own ≡ w.own)
+  pub finds : (v'.found ≡ v.found) × (w'.found ≡ w.found)
   pub same : IsSamePass v v' × IsSamePass w w'
   pub idle : (v'.phase ≡ v.phase) × (w'.phase ≡ w.phase)
   pub all_consistent : IsConsistentWith width v' × IsConsistentWith width w'

@@ -11,7 +11,7 @@ use Rattle.stamp_threads.specs.declared.record_view.RecordEvent.{RecordEvent}
 use Rattle.stamp_threads.specs.declared.record_view.RecordEvent.TheVariants.{Mark, Called}
 use Rattle.stamp_threads.specs.declared.record_view.RecordPhase.{RecordPhase}
 use Rattle.stamp_threads.specs.declared.record_view.RecordPhase.TheVariants.{Idle, Writing, Reading}
-use Rattle.stamp_threads.specs.PassView.{IsPart, entry, observing}
+use Rattle.stamp_threads.specs.PassView.{IsPart, entry, observing, adding, finding}
 use Rattle.stamp_threads.specs.Seats.{StandsAt, AreSeated, alone, both}
 use Rattle.stamp_threads.specs.RecordWord.{word_with}
 use Rattle.stamp_threads.specs.RecordLog.{RecordLog, IsLegalRecord, content_in, puts, puts_in}
@@ -82,33 +82,16 @@ abbrev pub Seated : Type 0
 Seated = Me (Unit {0}) (List RecordPassView)
 
 abbrev pub with_phase : RecordPassView → RecordPhase → RecordPassView
-with_phase v phase = record {
-  name = v.name;
-  splits = v.splits;
-  observed = v.observed;
-  own = v.own;
-  phase = phase;
-}
+with_phase v phase = record v { phase = phase }
 
 -- it has observed the whole history, and got write mode to put these words
 abbrev pub acquiring : RecordPassView → RecordLog → List ℕ → RecordPassView
-acquiring v log words = record {
-  name = v.name;
-  splits = v.splits;
-  observed = log ++ entry v.name Mark ∷ [];
-  own = v.own;
-  phase = Writing (puts log) words 0;
-}
+acquiring v log words =
+    record v { observed = log ++ entry v.name Mark ∷ []; phase = Writing (puts log) words 0 }
 
 -- it has observed the whole history, and made a call
 abbrev pub calling : RecordPassView → RecordLog → RecordEvent → RecordPassView
-calling v log event = record {
-  name = v.name;
-  splits = v.splits;
-  observed = log ++ entry v.name event ∷ [];
-  own = v.own ++ event ∷ [];
-  phase = Idle;
-}
+calling v log event = record (adding v log event) { phase = Idle }
 
 -- it has observed the whole history, and begins to read
 abbrev pub opening : RecordPassView → RecordLog → RecordPassView
@@ -129,45 +112,46 @@ module _ (shape : RecordShape) (v : RecordPassView) (found : ℕ) (me : Seated) 
   pub record Looked : Type 0 where
     pub log : RecordLog
     pub left : LeavesLockWord shape v found log
-    pub after : me ≡ alone (observing v log)
+    pub after : me ≡ alone (observing (finding v found) log)
     pub others : is_locked log ≡ true → marker_in log ≢ v.name
-    pub consistent : IsConsistentWith shape.width (observing v log)
+    pub consistent : IsConsistentWith shape.width (observing (finding v found) log)
 
   pub record Acquired (words : List ℕ) : Type 0 where
     pub log : RecordLog
     pub left : LeavesLockWord shape v found log
-    pub after : me ≡ alone (acquiring v log words)
+    pub after : me ≡ alone (acquiring (finding v found) log words)
 
   pub record Released (words : List ℕ) : Type 0 where
     pub log : RecordLog
     pub begins : IsPrefix v.observed log
-    pub after : me ≡ alone (calling v log (put_of words))
+    pub after : me ≡ alone (calling (finding v found) log (put_of words))
     pub few : puts (log ++ entry v.name (put_of words) ∷ []) ≤ shape.limits.versions
-    pub consistent : IsConsistentWith shape.width (calling v log (put_of words))
+    pub consistent : IsConsistentWith shape.width (calling (finding v found) log (put_of words))
 
   -- the first load of a get: where nobody has write mode the pass begins to read
   pub record Opened : Type 0 where
     pub log : RecordLog
     pub left : LeavesLockWord shape v found log
-    pub after : me ≡ alone (if is_locked log then observing v log else opening v log)
+    pub after : me ≡ alone (if is_locked log then observing (finding v found) log
+        else opening (finding v found) log)
     pub others : is_locked log ≡ true → marker_in log ≢ v.name
-    pub consistent : IsConsistentWith shape.width (observing v log)
+    pub consistent : IsConsistentWith shape.width (observing (finding v found) log)
 
   -- the second load of the lock word, where it is the word of the first
   pub record Confirmed (words : List ℕ) : Type 0 where
     pub log : RecordLog
     pub content : words ≡ content_in shape.width log
     pub left : LeavesLockWord shape v found log
-    pub after : me ≡ alone (calling v log (get_of words))
-    pub consistent : IsConsistentWith shape.width (calling v log (get_of words))
+    pub after : me ≡ alone (calling (finding v found) log (get_of words))
+    pub consistent : IsConsistentWith shape.width (calling (finding v found) log (get_of words))
 
   -- and where it is another
   pub record Overtaken : Type 0 where
     pub log : RecordLog
     pub left : LeavesLockWord shape v found log
-    pub after : me ≡ alone (stopping v log)
+    pub after : me ≡ alone (stopping (finding v found) log)
     pub others : is_locked log ≡ true → marker_in log ≢ v.name
-    pub consistent : IsConsistentWith shape.width (stopping v log)
+    pub consistent : IsConsistentWith shape.width (stopping (finding v found) log)
 
 -- a load by a seat that stands for two passes
 pub record Met (shape : RecordShape) (v w : RecordPassView) (me : Seated) : Type 0 where
@@ -219,7 +203,7 @@ abbrev pub StoreTells : Tells
 StoreTells st m found n = n ≡ alone (stored_one (first_of m.0))
 
 abbrev pub ReleaseTells : RecordShape → List ℕ → Tells
-ReleaseTells shape words st m found n = Released shape (first_of m.0) found n words
+ReleaseTells shape words st m found n = Released shape (first_of m.0) st.first n words
 
 abbrev pub OpenTells : RecordShape → Tells
 OpenTells shape st m found n = Opened shape (first_of m.0) found n

@@ -5,6 +5,7 @@
 mod book;
 mod book_error;
 mod faults;
+pub mod laws;
 mod lock_rule;
 mod lock_steps;
 mod lost;

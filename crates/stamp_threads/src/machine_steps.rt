@@ -1,11 +1,12 @@
 //! The steps of a call's machine on the running word.
-ghost use Rattle.std.specs.Prelude.{◌≡◌, IsTrue, Some, None};
+ghost use Rattle.std.specs.Prelude.{◌≡◌, ◌∷◌, [], IsTrue, Some, None};
 ghost use Rattle.stamp_core.specs.Call.{is_lock_call};
 ghost use Rattle.stamp_core.specs.Word.{word_at};
 ghost use Rattle.stamp_core.specs.Decision.{Changes};
 ghost use Rattle.stamp_machines.specs.Passage.{IsChanging, IsPassage};
 ghost use Rattle.stamp_threads.specs.LockRule.{Loaded, Exchanged};
 ghost use Rattle.stamp_machines.specs.LockCallSteps.{Plans, on_lock};
+ghost use Rattle.stamp_threads.specs.PassView.{HasFound};
 ghost use Rattle.stamp_threads.specs.LockStep.{Stepped};
 ghost use Rattle.stamp_threads.specs.Answered.{try_form};
 
@@ -70,7 +71,7 @@ impl RunningLock {
     /// Makes the first access of a call, or the next of one that waits: a load. It gives what that
     /// found and what it leads to; where the call has ended, its reply stands in `answer`.
     #[inline(always)]
-    #[tactic(auto, using(crate::proofs::CallSteps::by_load))]
+    #[tactic(auto, using(crate::proofs::CallSteps::by_load, crate::proofs::Looks::looks_by_load))]
     pub(crate) fn load_step(
         &self,
         pass: &mut Pass,
@@ -85,6 +86,7 @@ impl RunningLock {
         ensures passage { IsPassage self.now.limits call.now result.1 answer.new }
         ensures told { let p = on_lock self.now.limits call.now None in
             Stepped p result.0 result.1 answer.new pass.old.view pass.new.view }
+        ensures looks { HasFound pass.old.view (result.0 ∷ []) pass.new.view }
     {
         let found = match lock_access(limits, call, None) {
             Access::Load(_) => self.load(pass, call),
@@ -101,7 +103,7 @@ impl RunningLock {
     /// Makes the next access of a call that is to change the word `old`: an exchange. It gives the
     /// same as `load_step`.
     #[inline(always)]
-    #[tactic(auto, using(crate::proofs::CallSteps::by_exchange, crate::proofs::CallSteps::by_win))]
+    #[tactic(auto, using(crate::proofs::CallSteps::by_exchange, crate::proofs::CallSteps::by_win, crate::proofs::Looks::looks_by_exchange))]
     pub(crate) fn exchange_step(
         &self,
         pass: &mut Pass,
@@ -118,6 +120,7 @@ impl RunningLock {
         ensures passage { IsPassage self.now.limits call.now result.1 answer.new }
         ensures told { let p = on_lock self.now.limits call.now (Some old) in
             Stepped p result.0 result.1 answer.new pass.old.view pass.new.view }
+        ensures looks { HasFound pass.old.view (result.0 ∷ []) pass.new.view }
     {
         let found = match access_after(limits, call, old) {
             Access::Cas(_, old, new) => self.exchange(pass, call, old, new),

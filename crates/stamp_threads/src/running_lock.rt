@@ -1,9 +1,9 @@
 //! The lock that threads share.
-ghost use Rattle.std.specs.Prelude.{◌≡◌, IfOk, IfErr, IsTrue};
+ghost use Rattle.std.specs.Prelude.{◌≡◌, IfOk, IfErr, OnOk, IsTrue};
 ghost use Rattle.stamp_core.specs.Call.{is_lock_call};
 ghost use Rattle.stamp_threads.specs.PassView.{after_split, split_off};
 ghost use Rattle.stamp_threads.specs.LockPass.{IsConsistentWith, first_pass};
-ghost use Rattle.stamp_threads.specs.Answered.{Answered, IsWaiting, try_form};
+ghost use Rattle.stamp_threads.specs.Answered.{Answered, IsWaiting, LooksOnceOrTwice, try_form};
 ghost use Rattle.stamp_threads.specs.LostExchange.{LostExchange};
 ghost use Rattle.stamp_threads.specs.HaveMet.{HaveMet};
 ghost use Rattle.stamp_threads.specs.Closes.{Closes};
@@ -19,6 +19,7 @@ use stamp_machines::Passage;
 use std::alloc::Global;
 use std::marker::{Brand, Model};
 use std::sync::Wait;
+use std::thread;
 
 /// Why a lock or a record is not made.
 #[derive(Clone, Copy, PartialEq, Eq, Debug, Drop)]
@@ -71,6 +72,7 @@ impl RunningLock {
         ensures lock { pass.new.table ≡ self.now.table }
         ensures ok { let v = pass.old.view in let w = pass.new.view in
             IfOk result (λ r. Answered self.now.limits (try_form call) r v w) }
+        ensures looks { OnOk result (LooksOnceOrTwice pass.old.view pass.new.view) }
         ensures lost { let v = pass.old.view in let w = pass.new.view in
             IfErr result (λ l.
             LostExchange self.now.limits (try_form call) l.loaded l.found v w) }
@@ -89,6 +91,7 @@ impl RunningLock {
         ensures lock { pass.new.table ≡ self.now.table }
         ensures ok { let v = pass.old.view in let w = pass.new.view in
             IfOk result (λ r. Answered limits call.now r v w) }
+        ensures looks { OnOk result (LooksOnceOrTwice pass.old.view pass.new.view) }
         ensures lost { let v = pass.old.view in let w = pass.new.view in
             IfErr result (λ l. LostExchange limits call.now l.loaded l.found v w) }
     {
@@ -105,7 +108,7 @@ impl RunningLock {
     }
 
     /// Makes the call, and tries again until it is made: `WriteLock` and `ReadLock` wait for
-    /// others. It may go on for ever.
+    /// others, and let other threads run before they look again. It may go on for ever.
     pub fn call<R: Wait>(&self, rt: &R, pass: &mut Pass, call: Call) -> Reply
         requires call { IsTrue (is_lock_call call) }
         requires lock { pass.old.table ≡ self.now.table }
@@ -119,6 +122,9 @@ impl RunningLock {
             match passage {
                 Passage::Ended => return reply,
                 Passage::Still(next) => seen = next,
+            }
+            if seen.is_none() {
+                thread::yield_now();
             }
         }
         unreachable!()

@@ -12,4 +12,5 @@ returns-in-Still-clause-lost c =
     c.exchange_step-found.result.1 c.load_step-loaded.new.answer
     c.exchange_step-found.new.answer _ _ _ _ _ c.requires.waits
     (c.in-Still-Some.is ∙ ap (λ (s : Option ℕ). Still s) seen) c.in-Still.is
-    c.load_step-loaded.ensures.told c.exchange_step-found.ensures.told)
+    c.load_step-loaded.ensures.told c.exchange_step-found.ensures.told
+    c.load_step-loaded.ensures.looks c.exchange_step-found.ensures.looks)

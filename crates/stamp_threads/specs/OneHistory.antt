@@ -1,0 +1,23 @@
+-- What two passes know of the one history.
+use Rattle.std.specs.Prelude.{◌≢◌, ◌⊎◌, Bool, List}
+use mathlib.Core.List.{IsPrefix}
+use Rattle.stamp_threads.specs.declared.pass_view.Entry.{Entry}
+use Rattle.stamp_threads.specs.declared.pass_view.PassView.{PassView}
+use Rattle.stamp_threads.specs.PassView.{IsPart, made_by}
+
+-- one of the two lists begins the other
+abbrev pub AreOrdered : {A : Type 0} → List A → List A → Type 0
+AreOrdered xs ys = IsPrefix xs ys ⊎ IsPrefix ys xs
+
+-- Both know a part of one legal history, under names of their own. So what they have observed is
+-- ordered, and what either has observed of the other's calls are the first of these.
+pub record Agree {E P : Type 0} (is_own : E → Bool) (IsLegal : List (Entry E) → Type 0)
+    (v w : PassView E P) : Type 0 where
+  pub log : List (Entry E)
+  pub legal : IsLegal log
+  pub first : IsPart is_own log v
+  pub second : IsPart is_own log w
+  pub apart : v.name ≢ w.name
+  pub ordered : AreOrdered v.observed w.observed
+  pub first_calls : IsPrefix (made_by is_own v.name w.observed) v.own
+  pub second_calls : IsPrefix (made_by is_own w.name v.observed) w.own

@@ -1,0 +1,15 @@
+//! What holds of any two passes that meet. Each function does nothing; its contract is the law, over
+//! the definitions alone.
+ghost use Rattle.stamp_threads.specs.Laws.{LockPassesAgree, RecordPassesAgree};
+
+/// Passes of a lock that meet agreed before they met: both knew a part of one legal history. What
+/// one had observed begins what the other had, and what it had observed of the other's calls are
+/// the first of these.
+pub fn lock_passes_agree()
+    ensures { LockPassesAgree }
+{}
+
+/// And so did passes of a record.
+pub fn record_passes_agree()
+    ensures { RecordPassesAgree }
+{}
