@@ -7,12 +7,16 @@ With ample memory each ends as the table says. A refused run of `stamped` ends w
 as with ample memory. One of TRIAL ends with status 1 and no output, or as with ample memory. A
 refused step of a schedule is made again there, so some refused runs end as with ample memory.
 
+No run leaves a block: what a refused call was given by value, or had made, is dropped. With a word
+of REFUSALS, TRIAL makes calls that are refused for another cause than want of memory.
+
 TRIAL makes as many allocations where it makes records and judges or migrates them as where it only
 makes them: so judging and migrating take no memory."""
 import os
 import subprocess
 import sys
-import tempfile
+
+from counted_runs import CountedRuns
 
 REPLAY = b'{"calls":[["try_read"],["to_write",257],["read_count"]],"readers":1,"versions":1}'
 WAITS = b'{"calls":[["try_read"],["write_lock"]],"readers":1,"versions":1}'
@@ -43,28 +47,41 @@ NO_THREAD = b'{"readers":1,"steps":[0,64],"threads":[[]],"versions":1,"width":0}
 NO_THREAD_LINE = b"stamped: script refused: no thread at step 1\n"
 NO_HISTORY_LINE = b"stamped: not a history: top\n"
 BAD_LINE = (2, b"", b"stamped: bad command line\n")
+REFUSALS = [
+    "record",
+    "long_record",
+    "script",
+    "script_width",
+    "step",
+    "replay",
+    "book",
+    "put",
+    "read_replay",
+    "read_script",
+    "read_history",
+    "replay_text",
+    "serve",
+    "read_fault",
+    "write_fault",
+    "too_long",
+]
 MOST = 10_000
 
 
-def ended(words, text, refuse=0, shim=None):
-    """How a run ended, and whether it made the allocation that was to be refused."""
-    with tempfile.TemporaryDirectory() as room:
-        marker = os.path.join(room, "refused")
-        env = dict(os.environ, REFUSE=str(refuse), REFUSED=marker)
-        if shim:
-            env["LD_PRELOAD"] = shim
-        ran = subprocess.run(words, input=text, capture_output=True, env=env, timeout=60)
-        return (ran.returncode, ran.stdout, ran.stderr), os.path.exists(marker)
+def ended(words, text):
+    """How a run with ample memory ends, where nothing is counted."""
+    ran = subprocess.run(words, input=text, capture_output=True, timeout=60)
+    return ran.returncode, ran.stdout, ran.stderr
 
 
-def runs_of(words, text, shim, wanted, refusals):
+def runs_of(runs, words, text, wanted, refusals):
     """Refuses each allocation in turn; returns how many there were, and how many runs bore it."""
-    ample, _ = ended(words, text)
+    ample = ended(words, text)
     if ample != wanted:
         sys.exit(f"{words}: {ample}, and not {wanted}")
     borne = 0
     for number in range(1, MOST):
-        answer, was_refused = ended(words, text, number, shim)
+        answer, was_refused = runs.ended(words, text, number)
         if answer != ample and not (was_refused and answer in refusals):
             sys.exit(f"{words} with allocation {number} refused: {answer}, and not {ample}")
         if not was_refused:
@@ -75,6 +92,7 @@ def runs_of(words, text, shim, wanted, refusals):
 
 def main():
     shim, stamped, trial = (os.path.abspath(path) for path in sys.argv[1:])
+    runs = CountedRuns(shim)
     told = [(1, b"", b"stamped: memory\n"), (1, b"", b"")]
     table = [
         ([stamped, "replay"], REPLAY, (0, REPLIES, b""), told),
@@ -93,14 +111,13 @@ def main():
         ([stamped, "lock"], b"", BAD_LINE, told),
         ([stamped], b"", BAD_LINE, told),
         ([stamped, b"\xff"], b"", BAD_LINE, told),
-        ([trial], b"", (0, b"right\n", b""), [(1, b"", b"")]),
-        ([trial, "make"], b"", (0, b"right\n", b""), [(1, b"", b"")]),
-        ([trial, "check"], b"", (0, b"right\n", b""), [(1, b"", b"")]),
-        ([trial, "migrate"], b"", (0, b"right\n", b""), [(1, b"", b"")]),
     ]
+    right = b"", (0, b"right\n", b""), [(1, b"", b"")]
+    table += [([trial, *words], *right) for words in [[], ["make"], ["check"], ["migrate"]]]
+    table += [([trial, word], *right) for word in REFUSALS]
     trials = {}
     for words, text, wanted, refusals in table:
-        count, borne = runs_of(words, text, shim, wanted, refusals)
+        count, borne = runs_of(runs, words, text, wanted, refusals)
         print(f"{[os.path.basename(words[0]), *words[1:]]}: {count} allocations refused in turn")
         if words[0] == trial:
             trials[words[-1]] = count, borne
@@ -108,6 +125,7 @@ def main():
         sys.exit(f"{trial}: no refused step was made again")
     if not 0 < trials["make"][0] == trials["check"][0] == trials["migrate"][0]:
         sys.exit(f"{trial}: judging or migrating took memory: {trials}")
+    runs.tell()
 
 
 main()

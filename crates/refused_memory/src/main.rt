@@ -1,12 +1,19 @@
 //! Makes each call that takes memory, once. `test` runs this with each allocation refused in turn.
 //! A run in which a call answers that memory was refused ends with status 1; each other answer
 //! than the right one is printed, and ends with status 0. With a word, `make`, `check` or `migrate`,
-//! it makes records, and does no more than that with them.
+//! it makes records, and does no more than that with them; with one of `refusals` it makes calls that
+//! are refused for another cause.
 #![tactic(auto)]
 
 mod booking;
 mod fault_lines;
 mod judging;
+mod refusals;
+mod refused_calls;
+mod refused_orders;
+mod refused_records;
+mod refused_scripts;
+mod refused_texts;
 mod running;
 mod schedules;
 mod sharing;
@@ -14,6 +21,7 @@ mod sharing;
 use crate::booking::book_outcome;
 use crate::fault_lines::fault_lines_outcome;
 use crate::judging::{Task, task_outcome};
+use crate::refusals::refusal_outcome;
 use crate::running::{running_lock_outcome, running_record_outcome};
 use crate::schedules::{
     bad_script_outcome, completions_outcome, history_outcome, judged_outcome, run_outcome,
@@ -23,7 +31,8 @@ use crate::sharing::shared_outcome;
 use stamp_cli::{Order, ReadSource, ServeFault, Verdict, WriteSink, serve};
 use stamp_core::{Call, Layout, Limits, ReplayError, Replayed, replay};
 use stamp_history::{AnswerError, Field, ReadError, read_replay, replay_text, write_replay};
-use std::alloc::Global;
+use stamp_machines::RunError;
+use std::alloc::{AllocError, AllocFailed, Global};
 use std::io::{Read, Write};
 use std::process::ExitCode;
 use std::rt::Env;
@@ -42,11 +51,39 @@ enum Outcome {
     Wrong,
 }
 
+impl From<AllocError> for Outcome {
+    fn from(_refused: AllocError) -> Outcome {
+        Outcome::Refused
+    }
+}
+
+impl<T: Drop> From<AllocFailed<T>> for Outcome {
+    fn from(_refused: AllocFailed<T>) -> Outcome {
+        Outcome::Refused
+    }
+}
+
+impl From<RunError> for Outcome {
+    fn from(error: RunError) -> Outcome {
+        match error {
+            RunError::Memory => Outcome::Refused,
+            RunError::TooManySteps => Outcome::Wrong,
+        }
+    }
+}
+
 fn right_if(holds: bool) -> Outcome {
     if holds {
         Outcome::Right
     } else {
         Outcome::Wrong
+    }
+}
+
+fn outcome_of(answer: Result<bool, Outcome>) -> Outcome {
+    match answer {
+        Ok(holds) => right_if(holds),
+        Err(outcome) => outcome,
     }
 }
 
@@ -193,28 +230,21 @@ fn outcome_of_all(rt: &(impl Wait + AllocGlobal)) -> Outcome {
     }
 }
 
-/// The task that the word after the program's name gives, if there is a word.
-fn task_given(rt: &(impl Env + AllocGlobal)) -> Result<Option<Task>, Outcome> {
-    let mut words = env::args(rt).map_err(|fault| match fault.kind() {
-        io::ErrorKind::OutOfMemory => Outcome::Refused,
-        _ => Outcome::Wrong,
-    })?;
+/// The outcome that the word after the program's name asks for, or that of all where there is none.
+fn outcome_given(rt: &(impl Env + Wait + AllocGlobal)) -> Outcome {
+    let mut words = match env::args(rt) {
+        Ok(words) => words,
+        Err(fault) if fault.kind() == io::ErrorKind::OutOfMemory => return Outcome::Refused,
+        Err(_) => return Outcome::Wrong,
+    };
     let Some(word) = words.nth(1) else {
-        return Ok(None);
+        return outcome_of_all(rt);
     };
     match word.as_str() {
-        "make" => Ok(Some(Task::Make)),
-        "check" => Ok(Some(Task::Check)),
-        "migrate" => Ok(Some(Task::Migrate)),
-        _ => Err(Outcome::Wrong),
-    }
-}
-
-fn outcome_given(rt: &(impl Env + Wait + AllocGlobal)) -> Outcome {
-    match task_given(rt) {
-        Ok(None) => outcome_of_all(rt),
-        Ok(Some(task)) => task_outcome(rt.alloc(), task),
-        Err(outcome) => outcome,
+        "make" => task_outcome(rt.alloc(), Task::Make),
+        "check" => task_outcome(rt.alloc(), Task::Check),
+        "migrate" => task_outcome(rt.alloc(), Task::Migrate),
+        other => refusal_outcome(rt.alloc(), other),
     }
 }
 

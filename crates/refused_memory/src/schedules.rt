@@ -2,7 +2,7 @@
 ghost use Rattle.std.specs.Prelude.{◌≡◌, ◌<◌, ◌++◌, ◌∷◌, [], length, OnOk, OnErr};
 ghost use Rattle.stamp_machines.specs.Completing.{after_next};
 
-use crate::{Outcome, right_if};
+use crate::{Outcome, outcome_of, right_if};
 use stamp_core::{Call, Entry, Limits, Words};
 use stamp_history::{
     ReadError, check, migrate, read_history, read_script, write_history, write_run,
@@ -67,22 +67,14 @@ fn script(alloc: Global) -> Result<Script, Outcome> {
     Script::new(limits, 2, threads, steps).map_err(|_| Outcome::Wrong)
 }
 
-/// How a refusal ends the program.
-fn refusal(error: RunError) -> Outcome {
-    match error {
-        RunError::Memory => Outcome::Refused,
-        RunError::TooManySteps => Outcome::Wrong,
-    }
-}
-
 fn is_run(alloc: Global) -> Result<bool, Outcome> {
-    let record = run(alloc, &script(alloc)?).map_err(refusal)?;
+    let record = run(alloc, &script(alloc)?)?;
     Ok(record.entries().len() == 14 && record.report().is_empty())
 }
 
 /// The put takes five steps, beside two changes of the word by readers.
 fn is_run_reported(alloc: Global) -> Result<bool, Outcome> {
-    let record = run_reported(alloc, &script(alloc)?).map_err(refusal)?;
+    let record = run_reported(alloc, &script(alloc)?)?;
     let report = record.report();
     Ok(report.len() == 14 && report.contains(&(5, 2)))
 }
@@ -120,8 +112,8 @@ fn ends_alike(alloc: Global, script: &Script, entries: &[Entry]) -> Result<bool,
 
 fn is_stepped_again(alloc: Global) -> Result<bool, Outcome> {
     let script = script(alloc)?;
-    let record = run(alloc, &script).map_err(refusal)?;
-    ends_alike(alloc, &script, record.entries()).map_err(refusal)
+    let record = run(alloc, &script)?;
+    Ok(ends_alike(alloc, &script, record.entries())?)
 }
 
 /// Goes on to the next finished call, and once more where memory was refused.
@@ -149,15 +141,8 @@ fn are_handed_on(alloc: Global, script: &Script, entries: &[Entry]) -> Result<bo
 
 fn is_handed_on_again(alloc: Global) -> Result<bool, Outcome> {
     let script = script(alloc)?;
-    let record = run(alloc, &script).map_err(refusal)?;
+    let record = run(alloc, &script)?;
     are_handed_on(alloc, &script, record.entries()).map_err(|_| Outcome::Refused)
-}
-
-fn outcome_of(answer: Result<bool, Outcome>) -> Outcome {
-    match answer {
-        Ok(holds) => right_if(holds),
-        Err(outcome) => outcome,
-    }
 }
 
 pub(crate) fn run_outcome(alloc: Global) -> Outcome {
