@@ -1,17 +1,18 @@
 """Gives the program broken replays, scripts and histories of both layouts, and compares what is told.
 
-    broken_inputs.py STAMPED
+    broken_inputs.py SHIM STAMPED
 
 Each field's faults alone and in pairs (the earlier one of the table of FORMATS is told, whichever
 stands first in the text), numbers at their edges, keys that stand twice, texts that are no JSON, each
-text cut off at each place."""
+text cut off at each place. No run leaves a block."""
 import copy
 import json
 import os
-import subprocess
 import sys
 from dataclasses import dataclass
 from typing import Callable
+
+from counted_runs import CountedRuns
 
 MOST_READERS = {1: 127, 2: 65_535}
 MOST_VERSIONS = {1: 2**55 - 2, 2: 2**46 - 2}
@@ -200,25 +201,24 @@ def history(layout):
 
 
 class Program:
-    """The program, and how many texts it was given."""
+    """The program, and its runs."""
 
-    def __init__(self, path):
+    def __init__(self, shim, path):
         self.path = os.path.abspath(path)
-        self.given = 0
+        self.runs = CountedRuns(shim)
 
     def assert_told(self, orders, text, line):
         """The line is told of the text; of none, that it is accepted."""
         data = text if isinstance(text, bytes) else text.encode()
         for order in orders:
-            self.given += 1
-            ran = subprocess.run([self.path, order], input=data, capture_output=True, timeout=60)
+            answer, _ = self.runs.ended([self.path, order], data)
+            _, out, err = answer
             if line is None:
-                right = ran.stderr == b"" and ran.stdout != b""
+                right = err == b"" and out != b""
             else:
-                told = f"stamped: {line}\n".encode()
-                right = (ran.returncode, ran.stdout, ran.stderr) == (1, b"", told)
+                right = answer == (1, b"", f"stamped: {line}\n".encode())
             if not right:
-                sys.exit(f"{order} of {data[:400]}: {ran}"[:2000] + f", and not {line}")
+                sys.exit(f"{order} of {data[:400]}: {answer}"[:2000] + f", and not {line}")
 
 
 def broken_by(text, *faults):
@@ -297,13 +297,14 @@ def give_no_json(program, reading):
 
 
 def main():
-    program = Program(sys.argv[1])
+    program = Program(*sys.argv[1:])
     for reading_of in [replay, script, history]:
         for layout in [1, 2]:
             reading = reading_of(layout)
             for give in [give_faults, give_numbers, give_keys, give_no_json]:
                 give(program, reading)
-    print(f"{program.given} broken inputs told as they are")
+    print("broken inputs told as they are")
+    program.runs.tell()
 
 
 main()

@@ -8,6 +8,14 @@ import sys
 import tempfile
 
 
+def number_in(path):
+    """The number that a file has; none where a run ended before it was written."""
+    if not os.path.exists(path):
+        return None
+    with open(path) as file:
+        return int(file.read())
+
+
 class CountedRuns:
     """The shims that are loaded before a program, and how many runs of each program were counted."""
 
@@ -16,25 +24,21 @@ class CountedRuns:
         self.counts = {}
 
     def ended(self, words, text, refuse=0, **environment):
-        """How a run ended, and whether it asked for the allocation that was to be refused."""
+        """How a run ended, and whether it asked for the allocation that was to be refused.
+
+        The environment tells the shims what else to refuse."""
         with tempfile.TemporaryDirectory() as room:
             refused, left = os.path.join(room, "refused"), os.path.join(room, "left")
-            env = dict(os.environ, LD_PRELOAD=self.shims, REFUSED=refused, LEFT=left, **environment)
-            env["REFUSE"] = str(refuse)
+            told = {name: str(number) for name, number in environment.items()}
+            env = dict(os.environ, **told, REFUSE=str(refuse), REFUSED=refused, LEFT=left)
+            env["LD_PRELOAD"] = self.shims
             ran = subprocess.run(words, input=text, capture_output=True, env=env, timeout=60)
-            of_run = f"{words} of {text[:400]}, allocation {refuse} refused, {environment}"
-            self.assert_all_freed(of_run, left)
+            if number_in(left) != 0:
+                of_run = f"{words}, allocation {refuse} refused, {environment}, of {text[:400]}"
+                sys.exit(f"{of_run}: {number_in(left)} blocks left")
             name = os.path.basename(words[0])
             self.counts[name] = self.counts.get(name, 0) + 1
             return (ran.returncode, ran.stdout, ran.stderr), os.path.exists(refused)
-
-    def assert_all_freed(self, of_run, path):
-        if not os.path.exists(path):
-            sys.exit(f"{of_run}: it didn't tell how many blocks are left")
-        with open(path) as told:
-            left = int(told.read())
-        if left != 0:
-            sys.exit(f"{of_run}: {left} blocks left")
 
     def tell(self):
         for name, count in self.counts.items():

@@ -1,12 +1,14 @@
 """Runs the program where each read gives one byte and each write takes one, and fails each in turn.
 
-    failing_io.py SHIM STAMPED
+    failing_io.py NARROW REFUSE STAMPED
 
 A read that fails is told as `read fault`, and nothing is written; a write that fails, or that takes
-no byte, is told as `write fault`, and what went out is the front of the line that came before it."""
+no byte, is told as `write fault`, and what went out is the front of the line that came before it. No
+run leaves a block. NARROW and REFUSE are the shims of narrow_io.c and refuse_malloc.c."""
 import os
-import subprocess
 import sys
+
+from counted_runs import CountedRuns
 
 REPLAY = b'{"calls":[["try_read"],["to_write",257]],"readers":1,"versions":1}'
 SCRIPT = b'{"readers":1,"steps":[0,0],"threads":[[["try_write"]]],"versions":1,"width":0}'
@@ -30,50 +32,45 @@ READ_FAULT = (1, b"", b"stamped: read fault\n")
 WRITE_FAULT = b"stamped: write fault\n"
 
 
-def ended(words, text, shim, **failing):
-    """How a run ended: its status, what it wrote, and what it told."""
-    env = dict(os.environ, LD_PRELOAD=shim, **{name: str(at) for name, at in failing.items()})
-    ran = subprocess.run(words, input=text, capture_output=True, env=env, timeout=60)
-    return ran.returncode, ran.stdout, ran.stderr
-
-
 def assert_ended(words, answer, wanted, when):
     if answer != wanted:
         sys.exit(f"{words}, {when}: {answer}, and not {wanted}")
 
 
-def reads_of(words, text, shim, ample):
+def reads_of(runs, words, text, ample):
     """Fails each read in turn, that of the end among them; returns how many there were."""
     reads = 0 if words[1] == "stamp" else len(text) + 1
     for number in range(1, reads + 1):
-        answer = ended(words, text, shim, FAIL_READ=number)
+        answer, _ = runs.ended(words, text, FAIL_READ=number)
         assert_ended(words, answer, READ_FAULT, f"read {number} fails")
-    answer = ended(words, text, shim, FAIL_READ=reads + 1)
+    answer, _ = runs.ended(words, text, FAIL_READ=reads + 1)
     assert_ended(words, answer, ample, "no read fails")
     return reads
 
 
-def writes_of(words, text, shim, ample):
+def writes_of(runs, words, text, ample):
     """Fails each write in turn, in both ways; returns how many there were."""
     line = ample[1]
     for number in range(1, len(line) + 1):
         front = (1, line[: number - 1], WRITE_FAULT)
         for way in ["FAIL_WRITE", "FULL_WRITE"]:
-            answer = ended(words, text, shim, **{way: number})
+            answer, _ = runs.ended(words, text, **{way: number})
             assert_ended(words, answer, front, f"{way} {number}")
-    answer = ended(words, text, shim, FAIL_WRITE=len(line) + 1)
+    answer, _ = runs.ended(words, text, FAIL_WRITE=len(line) + 1)
     assert_ended(words, answer, ample, "no write fails")
     return len(line)
 
 
 def main():
-    shim, stamped = (os.path.abspath(path) for path in sys.argv[1:])
+    narrow, refuse, stamped = (os.path.abspath(path) for path in sys.argv[1:])
+    runs = CountedRuns(narrow, refuse)
     for order, text, line, status in TABLE:
         words = [stamped, *order]
         ample = (status, line + b"\n", b"")
-        reads = reads_of(words, text, shim, ample)
-        writes = writes_of(words, text, shim, ample)
+        reads = reads_of(runs, words, text, ample)
+        writes = writes_of(runs, words, text, ample)
         print(f"{order}: {reads} reads and {writes} writes failed in turn")
+    runs.tell()
 
 
 main()
