@@ -23,22 +23,20 @@ class CountedRuns:
         self.shims = ":".join(os.path.abspath(shim) for shim in shims)
         self.counts = {}
 
-    def ended(self, words, text, refuse=0, **environment):
+    def ended(self, words, text, **refused):
         """How a run ended, and whether it asked for the allocation that was to be refused.
 
-        The environment tells the shims what else to refuse."""
+        What is refused has the number that stands in the environment under its name."""
         with tempfile.TemporaryDirectory() as room:
-            refused, left = os.path.join(room, "refused"), os.path.join(room, "left")
-            told = {name: str(number) for name, number in environment.items()}
-            env = dict(os.environ, **told, REFUSE=str(refuse), REFUSED=refused, LEFT=left)
-            env["LD_PRELOAD"] = self.shims
+            marker, left = os.path.join(room, "refused"), os.path.join(room, "left")
+            env = dict(os.environ, LD_PRELOAD=self.shims, REFUSED=marker, LEFT=left)
+            env.update({name: str(number) for name, number in refused.items()})
             ran = subprocess.run(words, input=text, capture_output=True, env=env, timeout=60)
             if number_in(left) != 0:
-                of_run = f"{words}, allocation {refuse} refused, {environment}, of {text[:400]}"
-                sys.exit(f"{of_run}: {number_in(left)} blocks left")
+                sys.exit(f"{words} of {text[:400]}, {refused}: {number_in(left)} blocks left")
             name = os.path.basename(words[0])
             self.counts[name] = self.counts.get(name, 0) + 1
-            return (ran.returncode, ran.stdout, ran.stderr), os.path.exists(refused)
+            return (ran.returncode, ran.stdout, ran.stderr), os.path.exists(marker)
 
     def tell(self):
         for name, count in self.counts.items():

@@ -13,7 +13,6 @@ of REFUSALS, TRIAL makes calls that are refused for another cause than want of m
 TRIAL makes as many allocations where it makes records and judges or migrates them as where it only
 makes them: so judging and migrating take no memory."""
 import os
-import subprocess
 import sys
 
 from counted_runs import CountedRuns
@@ -68,20 +67,14 @@ REFUSALS = [
 MOST = 10_000
 
 
-def ended(words, text):
-    """How a run with ample memory ends, where nothing is counted."""
-    ran = subprocess.run(words, input=text, capture_output=True, timeout=60)
-    return ran.returncode, ran.stdout, ran.stderr
-
-
 def runs_of(runs, words, text, wanted, refusals):
     """Refuses each allocation in turn; returns how many there were, and how many runs bore it."""
-    ample = ended(words, text)
+    ample, _ = runs.ended(words, text)
     if ample != wanted:
         sys.exit(f"{words}: {ample}, and not {wanted}")
     borne = 0
     for number in range(1, MOST):
-        answer, was_refused = runs.ended(words, text, number)
+        answer, was_refused = runs.ended(words, text, REFUSE=number)
         if answer != ample and not (was_refused and answer in refusals):
             sys.exit(f"{words} with allocation {number} refused: {answer}, and not {ample}")
         if not was_refused:
@@ -113,8 +106,8 @@ def main():
         ([stamped, b"\xff"], b"", BAD_LINE, told),
     ]
     right = b"", (0, b"right\n", b""), [(1, b"", b"")]
-    table += [([trial, *words], *right) for words in [[], ["make"], ["check"], ["migrate"]]]
-    table += [([trial, word], *right) for word in REFUSALS]
+    table += [([trial, word], *right) for word in [*REFUSALS, "make", "check", "migrate"]]
+    table += [([trial], *right)]
     trials = {}
     for words, text, wanted, refusals in table:
         count, borne = runs_of(runs, words, text, wanted, refusals)

@@ -4,8 +4,11 @@ use crate::{Outcome, outcome_of};
 use stamp_core::{Call, Entry, Limits, Record, Reply};
 use std::alloc::{AllocError, Global};
 
-/// A width, and a thread and a call of an entry, one of which a record may not have.
-const UNFIT: [(u64, u64, Call); 3] = [
+/// The width of a record, and the thread and the call of its last entry.
+type Case = (u64, u64, Call);
+
+/// Each has one that may not be.
+const UNFIT: [Case; 3] = [
     (17, 0, Call::TryRead),
     (0, 64, Call::TryRead),
     (0, 0, Call::Get),
@@ -38,16 +41,16 @@ fn limits() -> Result<Limits, Outcome> {
 }
 
 /// Whether there is a record of two entries, with a report of so many pairs.
-fn is_made(alloc: Global, unfit: (u64, u64, Call), pairs: usize) -> Result<bool, Outcome> {
-    let (width, thread, call) = unfit;
+fn is_made(alloc: Global, case: Case, pairs: usize) -> Result<bool, Outcome> {
+    let (width, thread, call) = case;
     let entries = entries(alloc, thread, call)?;
     let report = vec![in alloc; (2, 0); pairs]?;
     Ok(Record::of_reported(limits()?, width, entries, report).is_some())
 }
 
 /// Whether there is one without a report.
-fn is_made_unreported(alloc: Global, unfit: (u64, u64, Call)) -> Result<bool, Outcome> {
-    let (width, thread, call) = unfit;
+fn is_made_unreported(alloc: Global, case: Case) -> Result<bool, Outcome> {
+    let (width, thread, call) = case;
     let entries = entries(alloc, thread, call)?;
     Ok(Record::of(limits()?, width, entries).is_some())
 }

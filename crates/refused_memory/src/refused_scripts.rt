@@ -46,8 +46,8 @@ fn fault(alloc: Global, shape: Shape) -> Result<Option<ScriptError>, Outcome> {
     Ok(Script::new(limits, shape.width, threads, steps).err())
 }
 
-fn has_fault(alloc: Global, shape: Shape, fault_due: Option<ScriptError>) -> Result<bool, Outcome> {
-    Ok(fault(alloc, shape)? == fault_due)
+fn has_fault(alloc: Global, shape: Shape, due: Option<ScriptError>) -> Result<bool, Outcome> {
+    Ok(fault(alloc, shape)? == due)
 }
 
 /// The first four causes, and none.
