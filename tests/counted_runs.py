@@ -33,7 +33,7 @@ class CountedRuns:
             env.update({name: str(number) for name, number in refused.items()})
             ran = subprocess.run(words, input=text, capture_output=True, env=env, timeout=60)
             if number_in(left) != 0:
-                sys.exit(f"{words} of {text[:400]}, {refused}: {number_in(left)} blocks left")
+                sys.exit(f"{words} of {text[:400]}, {refused}: blocks left: {number_in(left)}")
             name = os.path.basename(words[0])
             self.counts[name] = self.counts.get(name, 0) + 1
             return (ran.returncode, ran.stdout, ran.stderr), os.path.exists(marker)
