@@ -1,5 +1,5 @@
 -- Each step of a get keeps the rule, and tells what it is to tell.
-use Rattle.std.proofs.Common.{◌≡◌, ◌≢◌, ℕ, ◌+◌, ◌<◌, eqb, Bool, true, false, true≢false, MatchBool}
+use Rattle.std.proofs.Common.{◌≡◌, ◌≢◌, ℕ, ◌+◌, ◌<◌, ◌≤◌, eqb, Bool, true, false, true≢false, MatchBool}
 use Rattle.std.proofs.Common.{if◌then◌else◌, List, [], ◌∷◌, ◌++◌, length, get_or, refl, ap, sym}
 use Rattle.std.proofs.Common.{◌∙◌, subst, arith, le_refl, length-append}
 use Rattle.std.proofs.lemmas.Bool.{eqb-true}
@@ -35,7 +35,7 @@ use Rattle.stamp_threads.proofs.RecordSteps.{others_mark, one_after, one_consist
 use Rattle.stamp_threads.proofs.RecordSteps.{only_consistent, observing_brings, same_knows}
 use Rattle.stamp_threads.proofs.RecordSteps.{idle_quiet, KeptBy}
 
-module _ (shape : RecordShape) (s : State (Unit {0}) (List RecordPassView)) (r : IsKept shape s)
+module _ (P : List ℕ → Type 0) (shape : RecordShape) (s : State (Unit {0}) (List RecordPassView)) (r : IsKept P shape s)
     (id : ℕ) (v : RecordPassView) (here : get_elem? s.views id ≡ some (v ∷ [])) (version : ℕ)
     (xs : List ℕ) (reading : v.phase ≡ Reading version xs) where
   pub reading_quiet : IsWriting v.phase → ⊥
@@ -45,16 +45,16 @@ module _ (shape : RecordShape) (s : State (Unit {0}) (List RecordPassView)) (r :
   none_ahead = ap marks_ahead reading
 
   what : KnowsReading shape.width r.log version xs
-  what = subst (Knows shape.width s.words r.log v.name) reading
-      (fits_here shape s r id v here).knows
+  what = subst (Knows P shape.width s.words r.log v.name) reading
+      (fits_here P shape s r id v here).knows
 
   -- one more word is loaded
   loads : (k : ℕ) → length xs ≡ k → k < shape.width →
-      KeptBy shape s id (loaded_one v (get_or s.words (k + 1) 0)) s.words
+      KeptBy P shape s id (loaded_one v (get_or s.words (k + 1) 0)) s.words
   loads k long inside =
       let x : ℕ = get_or s.words (k + 1) 0 in
       let w = loaded_one v x in
-      let f = fits_here shape s r id v here in
+      let f = fits_here P shape s r id v here in
       let h = what in
       let more : length (xs ++ x ∷ []) ≡ k + 1 =
       length-append xs (x ∷ []) ∙ ap (λ (n : ℕ). n + 1) long in
@@ -71,24 +71,24 @@ module _ (shape : RecordShape) (s : State (Unit {0}) (List RecordPassView)) (r :
       let ahead : marks_ahead v.phase ≡ marks_ahead w.phase =
       ap marks_ahead reading ∙
       sym (ap (λ (p : RecordPhase). marks_ahead (loading_one p x)) reading) in
-      only_views shape s r id v here reading_quiet w refl refl (record {
+      only_views P shape s r id v here reading_quiet w refl refl (record {
         observed = f.part.observed;
         own = f.part.own;
         marks = f.marks ∙ ap (λ (n : ℕ). puts_in v.own + n) ahead;
-        knows = subst (Knows shape.width s.words r.log v.name)
+        knows = subst (Knows P shape.width s.words r.log v.name)
             (sym (ap (λ (z : RecordPhase). loading_one z x) reading)) known;
       })
 
   -- the lock word is as it was, and the words are the content
   confirms : length xs ≡ shape.width →
       get_or s.words 0 0 ≡ word_with shape.limits.layout version false →
-      KeptBy shape s id (calling (finding v (get_or s.words 0 0)) r.log (get_of xs)) s.words ×
+      KeptBy P shape s id (calling (finding v (get_or s.words 0 0)) r.log (get_of xs)) s.words ×
       IsConsistentWith shape.width (calling (finding v (get_or s.words 0 0)) r.log (get_of xs)) ×
-      (xs ≡ content_in shape.width r.log)
+      (xs ≡ content_in shape.width r.log) × (1 ≤ puts r.log → P xs)
   confirms long same =
       let w = calling (finding v (get_or s.words 0 0)) r.log (get_of xs) in
       let log' = r.log ++ entry v.name (get_of xs) ∷ [] in
-      let f = fits_here shape s r id v here in
+      let f = fits_here P shape s r id v here in
       let h = what in
       let free = free_of shape.limits.layout (is_locked r.log) (puts r.log) version
       (sym same ∙ r.word_is) in
@@ -102,7 +102,7 @@ module _ (shape : RecordShape) (s : State (Unit {0}) (List RecordPassView)) (r :
       let grows = grows_one v r.log (get_of xs) in
       let had = f.marks in
       let quiet = none_ahead in
-      let brings : Brings shape.width s.words log' w = record {
+      let brings : Brings P shape.width s.words log' w = record {
         observed = begins_all log';
         own = made_by-same is_own v.name r.log (get_of xs) ∙
             ap (λ (z : List RecordEvent). z ++ get_of xs ∷ []) f.part.own;
@@ -110,8 +110,8 @@ module _ (shape : RecordShape) (s : State (Unit {0}) (List RecordPassView)) (r :
             let b = puts_in_get v.own xs in omega arith);
         knows = tt;
       } in
-      let others : OthersKnow shape s r.log id s.words log' =
-      λ i k u away st g. same_knows shape.width s.words r.log log' u.name u.phase p l m c g in
+      let others : OthersKnow P shape s r.log id s.words log' =
+      λ i k u away st g. same_knows P shape.width s.words r.log log' u.name u.phase p l m c g in
       let legal = legal_longer shape.width r.log v.name Get (Content xs) refl (ap Content whole)
       r.legal in (
         record {
@@ -125,16 +125,18 @@ module _ (shape : RecordShape) (s : State (Unit {0}) (List RecordPassView)) (r :
           rests = λ e i b. r.rests (sym l ∙ e) i b ∙
               ap (λ (d : List ℕ). get_or d i 0) (sym c);
           long = ap length c ∙ r.long;
-          passes = one_after shape s r id v here w refl refl s.words log' grows brings others;
+          obeys = λ l. subst P (sym c) (r.obeys (omega (arith, p)));
+          passes = one_after P shape s r id v here w refl refl s.words log' grows brings others;
           writer = λ e. absurd (true≢false (sym e ∙ (l ∙ free.0)));
         },
-        one_consistent shape s r id v here w refl refl s.words log' grows brings others legal refl,
+        one_consistent P shape s r id v here w refl refl s.words log' grows brings others legal refl,
         whole,
+        λ l. subst P (sym whole) (r.obeys l),
       )
 
-  stopping_brings : (word : ℕ) → Brings shape.width s.words r.log (stopping (finding v word) r.log)
+  stopping_brings : (word : ℕ) → Brings P shape.width s.words r.log (stopping (finding v word) r.log)
   stopping_brings word =
-      let f = fits_here shape s r id v here in
+      let f = fits_here P shape s r id v here in
       record {
         observed = begins_all r.log;
         own = f.part.own;
@@ -143,17 +145,17 @@ module _ (shape : RecordShape) (s : State (Unit {0}) (List RecordPassView)) (r :
       }
 
 -- the first load of a get, by whether somebody has write mode
-open_at : (shape : RecordShape) (s : State (Unit {0}) (List RecordPassView)) (r : IsKept shape s)
+open_at : (P : List ℕ → Type 0) (shape : RecordShape) (s : State (Unit {0}) (List RecordPassView)) (r : IsKept P shape s)
     (id : ℕ) (v : RecordPassView) → get_elem? s.views id ≡ some (v ∷ []) → v.phase ≡ Idle →
     (b : Bool) → is_locked r.log ≡ b →
-    (word : ℕ) → KeptBy shape s id (if b then observing (finding v word) r.log
+    (word : ℕ) → KeptBy P shape s id (if b then observing (finding v word) r.log
     else opening (finding v word) r.log) s.words
-open_at shape s r id v here idle true e word =
-    only_views shape s r id v here (idle_quiet v.phase idle) (observing (finding v word) r.log)
-    refl refl (observing_brings shape s r id v here word)
-open_at shape s r id v here idle false e word =
-    let f = fits_here shape s r id v here in
-    only_views shape s r id v here (idle_quiet v.phase idle) (opening (finding v word) r.log)
+open_at P shape s r id v here idle true e word =
+    only_views P shape s r id v here (idle_quiet v.phase idle) (observing (finding v word) r.log)
+    refl refl (observing_brings P shape s r id v here word)
+open_at P shape s r id v here idle false e word =
+    let f = fits_here P shape s r id v here in
+    only_views P shape s r id v here (idle_quiet v.phase idle) (opening (finding v word) r.log)
     refl refl (record {
       observed = begins_all r.log;
       own = f.part.own;
@@ -165,10 +167,10 @@ open_at shape s r id v here idle false e word =
       };
     })
 
-pub allows_open : (shape : RecordShape) (slots id : ℕ) (me : Seated) →
+pub allows_open : (P : List ℕ → Type 0) (shape : RecordShape) (slots id : ℕ) (me : Seated) →
     me ≡ alone (first_of me.0) → (first_of me.0).phase ≡ Idle →
-    Allows (IsKept shape) slots id me 0 (λ n. n) (OpenTells shape (step slots 0 0 0 none) me)
-allows_open shape slots id me is idle s r _ at _ =
+    Allows (IsKept P shape) slots id me 0 (λ n. n) (OpenTells shape (step slots 0 0 0 none) me)
+allows_open P shape slots id me is idle s r _ at _ =
     let v : RecordPassView = first_of me.0 in
     let here : get_elem? s.views id ≡ some (v ∷ []) =
     at ∙ ap (λ (m : Seated). some m.0) is in
@@ -179,26 +181,26 @@ allows_open shape slots id me is idle s r _ at _ =
       w ∷ [],
       keeps,
       tt,
-      subst (KeptBy shape s id w) (sym (set-get_or s.words 0 0))
-          (open_at shape s r id v here idle (is_locked r.log) refl word),
+      subst (KeptBy P shape s id w) (sym (set-get_or s.words 0 0))
+          (open_at P shape s r id v here idle (is_locked r.log) refl word),
       record {
         log = r.log;
-        left = leaves_now shape s r id v here;
+        left = leaves_now P shape s r id v here;
         after = λ i. (w ∷ [], (is i).1);
-        others = others_mark shape s r id v here quiet;
-        consistent = only_consistent shape s r id v here quiet
+        others = others_mark P shape s r id v here quiet;
+        consistent = only_consistent P shape s r id v here quiet
             (observing (finding v word) r.log) refl refl
-            (observing_brings shape s r id v here word) refl;
+            (observing_brings P shape s r id v here word) refl;
       },
     )
 
 -- a load of a word of the record
-pub allows_load_word : (shape : RecordShape) (slots id : ℕ) (me : Seated) (version k : ℕ)
+pub allows_load_word : (P : List ℕ → Type 0) (shape : RecordShape) (slots id : ℕ) (me : Seated) (version k : ℕ)
     (xs : List ℕ) → me ≡ alone (first_of me.0) → (first_of me.0).phase ≡ Reading version xs →
     length xs ≡ k → k < shape.width →
-    Allows (IsKept shape) slots id me (k + 1) (λ n. n)
+    Allows (IsKept P shape) slots id me (k + 1) (λ n. n)
     (LoadTells (step slots (k + 1) 0 0 none) me)
-allows_load_word shape slots id me version k xs is reading long inside s r _ there _ =
+allows_load_word P shape slots id me version k xs is reading long inside s r _ there _ =
     let v : RecordPassView = first_of me.0 in
     let here : get_elem? s.views id ≡ some (v ∷ []) =
     there ∙ ap (λ (m : Seated). some m.0) is in
@@ -206,69 +208,70 @@ allows_load_word shape slots id me version k xs is reading long inside s r _ the
       w ∷ [],
       keeps,
       tt,
-      subst (KeptBy shape s id w) (sym (set-get_or s.words (k + 1) 0))
-          (loads shape s r id v here version xs reading k long inside),
+      subst (KeptBy P shape s id w) (sym (set-get_or s.words (k + 1) 0))
+          (loads P shape s r id v here version xs reading k long inside),
       λ i. (w ∷ [], (is i).1),
     )
 
 -- the second load of the lock word, by whether it is the word of the first
-confirm_at : (shape : RecordShape) (s : State (Unit {0}) (List RecordPassView))
-    (r : IsKept shape s) (id : ℕ) (me : Seated) (version : ℕ) (xs : List ℕ) →
+confirm_at : (P : List ℕ → Type 0) (shape : RecordShape) (s : State (Unit {0}) (List RecordPassView))
+    (r : IsKept P shape s) (id : ℕ) (me : Seated) (version : ℕ) (xs : List ℕ) →
     me ≡ alone (first_of me.0) → get_elem? s.views id ≡ some (first_of me.0 ∷ []) →
     (first_of me.0).phase ≡ Reading version xs → length xs ≡ shape.width → (b : Bool) →
     eqb (get_or s.words 0 0) (word_with shape.limits.layout version false) ≡ b →
     (w : List RecordPassView) × (a : Act (Unit {0})) × Valid s.homes me.1 a ×
-    IsKept shape (stepped s 0 (get_or s.words 0 0) id me.1 w a) ×
+    IsKept P shape (stepped s 0 (get_or s.words 0 0) id me.1 w a) ×
     MatchBool b
-    (Confirmed shape (first_of me.0) (get_or s.words 0 0) (w, carried_after me.1 a) xs)
+    (Confirmed shape (first_of me.0) (get_or s.words 0 0) (w, carried_after me.1 a) P xs)
     (Overtaken shape (first_of me.0) (get_or s.words 0 0) (w, carried_after me.1 a))
-confirm_at shape s r id me version xs is here reading long true e =
+confirm_at P shape s r id me version xs is here reading long true e =
     let v : RecordPassView = first_of me.0 in
     let w = calling (finding v (get_or s.words 0 0)) r.log (get_of xs) in
-    let t = confirms shape s r id v here version xs reading long (eqb-true _ _ e) in (
+    let t = confirms P shape s r id v here version xs reading long (eqb-true _ _ e) in (
       w ∷ [],
       keeps,
       tt,
-      subst (KeptBy shape s id w) (sym (set-get_or s.words 0 0)) t.0,
+      subst (KeptBy P shape s id w) (sym (set-get_or s.words 0 0)) t.0,
       record {
         log = r.log;
         content = t.2;
-        left = leaves_now shape s r id v here;
+        obeys = t.3;
+        left = leaves_now P shape s r id v here;
         after = λ i. (w ∷ [], (is i).1);
         consistent = t.1;
       },
     )
-confirm_at shape s r id me version xs is here reading long false e =
+confirm_at P shape s r id me version xs is here reading long false e =
     let v : RecordPassView = first_of me.0 in
     let w = stopping (finding v (get_or s.words 0 0)) r.log in
-    let quiet = reading_quiet shape s r id v here version xs reading in
-    let brings = stopping_brings shape s r id v here version xs reading (get_or s.words 0 0) in (
+    let quiet = reading_quiet P shape s r id v here version xs reading in
+    let brings = stopping_brings P shape s r id v here version xs reading (get_or s.words 0 0) in (
       w ∷ [],
       keeps,
       tt,
-      subst (KeptBy shape s id w) (sym (set-get_or s.words 0 0))
-          (only_views shape s r id v here quiet w refl refl brings),
+      subst (KeptBy P shape s id w) (sym (set-get_or s.words 0 0))
+          (only_views P shape s r id v here quiet w refl refl brings),
       record {
         log = r.log;
-        left = leaves_now shape s r id v here;
+        left = leaves_now P shape s r id v here;
         after = λ i. (w ∷ [], (is i).1);
-        others = others_mark shape s r id v here quiet;
-        consistent = only_consistent shape s r id v here quiet w refl refl brings refl;
+        others = others_mark P shape s r id v here quiet;
+        consistent = only_consistent P shape s r id v here quiet w refl refl brings refl;
       },
     )
 
-pub allows_confirm : (shape : RecordShape) (slots id : ℕ) (me : Seated) (version : ℕ)
+pub allows_confirm : (P : List ℕ → Type 0) (shape : RecordShape) (slots id : ℕ) (me : Seated) (version : ℕ)
     (xs : List ℕ) → me ≡ alone (first_of me.0) → (first_of me.0).phase ≡ Reading version xs →
     length xs ≡ shape.width →
-    Allows (IsKept shape) slots id me 0 (λ n. n)
-    (ConfirmTells shape xs (step slots 0 0 0 none) me)
-allows_confirm shape slots id me version xs is reading long s r _ there _ =
+    Allows (IsKept P shape) slots id me 0 (λ n. n)
+    (ConfirmTells P shape xs (step slots 0 0 0 none) me)
+allows_confirm P shape slots id me version xs is reading long s r _ there _ =
     let v : RecordPassView = first_of me.0 in
     let here : get_elem? s.views id ≡ some (v ∷ []) =
     there ∙ ap (λ (m : Seated). some m.0) is in
     let n : ℕ = get_or s.words 0 0 in
     let layout = shape.limits.layout in
-    let t = confirm_at shape s r id me version xs is here reading long
+    let t = confirm_at P shape s r id me version xs is here reading long
     (eqb n (word_with layout version false)) refl in
     let same : eqb n (word_with layout version false) ≡ eqb n (word_to_confirm layout v.phase) =
     ap (λ (z : RecordPhase). eqb n (word_to_confirm layout z)) (sym reading) in (
@@ -276,6 +279,6 @@ allows_confirm shape slots id me version xs is reading long s r _ there _ =
       t.1,
       t.2,
       t.3,
-      subst (λ (b : Bool). MatchBool b (Confirmed shape v n (t.0, carried_after me.1 t.1) xs)
+      subst (λ (b : Bool). MatchBool b (Confirmed shape v n (t.0, carried_after me.1 t.1) P xs)
           (Overtaken shape v n (t.0, carried_after me.1 t.1))) same t.4,
     )

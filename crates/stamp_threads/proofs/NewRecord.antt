@@ -34,10 +34,10 @@ first_consistent width = record {
   given = tt;
 }
 
-pub opens : (shape : RecordShape) (first : ℕ) → first ≡ word_with shape.limits.layout 0 false →
+pub opens : (P : List ℕ → Type 0) (shape : RecordShape) (first : ℕ) → first ≡ word_with shape.limits.layout 0 false →
     shape.width ≤ 16 →
-    IsKept shape (opening (take (shape.width + 1) (first ∷ replicate 16 0)) [] (first_pass ∷ []))
-opens shape first is narrow =
+    IsKept P shape (opening (take (shape.width + 1) (first ∷ replicate 16 0)) [] (first_pass ∷ []))
+opens P shape first is narrow =
     let cells : List ℕ = take (shape.width + 1) (first ∷ replicate 16 0) in
     record {
       log = [];
@@ -51,8 +51,9 @@ opens shape first is narrow =
           (later first (replicate 16 0) i ∙ (get_or-replicate 16 i 0 0 (omega arith) ∙
           sym (get_or-replicate shape.width i 0 0 l)));
       long = length-replicate shape.width 0;
+      obeys = λ l. absurd (omega arith);
       passes = record {
-        fits = λ i k v st. subst (Fits shape.width cells []) (sym (only_place i k v st).2)
+        fits = λ i k v st. subst (Fits P shape.width cells []) (sym (only_place i k v st).2)
             (record {
               part = record { observed = begins_all []; own = refl; given = tt };
               marks = refl;

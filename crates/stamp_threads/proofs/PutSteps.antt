@@ -39,45 +39,47 @@ use Rattle.stamp_threads.proofs.RecordSteps.{others_mark, one_after, one_consist
 use Rattle.stamp_threads.proofs.RecordSteps.{only_views, only_consistent, observing_brings}
 use Rattle.stamp_threads.proofs.RecordSteps.{locked_by, reader_knows, idle_quiet, KeptBy}
 
-module _ (shape : RecordShape) (s : State (Unit {0}) (List RecordPassView)) (r : IsKept shape s)
+module _ (P : List ℕ → Type 0) (shape : RecordShape) (s : State (Unit {0}) (List RecordPassView)) (r : IsKept P shape s)
     (id : ℕ) (v : RecordPassView) (here : get_elem? s.views id ≡ some (v ∷ [])) where
   -- write mode is got
   acquires : (n held : ℕ) (xs : List ℕ) → v.phase ≡ Idle →
       get_or s.words 0 0 ≡ word_with shape.limits.layout n false →
       held ≡ word_with shape.limits.layout n true → n < shape.limits.versions →
-      length xs ≡ shape.width →
-      KeptBy shape s id (acquiring (finding v (get_or s.words 0 0)) r.log xs) (set s.words 0 held)
-  acquires n held xs idle at is room long =
+      length xs ≡ shape.width → P xs →
+      KeptBy P shape s id (acquiring (finding v (get_or s.words 0 0)) r.log xs)
+      (set s.words 0 held)
+  acquires n held xs idle at is room long good =
       let w = acquiring (finding v (get_or s.words 0 0)) r.log xs in
       let log' = r.log ++ entry v.name Mark ∷ [] in
       let cells' : List ℕ = set s.words 0 held in
       let free = free_of shape.limits.layout (is_locked r.log) (puts r.log) n
       (sym at ∙ r.word_is) in
-      let f = fits_here shape s r id v here in
+      let f = fits_here P shape s r id v here in
       let same = puts_marked r.log v.name in
       let now = locked_longer r.log v.name Mark in
       let whose = marker_longer r.log v.name Mark in
       let grows = grows_one v r.log Mark in
-      let knows : Knows shape.width cells' log' v.name w.phase = record {
+      let knows : Knows P shape.width cells' log' v.name w.phase = record {
         locked = now;
         version_is = same;
         marker = whose;
         long = long;
+        obeys = good;
         few = omega arith;
         stand = λ j l. absurd (omega arith);
       } in
       let quiet : marks_ahead v.phase ≡ 0 = ap marks_ahead idle in
       let had = f.marks in
-      let brings : Brings shape.width cells' log' w = record {
+      let brings : Brings P shape.width cells' log' w = record {
         observed = begins_all log';
         own = made_by-same is_own v.name r.log Mark ∙ (append-nil _ ∙ f.part.own);
         marks = (let m = marks_marked v.name r.log in omega arith);
         knows = knows;
       } in
-      let others : OthersKnow shape s r.log id cells' log' =
-      λ i k u away st h. reader_knows shape.width s.words cells' r.log log' u.name u.phase
+      let others : OthersKnow P shape s r.log id cells' log' =
+      λ i k u away st h. reader_knows P shape.width s.words cells' r.log log' u.name u.phase
       (omega (arith, same)) (inl now)
-      (λ t. true≢false (sym (locked_by shape.width s.words r.log u.name u.phase t h).0 ∙ free.0))
+      (λ t. true≢false (sym (locked_by P shape.width s.words r.log u.name u.phase t h).0 ∙ free.0))
       h in
       record {
         log = log';
@@ -90,12 +92,13 @@ module _ (shape : RecordShape) (s : State (Unit {0}) (List RecordPassView)) (r :
         fewer = λ _. (let z = free.1 in omega (arith, same));
         rests = λ e. absurd (true≢false (sym now ∙ e));
         long = ap length (content_marked shape.width r.log v.name) ∙ r.long;
-        passes = one_after shape s r id v here w refl refl cells' log' grows brings others;
+        obeys = λ l. subst P (sym (content_marked shape.width r.log v.name)) (r.obeys (omega (arith, same)));
+        passes = one_after P shape s r id v here w refl refl cells' log' grows brings others;
         writer = λ _. record {
           seat = id;
           place = 0;
           writer = w;
-          stands = one_stands shape s r id v here w refl refl cells' log' grows brings others;
+          stands = one_stands P shape s r id v here w refl refl cells' log' grows brings others;
           writes = tt;
           marker = whose;
         };
@@ -103,30 +106,31 @@ module _ (shape : RecordShape) (s : State (Unit {0}) (List RecordPassView)) (r :
 
   module _ (version stored : ℕ) (xs : List ℕ) (writing : v.phase ≡ Writing version xs stored)
     where
-      what : KnowsWriting shape.width s.words r.log v.name version xs stored
-      what = subst (Knows shape.width s.words r.log v.name) writing
-          (fits_here shape s r id v here).knows
+      what : KnowsWriting P shape.width s.words r.log v.name version xs stored
+      what = subst (Knows P shape.width s.words r.log v.name) writing
+          (fits_here P shape s r id v here).knows
 
       alone_writes : (i j : ℕ) (u : RecordPassView) → i ≢ id → StandsAt s.views i j u →
-          Knows shape.width s.words r.log u.name u.phase → IsWriting u.phase → ⊥
-      alone_writes i j u away st h t = not_other shape s r id v here i j u away st
-          (locked_by shape.width s.words r.log u.name u.phase t h).1 what.marker
+          Knows P shape.width s.words r.log u.name u.phase → IsWriting u.phase → ⊥
+      alone_writes i j u away st h t = not_other P shape s r id v here i j u away st
+          (locked_by P shape.width s.words r.log u.name u.phase t h).1 what.marker
 
       -- one more word is stored
       stores : (x : ℕ) → stored < shape.width → x ≡ get_or xs stored 0 →
-          KeptBy shape s id (stored_one v) (set s.words (stored + 1) x)
+          KeptBy P shape s id (stored_one v) (set s.words (stored + 1) x)
       stores x inside right =
           let w = stored_one v in
           let cells' : List ℕ = set s.words (stored + 1) x in
-          let f = fits_here shape s r id v here in
+          let f = fits_here P shape s r id v here in
           let z = r.wide in
           let grows = grows_none (v ∷ []) r.log in
           let k = what in
-          let more : KnowsWriting shape.width cells' r.log v.name version xs (stored + 1) = record {
+          let more : KnowsWriting P shape.width cells' r.log v.name version xs (stored + 1) = record {
             locked = k.locked;
             version_is = k.version_is;
             marker = k.marker;
             long = k.long;
+            obeys = k.obeys;
             few = omega arith;
             stand = λ j l. dite (ℕ_discrete j stored)
                 (λ e. ap (λ (y : ℕ). get_or cells' (y + 1) 0) e ∙
@@ -135,20 +139,20 @@ module _ (shape : RecordShape) (s : State (Unit {0}) (List RecordPassView)) (r :
                 (λ ne. get_or-set_other s.words (stored + 1) (j + 1) x 0 (λ e. ne (omega arith)) ∙
                 k.stand j (omega arith));
           } in
-          let knows : Knows shape.width cells' r.log v.name w.phase =
-          subst (Knows shape.width cells' r.log v.name) (sym (ap storing_one writing)) more in
+          let knows : Knows P shape.width cells' r.log v.name w.phase =
+          subst (Knows P shape.width cells' r.log v.name) (sym (ap storing_one writing)) more in
           let ahead : marks_ahead v.phase ≡ marks_ahead w.phase =
           ap marks_ahead writing ∙
           sym (ap (λ (p : RecordPhase). marks_ahead (storing_one p)) writing) in
-          let brings : Brings shape.width cells' r.log w = record {
+          let brings : Brings P shape.width cells' r.log w = record {
             observed = f.part.observed;
             own = f.part.own;
             marks = f.marks ∙ ap (λ (n : ℕ). puts_in v.own + n)
                 ahead;
             knows = knows;
           } in
-          let others : OthersKnow shape s r.log id cells' r.log =
-          λ i j u away st h. reader_knows shape.width s.words cells' r.log r.log u.name u.phase
+          let others : OthersKnow P shape s r.log id cells' r.log =
+          λ i j u away st h. reader_knows P shape.width s.words cells' r.log r.log u.name u.phase
           (le_refl (puts r.log)) (inl k.locked) (alone_writes i j u away st h) h in
           record {
             log = r.log;
@@ -159,12 +163,13 @@ module _ (shape : RecordShape) (s : State (Unit {0}) (List RecordPassView)) (r :
             fewer = r.fewer;
             rests = λ e. absurd (true≢false (sym k.locked ∙ e));
             long = r.long;
-            passes = one_after shape s r id v here w refl refl cells' r.log grows brings others;
+            obeys = r.obeys;
+            passes = one_after P shape s r id v here w refl refl cells' r.log grows brings others;
             writer = λ _. record {
               seat = id;
               place = 0;
               writer = w;
-              stands = one_stands shape s r id v here w refl refl cells' r.log grows brings others;
+              stands = one_stands P shape s r id v here w refl refl cells' r.log grows brings others;
               writes = subst IsWriting (sym (ap storing_one writing)) tt;
               marker = k.marker;
             };
@@ -174,13 +179,13 @@ module _ (shape : RecordShape) (s : State (Unit {0}) (List RecordPassView)) (r :
   releases : (version free : ℕ) (xs : List ℕ) → v.phase ≡ Writing version xs shape.width →
       free ≡ word_with shape.limits.layout (version + 1) false →
       (held : ℕ) →
-      KeptBy shape s id (calling (finding v held) r.log (put_of xs)) (set s.words 0 free) ×
+      KeptBy P shape s id (calling (finding v held) r.log (put_of xs)) (set s.words 0 free) ×
       IsConsistentWith shape.width (calling (finding v held) r.log (put_of xs))
   releases version free xs writing is held =
       let w = calling (finding v held) r.log (put_of xs) in
       let log' = r.log ++ entry v.name (put_of xs) ∷ [] in
       let cells' : List ℕ = set s.words 0 free in
-      let f = fits_here shape s r id v here in
+      let f = fits_here P shape s r id v here in
       let k = what version shape.width xs writing in
       let z = r.wide in
       let more = puts_put r.log v.name xs in
@@ -189,7 +194,7 @@ module _ (shape : RecordShape) (s : State (Unit {0}) (List RecordPassView)) (r :
       let grows = grows_one v r.log (put_of xs) in
       let ahead : marks_ahead v.phase ≡ 1 = ap marks_ahead writing in
       let had = f.marks in
-      let brings : Brings shape.width cells' log' w = record {
+      let brings : Brings P shape.width cells' log' w = record {
         observed = begins_all log';
         own = made_by-same is_own v.name r.log (put_of xs) ∙
             ap (λ (l : List RecordEvent). l ++ put_of xs ∷ []) f.part.own;
@@ -197,8 +202,8 @@ module _ (shape : RecordShape) (s : State (Unit {0}) (List RecordPassView)) (r :
             let p = puts_in_put v.own xs in omega arith);
         knows = tt;
       } in
-      let others : OthersKnow shape s r.log id cells' log' =
-      λ i j u away st h. reader_knows shape.width s.words cells' r.log log' u.name u.phase
+      let others : OthersKnow P shape s r.log id cells' log' =
+      λ i j u away st h. reader_knows P shape.width s.words cells' r.log log' u.name u.phase
       (omega (arith, more)) (inr (omega (arith, more)))
       (alone_writes version shape.width xs writing i j u away st h) h in
       let legal = legal_longer shape.width r.log v.name (Put xs) Done refl refl r.legal in (
@@ -214,60 +219,61 @@ module _ (shape : RecordShape) (s : State (Unit {0}) (List RecordPassView)) (r :
           rests = λ _ i l. get_or-set_other s.words 0 (i + 1) free 0 (λ e. omega arith) ∙
               (k.stand i l ∙ ap (λ (c : List ℕ). get_or c i 0) (sym holds));
           long = ap length holds ∙ k.long;
-          passes = one_after shape s r id v here w refl refl cells' log' grows brings others;
+          obeys = λ _. subst P (sym holds) k.obeys;
+          passes = one_after P shape s r id v here w refl refl cells' log' grows brings others;
           writer = λ e. absurd (true≢false (sym e ∙ now));
         },
-        one_consistent shape s r id v here w refl refl cells' log' grows brings others legal refl,
+        one_consistent P shape s r id v here w refl refl cells' log' grows brings others legal refl,
       )
 
 -- a load that a put begins with
-look_at : (shape : RecordShape) (s : State (Unit {0}) (List RecordPassView)) (r : IsKept shape s)
+look_at : (P : List ℕ → Type 0) (shape : RecordShape) (s : State (Unit {0}) (List RecordPassView)) (r : IsKept P shape s)
     (id : ℕ) (me : Seated) → me ≡ alone (first_of me.0) → (first_of me.0).phase ≡ Idle →
     get_elem? s.views id ≡ some (first_of me.0 ∷ []) →
-    KeptBy shape s id (observing (finding (first_of me.0) (get_or s.words 0 0)) r.log) s.words ×
+    KeptBy P shape s id (observing (finding (first_of me.0) (get_or s.words 0 0)) r.log) s.words ×
     Looked shape (first_of me.0) (get_or s.words 0 0)
     (observing (finding (first_of me.0) (get_or s.words 0 0)) r.log ∷ [], me.1)
-look_at shape s r id me is idle here =
+look_at P shape s r id me is idle here =
     let v : RecordPassView = first_of me.0 in
     let word : ℕ = get_or s.words 0 0 in
     let w = observing (finding v word) r.log in
     let quiet = idle_quiet v.phase idle in
-    let brings = observing_brings shape s r id v here word in (
-      only_views shape s r id v here quiet w refl refl brings,
+    let brings = observing_brings P shape s r id v here word in (
+      only_views P shape s r id v here quiet w refl refl brings,
       record {
         log = r.log;
-        left = leaves_now shape s r id v here;
+        left = leaves_now P shape s r id v here;
         after = λ i. (w ∷ [], (is i).1);
-        others = others_mark shape s r id v here quiet;
-        consistent = only_consistent shape s r id v here quiet w refl refl brings refl;
+        others = others_mark P shape s r id v here quiet;
+        consistent = only_consistent P shape s r id v here quiet w refl refl brings refl;
       },
     )
 
-pub allows_look : (shape : RecordShape) (slots id : ℕ) (me : Seated) →
+pub allows_look : (P : List ℕ → Type 0) (shape : RecordShape) (slots id : ℕ) (me : Seated) →
     me ≡ alone (first_of me.0) → (first_of me.0).phase ≡ Idle →
-    Allows (IsKept shape) slots id me 0 (λ n. n) (LookTells shape (step slots 0 0 0 none) me)
-allows_look shape slots id me is idle s r _ at _ =
+    Allows (IsKept P shape) slots id me 0 (λ n. n) (LookTells shape (step slots 0 0 0 none) me)
+allows_look P shape slots id me is idle s r _ at _ =
     let v : RecordPassView = first_of me.0 in
     let here : get_elem? s.views id ≡ some (v ∷ []) =
     at ∙ ap (λ (m : Seated). some m.0) is in
     let w = observing (finding v (get_or s.words 0 0)) r.log in
-    let t = look_at shape s r id me is idle here in
-    (w ∷ [], keeps, tt, subst (KeptBy shape s id w) (sym (set-get_or s.words 0 0)) t.0, t.1)
+    let t = look_at P shape s r id me is idle here in
+    (w ∷ [], keeps, tt, subst (KeptBy P shape s id w) (sym (set-get_or s.words 0 0)) t.0, t.1)
 
 -- the exchange that gets write mode, by whether the word found is the old one
-acquire_at : (shape : RecordShape) (s : State (Unit {0}) (List RecordPassView))
-    (r : IsKept shape s) (id : ℕ) (me : Seated) (n old held : ℕ) (xs : List ℕ) →
+acquire_at : (P : List ℕ → Type 0) (shape : RecordShape) (s : State (Unit {0}) (List RecordPassView))
+    (r : IsKept P shape s) (id : ℕ) (me : Seated) (n old held : ℕ) (xs : List ℕ) →
     me ≡ alone (first_of me.0) → (first_of me.0).phase ≡ Idle →
     get_elem? s.views id ≡ some (first_of me.0 ∷ []) →
     old ≡ word_with shape.limits.layout n false →
     held ≡ old + writer_unit shape.limits.layout → n < shape.limits.versions →
-    length xs ≡ shape.width → (b : Bool) → eqb (get_or s.words 0 0) old ≡ b →
+    length xs ≡ shape.width → P xs → (b : Bool) → eqb (get_or s.words 0 0) old ≡ b →
     (w : List RecordPassView) × (a : Act (Unit {0})) × Valid s.homes me.1 a ×
-    IsKept shape (stepped s 0 (either b held (get_or s.words 0 0)) id me.1 w a) ×
+    IsKept P shape (stepped s 0 (either b held (get_or s.words 0 0)) id me.1 w a) ×
     MatchBool b
     (Acquired shape (first_of me.0) (get_or s.words 0 0) (w, carried_after me.1 a) xs)
     (Looked shape (first_of me.0) (get_or s.words 0 0) (w, carried_after me.1 a))
-acquire_at shape s r id me n old held xs is idle here free up room long true e =
+acquire_at P shape s r id me n old held xs is idle here free up room long good true e =
     let v : RecordPassView = first_of me.0 in
     let w = acquiring (finding v (get_or s.words 0 0)) r.log xs in
     let hit : get_or s.words 0 0 ≡ old = eqb-true _ _ e in
@@ -277,77 +283,77 @@ acquire_at shape s r id me n old held xs is idle here free up room long true e =
       w ∷ [],
       keeps,
       tt,
-      acquires shape s r id v here n held xs idle (hit ∙ free) up' room long,
+      acquires P shape s r id v here n held xs idle (hit ∙ free) up' room long good,
       record {
         log = r.log;
-        left = leaves_now shape s r id v here;
+        left = leaves_now P shape s r id v here;
         after = λ i. (w ∷ [], (is i).1);
       },
     )
-acquire_at shape s r id me n old held xs is idle here free up room long false e =
+acquire_at P shape s r id me n old held xs is idle here free up room long good false e =
     let v : RecordPassView = first_of me.0 in
     let w = observing (finding v (get_or s.words 0 0)) r.log in
-    let t = look_at shape s r id me is idle here in
-    (w ∷ [], keeps, tt, subst (KeptBy shape s id w) (sym (set-get_or s.words 0 0)) t.0, t.1)
+    let t = look_at P shape s r id me is idle here in
+    (w ∷ [], keeps, tt, subst (KeptBy P shape s id w) (sym (set-get_or s.words 0 0)) t.0, t.1)
 
-pub allows_acquire : (shape : RecordShape) (slots id : ℕ) (me : Seated) (n old held : ℕ)
+pub allows_acquire : (P : List ℕ → Type 0) (shape : RecordShape) (slots id : ℕ) (me : Seated) (n old held : ℕ)
     (xs : List ℕ) → me ≡ alone (first_of me.0) → (first_of me.0).phase ≡ Idle →
     old ≡ word_with shape.limits.layout n false →
     held ≡ old + writer_unit shape.limits.layout → n < shape.limits.versions →
-    length xs ≡ shape.width →
-    Allows (IsKept shape) slots id me 0 (λ m. either (m == old) held m)
+    length xs ≡ shape.width → P xs →
+    Allows (IsKept P shape) slots id me 0 (λ m. either (m == old) held m)
     (AcquireTells shape xs (step slots 0 old held none) me)
-allows_acquire shape slots id me n old held xs is idle free up room long s r _ at _ =
-    acquire_at shape s r id me n old held xs is idle (at ∙ ap (λ (m : Seated). some m.0) is) free
-    up room long (eqb (get_or s.words 0 0) old) refl
+allows_acquire P shape slots id me n old held xs is idle free up room long good s r _ at _ =
+    acquire_at P shape s r id me n old held xs is idle (at ∙ ap (λ (m : Seated). some m.0) is) free
+    up room long good (eqb (get_or s.words 0 0) old) refl
 
 -- a store of a word of the record
-pub allows_store : (shape : RecordShape) (slots id : ℕ) (me : Seated) (version stored x : ℕ)
+pub allows_store : (P : List ℕ → Type 0) (shape : RecordShape) (slots id : ℕ) (me : Seated) (version stored x : ℕ)
     (xs : List ℕ) → me ≡ alone (first_of me.0) →
     (first_of me.0).phase ≡ Writing version xs stored → stored < shape.width →
     x ≡ get_or xs stored 0 →
-    Allows (IsKept shape) slots id me (stored + 1) (λ _. x)
+    Allows (IsKept P shape) slots id me (stored + 1) (λ _. x)
     (λ _. StoreTells (step slots (stored + 1) x 0 none) me x)
-allows_store shape slots id me version stored x xs is writing inside right s r _ there _ =
+allows_store P shape slots id me version stored x xs is writing inside right s r _ there _ =
     let v : RecordPassView = first_of me.0 in
     let here : get_elem? s.views id ≡ some (v ∷ []) =
     there ∙ ap (λ (m : Seated). some m.0) is in (
       stored_one v ∷ [],
       keeps,
       tt,
-      stores shape s r id v here version stored xs writing x inside right,
+      stores P shape s r id v here version stored xs writing x inside right,
       λ i. (stored_one v ∷ [], (is i).1),
     )
 
 -- the exchange that releases
-pub allows_release : (shape : RecordShape) (slots id : ℕ) (me : Seated) (version held free : ℕ)
+pub allows_release : (P : List ℕ → Type 0) (shape : RecordShape) (slots id : ℕ) (me : Seated) (version held free : ℕ)
     (xs : List ℕ) → me ≡ alone (first_of me.0) →
     (first_of me.0).phase ≡ Writing version xs shape.width →
     held ≡ word_with shape.limits.layout version true →
     free ≡ held + writer_unit shape.limits.layout →
-    Allows (IsKept shape) slots id me 0 (λ m. either (m == held) free m)
+    Allows (IsKept P shape) slots id me 0 (λ m. either (m == held) free m)
     (ReleaseTells shape xs (step slots 0 held free none) me)
-allows_release shape slots id me version held free xs is writing down up s r _ there _ =
+allows_release P shape slots id me version held free xs is writing down up s r _ there _ =
     let v : RecordPassView = first_of me.0 in
     let here : get_elem? s.views id ≡ some (v ∷ []) =
     there ∙ ap (λ (m : Seated). some m.0) is in
     let w = calling (finding v held) r.log (put_of xs) in
-    let k = what shape s r id v here version shape.width xs writing in
+    let k = what P shape s r id v here version shape.width xs writing in
     let same : get_or s.words 0 0 ≡ held =
     r.word_is ∙ (same_word shape.limits.layout (puts r.log) version (is_locked r.log) true
     k.version_is k.locked ∙ sym down) in
     let up' : free ≡ word_with shape.limits.layout (version + 1) false =
     up ∙ (ap (λ (y : ℕ). y + writer_unit shape.limits.layout) down ∙
     sym (released_is shape.limits.layout version)) in
-    let t = releases shape s r id v here version free xs writing up' held in (
+    let t = releases P shape s r id v here version free xs writing up' held in (
       w ∷ [],
       keeps,
       tt,
-      subst (λ (b : Bool). KeptBy shape s id w
+      subst (λ (b : Bool). KeptBy P shape s id w
           (set s.words 0 (either b free (get_or s.words 0 0)))) (sym (eq-eqb _ _ same)) t.0,
       record {
         log = r.log;
-        begins = (fits_here shape s r id v here).part.observed;
+        begins = (fits_here P shape s r id v here).part.observed;
         after = λ i. (w ∷ [], (is i).1);
         few = (let l = r.fewer k.locked in let p = puts_put r.log v.name xs in omega arith);
         consistent = t.1;

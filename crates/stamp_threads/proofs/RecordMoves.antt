@@ -28,12 +28,12 @@ use Rattle.stamp_threads.proofs.SeatMoves.{gives, together, parted, stands_else,
 use Rattle.stamp_threads.proofs.RecordSteps.{Brings, passes_after, consistent_after, idle_quiet}
 
 -- the views alone change
-with_views : (shape : RecordShape) (s : State (Unit {0}) (List RecordPassView))
-    (r : IsKept shape s) (views : List (List RecordPassView)) →
-    AreSeated (Fits shape.width s.words r.log) views →
+with_views : (P : List ℕ → Type 0) (shape : RecordShape) (s : State (Unit {0}) (List RecordPassView))
+    (r : IsKept P shape s) (views : List (List RecordPassView)) →
+    AreSeated (Fits P shape.width s.words r.log) views →
     (is_locked r.log ≡ true → HasWriter r.log views) →
-    IsKept shape record { words = s.words; homes = s.homes; views = views }
-with_views shape s r views passes writer = record {
+    IsKept P shape record { words = s.words; homes = s.homes; views = views }
+with_views P shape s r views passes writer = record {
   log = r.log;
   legal = r.legal;
   wide = r.wide;
@@ -42,17 +42,18 @@ with_views shape s r views passes writer = record {
   fewer = r.fewer;
   rests = r.rests;
   long = r.long;
+  obeys = r.obeys;
   passes = passes;
   writer = writer;
 }
 
-idle_knows : (width : ℕ) (cells : List ℕ) (log : RecordLog) (name : List ℕ)
-    (phase : RecordPhase) → phase ≡ Idle → Knows width cells log name phase
-idle_knows width cells log name phase e = subst (Knows width cells log name) (sym e) tt
+idle_knows : (P : List ℕ → Type 0) (width : ℕ) (cells : List ℕ) (log : RecordLog) (name : List ℕ)
+    (phase : RecordPhase) → phase ≡ Idle → Knows P width cells log name phase
+idle_knows P width cells log name phase e = subst (Knows P width cells log name) (sym e) tt
 
-fits-after_split : (width : ℕ) (cells : List ℕ) (log : RecordLog) (v : RecordPassView) →
-    Fits width cells log v → Fits width cells log (after_split v)
-fits-after_split width cells log v f = record {
+fits-after_split : (P : List ℕ → Type 0) (width : ℕ) (cells : List ℕ) (log : RecordLog) (v : RecordPassView) →
+    Fits P width cells log v → Fits P width cells log (after_split v)
+fits-after_split P width cells log v f = record {
   part = part-after_split is_own log v f.part;
   marks = f.marks;
   knows = f.knows;
@@ -67,12 +68,12 @@ no_marks log v h idle =
     let f : marks_ahead v.phase ≡ 0 = ap marks_ahead idle in
     omega arith
 
-fits-split_off : (width : ℕ) (cells : List ℕ) (log : RecordLog) (v : RecordPassView) →
-    v.phase ≡ Idle → Fits width cells log v → Fits width cells log (split_off v)
-fits-split_off width cells log v idle f = record {
+fits-split_off : (P : List ℕ → Type 0) (width : ℕ) (cells : List ℕ) (log : RecordLog) (v : RecordPassView) →
+    v.phase ≡ Idle → Fits P width cells log v → Fits P width cells log (split_off v)
+fits-split_off P width cells log v idle f = record {
   part = part-split_off is_own log v f.part;
   marks = no_marks log v f.part.given idle;
-  knows = idle_knows width cells log (split_off v).name v.phase idle;
+  knows = idle_knows P width cells log (split_off v).name v.phase idle;
 }
 
 -- the writer stands on no seat whose passes are idle
@@ -121,31 +122,31 @@ module _ (log : RecordLog) (views : List (List RecordPassView)) (id : ℕ)
         marker = h.marker;
       }
 
-split_kept : (shape : RecordShape) (s : State (Unit {0}) (List RecordPassView))
-    (r : IsKept shape s) (id : ℕ) (v : RecordPassView) →
+split_kept : (P : List ℕ → Type 0) (shape : RecordShape) (s : State (Unit {0}) (List RecordPassView))
+    (r : IsKept P shape s) (id : ℕ) (v : RecordPassView) →
     get_elem? s.views id ≡ some (v ∷ []) → v.phase ≡ Idle →
-    IsKept shape record {
+    IsKept P shape record {
       words = s.words;
       homes = s.homes;
       views = set s.views id (after_split v ∷ []) ++ (split_off v ∷ []) ∷ [];
     }
-split_kept shape s r id v here idle =
+split_kept P shape s r id v here idle =
     let f = r.passes.fits id 0 v (v ∷ [], here, refl) in
-    with_views shape s r (set s.views id (after_split v ∷ []) ++ (split_off v ∷ []) ∷ [])
-    (gives (Fits shape.width s.words r.log) s.views r.passes id v here
-    (fits-after_split shape.width s.words r.log v f)
-    (fits-split_off shape.width s.words r.log v idle f))
+    with_views P shape s r (set s.views id (after_split v ∷ []) ++ (split_off v ∷ []) ∷ [])
+    (gives (Fits P shape.width s.words r.log) s.views r.passes id v here
+    (fits-after_split P shape.width s.words r.log v f)
+    (fits-split_off P shape.width s.words r.log v idle f))
     (λ l. writer_beside r.log s.views id (v ∷ []) here (one_idle v idle) (r.writer l)
     (after_split v ∷ []) (split_off v ∷ []))
 
 -- a pass gives a new one
-pub splits_give : (shape : RecordShape) (id : ℕ) (me : Seated) → me ≡ alone (first_of me.0) →
+pub splits_give : (P : List ℕ → Type 0) (shape : RecordShape) (id : ℕ) (me : Seated) → me ≡ alone (first_of me.0) →
     (first_of me.0).phase ≡ Idle →
-    Splits (IsKept shape) id me.0 (map after_split me.0) (map split_off me.0)
-splits_give shape id me is idle =
-    subst (λ (vs : List RecordPassView). Splits (IsKept shape) id vs (map after_split vs)
+    Splits (IsKept P shape) id me.0 (map after_split me.0) (map split_off me.0)
+splits_give P shape id me is idle =
+    subst (λ (vs : List RecordPassView). Splits (IsKept P shape) id vs (map after_split vs)
     (map split_off vs)) (sym (ap (λ (m : Seated). m.0) is))
-    (λ s r at. split_kept shape s r id (first_of me.0) at idle)
+    (λ s r at. split_kept P shape s r id (first_of me.0) at idle)
 
 pub splits_consistent : (width : ℕ) (v : RecordPassView) → v.phase ≡ Idle →
     IsConsistentWith width v →
@@ -172,51 +173,51 @@ consistent_in table width v is c other is' =
     let same : width ≡ other = omega arith in
     subst (λ (n : ℕ). IsConsistentWith n v) same c
 
-join_kept : (shape : RecordShape) (id : ℕ) (v : RecordPassView) (other : ℕ)
+join_kept : (P : List ℕ → Type 0) (shape : RecordShape) (id : ℕ) (v : RecordPassView) (other : ℕ)
     (u : RecordPassView) → v.phase ≡ Idle → u.phase ≡ Idle →
-    Joins (IsKept shape) id (v ∷ []) other (u ∷ []) (v ∷ u ∷ []) []
-join_kept shape id v other u idle still s r at away there =
+    Joins (IsKept P shape) id (v ∷ []) other (u ∷ []) (v ∷ u ∷ []) []
+join_kept P shape id v other u idle still s r at away there =
     let views' : List (List RecordPassView) = set s.views id (v ∷ u ∷ []) in
-    with_views shape s r (set views' other [])
-    (together (Fits shape.width s.words r.log) s.views r.passes id v other u at away there)
+    with_views P shape s r (set views' other [])
+    (together (Fits P shape.width s.words r.log) s.views r.passes id v other u at away there)
     (λ l. writer_stays r.log views' other (u ∷ []) there (one_idle u still)
     (writer_stays r.log s.views id (v ∷ []) at (one_idle v idle) (r.writer l) (v ∷ u ∷ [])) [])
 
 -- two passes go on one seat
-pub joins_share : (shape : RecordShape) (id : ℕ) (me : Seated) (other : ℕ) (them : Seated) →
+pub joins_share : (P : List ℕ → Type 0) (shape : RecordShape) (id : ℕ) (me : Seated) (other : ℕ) (them : Seated) →
     me ≡ alone (first_of me.0) → them ≡ alone (first_of them.0) →
     (first_of me.0).phase ≡ Idle → (first_of them.0).phase ≡ Idle →
-    Joins (IsKept shape) id me.0 other them.0 (me.0 ++ them.0) []
-joins_share shape id me other them is their idle still =
+    Joins (IsKept P shape) id me.0 other them.0 (me.0 ++ them.0) []
+joins_share P shape id me other them is their idle still =
     subst (λ (p : List RecordPassView × List RecordPassView).
-    Joins (IsKept shape) id p.0 other p.1 (p.0 ++ p.1) [])
+    Joins (IsKept P shape) id p.0 other p.1 (p.0 ++ p.1) [])
     (λ i. (sym (ap (λ (m : Seated). m.0) is) i, sym (ap (λ (m : Seated). m.0) their) i))
-    (join_kept shape id (first_of me.0) other (first_of them.0) idle still)
+    (join_kept P shape id (first_of me.0) other (first_of them.0) idle still)
 
-part_kept : (shape : RecordShape) (id : ℕ) (v u : RecordPassView) → v.phase ≡ Idle →
-    u.phase ≡ Idle → Splits (IsKept shape) id (v ∷ u ∷ []) (v ∷ []) (u ∷ [])
-part_kept shape id v u idle still s r at =
-    with_views shape s r (set s.views id (v ∷ []) ++ (u ∷ []) ∷ [])
-    (parted (Fits shape.width s.words r.log) s.views r.passes id v u at)
+part_kept : (P : List ℕ → Type 0) (shape : RecordShape) (id : ℕ) (v u : RecordPassView) → v.phase ≡ Idle →
+    u.phase ≡ Idle → Splits (IsKept P shape) id (v ∷ u ∷ []) (v ∷ []) (u ∷ [])
+part_kept P shape id v u idle still s r at =
+    with_views P shape s r (set s.views id (v ∷ []) ++ (u ∷ []) ∷ [])
+    (parted (Fits P shape.width s.words r.log) s.views r.passes id v u at)
     (λ l. writer_beside r.log s.views id (v ∷ u ∷ []) at (two_idle v u idle still) (r.writer l)
     (v ∷ []) (u ∷ []))
 
 -- and on two again
-pub splits_part : (shape : RecordShape) (id : ℕ) (me : Seated) →
+pub splits_part : (P : List ℕ → Type 0) (shape : RecordShape) (id : ℕ) (me : Seated) →
     me ≡ both (first_of me.0) (second_of me.0) → (first_of me.0).phase ≡ Idle →
     (second_of me.0).phase ≡ Idle →
-    Splits (IsKept shape) id me.0 (take 1 me.0) (drop 1 me.0)
-splits_part shape id me is idle still =
-    subst (λ (vs : List RecordPassView). Splits (IsKept shape) id vs (take 1 vs) (drop 1 vs))
+    Splits (IsKept P shape) id me.0 (take 1 me.0) (drop 1 me.0)
+splits_part P shape id me is idle still =
+    subst (λ (vs : List RecordPassView). Splits (IsKept P shape) id vs (take 1 vs) (drop 1 vs))
     (sym (ap (λ (m : Seated). m.0) is))
-    (part_kept shape id (first_of me.0) (second_of me.0) idle still)
+    (part_kept P shape id (first_of me.0) (second_of me.0) idle still)
 
 -- a load by a seat that stands for two
-pub allows_meet : (shape : RecordShape) (slots id : ℕ) (me : Seated) →
+pub allows_meet : (P : List ℕ → Type 0) (shape : RecordShape) (slots id : ℕ) (me : Seated) →
     me ≡ both (first_of me.0) (second_of me.0) → (first_of me.0).phase ≡ Idle →
     (second_of me.0).phase ≡ Idle →
-    Allows (IsKept shape) slots id me 0 (λ n. n) (MeetTells shape (step slots 0 0 0 none) me)
-allows_meet shape slots id me is idle still s r _ at _ =
+    Allows (IsKept P shape) slots id me 0 (λ n. n) (MeetTells shape (step slots 0 0 0 none) me)
+allows_meet P shape slots id me is idle still s r _ at _ =
     let v : RecordPassView = first_of me.0 in
     let u : RecordPassView = second_of me.0 in
     let vs : List RecordPassView = v ∷ u ∷ [] in
@@ -229,29 +230,29 @@ allows_meet shape slots id me is idle still s r _ at _ =
     let same = same_two v u v' u' (record { name = refl; splits = refl })
     (record { name = refl; splits = refl }) in
     let grows = grows_none vs r.log in
-    let a : Brings shape.width s.words r.log v' = record {
+    let a : Brings P shape.width s.words r.log v' = record {
       observed = begins_all r.log;
       own = first.part.own;
       marks = first.marks;
       knows = first.knows;
     } in
-    let b : Brings shape.width s.words r.log u' = record {
+    let b : Brings P shape.width s.words r.log u' = record {
       observed = begins_all r.log;
       own = second.part.own;
       marks = second.marks;
       knows = second.knows;
     } in
-    let brings = two_of (λ _ w. Brings shape.width s.words r.log w) v' u' a b in
-    let so = consistent_after shape s r id vs ws here same s.words r.log grows brings
+    let brings = two_of (λ _ w. Brings P shape.width s.words r.log w) v' u' a b in
+    let so = consistent_after P shape s r id vs ws here same s.words r.log grows brings
     (λ _ _ _ _ _ h. h) r.legal in (
       ws,
       keeps,
       tt,
-      subst (λ (words : List ℕ). IsKept shape
+      subst (λ (words : List ℕ). IsKept P shape
           record { words = words; homes = s.homes; views = set s.views id ws })
           (sym (set-get_or s.words 0 0))
-          (with_views shape s r (set s.views id ws)
-          (passes_after shape s r id vs ws here same s.words r.log grows brings
+          (with_views P shape s r (set s.views id ws)
+          (passes_after P shape s r id vs ws here same s.words r.log grows brings
           (λ _ _ _ _ _ h. h))
           (λ l. writer_stays r.log s.views id vs here (two_idle v u idle still) (r.writer l) ws)),
       record {

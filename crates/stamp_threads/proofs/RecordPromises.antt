@@ -1,5 +1,6 @@
 -- What the steps of a call of a record tell, put together.
 use Rattle.std.proofs.Common.{◌≡◌, ◌≢◌, ℕ, ◌+◌, ◌<◌, ◌≤◌, ◌%◌, ◌/◌, ◌^◌, eqb, Bool, true, false}
+use mathlib.Core.List.{IsPrefix}
 use Rattle.std.proofs.Common.{if◌then◌else◌, MatchBool, List, [], refl, ap, sym, ◌∙◌, subst}
 use Rattle.std.proofs.Common.{◌∷◌, ◌++◌, append_assoc, arith, eq-eqb, ne_eqb}
 use Rattle.stamp_core.specs.declared.call.Call.TheVariants.{Get}
@@ -20,6 +21,14 @@ use Rattle.stamp_threads.specs.RecordCall.{HaveMet}
 use Rattle.stamp_threads.proofs.Beginnings.{begins_further}
 use Rattle.stamp_threads.proofs.RecordLogs.{puts_get}
 use Rattle.stamp_threads.proofs.RecordWords.{held_test, puts_of, held_is, same_word, word_small}
+
+-- what was put stays put
+puts_beside : (xs ys : RecordLog) → puts xs ≤ puts (xs ++ ys)
+puts_beside [] ys = omega arith
+puts_beside (x ∷ xs) ys = let h = puts_beside xs ys in omega arith
+
+pub puts_begins : (xs ys : RecordLog) → IsPrefix xs ys → puts xs ≤ puts ys
+puts_begins xs ys b = subst (λ (l : RecordLog). puts xs ≤ puts l) b.1 (puts_beside xs b.0)
 
 -- two seats after a meeting
 pub have_met : (shape : RecordShape) (v u : RecordPassView) (me : Seated)
@@ -197,7 +206,7 @@ module _ (shape : RecordShape) (v : RecordPassView) (loaded : ℕ) where
       }) idle test
 
   -- what the pass knows when it has loaded the words
-  module _ (me me2 : Seated) (words : List ℕ) (t : Opened shape v loaded me)
+  module _ (P : List ℕ → Type 0) (me me2 : Seated) (words : List ℕ) (t : Opened shape v loaded me)
       (test : HeldTest shape loaded false)
       (loads : (version : ℕ) → (first_of me.0).phase ≡ Reading version [] →
       me2 ≡ alone (with_phase (first_of me.0) (Reading version words))) where
@@ -218,10 +227,10 @@ module _ (shape : RecordShape) (v : RecordPassView) (loaded : ℕ) where
 
     abbrev Told : ℕ → Seated → RecordPassView → Type 0
     Told found me3 u = MatchBool (eqb found (word_to_confirm shape.limits.layout u.phase))
-        (Confirmed shape u found me3 words) (Overtaken shape u found me3)
+        (Confirmed shape u found me3 P words) (Overtaken shape u found me3)
 
     abbrev ToldBy : ℕ → Seated → Bool → Type 0
-    ToldBy found me3 b = MatchBool b (Confirmed shape reads found me3 words)
+    ToldBy found me3 b = MatchBool b (Confirmed shape reads found me3 P words)
         (Overtaken shape reads found me3)
 
     told_by : (found : ℕ) (me3 : Seated) (b : Bool) → eqb found loaded ≡ b →
@@ -249,7 +258,7 @@ module _ (shape : RecordShape) (v : RecordPassView) (loaded : ℕ) where
     get_made : (found : ℕ) (me3 : Seated) → Told found me3 (first_of me2.0) → found ≡ loaded →
         Recorded shape Get (Content words) v (first_of me3.0)
     get_made found me3 told same =
-        let o : Confirmed shape reads found me3 words =
+        let o : Confirmed shape reads found me3 P words =
         told_by found me3 true (eq-eqb found loaded same) told in
         subst (λ (m : Seated). Recorded shape Get (Content words) v (first_of m.0)) (sym o.after)
         (record {
@@ -266,6 +275,15 @@ module _ (shape : RecordShape) (v : RecordPassView) (loaded : ℕ) where
           looks = append_assoc v.found (loaded ∷ []) (found ∷ []) ∙
               ap (λ (n : ℕ). v.found ++ loaded ∷ n ∷ []) same;
         })
+
+    get_obeys : (found : ℕ) (me3 : Seated) → Told found me3 (first_of me2.0) → found ≡ loaded →
+        1 ≤ puts v.observed → P words
+    get_obeys found me3 told same some =
+        let o : Confirmed shape reads found me3 P words =
+        told_by found me3 true (eq-eqb found loaded same) told in
+        let a = puts_begins v.observed t.log t.left.begins in
+        let b = puts_begins t.log o.log o.left.begins in
+        o.obeys (omega arith)
 
   put_lost : (me : Seated) (t : Looked shape v loaded me) → v.phase ≡ Idle →
       HeldTest shape loaded false → (found : ℕ) (me2 : Seated) →
@@ -320,26 +338,31 @@ module _ (key shape : RecordShape) (same : key ≡ shape) (v : RecordPassView) (
       subst (λ (z : RecordShape). HeldTest z loaded true → WasBusy z v loaded (first_of me.0)) same
       (get_busy key v loaded me t idle)
 
-  module _ (me me2 : Seated) (words : List ℕ) (t : Opened key v loaded me)
+  module _ (P : List ℕ → Type 0) (me me2 : Seated) (words : List ℕ) (t : Opened key v loaded me)
       (test : HeldTest shape loaded false)
       (loads : (version : ℕ) → (first_of me.0).phase ≡ Reading version [] →
       me2 ≡ alone (with_phase (first_of me.0) (Reading version words))) (found : ℕ)
       (me3 : Seated)
       (told : MatchBool
       (eqb found (word_to_confirm key.limits.layout (first_of me2.0).phase))
-      (Confirmed key (first_of me2.0) found me3 words)
+      (Confirmed key (first_of me2.0) found me3 P words)
       (Overtaken key (first_of me2.0) found me3)) where
     pub get_lost_of : found ≢ loaded → WasLost shape v loaded found (first_of me3.0)
     get_lost_of differ =
         subst (λ (z : RecordShape). HeldTest z loaded false →
         WasLost z v loaded found (first_of me3.0)) same
-        (λ f. get_lost key v loaded me me2 words t f loads found me3 told differ) test
+        (λ f. get_lost key v loaded P me me2 words t f loads found me3 told differ) test
 
     pub get_made_of : found ≡ loaded → Recorded shape Get (Content words) v (first_of me3.0)
     get_made_of hit =
         subst (λ (z : RecordShape). HeldTest z loaded false →
         Recorded z Get (Content words) v (first_of me3.0)) same
-        (λ f. get_made key v loaded me me2 words t f loads found me3 told hit) test
+        (λ f. get_made key v loaded P me me2 words t f loads found me3 told hit) test
+
+    pub get_obeys_of : found ≡ loaded → 1 ≤ puts v.observed → P words
+    get_obeys_of hit =
+        subst (λ (z : RecordShape). HeldTest z loaded false → 1 ≤ puts v.observed → P words) same
+        (λ f. get_obeys key v loaded P me me2 words t f loads found me3 told hit) test
 
 -- the same where the code has a copy of the table's key
 pub acquired_word_of : (key shape : RecordShape) → key ≡ shape → (v : RecordPassView)

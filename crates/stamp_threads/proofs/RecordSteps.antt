@@ -27,29 +27,29 @@ use Rattle.stamp_threads.proofs.SeatSteps.{other_part}
 use Rattle.stamp_threads.proofs.SeatMoves.{stands_else}
 
 -- what a pass of the seat that steps knows afterwards
-pub record Brings (width : ℕ) (cells : List ℕ) (log : RecordLog) (w : RecordPassView) : Type 0 where
+pub record Brings (P : List ℕ → Type 0) (width : ℕ) (cells : List ℕ) (log : RecordLog) (w : RecordPassView) : Type 0 where
   pub observed : IsPrefix w.observed log
   pub own : made_by is_own w.name log ≡ w.own
   pub marks : marks_of w.name log ≡ puts_in w.own + marks_ahead w.phase
-  pub knows : Knows width cells log w.name w.phase
+  pub knows : Knows P width cells log w.name w.phase
 
 -- every other pass knows what it knows still
-abbrev pub OthersKnow : RecordShape → State (Unit {0}) (List RecordPassView) → RecordLog → ℕ →
+abbrev pub OthersKnow : (List ℕ → Type 0) → RecordShape → State (Unit {0}) (List RecordPassView) → RecordLog → ℕ →
     List ℕ → RecordLog → Type 0
-OthersKnow shape s log id cells' log' = (i k : ℕ) (u : RecordPassView) → i ≢ id →
-    StandsAt s.views i k u → Knows shape.width s.words log u.name u.phase →
-    Knows shape.width cells' log' u.name u.phase
+OthersKnow P shape s log id cells' log' = (i k : ℕ) (u : RecordPassView) → i ≢ id →
+    StandsAt s.views i k u → Knows P shape.width s.words log u.name u.phase →
+    Knows P shape.width cells' log' u.name u.phase
 
-module _ (shape : RecordShape) (s : State (Unit {0}) (List RecordPassView)) (r : IsKept shape s)
+module _ (P : List ℕ → Type 0) (shape : RecordShape) (s : State (Unit {0}) (List RecordPassView)) (r : IsKept P shape s)
     (id : ℕ) (vs ws : List RecordPassView) (at : get_elem? s.views id ≡ some vs)
     (same : Same vs ws) (cells' : List ℕ) (log' : RecordLog) (grows : Grows vs r.log log')
     (brings : (k : ℕ) (w : RecordPassView) → get_elem? ws k ≡ some w →
-    Brings shape.width cells' log' w) (others : OthersKnow shape s r.log id cells' log') where
+    Brings P shape.width cells' log' w) (others : OthersKnow P shape s r.log id cells' log') where
   abbrev Now : RecordPassView → Type 0
-  Now = Fits shape.width s.words r.log
+  Now = Fits P shape.width s.words r.log
 
   own_fits : (k : ℕ) (w : RecordPassView) → get_elem? ws k ≡ some w →
-      Fits shape.width cells' log' w
+      Fits P shape.width cells' log' w
   own_fits k w h = let b = brings k w h in
       record {
         part = record {
@@ -63,7 +63,7 @@ module _ (shape : RecordShape) (s : State (Unit {0}) (List RecordPassView)) (r :
       }
 
   other_fits : (i k : ℕ) (u : RecordPassView) → i ≢ id → StandsAt s.views i k u →
-      Fits shape.width cells' log' u
+      Fits P shape.width cells' log' u
   other_fits i k u away st =
       let f = r.passes.fits i k u st in
       let apart = apart_from Now s.views r.passes id vs ws at same i k u away st in
@@ -74,8 +74,8 @@ module _ (shape : RecordShape) (s : State (Unit {0}) (List RecordPassView)) (r :
         knows = others i k u away st f.knows;
       }
 
-  pub passes_after : AreSeated (Fits shape.width cells' log') (set s.views id ws)
-  passes_after = stands_on Now s.views r.passes id vs ws at same (Fits shape.width cells' log')
+  pub passes_after : AreSeated (Fits P shape.width cells' log') (set s.views id ws)
+  passes_after = stands_on Now s.views r.passes id vs ws at same (Fits P shape.width cells' log')
       own_fits other_fits
 
   pub consistent_after : IsLegalRecord shape.width log' → (k : ℕ) (w : RecordPassView) →
@@ -89,12 +89,12 @@ module _ (shape : RecordShape) (s : State (Unit {0}) (List RecordPassView)) (r :
         given = subst (HasGivenAll w.name w.splits) (sym e) f.part.given;
       }
 
-module _ (shape : RecordShape) (s : State (Unit {0}) (List RecordPassView)) (r : IsKept shape s)
+module _ (P : List ℕ → Type 0) (shape : RecordShape) (s : State (Unit {0}) (List RecordPassView)) (r : IsKept P shape s)
     (id : ℕ) (v : RecordPassView) (here : get_elem? s.views id ≡ some (v ∷ [])) where
   pub stands_here : StandsAt s.views id 0 v
   stands_here = (v ∷ [], here, refl)
 
-  pub fits_here : Fits shape.width s.words r.log v
+  pub fits_here : Fits P shape.width s.words r.log v
   fits_here = r.passes.fits id 0 v stands_here
 
   pub leaves_now : LeavesLockWord shape v (get_or s.words 0 0) r.log
@@ -150,17 +150,17 @@ module _ (shape : RecordShape) (s : State (Unit {0}) (List RecordPassView)) (r :
 
   module _ (w : RecordPassView) (name : w.name ≡ v.name) (splits : w.splits ≡ v.splits)
       (cells' : List ℕ) (log' : RecordLog) (grows : Grows (v ∷ []) r.log log')
-      (brings : Brings shape.width cells' log' w)
-      (others : OthersKnow shape s r.log id cells' log') where
-    pub one_after : AreSeated (Fits shape.width cells' log') (set s.views id (w ∷ []))
-    one_after = passes_after shape s r id (v ∷ []) (w ∷ []) here (same_one v w name splits) cells'
-        log' grows (only_one (λ _ u. Brings shape.width cells' log' u) w brings) others
+      (brings : Brings P shape.width cells' log' w)
+      (others : OthersKnow P shape s r.log id cells' log') where
+    pub one_after : AreSeated (Fits P shape.width cells' log') (set s.views id (w ∷ []))
+    one_after = passes_after P shape s r id (v ∷ []) (w ∷ []) here (same_one v w name splits) cells'
+        log' grows (only_one (λ _ u. Brings P shape.width cells' log' u) w brings) others
 
     pub one_consistent : IsLegalRecord shape.width log' → w.observed ≡ log' →
         IsConsistentWith shape.width w
-    one_consistent legal = consistent_after shape s r id (v ∷ []) (w ∷ []) here
+    one_consistent legal = consistent_after P shape s r id (v ∷ []) (w ∷ []) here
         (same_one v w name splits) cells' log' grows
-        (only_one (λ _ u. Brings shape.width cells' log' u) w brings) others legal 0 w refl
+        (only_one (λ _ u. Brings P shape.width cells' log' u) w brings) others legal 0 w refl
 
     pub one_stands : StandsAt (set s.views id (w ∷ [])) id 0 w
     one_stands =
@@ -168,8 +168,8 @@ module _ (shape : RecordShape) (s : State (Unit {0}) (List RecordPassView)) (r :
 
   -- no word and no entry changes
   module _ (quiet : IsWriting v.phase → ⊥) (w : RecordPassView) (name : w.name ≡ v.name)
-      (splits : w.splits ≡ v.splits) (brings : Brings shape.width s.words r.log w) where
-    pub only_views : IsKept shape record {
+      (splits : w.splits ≡ v.splits) (brings : Brings P shape.width s.words r.log w) where
+    pub only_views : IsKept P shape record {
       words = s.words;
       homes = s.homes;
       views = set s.views id (w ∷ []);
@@ -183,6 +183,7 @@ module _ (shape : RecordShape) (s : State (Unit {0}) (List RecordPassView)) (r :
       fewer = r.fewer;
       rests = r.rests;
       long = r.long;
+      obeys = r.obeys;
       passes = one_after w name splits s.words r.log (grows_none (v ∷ []) r.log) brings
           (λ _ _ _ _ _ h. h);
       writer = writer_else quiet (w ∷ []);
@@ -193,7 +194,7 @@ module _ (shape : RecordShape) (s : State (Unit {0}) (List RecordPassView)) (r :
         brings (λ _ _ _ _ _ h. h) r.legal e
 
   pub observing_brings : (word : ℕ) →
-      Brings shape.width s.words r.log (observing (finding v word) r.log)
+      Brings P shape.width s.words r.log (observing (finding v word) r.log)
   observing_brings word =
       let f = fits_here in
       record {
@@ -203,22 +204,22 @@ module _ (shape : RecordShape) (s : State (Unit {0}) (List RecordPassView)) (r :
         knows = f.knows;
       }
 
-pub locked_by : (width : ℕ) (cells : List ℕ) (log : RecordLog) (name : List ℕ)
-    (phase : RecordPhase) → IsWriting phase → Knows width cells log name phase →
+pub locked_by : (P : List ℕ → Type 0) (width : ℕ) (cells : List ℕ) (log : RecordLog) (name : List ℕ)
+    (phase : RecordPhase) → IsWriting phase → Knows P width cells log name phase →
     (is_locked log ≡ true) × (marker_in log ≡ name)
-locked_by width cells log name Idle w h = absurd w
-locked_by width cells log name (Writing version words stored) w h = (h.locked, h.marker)
-locked_by width cells log name (Reading version words) w h = absurd w
+locked_by P width cells log name Idle w h = absurd w
+locked_by P width cells log name (Writing version words stored) w h = (h.locked, h.marker)
+locked_by P width cells log name (Reading version words) w h = absurd w
 
 -- a reader knows nothing of a locked record, nor of later versions
-pub reader_knows : (width : ℕ) (cells cells' : List ℕ) (log log' : RecordLog) (name : List ℕ)
+pub reader_knows : (P : List ℕ → Type 0) (width : ℕ) (cells cells' : List ℕ) (log log' : RecordLog) (name : List ℕ)
     (phase : RecordPhase) → puts log ≤ puts log' →
     (is_locked log' ≡ true) ⊎ (puts log < puts log') → (IsWriting phase → ⊥) →
-    Knows width cells log name phase → Knows width cells' log' name phase
-reader_knows width cells cells' log log' name Idle le why quiet h = tt
-reader_knows width cells cells' log log' name (Writing version words stored) le why quiet h =
+    Knows P width cells log name phase → Knows P width cells' log' name phase
+reader_knows P width cells cells' log log' name Idle le why quiet h = tt
+reader_knows P width cells cells' log log' name (Writing version words stored) le why quiet h =
     absurd (quiet tt)
-reader_knows width cells cells' log log' name (Reading version words) le why quiet h =
+reader_knows P width cells cells' log log' name (Reading version words) le why quiet h =
     let a = h.before in
     record {
       before = omega arith;
@@ -228,20 +229,21 @@ reader_knows width cells cells' log log' name (Reading version words) le why qui
     }
 
 -- an event that changes neither lock nor content
-pub same_knows : (width : ℕ) (cells : List ℕ) (log log' : RecordLog) (name : List ℕ)
+pub same_knows : (P : List ℕ → Type 0) (width : ℕ) (cells : List ℕ) (log log' : RecordLog) (name : List ℕ)
     (phase : RecordPhase) → puts log' ≡ puts log → is_locked log' ≡ is_locked log →
     marker_in log' ≡ marker_in log → content_in width log' ≡ content_in width log →
-    Knows width cells log name phase → Knows width cells log' name phase
-same_knows width cells log log' name Idle p l m c h = tt
-same_knows width cells log log' name (Writing version words stored) p l m c h = record {
+    Knows P width cells log name phase → Knows P width cells log' name phase
+same_knows P width cells log log' name Idle p l m c h = tt
+same_knows P width cells log log' name (Writing version words stored) p l m c h = record {
   locked = l ∙ h.locked;
   version_is = p ∙ h.version_is;
   marker = m ∙ h.marker;
   long = h.long;
+  obeys = h.obeys;
   few = h.few;
   stand = h.stand;
 }
-same_knows width cells log log' name (Reading version words) p l m c h =
+same_knows P width cells log log' name (Reading version words) p l m c h =
     let a = h.before in
     record {
       before = omega arith;
@@ -254,7 +256,7 @@ pub idle_quiet : (phase : RecordPhase) → phase ≡ Idle → IsWriting phase �
 idle_quiet phase e w = subst IsWriting e w
 
 -- the rule after a step of this seat, whose pass is w then, on these words
-abbrev pub KeptBy : RecordShape → State (Unit {0}) (List RecordPassView) → ℕ → RecordPassView →
+abbrev pub KeptBy : (List ℕ → Type 0) → RecordShape → State (Unit {0}) (List RecordPassView) → ℕ → RecordPassView →
     List ℕ → Type 0
-KeptBy shape s id w words =
-    IsKept shape record { words = words; homes = s.homes; views = set s.views id (w ∷ []) }
+KeptBy P shape s id w words =
+    IsKept P shape record { words = words; homes = s.homes; views = set s.views id (w ∷ []) }

@@ -20,12 +20,13 @@ use Rattle.stamp_threads.specs.RecordPass.{RecordPassView, IsConsistentWith, Lea
 use Rattle.stamp_threads.specs.RecordPass.{marks_ahead, first_of, second_of}
 
 -- what a writer knows: the history is locked by its mark, and what it has stored stands
-pub record KnowsWriting (width : ℕ) (cells : List ℕ) (log : RecordLog) (name : List ℕ)
+pub record KnowsWriting (P : List ℕ → Type 0) (width : ℕ) (cells : List ℕ) (log : RecordLog) (name : List ℕ)
     (version : ℕ) (words : List ℕ) (stored : ℕ) : Type 0 where
   pub locked : is_locked log ≡ true
   pub version_is : puts log ≡ version
   pub marker : marker_in log ≡ name
   pub long : length words ≡ width
+  pub obeys : P words
   pub few : stored ≤ width
   pub stand : (j : ℕ) → j < stored → slice_index cells (j + 1) ≡ slice_index words j
 
@@ -37,17 +38,17 @@ pub record KnowsReading (width : ℕ) (log : RecordLog) (version : ℕ) (words :
   pub stand : is_locked log ≡ false → puts log ≡ version → (j : ℕ) → j < length words →
       slice_index words j ≡ slice_index (content_in width log) j
 
-abbrev pub Knows : ℕ → List ℕ → RecordLog → List ℕ → RecordPhase → Type 0
-Knows width cells log name Idle = Unit {0}
-Knows width cells log name (Writing version words stored) =
-    KnowsWriting width cells log name version words stored
-Knows width cells log name (Reading version words) = KnowsReading width log version words
+abbrev pub Knows : (List ℕ → Type 0) → ℕ → List ℕ → RecordLog → List ℕ → RecordPhase → Type 0
+Knows P width cells log name Idle = Unit {0}
+Knows P width cells log name (Writing version words stored) =
+    KnowsWriting P width cells log name version words stored
+Knows P width cells log name (Reading version words) = KnowsReading width log version words
 
 -- a pass knows a part of the history, and has a mark there for each of its puts
-pub record Fits (width : ℕ) (cells : List ℕ) (log : RecordLog) (v : RecordPassView) : Type 0 where
+pub record Fits (P : List ℕ → Type 0) (width : ℕ) (cells : List ℕ) (log : RecordLog) (v : RecordPassView) : Type 0 where
   pub part : IsPart is_own log v
   pub marks : marks_of v.name log ≡ puts_in v.own + marks_ahead v.phase
-  pub knows : Knows width cells log v.name v.phase
+  pub knows : Knows P width cells log v.name v.phase
 
 abbrev pub IsWriting : RecordPhase → Type 0
 IsWriting (Writing version words stored) = Unit {0}
@@ -64,7 +65,7 @@ pub record HasWriter (log : RecordLog) (views : List (List RecordPassView)) : Ty
 
 -- there is one legal history, which leaves the lock word; the other words are its content where it
 -- is not locked
-pub record IsKept (shape : RecordShape) (s : State (Unit {0}) (List RecordPassView)) : Type 0 where
+pub record IsKept (P : List ℕ → Type 0) (shape : RecordShape) (s : State (Unit {0}) (List RecordPassView)) : Type 0 where
   pub log : RecordLog
   pub legal : IsLegalRecord shape.width log
   pub wide : length s.words ≡ shape.width + 1
@@ -74,7 +75,8 @@ pub record IsKept (shape : RecordShape) (s : State (Unit {0}) (List RecordPassVi
   pub rests : is_locked log ≡ false → (i : ℕ) → i < shape.width →
       slice_index s.words (i + 1) ≡ slice_index (content_in shape.width log) i
   pub long : length (content_in shape.width log) ≡ shape.width
-  pub passes : AreSeated (Fits shape.width s.words log) s.views
+  pub obeys : 1 ≤ puts log → P (content_in shape.width log)
+  pub passes : AreSeated (Fits P shape.width s.words log) s.views
   pub writer : is_locked log ≡ true → HasWriter log s.views
 
 -- the view of a seat, and the slots that it holds: none here
@@ -138,9 +140,10 @@ module _ (shape : RecordShape) (v : RecordPassView) (found : ℕ) (me : Seated) 
     pub consistent : IsConsistentWith shape.width (observing (finding v found) log)
 
   -- the second load of the lock word, where it is the word of the first
-  pub record Confirmed (words : List ℕ) : Type 0 where
+  pub record Confirmed (P : List ℕ → Type 0) (words : List ℕ) : Type 0 where
     pub log : RecordLog
     pub content : words ≡ content_in shape.width log
+    pub obeys : 1 ≤ puts log → P words
     pub left : LeavesLockWord shape v found log
     pub after : me ≡ alone (calling (finding v found) log (get_of words))
     pub consistent : IsConsistentWith shape.width (calling (finding v found) log (get_of words))
@@ -211,10 +214,10 @@ OpenTells shape st m found n = Opened shape (first_of m.0) found n
 abbrev pub LoadTells : Tells
 LoadTells st m found n = n ≡ alone (loaded_one (first_of m.0) found)
 
-abbrev pub ConfirmTells : RecordShape → List ℕ → Tells
-ConfirmTells shape words st m found n =
+abbrev pub ConfirmTells : (List ℕ → Type 0) → RecordShape → List ℕ → Tells
+ConfirmTells P shape words st m found n =
     MatchBool (found == word_to_confirm shape.limits.layout (first_of m.0).phase)
-    (Confirmed shape (first_of m.0) found n words) (Overtaken shape (first_of m.0) found n)
+    (Confirmed shape (first_of m.0) found n P words) (Overtaken shape (first_of m.0) found n)
 
 abbrev pub MeetTells : RecordShape → Tells
 MeetTells shape st m found n = Met shape (first_of m.0) (second_of m.0) n

@@ -6,9 +6,11 @@ ghost use Rattle.stamp_threads.specs.declared.record_view.RecordPhase.TheVariant
 ghost use Rattle.stamp_threads.specs.Seats.{alone};
 ghost use Rattle.stamp_threads.specs.RecordPass.{first_of};
 ghost use Rattle.stamp_threads.specs.RecordRule.{with_phase};
+ghost use Rattle.stamp_threads.specs.RecordLog.{puts};
 ghost use Rattle.stamp_threads.specs.RecordCall.{Recorded, GetRefused};
 
 use crate::faults::GetFault;
+use crate::record_rule::ContentRule;
 use crate::record_steps::{RecordSeat, RecordTable, confirm, load_word, open};
 use crate::record_view::RecordShape;
 use crate::record_word::is_held;
@@ -17,7 +19,7 @@ use std::marker::Brand;
 
 /// Loads each of the words.
 #[inline(always)]
-fn load_all(table: &RecordTable, seat: &mut RecordSeat, into: &mut [u64])
+fn load_all<P: ContentRule>(table: &RecordTable<P>, seat: &mut RecordSeat, into: &mut [u64])
     requires table { (seat.old.table_id ≡ table.now.table_id)
         × (table.now.table_id.words ≡ table.now.key.width + 1) }
     requires alone { seat.old.me ≡ alone (first_of seat.old.me.0) }
@@ -36,8 +38,8 @@ fn load_all(table: &RecordTable, seat: &mut RecordSeat, into: &mut [u64])
 
 /// Gets the words: one load, a load a word, and one load.
 #[inline(always)]
-fn got_words(
-    table: &RecordTable,
+fn got_words<P: ContentRule>(
+    table: &RecordTable<P>,
     shape: RecordShape,
     seat: &mut RecordSeat,
     into: &mut [u64],
@@ -53,15 +55,17 @@ fn got_words(
     ensures alone { seat.new.me ≡ alone (first_of seat.new.me.0) }
     ensures ok { let v = first_of seat.old.me.0 in let w = first_of seat.new.me.0 in
         IfOk result (λ _. Recorded shape Get (Content into.new) v w) }
+    ensures obeys { let v = first_of seat.old.me.0 in
+        1 ≤ puts v.observed → IfOk result (λ _. P.holds into.new) }
     ensures err { let v = first_of seat.old.me.0 in let w = first_of seat.new.me.0 in
         IfErr result (λ fault. GetRefused shape v fault w) }
 {
-    let loaded = open::<Brand>(table, seat);
+    let loaded = open::<Brand, P>(table, seat);
     if is_held(shape.limits, loaded) {
         return Err(GetFault::Busy(loaded));
     }
     load_all(table, seat, into);
-    let found = confirm::<Brand>(table, seat, into);
+    let found = confirm::<Brand, P>(table, seat, into);
     if found != loaded {
         return Err(GetFault::Lost { loaded, found });
     }
@@ -70,8 +74,8 @@ fn got_words(
 
 /// The same, by code for each layout, whose numbers are constants there.
 #[inline(always)]
-pub fn get_words(
-    table: &RecordTable,
+pub fn get_words<P: ContentRule>(
+    table: &RecordTable<P>,
     shape: RecordShape,
     seat: &mut RecordSeat,
     into: &mut [u64],
@@ -87,6 +91,8 @@ pub fn get_words(
     ensures alone { seat.new.me ≡ alone (first_of seat.new.me.0) }
     ensures ok { let v = first_of seat.old.me.0 in let w = first_of seat.new.me.0 in
         IfOk result (λ _. Recorded shape Get (Content into.new) v w) }
+    ensures obeys { let v = first_of seat.old.me.0 in
+        1 ≤ puts v.observed → IfOk result (λ _. P.holds into.new) }
     ensures err { let v = first_of seat.old.me.0 in let w = first_of seat.new.me.0 in
         IfErr result (λ fault. GetRefused shape v fault w) }
 {

@@ -9,6 +9,7 @@ ghost use Rattle.stamp_threads.specs.RecordRule.{with_phase};
 ghost use Rattle.stamp_threads.specs.RecordCall.{Recorded, PutRefused};
 
 use crate::faults::PutFault;
+use crate::record_rule::ContentRule;
 use crate::record_steps::{RecordSeat, RecordTable, acquire, look, release, store};
 use crate::record_view::RecordShape;
 use crate::record_word::{is_held, turned, version};
@@ -16,7 +17,7 @@ use std::marker::Brand;
 
 /// Stores each of the words.
 #[inline(always)]
-fn store_all(table: &RecordTable, seat: &mut RecordSeat, words: &[u64])
+fn store_all<P: ContentRule>(table: &RecordTable<P>, seat: &mut RecordSeat, words: &[u64])
     requires table { (seat.old.table_id ≡ table.now.table_id)
         × (table.now.table_id.words ≡ table.now.key.width + 1) }
     requires alone { seat.old.me ≡ alone (first_of seat.old.me.0) }
@@ -35,14 +36,15 @@ fn store_all(table: &RecordTable, seat: &mut RecordSeat, words: &[u64])
 
 /// Puts the words: one load, one exchange, a store a word, and one exchange that releases.
 #[inline(always)]
-pub fn put_words(
-    table: &RecordTable,
+pub fn put_words<P: ContentRule>(
+    table: &RecordTable<P>,
     shape: RecordShape,
     seat: &mut RecordSeat,
     words: &[u64],
 ) -> Result<(), PutFault>
     requires shape { (table.now.key ≡ shape) × (shape.width ≤ 16) }
     requires long { length words.now ≡ shape.width }
+    requires good { P.holds words.now }
     requires table { (seat.old.table_id ≡ table.now.table_id)
         × (table.now.table_id.words ≡ shape.width + 1) }
     requires alone { seat.old.me ≡ alone (first_of seat.old.me.0) }
@@ -54,7 +56,7 @@ pub fn put_words(
     ensures err { let v = first_of seat.old.me.0 in let w = first_of seat.new.me.0 in
         IfErr result (λ fault. PutRefused shape v fault w) }
 {
-    let loaded = look::<Brand>(table, seat);
+    let loaded = look::<Brand, P>(table, seat);
     if is_held(shape.limits, loaded) {
         return Err(PutFault::Busy(loaded));
     }
@@ -62,12 +64,12 @@ pub fn put_words(
         return Err(PutFault::Spent(loaded));
     }
     let held = turned(shape.limits, loaded);
-    let found = acquire::<Brand>(table, seat, words, loaded, held);
+    let found = acquire::<Brand, P>(table, seat, words, loaded, held);
     if found != loaded {
         return Err(PutFault::Lost { loaded, found });
     }
     store_all(table, seat, words);
     let free = turned(shape.limits, held);
-    release::<Brand>(table, seat, words, held, free);
+    release::<Brand, P>(table, seat, words, held, free);
     Ok(())
 }

@@ -5,14 +5,30 @@ use crate::record_view::{RecordPasses, RecordShape};
 use atomic_table::{Join, Play, Split, TableRule};
 use std::marker::{Brand, PhantomData};
 
-pub struct RecordRule;
+/// A fact that each content which is put has.
+pub trait ContentRule {
+    ghost use Rattle.std.specs.Prelude.{ℕ, List};
 
-impl TableRule<(), RecordPasses, RecordShape> for RecordRule {
+    ghost holds: { List ℕ → Type 0 };
+}
+
+/// Nothing is asked of the content.
+pub struct AnyContent;
+
+impl ContentRule for AnyContent {
+    ghost holds = { λ _. Unit {0} };
+}
+
+pub struct RecordRule<P> {
+    of: PhantomData<P>,
+}
+
+impl<P: ContentRule> TableRule<(), RecordPasses, RecordShape> for RecordRule<P> {
     ghost use Rattle.std.specs.Prelude.{[], ◌∷◌};
     ghost use Rattle.stamp_threads.specs.RecordPass.{first_pass};
     ghost use Rattle.stamp_threads.specs.RecordRule.{IsKept};
 
-    ghost holds = { IsKept };
+    ghost holds = { IsKept P.holds };
 
     ghost first = { λ shape. first_pass ∷ [] };
 }
@@ -100,14 +116,14 @@ impl Play<(), RecordPasses> for LoadWordStep {
 }
 
 /// The load by which a get sees whether the words that it loaded stood together.
-pub struct ConfirmStep<C> {
-    of: PhantomData<C>,
+pub struct ConfirmStep<C, P> {
+    of: PhantomData<(C, P)>,
 }
 
-impl<C: WordsStep> Play<(), RecordPasses> for ConfirmStep<C> {
+impl<C: WordsStep, P: ContentRule> Play<(), RecordPasses> for ConfirmStep<C, P> {
     ghost use Rattle.stamp_threads.specs.RecordRule.{ConfirmTells};
 
-    ghost then = { ConfirmTells C.shape C.words };
+    ghost then = { ConfirmTells P.holds C.shape C.words };
 }
 
 /// A load by a seat that stands for two passes.

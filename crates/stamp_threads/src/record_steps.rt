@@ -13,19 +13,19 @@ ghost use Rattle.stamp_threads.specs.RecordRule.{Met};
 
 use crate::lock_rule::{GivePass, PartSeats, ShareSeat};
 use crate::record_rule::{
-    AcquireStep, ConfirmStep, LoadWordStep, LookStep, MeetRecordStep, OpenStep, RecordRule,
+    AcquireStep, ConfirmStep, ContentRule, LoadWordStep, LookStep, MeetRecordStep, OpenStep, RecordRule,
     ReleaseStep, StoreStep, WordsStep,
 };
 use crate::record_view::{RecordPasses, RecordShape};
 use atomic_table::{Seat, Shared};
 
-pub type RecordTable = Shared<(), RecordPasses, RecordShape, RecordRule>;
+pub type RecordTable<P> = Shared<(), RecordPasses, RecordShape, RecordRule<P>>;
 
 pub type RecordSeat = Seat<(), RecordPasses>;
 
 /// Loads the lock word, before a put.
 #[inline(always)]
-pub fn look<C: WordsStep>(table: &RecordTable, seat: &mut RecordSeat) -> u64
+pub fn look<C: WordsStep, P: ContentRule>(table: &RecordTable<P>, seat: &mut RecordSeat) -> u64
     requires step { C.shape ≡ table.now.key }
     requires table { (seat.old.table_id ≡ table.now.table_id)
         × (table.now.table_id.words ≡ table.now.key.width + 1) }
@@ -39,8 +39,8 @@ pub fn look<C: WordsStep>(table: &RecordTable, seat: &mut RecordSeat) -> u64
 
 /// Gets write mode by an exchange, to put these words. One that finds another word is as a load.
 #[inline(always)]
-pub fn acquire<C: WordsStep>(
-    table: &RecordTable,
+pub fn acquire<C: WordsStep, P: ContentRule>(
+    table: &RecordTable<P>,
     seat: &mut RecordSeat,
     words: &[u64],
     free: u64,
@@ -48,6 +48,7 @@ pub fn acquire<C: WordsStep>(
 ) -> u64
     requires step { (C.shape ≡ table.now.key) × (C.words ≡ words.now) }
     requires long { length words.now ≡ table.now.key.width }
+    requires good { P.holds words.now }
     requires table { (seat.old.table_id ≡ table.now.table_id)
         × (table.now.table_id.words ≡ table.now.key.width + 1) }
     requires alone { seat.old.me ≡ alone (first_of seat.old.me.0) }
@@ -66,7 +67,7 @@ pub fn acquire<C: WordsStep>(
 
 /// Stores the word of this place.
 #[inline(always)]
-pub fn store(table: &RecordTable, seat: &mut RecordSeat, place: usize, word: u64)
+pub fn store<P: ContentRule>(table: &RecordTable<P>, seat: &mut RecordSeat, place: usize, word: u64)
     requires table { (seat.old.table_id ≡ table.now.table_id)
         × (table.now.table_id.words ≡ table.now.key.width + 1) }
     requires alone { seat.old.me ≡ alone (first_of seat.old.me.0) }
@@ -82,8 +83,8 @@ pub fn store(table: &RecordTable, seat: &mut RecordSeat, place: usize, word: u64
 
 /// Releases write mode, by an exchange.
 #[inline(always)]
-pub fn release<C: WordsStep>(
-    table: &RecordTable,
+pub fn release<C: WordsStep, P: ContentRule>(
+    table: &RecordTable<P>,
     seat: &mut RecordSeat,
     words: &[u64],
     held: u64,
@@ -107,7 +108,7 @@ pub fn release<C: WordsStep>(
 
 /// Loads the lock word, before a get.
 #[inline(always)]
-pub fn open<C: WordsStep>(table: &RecordTable, seat: &mut RecordSeat) -> u64
+pub fn open<C: WordsStep, P: ContentRule>(table: &RecordTable<P>, seat: &mut RecordSeat) -> u64
     requires step { C.shape ≡ table.now.key }
     requires table { (seat.old.table_id ≡ table.now.table_id)
         × (table.now.table_id.words ≡ table.now.key.width + 1) }
@@ -121,7 +122,7 @@ pub fn open<C: WordsStep>(table: &RecordTable, seat: &mut RecordSeat) -> u64
 
 /// Loads the word of this place.
 #[inline(always)]
-pub fn load_word(table: &RecordTable, seat: &mut RecordSeat, place: usize) -> u64
+pub fn load_word<P: ContentRule>(table: &RecordTable<P>, seat: &mut RecordSeat, place: usize) -> u64
     requires table { (seat.old.table_id ≡ table.now.table_id)
         × (table.now.table_id.words ≡ table.now.key.width + 1) }
     requires alone { seat.old.me ≡ alone (first_of seat.old.me.0) }
@@ -136,7 +137,7 @@ pub fn load_word(table: &RecordTable, seat: &mut RecordSeat, place: usize) -> u6
 
 /// Loads the lock word again. Where it is the word of the first load, these words stood together.
 #[inline(always)]
-pub fn confirm<C: WordsStep>(table: &RecordTable, seat: &mut RecordSeat, words: &[u64]) -> u64
+pub fn confirm<C: WordsStep, P: ContentRule>(table: &RecordTable<P>, seat: &mut RecordSeat, words: &[u64]) -> u64
     requires step { (C.shape ≡ table.now.key) × (C.words ≡ words.now) }
     requires table { (seat.old.table_id ≡ table.now.table_id)
         × (table.now.table_id.words ≡ table.now.key.width + 1) }
@@ -147,14 +148,14 @@ pub fn confirm<C: WordsStep>(table: &RecordTable, seat: &mut RecordSeat, words: 
     ensures table { seat.new.table_id ≡ seat.old.table_id }
     ensures told { let key = table.now.key in let v = first_of seat.old.me.0 in
         MatchBool (result == word_to_confirm key.limits.layout v.phase)
-        (Confirmed key v result seat.new.me words.now) (Overtaken key v result seat.new.me) }
+        (Confirmed key v result seat.new.me P.holds words.now) (Overtaken key v result seat.new.me) }
 {
     let _ = words;
-    table.load::<ConfirmStep<C>>(seat, 0)
+    table.load::<ConfirmStep<C, P>>(seat, 0)
 }
 
 /// A new seat, whose pass has a name that the first one gives.
-pub fn split(table: &RecordTable, seat: &mut RecordSeat) -> RecordSeat
+pub fn split<P: ContentRule>(table: &RecordTable<P>, seat: &mut RecordSeat) -> RecordSeat
     requires table { (seat.old.table_id ≡ table.now.table_id)
         × (table.now.table_id.words ≡ table.now.key.width + 1) }
     requires alone { seat.old.me ≡ alone (first_of seat.old.me.0) }
@@ -168,7 +169,7 @@ pub fn split(table: &RecordTable, seat: &mut RecordSeat) -> RecordSeat
 }
 
 /// Puts both passes on one seat.
-pub fn share_seat(table: &RecordTable, seat: &mut RecordSeat, other: RecordSeat)
+pub fn share_seat<P: ContentRule>(table: &RecordTable<P>, seat: &mut RecordSeat, other: RecordSeat)
     requires table { (seat.old.table_id ≡ table.now.table_id)
         × (table.now.table_id.words ≡ table.now.key.width + 1) }
     requires other { other.table_id ≡ table.now.table_id }
@@ -184,7 +185,7 @@ pub fn share_seat(table: &RecordTable, seat: &mut RecordSeat, other: RecordSeat)
 
 /// A load by a seat that stands for two passes: it tells that both had observed beginnings of one
 /// history.
-pub fn load_both<C: WordsStep>(table: &RecordTable, seat: &mut RecordSeat)
+pub fn load_both<C: WordsStep, P: ContentRule>(table: &RecordTable<P>, seat: &mut RecordSeat)
     requires step { C.shape ≡ table.now.key }
     requires table { (seat.old.table_id ≡ table.now.table_id)
         × (table.now.table_id.words ≡ table.now.key.width + 1) }
@@ -199,7 +200,7 @@ pub fn load_both<C: WordsStep>(table: &RecordTable, seat: &mut RecordSeat)
 }
 
 /// Puts the two passes of a seat on two seats.
-pub fn part_seats(table: &RecordTable, seat: &mut RecordSeat) -> RecordSeat
+pub fn part_seats<P: ContentRule>(table: &RecordTable<P>, seat: &mut RecordSeat) -> RecordSeat
     requires table { (seat.old.table_id ≡ table.now.table_id)
         × (table.now.table_id.words ≡ table.now.key.width + 1) }
     requires both { seat.old.me ≡ both (first_of seat.old.me.0) (second_of seat.old.me.0) }

@@ -3,6 +3,7 @@ ghost use Rattle.std.specs.Prelude.{◌≡◌, ◌+◌, ◌≤◌, IfOk, IfErr, 
 ghost use Rattle.stamp_core.specs.declared.call.Call.TheVariants.{Get, Put};
 ghost use Rattle.stamp_core.specs.declared.reply.Reply.TheVariants.{Done, Content};
 ghost use Rattle.stamp_threads.specs.PassView.{after_split, split_off};
+ghost use Rattle.stamp_threads.specs.RecordLog.{puts};
 ghost use Rattle.stamp_threads.specs.RecordPass.{IsConsistentWith, first_pass};
 ghost use Rattle.stamp_threads.specs.RecordCall.{Recorded, PutRefused, GetRefused, HaveMet};
 
@@ -10,7 +11,7 @@ use crate::faults::{GetFault, PutFault};
 use crate::record_get::get_words;
 use crate::record_pass::RecordPass;
 use crate::record_put::put_words;
-use crate::record_rule::RecordRule;
+use crate::record_rule::{AnyContent, ContentRule, RecordRule};
 use crate::record_steps;
 use crate::record_view::{RecordPasses, RecordShape};
 use crate::record_word::opening_word;
@@ -24,12 +25,12 @@ use std::marker::{Brand, Model};
 /// words stand under a lock word of their own, and a get that is Ok gives words that stood
 /// together.
 #[derive(Drop)]
-pub struct RunningRecord {
-    pub(crate) table: Table<(), RecordPasses, RecordShape, RecordRule, Global>,
+pub struct RuledRecord<P: ContentRule> {
+    pub(crate) table: Table<(), RecordPasses, RecordShape, RecordRule<P>, Global>,
     pub(crate) shape: RecordShape,
 }
 
-impl Model for RunningRecord {
+impl<P: ContentRule> Model for RuledRecord<P> {
     ghost use Rattle.std.specs.Prelude.{◌≡◌, ◌+◌, ◌≤◌};
     ghost use Rattle.stamp_threads.specs.RecordPass.{RecordView};
 
@@ -42,14 +43,14 @@ impl Model for RunningRecord {
         × (1 ≤ r.shape.width) × (r.shape.width ≤ 16) };
 }
 
-impl RunningRecord {
+impl<P: ContentRule> RuledRecord<P> {
     /// A record of zeros, and its first pass. Of the limits only the layout and the versions count:
     /// so many puts it will take in all. It refuses only for want of memory.
     pub fn new(
         alloc: Global,
         limits: Limits,
         width: usize,
-    ) -> Result<(RunningRecord, RecordPass), LockError>
+    ) -> Result<(RuledRecord<P>, RecordPass), LockError>
         requires { (1 ≤ width) × (width ≤ 16) }
         ensures shape { IfOk result (λ r. r.0.shape ≡ record { limits = limits; width = width }) }
         ensures table { IfOk result (λ r. r.1.table ≡ r.0.table) }
@@ -60,7 +61,7 @@ impl RunningRecord {
         let mut row = [0u64; 17];
         row[0] = opening_word(limits.layout());
         match Table::of_words(alloc, &row[..width + 1], &shape) {
-            Ok((table, seat)) => Ok((RunningRecord { table, shape }, RecordPass { seat })),
+            Ok((table, seat)) => Ok((RuledRecord { table, shape }, RecordPass { seat })),
             Err(_) => Err(LockError::Unmade),
         }
     }
@@ -72,6 +73,7 @@ impl RunningRecord {
     pub fn put_once(&self, pass: &mut RecordPass, words: Words) -> Result<(), PutFault>
         requires table { pass.old.table ≡ self.now.table }
         requires width { length words ≡ self.now.shape.width }
+        requires good { P.holds words }
         ensures table { pass.new.table ≡ self.now.table }
         ensures ok { let v = pass.old.view in let w = pass.new.view in
             IfOk result (λ _. Recorded self.now.shape (Put words) Done v w) }
@@ -95,6 +97,8 @@ impl RunningRecord {
         ensures width { IfOk result (λ words. length words ≡ self.now.shape.width) }
         ensures ok { let v = pass.old.view in let w = pass.new.view in
             IfOk result (λ words. Recorded self.now.shape Get (Content words) v w) }
+        ensures obeys { let v = pass.old.view in
+            1 ≤ puts v.observed → IfOk result (λ words. P.holds words) }
         ensures err { let v = pass.old.view in let w = pass.new.view in
             IfErr result (λ fault. GetRefused self.now.shape v fault w) }
     {
@@ -116,6 +120,8 @@ impl RunningRecord {
         ensures width { IfOk result (λ words. length words ≡ self.now.shape.width) }
         ensures ok { let v = pass.old.view in let w = pass.new.view in
             IfOk result (λ words. Recorded self.now.shape Get (Content words) v w) }
+        ensures obeys { let v = pass.old.view in
+            1 ≤ puts v.observed → IfOk result (λ words. P.holds words) }
         ensures err { let v = pass.old.view in let w = pass.new.view in
             IfErr result (λ fault. GetRefused self.now.shape v fault w) }
     {
@@ -135,6 +141,8 @@ impl RunningRecord {
         ensures width { IfOk result (λ words. length words ≡ self.now.shape.width) }
         ensures ok { let v = pass.old.view in let w = pass.new.view in
             IfOk result (λ words. Recorded self.now.shape Get (Content words) v w) }
+        ensures obeys { let v = pass.old.view in
+            1 ≤ puts v.observed → IfOk result (λ words. P.holds words) }
         ensures err { let v = pass.old.view in let w = pass.new.view in
             IfErr result (λ fault. GetRefused self.now.shape v fault w) }
     {
@@ -153,6 +161,8 @@ impl RunningRecord {
         ensures width { length into.new ≡ length into.old }
         ensures ok { let v = pass.old.view in let w = pass.new.view in
             IfOk result (λ _. Recorded self.now.shape Get (Content into.new) v w) }
+        ensures obeys { let v = pass.old.view in
+            1 ≤ puts v.observed → IfOk result (λ _. P.holds into.new) }
         ensures err { let v = pass.old.view in let w = pass.new.view in
             IfErr result (λ fault. GetRefused self.now.shape v fault w) }
     {
@@ -182,8 +192,11 @@ impl RunningRecord {
         let RecordPass { seat } = second;
         let table = &self.table.shared;
         record_steps::share_seat(table, &mut first.seat, seat);
-        record_steps::load_both::<Brand>(table, &mut first.seat);
+        record_steps::load_both::<Brand, P>(table, &mut first.seat);
         let seat = record_steps::part_seats(table, &mut first.seat);
         (first, RecordPass { seat })
     }
 }
+
+/// A record whose content may be any.
+pub type RunningRecord = RuledRecord<AnyContent>;

@@ -4,16 +4,17 @@ use Rattle.stamp_threads.specs.Seats.{alone}
 use Rattle.stamp_threads.specs.RecordLog.{puts}
 use Rattle.stamp_threads.specs.RecordPass.{first_of}
 use Rattle.stamp_threads.specs.RecordRule.{Seated}
-use Rattle.stamp_threads.proofs.RecordPromises.{opened, get_busy_of, get_lost_of, get_made_of}
+use Rattle.stamp_threads.proofs.RecordPromises.{opened, get_busy_of, get_lost_of}
+use Rattle.stamp_threads.proofs.RecordPromises.{get_made_of, get_obeys_of}
 use Rattle.stamp_threads.proofs.record_get.got_words.Goals as goal
 
 pub load_all-requires-clause-reading : goal.load_all-requires-clause-reading
-load_all-requires-clause-reading c =
+load_all-requires-clause-reading g c =
     let t = rw c.requires.shape.0 at c.open-loaded.ensures.told in
     (puts t.log, opened _ _ _ _ t (sym c.is_held.ensures ∙ c.if-is_held.false))
 
 pub confirm-found-requires-clause-reading : goal.confirm-found-requires-clause-reading
-confirm-found-requires-clause-reading c =
+confirm-found-requires-clause-reading g c =
     let t = rw c.requires.shape.0 at c.open-loaded.ensures.told in
     let phase = opened _ _ _ _ t (sym c.is_held.ensures ∙ c.if-is_held.false) in (
       puts t.log,
@@ -23,22 +24,27 @@ confirm-found-requires-clause-reading c =
     )
 
 pub confirm-found-requires-clause-alone : goal.confirm-found-requires-clause-alone
-confirm-found-requires-clause-alone c =
+confirm-found-requires-clause-alone g c =
     let t = rw c.requires.shape.0 at c.open-loaded.ensures.told in
     let phase = opened _ _ _ _ t (sym c.is_held.ensures ∙ c.if-is_held.false) in
     let is = c.load_all.ensures.told (puts t.log) phase in
     is ∙ sym (ap (λ (m : Seated). alone (first_of m.0)) is)
 
 pub returns-then-is_held-clause-err : goal.returns-then-is_held-clause-err
-returns-then-is_held-clause-err c = get_busy_of _ _ c.requires.shape.0 _ _ _
+returns-then-is_held-clause-err g c = get_busy_of _ _ c.requires.shape.0 _ _ _
     c.open-loaded.ensures.told c.requires.idle (sym c.is_held.ensures ∙ c.if-is_held.true)
 
 pub returns-then-found-loaded-clause-err : goal.returns-then-found-loaded-clause-err
-returns-then-found-loaded-clause-err c = get_lost_of _ _ c.requires.shape.0 _ _ _ _ _
+returns-then-found-loaded-clause-err g c = get_lost_of _ _ c.requires.shape.0 _ _ _ _ _ _
     c.open-loaded.ensures.told (sym c.is_held.ensures ∙ c.if-is_held.false)
     c.load_all.ensures.told _ _ c.confirm-found.ensures.told c.if-found-loaded.true
 
 pub returns-clause-ok : goal.returns-clause-ok
-returns-clause-ok c = get_made_of _ _ c.requires.shape.0 _ _ _ _ _
+returns-clause-ok g c = get_made_of _ _ c.requires.shape.0 _ _ _ _ _ _
+    c.open-loaded.ensures.told (sym c.is_held.ensures ∙ c.if-is_held.false)
+    c.load_all.ensures.told _ _ c.confirm-found.ensures.told c.if-found-loaded.false
+
+pub returns-clause-obeys : goal.returns-clause-obeys
+returns-clause-obeys g c = get_obeys_of _ _ c.requires.shape.0 _ _ _ _ _ _
     c.open-loaded.ensures.told (sym c.is_held.ensures ∙ c.if-is_held.false)
     c.load_all.ensures.told _ _ c.confirm-found.ensures.told c.if-found-loaded.false

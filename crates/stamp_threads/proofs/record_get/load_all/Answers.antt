@@ -4,7 +4,7 @@ use Rattle.stamp_threads.specs.RecordRule.{Seated}
 use Rattle.stamp_threads.proofs.record_get.load_all.Goals as goal
 
 pub load_word-requires-clause-reading : goal.load_word-requires-clause-reading
-load_word-requires-clause-reading c =
+load_word-requires-clause-reading g c =
     let r = c.requires.reading in (
       r.0,
       take c.loop-i.i c.loop-i.into,

@@ -6,7 +6,7 @@ use Rattle.stamp_threads.specs.RecordRule.{with_phase}
 use Rattle.stamp_threads.proofs.record_put.store_all.Given as goal
 
 abbrev pub invariant-loop-i : goal.invariant-loop-i
-invariant-loop-i l = record {
+invariant-loop-i g l = record {
   table : l.seat.table_id ≡ l.initial.seat.table_id;
   told : (version : ℕ) → (first_of l.initial.seat.me.0).phase ≡ Writing version l.words 0 →
       l.seat.me ≡ alone (with_phase (first_of l.initial.seat.me.0)

@@ -3,9 +3,9 @@ use Rattle.stamp_threads.proofs.GetSteps.{allows_load_word}
 use Rattle.stamp_threads.proofs.record_steps.load_word.Goals as goal
 
 pub load-requires : goal.load-requires
-load-requires c = (
+load-requires g c = (
   search rules,
   omega arith,
-  allows_load_word _ _ _ _ c.requires.reading.0 _ _ c.requires.alone c.requires.reading.2
+  allows_load_word _ _ _ _ _ c.requires.reading.0 _ _ c.requires.alone c.requires.reading.2
       c.requires.reading.3 c.requires.inside.0,
 )

@@ -3,8 +3,8 @@ use Rattle.stamp_threads.proofs.RecordMoves.{splits_part}
 use Rattle.stamp_threads.proofs.record_steps.part_seats.Goals as goal
 
 pub split_seat-requires : goal.split_seat-requires
-split_seat-requires c = (
+split_seat-requires g c = (
   search rules,
   omega arith,
-  splits_part _ _ _ c.requires.both c.requires.idle.0 c.requires.idle.1,
+  splits_part _ _ _ _ c.requires.both c.requires.idle.0 c.requires.idle.1,
 )

@@ -3,9 +3,9 @@ use Rattle.stamp_threads.proofs.PutSteps.{allows_store}
 use Rattle.stamp_threads.proofs.record_steps.store.Goals as goal
 
 pub store-requires : goal.store-requires
-store-requires c = (
+store-requires g c = (
   search rules,
   omega arith,
-  allows_store _ _ _ _ c.requires.writing.0 _ _ c.requires.writing.1 c.requires.alone
+  allows_store _ _ _ _ _ c.requires.writing.0 _ _ c.requires.writing.1 c.requires.alone
       c.requires.writing.2 c.requires.inside.0 c.requires.writing.3,
 )

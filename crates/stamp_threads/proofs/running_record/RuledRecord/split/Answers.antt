@@ -1,10 +1,10 @@
 use Rattle.std.proofs.Common.{rules, ◌∙◌, ap, sym, refl}
 use Rattle.atomic_table.specs.Seated.{TableId}
 use Rattle.stamp_threads.proofs.RecordMoves.{splits_consistent}
-use Rattle.stamp_threads.proofs.running_record.RunningRecord.split.Goals as goal
+use Rattle.stamp_threads.proofs.running_record.RuledRecord.split.Goals as goal
 
 pub invariant_of-pass : goal.invariant_of-pass
-invariant_of-pass c =
+invariant_of-pass g c =
     let words = sym (ap (λ (t : TableId). t.words) c.split-seat.ensures.table.0) in
     rw c.split-seat.ensures.given (
       refl,
@@ -14,7 +14,7 @@ invariant_of-pass c =
     )
 
 pub invariant_of-result : goal.invariant_of-result
-invariant_of-result c =
+invariant_of-result g c =
     let words = sym (ap (λ (t : TableId). t.words) c.split-seat.ensures.table.1) in
     rw c.split-seat.ensures.new (
       refl,
@@ -24,5 +24,5 @@ invariant_of-result c =
     )
 
 pub returns-clause-all_consistent : goal.returns-clause-all_consistent
-returns-clause-all_consistent c = rw (c.split-seat.ensures.given, c.split-seat.ensures.new)
+returns-clause-all_consistent g c = rw (c.split-seat.ensures.given, c.split-seat.ensures.new)
     (splits_consistent _ _ c.pass.invariant.1 (c.pass.invariant.2 _ (search rules)))
