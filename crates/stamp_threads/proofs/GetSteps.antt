@@ -116,6 +116,7 @@ module _ (P : List ℕ → Type 0) (shape : RecordShape) (s : State (Unit {0}) (
       r.legal in (
         record {
           log = log';
+          roots = r.roots;
           legal = legal;
           wide = r.wide;
           word_is = r.word_is ∙ sym (same_word shape.limits.layout (puts log') (puts r.log)

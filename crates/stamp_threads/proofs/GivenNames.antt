@@ -4,7 +4,7 @@ use Rattle.std.proofs.Common.{ap, sym, ◌∙◌, subst, ⊎_elim, inl, inr, ari
 use Rattle.std.proofs.Common.{length-append}
 use Rattle.stamp_threads.specs.declared.pass_view.Entry.{Entry}
 use Rattle.stamp_threads.specs.declared.pass_view.PassView.{PassView}
-use Rattle.stamp_threads.specs.PassName.{HasGiven, HasGivenAll}
+use Rattle.stamp_threads.specs.PassName.{HasGiven, HasGivenAll, IsRooted}
 use Rattle.stamp_threads.specs.PassView.{made_by, IsPart, after_split, split_off}
 use Rattle.stamp_threads.proofs.MadeBy.{other_name, skips}
 
@@ -36,6 +36,12 @@ pub child_unused_all : {E : Type 0} (name : List ℕ) (splits : ℕ) (log : List
 child_unused_all name splits [] h = tt
 child_unused_all name splits (e ∷ log) h =
     (child_unused name splits e.name h.0, child_unused_all name splits log h.1)
+
+-- it has the root of the pass
+pub child_rooted : (roots : ℕ) (name : List ℕ) (splits : ℕ) → IsRooted roots name →
+    IsRooted roots (name ++ splits ∷ [])
+child_rooted roots [] splits r = absurd r
+child_rooted roots (root ∷ path) splits r = r
 
 pub given_more : (name : List ℕ) (splits more : ℕ) (other : List ℕ) → splits ≤ more →
     HasGiven name splits other → HasGiven name more other

@@ -4,6 +4,7 @@ pub mod MadeBy
 pub mod GivenNames
 pub mod SeatSteps
 pub mod SeatMoves
+pub mod NewComers
 pub mod LockLogs
 pub mod RuleKept
 pub mod PassMoves

@@ -5,7 +5,7 @@ use lib.Pointwise.{pointwise, bytes_decides}
 use mathlib.Core.List.{IsPrefix}
 use Rattle.stamp_threads.specs.declared.pass_view.Entry.{Entry}
 use Rattle.stamp_threads.specs.declared.pass_view.PassView.{PassView}
-use Rattle.stamp_threads.specs.PassName.{HasGiven, HasGivenAll}
+use Rattle.stamp_threads.specs.PassName.{HasGiven, HasGivenAll, IsRooted, AreRooted}
 use Rattle.stamp_threads.specs.PassView.{entry, made_by}
 use lib.ListN.{get_elem?}
 use mathlib.Core.Option.{some}
@@ -53,6 +53,11 @@ pub given-append : {E : Type 0} (name : List ℕ) (splits : ℕ) (xs ys : List (
 given-append name splits [] ys a b = b
 given-append name splits (x ∷ xs) ys a b = (a.0, given-append name splits xs ys a.1 b)
 
+pub rooted-append : {E : Type 0} (roots : ℕ) (xs ys : List (Entry E)) → AreRooted roots xs →
+    AreRooted roots ys → AreRooted roots (xs ++ ys)
+rooted-append roots [] ys a b = b
+rooted-append roots (x ∷ xs) ys a b = (a.0, rooted-append roots xs ys a.1 b)
+
 -- the history goes on, by events of these passes alone
 pub record Grows {E P : Type 0} (vs : List (PassView E P)) (log log' : List (Entry E)) : Type 0
   where
@@ -63,9 +68,17 @@ pub record Grows {E P : Type 0} (vs : List (PassView E P)) (log log' : List (Ent
     pub given : (name : List ℕ) (splits : ℕ) →
         ((k : ℕ) (v : PassView E P) → get_elem? vs k ≡ some v → HasGiven name splits v.name) →
         HasGivenAll name splits log → HasGivenAll name splits log'
+    pub rooted : (roots : ℕ) →
+        ((k : ℕ) (v : PassView E P) → get_elem? vs k ≡ some v → IsRooted roots v.name) →
+        AreRooted roots log → AreRooted roots log'
 
 pub grows_none : {E P : Type 0} (vs : List (PassView E P)) (log : List (Entry E)) → Grows vs log log
-grows_none vs log = record { longer = begins_all log; others = λ _ _ _. refl; given = λ _ _ _ h. h }
+grows_none vs log = record {
+  longer = begins_all log;
+  others = λ _ _ _. refl;
+  given = λ _ _ _ h. h;
+  rooted = λ _ _ h. h;
+}
 
 pub grows_one : {E P : Type 0} (v : PassView E P) (log : List (Entry E)) (e : E) →
     Grows (v ∷ []) log (log ++ entry v.name e ∷ [])
@@ -74,4 +87,5 @@ grows_one v log e = record {
   others = λ kind name apart. made_by-other kind v.name name log e (apart 0 v refl);
   given = λ name splits h all. given-append name splits log (entry v.name e ∷ []) all
       (h 0 v refl, tt);
+  rooted = λ roots h all. rooted-append roots log (entry v.name e ∷ []) all (h 0 v refl, tt);
 }

@@ -1,11 +1,12 @@
 -- A new lock: no history, and the first pass alone.
-use Rattle.std.proofs.Common.{◌≡◌, ℕ, zero, suc, List, [], ◌∷◌, refl, sym, ◌∙◌, ap, subst}
+use Rattle.std.proofs.Common.{◌≡◌, ℕ, zero, suc, List, [], ◌∷◌, refl, sym, ◌∙◌, ap, subst, arith}
 use mathlib.Core.Option.{some, some-injective, some-ne-none}
 use lib.ListN.{get_elem?}
 use Rattle.atomic_table.specs.Table.{opening}
 use Rattle.stamp_core.specs.Limits.{Bounds}
 use Rattle.stamp_core.specs.Word.{LockWord, Represents}
 use Rattle.stamp_machines.specs.LockNumber.{RepresentsAt}
+use Rattle.stamp_threads.specs.PassName.{IsRooted}
 use Rattle.stamp_threads.specs.PassView.{IsPart, every}
 use Rattle.stamp_threads.specs.Seats.{StandsAt}
 use Rattle.stamp_threads.specs.LockPass.{LockPass, first_pass}
@@ -29,6 +30,7 @@ pub opens : (limits : Bounds) (word : ℕ) → RepresentsAt limits word [] →
     IsKept limits (opening (word ∷ []) [] (first_pass ∷ []))
 opens limits word represents = record {
   log = [];
+  roots = 1;
   one_word = refl;
   legal = record { calls = tt; legal = tt };
   represents = represents;
@@ -39,9 +41,12 @@ opens limits word represents = record {
     given = λ i k j l v w a b.
         let p = only_place i k v a in
         let q = only_place j l w b in
-        regiven v.name [] v.splits 0 w.name [] (ap (λ (u : LockPass). u.name) p.2)
+        regiven v.name (0 ∷ []) v.splits 0 w.name (0 ∷ []) (ap (λ (u : LockPass). u.name) p.2)
         (ap (λ (u : LockPass). u.splits) p.2) (ap (λ (u : LockPass). u.name) q.2)
-        (not_longer [] 0);
+        (not_longer (0 ∷ []) 0);
+    rooted = λ i k v st. subst (IsRooted 1)
+        (sym (ap (λ (u : LockPass). u.name) (only_place i k v st).2)) (omega arith);
+    entries = tt;
   };
 }
 

@@ -7,6 +7,7 @@ use mathlib.Core.Option.{some, some-injective, some-ne-none}
 use lib.ListN.{get_elem?}
 use Rattle.atomic_table.specs.Table.{opening}
 use Rattle.stamp_threads.specs.declared.record_view.RecordShape.{RecordShape}
+use Rattle.stamp_threads.specs.PassName.{IsRooted}
 use Rattle.stamp_threads.specs.Seats.{StandsAt}
 use Rattle.stamp_threads.specs.RecordWord.{word_with}
 use Rattle.stamp_threads.specs.RecordPass.{RecordPassView, IsConsistentWith, first_pass}
@@ -41,6 +42,7 @@ opens P shape first is narrow =
     let cells : List ℕ = take (shape.width + 1) (first ∷ replicate 16 0) in
     record {
       log = [];
+      roots = 1;
       legal = (first_consistent shape.width).legal;
       wide = length-take-le (shape.width + 1) (first ∷ replicate 16 0) (omega arith);
       word_is = get_or-take (shape.width + 1) (first ∷ replicate 16 0) 0 0 (omega arith) ∙ is;
@@ -66,10 +68,13 @@ opens P shape first is narrow =
         given = λ i k j l v w a b.
             let p = only_place i k v a in
             let q = only_place j l w b in
-            regiven v.name [] v.splits 0 w.name []
+            regiven v.name (0 ∷ []) v.splits 0 w.name (0 ∷ [])
             (ap (λ (u : RecordPassView). u.name) p.2)
             (ap (λ (u : RecordPassView). u.splits) p.2)
-            (ap (λ (u : RecordPassView). u.name) q.2) (not_longer [] 0);
+            (ap (λ (u : RecordPassView). u.name) q.2) (not_longer (0 ∷ []) 0);
+        rooted = λ i k v st. subst (IsRooted 1)
+            (sym (ap (λ (u : RecordPassView). u.name) (only_place i k v st).2)) (omega arith);
+        entries = tt;
       };
       writer = λ e. absurd (true≢false (sym e));
     }

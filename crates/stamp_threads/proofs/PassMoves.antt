@@ -1,21 +1,23 @@
 -- Splits and joins of seats keep the rule of the running word.
 use Rattle.std.proofs.Common.{◌≡◌, ℕ, ◌+◌, List, [], ◌∷◌, ◌++◌, map, take, drop, set, refl, ap, sym}
 use Rattle.std.proofs.Common.{subst, arith}
-use Rattle.atomic_table.specs.Table.{State, Me, Splits, Joins}
+use Rattle.atomic_table.specs.Table.{State, Me, Splits, Joins, Enters}
 use Rattle.stamp_core.specs.Limits.{Bounds}
-use Rattle.stamp_threads.specs.PassView.{IsPart, every, after_split, split_off}
+use Rattle.stamp_threads.specs.PassView.{IsPart, every, after_split, split_off, entering}
 use Rattle.stamp_threads.specs.Seats.{AreSeated, alone, both}
-use Rattle.stamp_threads.specs.LockPass.{LockPass, IsConsistentWith, first_of, second_of}
+use Rattle.stamp_threads.specs.LockPass.{LockPass, IsConsistentWith, HasEntered, first_of, second_of}
 use Rattle.stamp_threads.specs.LockRule.{IsKept}
 use Rattle.stamp_threads.proofs.GivenNames.{child_none, child_unused_all, given_more_all}
 use Rattle.stamp_threads.proofs.GivenNames.{part-after_split, part-split_off}
 use Rattle.stamp_threads.proofs.SeatMoves.{gives, together, parted}
+use Rattle.stamp_threads.proofs.NewComers.{comes, new_part}
 
 with_views : (limits : Bounds) (s : State (Unit {0}) (List LockPass)) (r : IsKept limits s)
-    (views : List (List LockPass)) → AreSeated (IsPart every r.log) views →
+    (roots : ℕ) (views : List (List LockPass)) → AreSeated (IsPart every r.log) roots r.log views →
     IsKept limits record { words = s.words; homes = s.homes; views = views }
-with_views limits s r views passes = record {
+with_views limits s r roots views passes = record {
   log = r.log;
+  roots = roots;
   one_word = r.one_word;
   legal =
       r.legal;
@@ -32,8 +34,8 @@ splits_give limits id me is =
     (map split_off vs)) (sym (ap (λ (m : Me (Unit {0}) (List LockPass)). m.0) is)) (λ s r at.
     let v : LockPass = first_of me.0 in
     let f = r.passes.fits id 0 v (v ∷ [], at, refl) in
-    with_views limits s r (set s.views id (after_split v ∷ []) ++ (split_off v ∷ []) ∷ [])
-    (gives (IsPart every r.log) s.views r.passes id v at (part-after_split every r.log v f)
+    with_views limits s r r.roots (set s.views id (after_split v ∷ []) ++ (split_off v ∷ []) ∷ [])
+    (gives (IsPart every r.log) r.roots r.log s.views r.passes id v at (part-after_split every r.log v f)
     (part-split_off every r.log v f)))
 
 -- two passes go on one seat
@@ -50,8 +52,8 @@ joins_share limits id me other them is their =
     )) (λ s r at away there.
     let v : LockPass = first_of me.0 in
     let u : LockPass = first_of them.0 in
-    with_views limits s r (set (set s.views id (v ∷ u ∷ [])) other [])
-    (together (IsPart every r.log) s.views r.passes id v other u at away there))
+    with_views limits s r r.roots (set (set s.views id (v ∷ u ∷ [])) other [])
+    (together (IsPart every r.log) r.roots r.log s.views r.passes id v other u at away there))
 
 -- and on two again
 pub splits_part : (limits : Bounds) (id : ℕ) (me : Me (Unit {0}) (List LockPass)) →
@@ -62,8 +64,8 @@ splits_part limits id me is =
     (sym (ap (λ (m : Me (Unit {0}) (List LockPass)). m.0) is)) (λ s r at.
     let v : LockPass = first_of me.0 in
     let u : LockPass = second_of me.0 in
-    with_views limits s r (set s.views id (v ∷ []) ++ (u ∷ []) ∷ [])
-    (parted (IsPart every r.log) s.views r.passes id v u at))
+    with_views limits s r r.roots (set s.views id (v ∷ []) ++ (u ∷ []) ∷ [])
+    (parted (IsPart every r.log) r.roots r.log s.views r.passes id v u at))
 
 pub splits_consistent : (limits : Bounds) (v : LockPass) → IsConsistentWith limits v →
     IsConsistentWith limits (after_split v) × IsConsistentWith limits (split_off v)
@@ -81,3 +83,25 @@ splits_consistent limits v c = (
         child_unused_all v.name v.splits v.observed c.given;
   },
 )
+
+-- a load that makes a seat of its own
+pub allows_enter : (limits : Bounds) (slots : ℕ) → Enters (IsKept limits) slots 0
+    (λ n w. ((w, []) ≡ alone (first_of w)) × HasEntered limits (first_of w))
+allows_enter limits slots s r _ _ =
+    let v : LockPass = entering r.roots tt r.log in
+    let part : IsPart every r.log v = new_part every r.roots tt r.log r.passes.entries in (
+      v ∷ [],
+      with_views limits s r (r.roots + 1) (s.views ++ (v ∷ []) ∷ [])
+          (comes (IsPart every r.log) r.roots r.log s.views r.passes tt part),
+      (
+        refl,
+        record {
+          root = r.roots;
+          name = refl;
+          splits = refl;
+          own = refl;
+          found = refl;
+          consistent = record { legal = r.legal; own = part.own; given = part.given };
+        },
+      ),
+    )

@@ -83,6 +83,7 @@ module _ (P : List ℕ → Type 0) (shape : RecordShape) (s : State (Unit {0}) (
       h in
       record {
         log = log';
+        roots = r.roots;
         legal = legal_marked shape.width r.log v.name r.legal;
         wide = length-set s.words 0 held ∙ r.wide;
         word_is = get_or-set_same s.words 0 held 0 (let z = r.wide in omega arith) ∙
@@ -156,6 +157,7 @@ module _ (P : List ℕ → Type 0) (shape : RecordShape) (s : State (Unit {0}) (
           (le_refl (puts r.log)) (inl k.locked) (alone_writes i j u away st h) h in
           record {
             log = r.log;
+            roots = r.roots;
             legal = r.legal;
             wide = length-set s.words (stored + 1) x ∙ r.wide;
             word_is = get_or-set_other s.words (stored + 1) 0 x 0 (λ e. omega arith) ∙ r.word_is;
@@ -209,6 +211,7 @@ module _ (P : List ℕ → Type 0) (shape : RecordShape) (s : State (Unit {0}) (
       let legal = legal_longer shape.width r.log v.name (Put xs) Done refl refl r.legal in (
         record {
           log = log';
+          roots = r.roots;
           legal = legal;
           wide = length-set s.words 0 free ∙ r.wide;
           word_is = get_or-set_same s.words 0 free 0 (omega arith) ∙

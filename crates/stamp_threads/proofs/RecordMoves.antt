@@ -6,16 +6,16 @@ use mathlib.Core.Option.{none, some, some-injective}
 use lib.ListN.{get_elem?}
 use lib.Seq.{set-get_or}
 use Rattle.atomic_table.specs.Seated.{TableId}
-use Rattle.atomic_table.specs.Table.{State, keeps, step, Allows, Splits, Joins}
+use Rattle.atomic_table.specs.Table.{State, keeps, step, Allows, Splits, Joins, Enters}
 use Rattle.stamp_threads.specs.declared.record_view.RecordShape.{RecordShape}
 use Rattle.stamp_threads.specs.declared.record_view.RecordPhase.{RecordPhase}
 use Rattle.stamp_threads.specs.declared.record_view.RecordPhase.TheVariants.{Idle}
 use Rattle.stamp_threads.specs.PassName.{HasGivenAll}
-use Rattle.stamp_threads.specs.PassView.{observing, after_split, split_off}
+use Rattle.stamp_threads.specs.PassView.{observing, after_split, split_off, entering}
 use Rattle.stamp_threads.specs.Seats.{StandsAt, AreSeated, alone, both}
 use Rattle.stamp_threads.specs.RecordLog.{RecordLog, is_locked, is_own, is_mark, marks_of}
 use Rattle.stamp_threads.specs.RecordPass.{RecordPassView, IsConsistentWith, IsConsistentIn}
-use Rattle.stamp_threads.specs.RecordPass.{marks_ahead, first_of, second_of}
+use Rattle.stamp_threads.specs.RecordPass.{marks_ahead, HasEntered, first_of, second_of}
 use Rattle.stamp_threads.specs.RecordRule.{Knows, Fits, IsWriting, HasWriter, IsKept, Seated}
 use Rattle.stamp_threads.specs.RecordRule.{MeetTells}
 use Rattle.stamp_threads.proofs.Beginnings.{begins_all}
@@ -23,18 +23,20 @@ use Rattle.stamp_threads.proofs.ListElements.{only_one, two_of}
 use Rattle.stamp_threads.proofs.MadeBy.{grows_none}
 use Rattle.stamp_threads.proofs.GivenNames.{child_none, child_unused_all, given_more_all}
 use Rattle.stamp_threads.proofs.GivenNames.{part-after_split, part-split_off}
+use Rattle.stamp_threads.proofs.NewComers.{comes, new_part, new_none}
 use Rattle.stamp_threads.proofs.SeatSteps.{same_two}
 use Rattle.stamp_threads.proofs.SeatMoves.{gives, together, parted, stands_else, stands_before}
 use Rattle.stamp_threads.proofs.RecordSteps.{Brings, passes_after, consistent_after, idle_quiet}
 
 -- the views alone change
 with_views : (P : List ℕ → Type 0) (shape : RecordShape) (s : State (Unit {0}) (List RecordPassView))
-    (r : IsKept P shape s) (views : List (List RecordPassView)) →
-    AreSeated (Fits P shape.width s.words r.log) views →
+    (r : IsKept P shape s) (roots : ℕ) (views : List (List RecordPassView)) →
+    AreSeated (Fits P shape.width s.words r.log) roots r.log views →
     (is_locked r.log ≡ true → HasWriter r.log views) →
     IsKept P shape record { words = s.words; homes = s.homes; views = views }
-with_views P shape s r views passes writer = record {
+with_views P shape s r roots views passes writer = record {
   log = r.log;
+  roots = roots;
   legal = r.legal;
   wide = r.wide;
   word_is = r.word_is;
@@ -132,8 +134,8 @@ split_kept : (P : List ℕ → Type 0) (shape : RecordShape) (s : State (Unit {0
     }
 split_kept P shape s r id v here idle =
     let f = r.passes.fits id 0 v (v ∷ [], here, refl) in
-    with_views P shape s r (set s.views id (after_split v ∷ []) ++ (split_off v ∷ []) ∷ [])
-    (gives (Fits P shape.width s.words r.log) s.views r.passes id v here
+    with_views P shape s r r.roots (set s.views id (after_split v ∷ []) ++ (split_off v ∷ []) ∷ [])
+    (gives (Fits P shape.width s.words r.log) r.roots r.log s.views r.passes id v here
     (fits-after_split P shape.width s.words r.log v f)
     (fits-split_off P shape.width s.words r.log v idle f))
     (λ l. writer_beside r.log s.views id (v ∷ []) here (one_idle v idle) (r.writer l)
@@ -178,8 +180,8 @@ join_kept : (P : List ℕ → Type 0) (shape : RecordShape) (id : ℕ) (v : Reco
     Joins (IsKept P shape) id (v ∷ []) other (u ∷ []) (v ∷ u ∷ []) []
 join_kept P shape id v other u idle still s r at away there =
     let views' : List (List RecordPassView) = set s.views id (v ∷ u ∷ []) in
-    with_views P shape s r (set views' other [])
-    (together (Fits P shape.width s.words r.log) s.views r.passes id v other u at away there)
+    with_views P shape s r r.roots (set views' other [])
+    (together (Fits P shape.width s.words r.log) r.roots r.log s.views r.passes id v other u at away there)
     (λ l. writer_stays r.log views' other (u ∷ []) there (one_idle u still)
     (writer_stays r.log s.views id (v ∷ []) at (one_idle v idle) (r.writer l) (v ∷ u ∷ [])) [])
 
@@ -197,8 +199,8 @@ joins_share P shape id me other them is their idle still =
 part_kept : (P : List ℕ → Type 0) (shape : RecordShape) (id : ℕ) (v u : RecordPassView) → v.phase ≡ Idle →
     u.phase ≡ Idle → Splits (IsKept P shape) id (v ∷ u ∷ []) (v ∷ []) (u ∷ [])
 part_kept P shape id v u idle still s r at =
-    with_views P shape s r (set s.views id (v ∷ []) ++ (u ∷ []) ∷ [])
-    (parted (Fits P shape.width s.words r.log) s.views r.passes id v u at)
+    with_views P shape s r r.roots (set s.views id (v ∷ []) ++ (u ∷ []) ∷ [])
+    (parted (Fits P shape.width s.words r.log) r.roots r.log s.views r.passes id v u at)
     (λ l. writer_beside r.log s.views id (v ∷ u ∷ []) at (two_idle v u idle still) (r.writer l)
     (v ∷ []) (u ∷ []))
 
@@ -251,7 +253,7 @@ allows_meet P shape slots id me is idle still s r _ at _ =
       subst (λ (words : List ℕ). IsKept P shape
           record { words = words; homes = s.homes; views = set s.views id ws })
           (sym (set-get_or s.words 0 0))
-          (with_views P shape s r (set s.views id ws)
+          (with_views P shape s r r.roots (set s.views id ws)
           (passes_after P shape s r id vs ws here same s.words r.log grows brings
           (λ _ _ _ _ _ h. h))
           (λ l. writer_stays r.log s.views id vs here (two_idle v u idle still) (r.writer l) ws)),
@@ -266,4 +268,49 @@ allows_meet P shape slots id me is idle still s r _ at _ =
         first_consistent = so 0 v' refl refl;
         second_consistent = so 1 u' refl refl;
       },
+    )
+
+-- the writer stands where it stood when one more seat is there
+writer_before : (log : RecordLog) (views : List (List RecordPassView)) (us : List RecordPassView) →
+    HasWriter log views → HasWriter log (views ++ us ∷ [])
+writer_before log views us t = record {
+  seat = t.seat;
+  place = t.place;
+  writer = t.writer;
+  stands = stands_before views us t.seat t.place t.writer t.stands;
+  writes = t.writes;
+  marker = t.marker;
+}
+
+-- a load that makes a seat of its own
+pub allows_enter : (P : List ℕ → Type 0) (shape : RecordShape) (slots : ℕ) →
+    Enters (IsKept P shape) slots 0
+    (λ n w. ((w, []) ≡ alone (first_of w)) × HasEntered shape.width (first_of w))
+allows_enter P shape slots s r _ _ =
+    let v : RecordPassView = entering r.roots Idle r.log in
+    let part = new_part is_own r.roots Idle r.log r.passes.entries in
+    let marks = ap length (new_none is_mark r.roots r.log r.passes.entries) in
+    let fits : Fits P shape.width s.words r.log v =
+    record { part = part; marks = marks; knows = tt } in (
+      v ∷ [],
+      with_views P shape s r (r.roots + 1) (s.views ++ (v ∷ []) ∷ [])
+          (comes (Fits P shape.width s.words r.log) r.roots r.log s.views r.passes Idle fits)
+          (λ l. writer_before r.log s.views (v ∷ []) (r.writer l)),
+      (
+        refl,
+        record {
+          root = r.roots;
+          name = refl;
+          splits = refl;
+          own = refl;
+          found = refl;
+          idle = refl;
+          consistent = record {
+            legal = r.legal;
+            own = part.own;
+            marks = marks;
+            given = part.given;
+          };
+        },
+      ),
     )

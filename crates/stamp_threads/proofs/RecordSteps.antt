@@ -55,7 +55,7 @@ module _ (P : List ℕ → Type 0) (shape : RecordShape) (s : State (Unit {0}) (
         part = record {
           observed = b.observed;
           own = b.own;
-          given = own_given Now s.views r.passes id vs ws at same is_own r.log log' grows
+          given = own_given Now r.roots r.log s.views r.passes id vs ws at same is_own log' grows
               (λ v f. f.part) k w h;
         };
         marks = b.marks;
@@ -66,17 +66,17 @@ module _ (P : List ℕ → Type 0) (shape : RecordShape) (s : State (Unit {0}) (
       Fits P shape.width cells' log' u
   other_fits i k u away st =
       let f = r.passes.fits i k u st in
-      let apart = apart_from Now s.views r.passes id vs ws at same i k u away st in
+      let apart = apart_from Now r.roots r.log s.views r.passes id vs ws at same i k u away st in
       record {
-        part = other_part Now s.views r.passes id vs ws at same is_own r.log log' grows
+        part = other_part Now r.roots r.log s.views r.passes id vs ws at same is_own log' grows
             (λ v g. g.part) i k u away st;
         marks = ap length (grows.others is_mark u.name apart) ∙ f.marks;
         knows = others i k u away st f.knows;
       }
 
-  pub passes_after : AreSeated (Fits P shape.width cells' log') (set s.views id ws)
-  passes_after = stands_on Now s.views r.passes id vs ws at same (Fits P shape.width cells' log')
-      own_fits other_fits
+  pub passes_after : AreSeated (Fits P shape.width cells' log') r.roots log' (set s.views id ws)
+  passes_after = stands_on Now r.roots r.log s.views r.passes id vs ws at same
+      (Fits P shape.width cells' log') log' grows own_fits other_fits
 
   pub consistent_after : IsLegalRecord shape.width log' → (k : ℕ) (w : RecordPassView) →
       get_elem? ws k ≡ some w → w.observed ≡ log' → IsConsistentWith shape.width w
@@ -152,7 +152,8 @@ module _ (P : List ℕ → Type 0) (shape : RecordShape) (s : State (Unit {0}) (
       (cells' : List ℕ) (log' : RecordLog) (grows : Grows (v ∷ []) r.log log')
       (brings : Brings P shape.width cells' log' w)
       (others : OthersKnow P shape s r.log id cells' log') where
-    pub one_after : AreSeated (Fits P shape.width cells' log') (set s.views id (w ∷ []))
+    pub one_after : AreSeated (Fits P shape.width cells' log') r.roots log'
+        (set s.views id (w ∷ []))
     one_after = passes_after P shape s r id (v ∷ []) (w ∷ []) here (same_one v w name splits) cells'
         log' grows (only_one (λ _ u. Brings P shape.width cells' log' u) w brings) others
 
@@ -176,6 +177,7 @@ module _ (P : List ℕ → Type 0) (shape : RecordShape) (s : State (Unit {0}) (
     }
     only_views = record {
       log = r.log;
+      roots = r.roots;
       legal = r.legal;
       wide = r.wide;
       word_is = r.word_is;

@@ -45,7 +45,7 @@ module _ (limits : Bounds) (s : State (Unit {0}) (List LockPass)) (r : IsKept li
       record {
         observed = subst (λ (l : LockLog). IsPrefix l log') (sym a.0) (begins_all log');
         own = a.1;
-        given = own_given (IsPart every r.log) s.views r.passes id vs ws at same every r.log log'
+        given = own_given (IsPart every r.log) r.roots r.log s.views r.passes id vs ws at same every log'
             grows (λ _ f. f) k w h;
       }
 
@@ -65,12 +65,14 @@ module _ (limits : Bounds) (s : State (Unit {0}) (List LockPass)) (r : IsKept li
       IsKept limits record { words = set s.words 0 word; homes = homes; views = set s.views id ws }
   kept_after word homes legal represents = record {
     log = log';
+    roots = r.roots;
     one_word = length-set s.words 0 word ∙ r.one_word;
     legal = legal;
     represents = subst (λ (n : ℕ). RepresentsAt limits n (events_after limits log'))
         (sym (get_or-set_same s.words 0 word 0 (let w = r.one_word in omega arith))) represents;
-    passes = stands_on (IsPart every r.log) s.views r.passes id vs ws at same (IsPart every log')
-        own_parts (other_part (IsPart every r.log) s.views r.passes id vs ws at same every r.log
+    passes = stands_on (IsPart every r.log) r.roots r.log s.views r.passes id vs ws at same
+        (IsPart every log') log' grows own_parts
+        (other_part (IsPart every r.log) r.roots r.log s.views r.passes id vs ws at same every
         log' grows (λ _ f. f));
   }
 

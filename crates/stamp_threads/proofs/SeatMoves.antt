@@ -6,19 +6,20 @@ use mathlib.Core.Option.{some, some-ne-none}
 use lib.ListN.{get_elem?}
 use Rattle.atomic_table.proofs.Lists.{at_set, set_else}
 use Rattle.stamp_threads.specs.declared.pass_view.PassView.{PassView}
-use Rattle.stamp_threads.specs.PassName.{HasGiven}
+use Rattle.stamp_threads.specs.declared.pass_view.Entry.{Entry}
+use Rattle.stamp_threads.specs.PassName.{HasGiven, IsRooted}
 use Rattle.stamp_threads.specs.PassView.{after_split, split_off}
 use Rattle.stamp_threads.specs.Seats.{StandsAt, AreSeated}
 use Rattle.stamp_threads.proofs.ListElements.{at_end, before_end, only_one, two_of}
 use Rattle.stamp_threads.proofs.GivenNames.{regiven, child_unused, given_more, not_longer}
-use Rattle.stamp_threads.proofs.GivenNames.{last_or_before}
+use Rattle.stamp_threads.proofs.GivenNames.{last_or_before, child_rooted}
 
-module _ {E P : Type 0} (Fits : PassView E P → Type 0) where
+module _ {E P : Type 0} (Fits : PassView E P → Type 0) (roots : ℕ) (log : List (Entry E)) where
   -- each pass stood somewhere before, and goes from there to one place
-  moved : (before after : List (List (PassView E P))) → AreSeated Fits before →
+  moved : (before after : List (List (PassView E P))) → AreSeated Fits roots log before →
       (forward : ℕ → ℕ → ℕ × ℕ)
       → ((i k : ℕ) (v : PassView E P) → StandsAt after i k v →
-      (j : ℕ) × (l : ℕ) × StandsAt before j l v × (forward j l ≡ (i, k))) → AreSeated Fits after
+      (j : ℕ) × (l : ℕ) × StandsAt before j l v × (forward j l ≡ (i, k))) → AreSeated Fits roots log after
   moved before after r forward back = record {
     fits = λ i k v st. let p = back i k v st in r.fits p.0 p.1 v p.2;
     apart = λ i k j l v w a b e.
@@ -31,9 +32,11 @@ module _ {E P : Type 0} (Fits : PassView E P → Type 0) where
         let p = back i k v a in
         let q = back j l w b in
         r.given p.0 p.1 q.0 q.1 v w p.2 q.2;
+    rooted = λ i k v st. let p = back i k v st in r.rooted p.0 p.1 v p.2;
+    entries = r.entries;
   }
 
-  module _ (seats : List (List (PassView E P))) (r : AreSeated Fits seats) (id : ℕ)
+  module _ (seats : List (List (PassView E P))) (r : AreSeated Fits roots log seats) (id : ℕ)
       (v : PassView E P) (here : get_elem? seats id ≡ some (v ∷ [])) where
     abbrev Old : ℕ → ℕ → PassView E P → Type 0
     Old i k w = (u : PassView E P) × StandsAt seats i k u × (w.name ≡ u.name) ×
@@ -141,7 +144,7 @@ module _ {E P : Type 0} (Fits : PassView E P → Type 0) where
         p
 
     -- a split
-    pub gives : Fits (after_split v) → Fits (split_off v) → AreSeated Fits After
+    pub gives : Fits (after_split v) → Fits (split_off v) → AreSeated Fits roots log After
     gives after_split_fits split_off_fits = record {
       fits = λ i k w st. ⊎_elim (λ (a : Old i k w). a.5)
           (λ (a : New i k w). subst Fits (sym a.2) split_off_fits)
@@ -150,17 +153,24 @@ module _ {E P : Type 0} (Fits : PassView E P → Type 0) where
           (old_or_new after_split_fits j l y b);
       given = λ i k j l x y a b. given_after i k j l x y (old_or_new after_split_fits i k x a)
           (old_or_new after_split_fits j l y b);
+      rooted = λ i k w st. ⊎_elim
+          (λ (a : Old i k w). subst (IsRooted roots) (sym a.2) (r.rooted i k a.0 a.1))
+          (λ (a : New i k w). subst (IsRooted roots)
+          (sym (ap (λ (z : PassView E P). z.name) a.2))
+          (child_rooted roots v.name v.splits (r.rooted id 0 v standing)))
+          (old_or_new after_split_fits i k w st);
+      entries = r.entries;
     }
 
   abbrev joined_to : ℕ → ℕ → ℕ → ℕ → ℕ × ℕ
   joined_to id other j l = if eqb j other then (id, 1) else (j, l)
 
   -- a join
-  pub together : (seats : List (List (PassView E P))) → AreSeated Fits seats →
+  pub together : (seats : List (List (PassView E P))) → AreSeated Fits roots log seats →
       (id : ℕ) (v : PassView E P) (other : ℕ) (u : PassView E P) →
       get_elem? seats id ≡ some (v ∷ []) → other ≢ id →
       get_elem? (set seats id (v ∷ u ∷ [])) other ≡ some (u ∷ [])
-      → AreSeated Fits (set (set seats id (v ∷ u ∷ [])) other [])
+      → AreSeated Fits roots log (set (set seats id (v ∷ u ∷ [])) other [])
   together seats r id v other u at away there =
       let before : get_elem? seats other ≡ some (u ∷ []) =
       ⊎_elim (λ (t : (other ≡ id) × (v ∷ u ∷ [] ≡ u ∷ [])). absurd (away t.0))
@@ -190,9 +200,9 @@ module _ {E P : Type 0} (Fits : PassView E P → Type 0) where
   parted_to id count j l = if eqb j id then (if eqb l 0 then (id, 0) else (count, 0)) else (j, l)
 
   -- a split of two passes on one seat
-  pub parted : (seats : List (List (PassView E P))) → AreSeated Fits seats →
+  pub parted : (seats : List (List (PassView E P))) → AreSeated Fits roots log seats →
       (id : ℕ) (v u : PassView E P) → get_elem? seats id ≡ some (v ∷ u ∷ []) →
-      AreSeated Fits (set seats id (v ∷ []) ++ (u ∷ []) ∷ [])
+      AreSeated Fits roots log (set seats id (v ∷ []) ++ (u ∷ []) ∷ [])
   parted seats r id v u at =
       moved seats (set seats id (v ∷ []) ++ (u ∷ []) ∷ []) r (parted_to id (length seats))
       (λ i k x st. ⊎_elim

@@ -5,7 +5,7 @@ use lib.ListN.{get_elem?}
 use Rattle.atomic_table.proofs.Lists.{at_set}
 use Rattle.stamp_threads.specs.declared.pass_view.Entry.{Entry}
 use Rattle.stamp_threads.specs.declared.pass_view.PassView.{PassView}
-use Rattle.stamp_threads.specs.PassName.{HasGivenAll}
+use Rattle.stamp_threads.specs.PassName.{HasGivenAll, IsRooted}
 use Rattle.stamp_threads.specs.PassView.{IsPart, IsSamePass}
 use Rattle.stamp_threads.specs.Seats.{StandsAt, AreSeated}
 use Rattle.stamp_threads.proofs.Beginnings.{begins_further}
@@ -29,8 +29,9 @@ pub same_two : {E P : Type 0} (v u v' u' : PassView E P) → IsSamePass v v' →
 same_two {E} {P} v u v' u' a b = two_of (λ k w. (x : PassView E P) ×
     (get_elem? (v ∷ u ∷ []) k ≡ some x) × IsSamePass x w) v' u' (v, refl, a) (u, refl, b)
 
-module _ {E P : Type 0} (Fits : PassView E P → Type 0) (seats : List (List (PassView E P)))
-    (r : AreSeated Fits seats) (id : ℕ) (vs ws : List (PassView E P))
+module _ {E P : Type 0} (Fits : PassView E P → Type 0) (roots : ℕ) (log : List (Entry E))
+    (seats : List (List (PassView E P))) (r : AreSeated Fits roots log seats) (id : ℕ)
+    (vs ws : List (PassView E P))
     (at : get_elem? seats id ≡ some vs) (same : Same vs ws) where
   came_from : (i k : ℕ) (w : PassView E P) → StandsAt (set seats id ws) i k w →
       (v : PassView E P) × StandsAt seats i k v × IsSamePass v w
@@ -46,11 +47,11 @@ module _ {E P : Type 0} (Fits : PassView E P → Type 0) (seats : List (List (Pa
       (at_set seats id i ws st.0 st.1)
 
   -- the rule of the names after the step
-  pub stands_on : (Fits' : PassView E P → Type 0) →
+  pub stands_on : (Fits' : PassView E P → Type 0) (log' : List (Entry E)) → Grows vs log log' →
       ((k : ℕ) (w : PassView E P) → get_elem? ws k ≡ some w → Fits' w) →
       ((i k : ℕ) (w : PassView E P) → i ≢ id → StandsAt seats i k w → Fits' w) →
-      AreSeated Fits' (set seats id ws)
-  stands_on Fits' own others = record {
+      AreSeated Fits' roots log' (set seats id ws)
+  stands_on Fits' log' grows own others = record {
     fits = λ i k w st. ⊎_elim
         (λ (t : (i ≡ id) × (ws ≡ st.0)). own k w
         (subst (λ (l : List (PassView E P)). get_elem? l k ≡ some w) (sym t.1) st.2))
@@ -65,6 +66,10 @@ module _ {E P : Type 0} (Fits : PassView E P → Type 0) (seats : List (List (Pa
         let q = came_from j l w b in
         regiven v.name p.0.name v.splits p.0.splits w.name q.0.name p.2.name p.2.splits q.2.name
         (r.given i k j l p.0 q.0 p.1 q.1);
+    rooted = λ i k w st.
+        let p = came_from i k w st in
+        subst (IsRooted roots) (sym p.2.name) (r.rooted i k p.0 p.1);
+    entries = grows.rooted roots (λ k v h. r.rooted id k v (vs, at, h)) r.entries;
   }
 
   -- a pass elsewhere has another name
@@ -72,7 +77,7 @@ module _ {E P : Type 0} (Fits : PassView E P → Type 0) (seats : List (List (Pa
       (j : ℕ) (v : PassView E P) → get_elem? vs j ≡ some v → v.name ≢ w.name
   apart_from i k w away st j v h e = away (sym (r.apart id j i k v w (vs, at, h) st e).0)
 
-  module _ (is_own : E → Bool) (log log' : List (Entry E)) (grows : Grows vs log log')
+  module _ (is_own : E → Bool) (log' : List (Entry E)) (grows : Grows vs log log')
       (part : (v : PassView E P) → Fits v → IsPart is_own log v) where
     pub own_given : (k : ℕ) (w : PassView E P) → get_elem? ws k ≡ some w →
         HasGivenAll w.name w.splits log'

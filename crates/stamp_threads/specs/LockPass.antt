@@ -1,5 +1,5 @@
 -- What a pass of a running lock knows.
-use Rattle.std.specs.Prelude.{◌≡◌, ℕ, List}
+use Rattle.std.specs.Prelude.{◌≡◌, ℕ, List, [], ◌∷◌}
 use mathlib.Core.List.{IsPrefix}
 use Rattle.atomic_table.specs.Seated.{TableId}
 use Rattle.stamp_core.specs.Limits.{Bounds}
@@ -48,3 +48,12 @@ pub record LeavesWord (limits : Bounds) (v : LockPass) (word : ℕ) (log : LockL
   pub begins : IsPrefix v.observed log
   pub legal : IsLegalLog limits log
   pub represents : RepresentsAt limits word (events_after limits log)
+
+-- a pass that entered: its path is empty, it has observed a legal history, and it has made no call
+pub record HasEntered (limits : Bounds) (v : LockPass) : Type 0 where
+  pub root : ℕ
+  pub name : v.name ≡ root ∷ []
+  pub splits : v.splits ≡ 0
+  pub own : v.own ≡ []
+  pub found : v.found ≡ []
+  pub consistent : IsConsistentWith limits v

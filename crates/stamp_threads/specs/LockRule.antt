@@ -12,6 +12,7 @@ use Rattle.stamp_threads.specs.PassView.{IsPart, every, observing, adding, findi
 use Rattle.stamp_threads.specs.Seats.{AreSeated, alone, both}
 use Rattle.stamp_threads.specs.LockLog.{LockLog, events_after, transition_after, IsLegalLog}
 use Rattle.stamp_threads.specs.LockPass.{LockPass, IsConsistentWith, LeavesWord, first_of}
+use Rattle.stamp_threads.specs.LockPass.{HasEntered}
 use Rattle.stamp_threads.specs.LockPass.{second_of}
 use Rattle.stamp_threads.specs.HaveMet.{HaveMet}
 
@@ -19,10 +20,11 @@ use Rattle.stamp_threads.specs.HaveMet.{HaveMet}
 -- of it, and their names are apart
 pub record IsKept (limits : Bounds) (s : State (Unit {0}) (List LockPass)) : Type 0 where
   pub log : LockLog
+  pub roots : ℕ
   pub one_word : length s.words ≡ 1
   pub legal : IsLegalLog limits log
   pub represents : RepresentsAt limits (slice_index s.words 0) (events_after limits log)
-  pub passes : AreSeated (IsPart every log) s.views
+  pub passes : AreSeated (IsPart every log) roots log s.views
 
 -- the pass after the call's transition: the call is made where there is one
 abbrev pub making : Option Transition → Call → LockPass → LockLog → LockPass
@@ -80,3 +82,8 @@ abbrev pub MeetTells : Bounds → Step (Unit {0}) → Me (Unit {0}) (List LockPa
     Me (Unit {0}) (List LockPass) → Type 0
 MeetTells limits st m found n = (n ≡ both (first_of n.0) (second_of n.0)) ×
     HaveMet limits (first_of m.0) (second_of m.0) (first_of n.0) (second_of n.0)
+
+-- and a seat that is made by a load
+abbrev pub EnterTells : Bounds → Step (Unit {0}) → Me (Unit {0}) (List LockPass) → ℕ →
+    Me (Unit {0}) (List LockPass) → Type 0
+EnterTells limits st m found n = (n ≡ alone (first_of n.0)) × HasEntered limits (first_of n.0)

@@ -57,7 +57,18 @@ module _ {E P : Type 0} where
   -- the first pass of all
   abbrev pub first_pass : P → PassView E P
   first_pass phase =
-      record { name = []; splits = 0; observed = []; own = []; phase = phase; found = [] }
+      record { name = 0 ∷ []; splits = 0; observed = []; own = []; phase = phase; found = [] }
+
+  -- a pass that enters by this root: it has observed the whole history, and made nothing
+  abbrev pub entering : ℕ → P → List (Entry E) → PassView E P
+  entering root phase log = record {
+    name = root ∷ [];
+    splits = 0;
+    observed = log;
+    own = [];
+    phase = phase;
+    found = [];
+  }
 
   -- it is the same pass still
   pub record IsSamePass (v w : PassView E P) : Type 0 where

@@ -1,5 +1,5 @@
 -- What a pass of a running record knows.
-use Rattle.std.specs.Prelude.{◌≡◌, ℕ, ◌+◌, ◌≤◌, List}
+use Rattle.std.specs.Prelude.{◌≡◌, ℕ, ◌+◌, ◌≤◌, List, [], ◌∷◌}
 use mathlib.Core.List.{IsPrefix}
 use Rattle.atomic_table.specs.Seated.{TableId}
 use Rattle.stamp_threads.specs.declared.pass_view.PassView.{PassView}
@@ -60,3 +60,13 @@ pub record LeavesLockWord (shape : RecordShape) (v : RecordPassView) (word : ℕ
   pub legal : IsLegalRecord shape.width log
   pub word_is : word ≡ word_after shape.limits.layout log
   pub few : puts log ≤ shape.limits.versions
+
+-- a pass that entered: its path is empty, it has observed a legal history, and it has made no call
+pub record HasEntered (width : ℕ) (v : RecordPassView) : Type 0 where
+  pub root : ℕ
+  pub name : v.name ≡ root ∷ []
+  pub splits : v.splits ≡ 0
+  pub own : v.own ≡ []
+  pub found : v.found ≡ []
+  pub idle : v.phase ≡ Idle
+  pub consistent : IsConsistentWith width v

@@ -17,7 +17,7 @@ use Rattle.stamp_threads.specs.RecordWord.{word_with}
 use Rattle.stamp_threads.specs.RecordLog.{RecordLog, IsLegalRecord, content_in, puts, puts_in}
 use Rattle.stamp_threads.specs.RecordLog.{is_locked, marker_in, word_after, is_own, marks_of}
 use Rattle.stamp_threads.specs.RecordPass.{RecordPassView, IsConsistentWith, LeavesLockWord}
-use Rattle.stamp_threads.specs.RecordPass.{marks_ahead, first_of, second_of}
+use Rattle.stamp_threads.specs.RecordPass.{marks_ahead, first_of, second_of, HasEntered}
 
 -- what a writer knows: the history is locked by its mark, and what it has stored stands
 pub record KnowsWriting (P : List ℕ → Type 0) (width : ℕ) (cells : List ℕ) (log : RecordLog) (name : List ℕ)
@@ -67,6 +67,7 @@ pub record HasWriter (log : RecordLog) (views : List (List RecordPassView)) : Ty
 -- is not locked
 pub record IsKept (P : List ℕ → Type 0) (shape : RecordShape) (s : State (Unit {0}) (List RecordPassView)) : Type 0 where
   pub log : RecordLog
+  pub roots : ℕ
   pub legal : IsLegalRecord shape.width log
   pub wide : length s.words ≡ shape.width + 1
   pub word_is : slice_index s.words 0 ≡ word_after shape.limits.layout log
@@ -76,7 +77,7 @@ pub record IsKept (P : List ℕ → Type 0) (shape : RecordShape) (s : State (Un
       slice_index s.words (i + 1) ≡ slice_index (content_in shape.width log) i
   pub long : length (content_in shape.width log) ≡ shape.width
   pub obeys : 1 ≤ puts log → P (content_in shape.width log)
-  pub passes : AreSeated (Fits P shape.width s.words log) s.views
+  pub passes : AreSeated (Fits P shape.width s.words log) roots log s.views
   pub writer : is_locked log ≡ true → HasWriter log s.views
 
 -- the view of a seat, and the slots that it holds: none here
@@ -221,3 +222,8 @@ ConfirmTells P shape words st m found n =
 
 abbrev pub MeetTells : RecordShape → Tells
 MeetTells shape st m found n = Met shape (first_of m.0) (second_of m.0) n
+
+-- and a seat that is made by a load
+abbrev pub EnterTells : RecordShape → Tells
+EnterTells shape st m found n =
+    (n ≡ alone (first_of n.0)) × HasEntered shape.width (first_of n.0)

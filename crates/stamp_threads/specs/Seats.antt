@@ -5,22 +5,25 @@ use mathlib.Core.Option.{some}
 use lib.ListN.{get_elem?}
 use Rattle.atomic_table.specs.Table.{Me}
 use Rattle.stamp_threads.specs.declared.pass_view.PassView.{PassView}
-use Rattle.stamp_threads.specs.PassName.{HasGiven}
+use Rattle.stamp_threads.specs.declared.pass_view.Entry.{Entry}
+use Rattle.stamp_threads.specs.PassName.{HasGiven, IsRooted, AreRooted}
 use Rattle.stamp_threads.specs.PassView.{first_pass}
 
 -- v is the k-th pass of the seat i
 abbrev pub StandsAt : {V : Type 0} → List (List V) → ℕ → ℕ → V → Type 0
 StandsAt {V} seats i k v = (vs : List V) × (get_elem? seats i ≡ some vs) × (get_elem? vs k ≡ some v)
 
--- each pass that stands is so; two places have two names; and no name stands that a pass may still
--- give
-pub record AreSeated {E P : Type 0} (Fits : PassView E P → Type 0)
-    (seats : List (List (PassView E P))) : Type 0 where
+-- each pass that stands is so; two places have two names; no name stands that a pass may still give;
+-- and the names that stand, and those of the entries, have roots that were taken
+pub record AreSeated {E P : Type 0} (Fits : PassView E P → Type 0) (roots : ℕ)
+    (log : List (Entry E)) (seats : List (List (PassView E P))) : Type 0 where
   pub fits : (i k : ℕ) (v : PassView E P) → StandsAt seats i k v → Fits v
   pub apart : (i k j l : ℕ) (v w : PassView E P) → StandsAt seats i k v → StandsAt seats j l w →
       v.name ≡ w.name → (i ≡ j) × (k ≡ l)
   pub given : (i k j l : ℕ) (v w : PassView E P) → StandsAt seats i k v → StandsAt seats j l w →
       HasGiven v.name v.splits w.name
+  pub rooted : (i k : ℕ) (v : PassView E P) → StandsAt seats i k v → IsRooted roots v.name
+  pub entries : AreRooted roots log
 
 module _ {E P : Type 0} where
   -- the first and the second pass of a seat, and the first of all where there is none

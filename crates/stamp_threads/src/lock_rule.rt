@@ -71,6 +71,17 @@ impl<C: StepFor> Play<(), Passes> for MeetStep<C> {
     ghost then = { MeetTells C.limits };
 }
 
+/// A load that makes a seat.
+pub struct EnterStep<C> {
+    of: PhantomData<C>,
+}
+
+impl<C: StepFor> Play<(), Passes> for EnterStep<C> {
+    ghost use Rattle.stamp_threads.specs.LockRule.{EnterTells};
+
+    ghost then = { EnterTells C.limits };
+}
+
 /// A pass gives a new one.
 pub struct GivePass;
 

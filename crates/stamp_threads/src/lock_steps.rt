@@ -5,12 +5,13 @@ ghost use Rattle.stamp_core.specs.Word.{word_at};
 ghost use Rattle.stamp_core.specs.Decision.{Changes};
 ghost use Rattle.stamp_threads.specs.PassView.{after_split, split_off};
 ghost use Rattle.stamp_threads.specs.Seats.{alone, both};
-ghost use Rattle.stamp_threads.specs.LockPass.{first_of, second_of};
+ghost use Rattle.stamp_threads.specs.LockPass.{first_of, second_of, HasEntered};
 ghost use Rattle.stamp_threads.specs.LockRule.{Loaded, Exchanged};
 ghost use Rattle.stamp_threads.specs.HaveMet.{HaveMet};
 
 use crate::lock_rule::{
-    ExchangeStep, GivePass, LoadStep, LockRule, MeetStep, PartSeats, Passes, ShareSeat, StepFor,
+    EnterStep, ExchangeStep, GivePass, LoadStep, LockRule, MeetStep, PartSeats, Passes, ShareSeat,
+    StepFor,
 };
 use atomic_table::{Seat, Shared};
 use stamp_core::{Call, Limits, Reply};
@@ -57,6 +58,18 @@ pub fn exchange<C: StepFor>(
 {
     let _ = call;
     table.compare_exchange::<ExchangeStep<C>>(seat, 0, old, new)
+}
+
+/// A new seat, made by a load: its pass has the next root.
+pub fn enter<C: StepFor>(table: &LockTable) -> LockSeat
+    requires step { C.limits ≡ table.now.key }
+    requires table { table.now.table_id.words ≡ 1 }
+    ensures table { result.table_id ≡ table.now.table_id }
+    ensures alone { result.me ≡ alone (first_of result.me.0) }
+    ensures entered { HasEntered table.now.key (first_of result.me.0) }
+{
+    let (_, seat) = table.load_new_seat::<EnterStep<C>>(0);
+    seat
 }
 
 /// A new seat, whose pass has a name that the first one gives.

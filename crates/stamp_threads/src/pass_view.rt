@@ -7,8 +7,9 @@ pub struct Entry<E> {
     pub made: E,
 }
 
-/// A pass. The first has the empty list for its name, and the j-th split of a pass, counted from 0,
-/// gives one whose name has j more at its end.
+/// A pass. Its name is a root and a path. The first pass has the root 0, and each that enters the next
+/// one; their paths are empty. The j-th split of a pass, counted from 0, gives one of the same root,
+/// whose path has j more at its end.
 pub struct PassView<E, P> {
     pub name: LinkedList<u64>,
     /// How often it was split.

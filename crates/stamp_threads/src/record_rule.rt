@@ -126,6 +126,17 @@ impl<C: WordsStep, P: ContentRule> Play<(), RecordPasses> for ConfirmStep<C, P> 
     ghost then = { ConfirmTells P.holds C.shape C.words };
 }
 
+/// A load that makes a seat.
+pub struct EnterRecordStep<C> {
+    of: PhantomData<C>,
+}
+
+impl<C: WordsStep> Play<(), RecordPasses> for EnterRecordStep<C> {
+    ghost use Rattle.stamp_threads.specs.RecordRule.{EnterTells};
+
+    ghost then = { EnterTells C.shape };
+}
+
 /// A load by a seat that stands for two passes.
 pub struct MeetRecordStep<C> {
     of: PhantomData<C>,

@@ -6,14 +6,14 @@ ghost use Rattle.stamp_threads.specs.declared.record_view.RecordPhase.TheVariant
 ghost use Rattle.stamp_threads.specs.PassView.{after_split, split_off};
 ghost use Rattle.stamp_threads.specs.Seats.{alone, both};
 ghost use Rattle.stamp_threads.specs.RecordWord.{word_with, writer_unit};
-ghost use Rattle.stamp_threads.specs.RecordPass.{first_of, second_of};
+ghost use Rattle.stamp_threads.specs.RecordPass.{first_of, second_of, HasEntered};
 ghost use Rattle.stamp_threads.specs.RecordRule.{Looked, Acquired, Released, stored_one, Opened};
 ghost use Rattle.stamp_threads.specs.RecordRule.{loaded_one, Confirmed, Overtaken, word_to_confirm};
 ghost use Rattle.stamp_threads.specs.RecordRule.{Met};
 
 use crate::lock_rule::{GivePass, PartSeats, ShareSeat};
 use crate::record_rule::{
-    AcquireStep, ConfirmStep, ContentRule, LoadWordStep, LookStep, MeetRecordStep, OpenStep, RecordRule,
+    AcquireStep, ConfirmStep, EnterRecordStep, ContentRule, LoadWordStep, LookStep, MeetRecordStep, OpenStep, RecordRule,
     ReleaseStep, StoreStep, WordsStep,
 };
 use crate::record_view::{RecordPasses, RecordShape};
@@ -152,6 +152,18 @@ pub fn confirm<C: WordsStep, P: ContentRule>(table: &RecordTable<P>, seat: &mut 
 {
     let _ = words;
     table.load::<ConfirmStep<C, P>>(seat, 0)
+}
+
+/// A new seat, made by a load: its pass has the next root.
+pub fn enter<C: WordsStep, P: ContentRule>(table: &RecordTable<P>) -> RecordSeat
+    requires step { C.shape ≡ table.now.key }
+    requires table { table.now.table_id.words ≡ table.now.key.width + 1 }
+    ensures table { result.table_id ≡ table.now.table_id }
+    ensures alone { result.me ≡ alone (first_of result.me.0) }
+    ensures entered { HasEntered table.now.key.width (first_of result.me.0) }
+{
+    let (_, seat) = table.load_new_seat::<EnterRecordStep<C>>(0);
+    seat
 }
 
 /// A new seat, whose pass has a name that the first one gives.

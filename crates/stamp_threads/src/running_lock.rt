@@ -2,7 +2,7 @@
 ghost use Rattle.std.specs.Prelude.{◌≡◌, IfOk, IfErr, OnOk, IsTrue};
 ghost use Rattle.stamp_core.specs.Call.{is_lock_call};
 ghost use Rattle.stamp_threads.specs.PassView.{after_split, split_off};
-ghost use Rattle.stamp_threads.specs.LockPass.{IsConsistentWith, first_pass};
+ghost use Rattle.stamp_threads.specs.LockPass.{HasEntered, IsConsistentWith, first_pass};
 ghost use Rattle.stamp_threads.specs.Answered.{Answered, IsWaiting, LooksOnceOrTwice, try_form};
 ghost use Rattle.stamp_threads.specs.LostExchange.{LostExchange};
 ghost use Rattle.stamp_threads.specs.HaveMet.{HaveMet};
@@ -130,6 +130,31 @@ impl RunningLock {
         unreachable!()
     }
 
+    /// A pass for a thread that has none. It has observed all calls that took effect before it
+    /// entered, and made none. It makes one load and takes no memory.
+    pub fn enter(&self) -> Pass
+        ensures lock { result.table ≡ self.now.table }
+        ensures entered { HasEntered self.now.limits result.view }
+    {
+        let seat = lock_steps::enter::<Brand>(&self.table.shared);
+        Pass { seat }
+    }
+
+    /// A new pass, which has observed as much as this one and made no call. It makes one load and
+    /// takes no memory.
+    pub fn split_off(&self, pass: &mut Pass) -> Pass
+        requires { pass.old.table ≡ self.now.table }
+        ensures lock { (pass.new.table ≡ self.now.table) × (result.table ≡ self.now.table) }
+        ensures given { pass.new.view ≡ after_split pass.old.view }
+        ensures new { result.view ≡ split_off pass.old.view }
+        ensures all_consistent { let limits = self.now.limits in
+            IsConsistentWith limits pass.old.view
+            → IsConsistentWith limits pass.new.view × IsConsistentWith limits result.view }
+    {
+        let seat = lock_steps::split(&self.table.shared, &mut pass.seat);
+        Pass { seat }
+    }
+
     /// The pass that was handed in, and a new one, which has observed as much and made no call. It
     /// makes one load and takes no memory.
     pub fn split(&self, mut pass: Pass) -> (Pass, Pass)
@@ -141,8 +166,8 @@ impl RunningLock {
             IsConsistentWith limits pass.view
             → IsConsistentWith limits result.0.view × IsConsistentWith limits result.1.view }
     {
-        let seat = lock_steps::split(&self.table.shared, &mut pass.seat);
-        (pass, Pass { seat })
+        let new = self.split_off(&mut pass);
+        (pass, new)
     }
 
     /// Both passes, each of which has then observed what either had. It makes three loads.

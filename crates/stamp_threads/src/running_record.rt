@@ -4,7 +4,7 @@ ghost use Rattle.stamp_core.specs.declared.call.Call.TheVariants.{Get, Put};
 ghost use Rattle.stamp_core.specs.declared.reply.Reply.TheVariants.{Done, Content};
 ghost use Rattle.stamp_threads.specs.PassView.{after_split, split_off};
 ghost use Rattle.stamp_threads.specs.RecordLog.{puts};
-ghost use Rattle.stamp_threads.specs.RecordPass.{IsConsistentWith, first_pass};
+ghost use Rattle.stamp_threads.specs.RecordPass.{HasEntered, IsConsistentWith, first_pass};
 ghost use Rattle.stamp_threads.specs.RecordCall.{Recorded, PutRefused, GetRefused, HaveMet};
 
 use crate::faults::{GetFault, PutFault};
@@ -169,6 +169,29 @@ impl<P: ContentRule> RuledRecord<P> {
         get_words(&self.table.shared, self.shape, &mut pass.seat, into)
     }
 
+    /// A pass for a thread that has none: it has made no call. It makes one load and takes no memory.
+    pub fn enter(&self) -> RecordPass
+        ensures table { result.table ≡ self.now.table }
+        ensures entered { HasEntered self.now.shape.width result.view }
+    {
+        let seat = record_steps::enter::<Brand, P>(&self.table.shared);
+        RecordPass { seat }
+    }
+
+    /// A new pass, which has observed as much as this one and made no call. It makes one load and
+    /// takes no memory.
+    pub fn split_off(&self, pass: &mut RecordPass) -> RecordPass
+        requires { pass.old.table ≡ self.now.table }
+        ensures table { (pass.new.table ≡ self.now.table) × (result.table ≡ self.now.table) }
+        ensures given { pass.new.view ≡ after_split pass.old.view }
+        ensures new { result.view ≡ split_off pass.old.view }
+        ensures all_consistent { let width = self.now.shape.width in
+            IsConsistentWith width pass.new.view × IsConsistentWith width result.view }
+    {
+        let seat = record_steps::split(&self.table.shared, &mut pass.seat);
+        RecordPass { seat }
+    }
+
     /// The pass that was handed in, and a new one, which has observed as much and made no call.
     pub fn split(&self, mut pass: RecordPass) -> (RecordPass, RecordPass)
         requires { pass.table ≡ self.now.table }
@@ -178,8 +201,8 @@ impl<P: ContentRule> RuledRecord<P> {
         ensures all_consistent { let width = self.now.shape.width in
             IsConsistentWith width result.0.view × IsConsistentWith width result.1.view }
     {
-        let seat = record_steps::split(&self.table.shared, &mut pass.seat);
-        (pass, RecordPass { seat })
+        let new = self.split_off(&mut pass);
+        (pass, new)
     }
 
     /// Both passes, each of which has then observed what either had. It makes three loads.

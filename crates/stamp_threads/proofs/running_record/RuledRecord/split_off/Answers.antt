@@ -1,7 +1,7 @@
 use Rattle.std.proofs.Common.{rules, ◌∙◌, ap, sym, refl}
 use Rattle.atomic_table.specs.Seated.{TableId}
 use Rattle.stamp_threads.proofs.RecordMoves.{splits_consistent}
-use Rattle.stamp_threads.proofs.running_record.RuledRecord.split.Goals as goal
+use Rattle.stamp_threads.proofs.running_record.RuledRecord.split_off.Goals as goal
 
 pub invariant_of-pass : goal.invariant_of-pass
 invariant_of-pass g c =

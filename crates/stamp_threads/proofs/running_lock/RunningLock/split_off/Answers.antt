@@ -1,5 +1,5 @@
 use Rattle.stamp_threads.proofs.PassMoves.{splits_consistent}
-use Rattle.stamp_threads.proofs.running_lock.RunningLock.split.Goals as goal
+use Rattle.stamp_threads.proofs.running_lock.RunningLock.split_off.Goals as goal
 
 pub returns-clause-all_consistent : goal.returns-clause-all_consistent
 returns-clause-all_consistent c = rw (
