@@ -84,7 +84,7 @@ module _ (P : List ℕ → Type 0) (shape : RecordShape) (s : State (Unit {0}) (
       get_or s.words 0 0 ≡ word_with shape.limits.layout version false →
       KeptBy P shape s id (calling (finding v (get_or s.words 0 0)) r.log (get_of xs)) s.words ×
       IsConsistentWith shape.width (calling (finding v (get_or s.words 0 0)) r.log (get_of xs)) ×
-      (xs ≡ content_in shape.width r.log) × (1 ≤ puts r.log → P xs)
+      (xs ≡ content_in shape.width r.log) × P xs
   confirms long same =
       let w = calling (finding v (get_or s.words 0 0)) r.log (get_of xs) in
       let log' = r.log ++ entry v.name (get_of xs) ∷ [] in
@@ -126,13 +126,13 @@ module _ (P : List ℕ → Type 0) (shape : RecordShape) (s : State (Unit {0}) (
           rests = λ e i b. r.rests (sym l ∙ e) i b ∙
               ap (λ (d : List ℕ). get_or d i 0) (sym c);
           long = ap length c ∙ r.long;
-          obeys = λ l. subst P (sym c) (r.obeys (omega (arith, p)));
+          obeys = subst P (sym c) r.obeys;
           passes = one_after P shape s r id v here w refl refl s.words log' grows brings others;
           writer = λ e. absurd (true≢false (sym e ∙ (l ∙ free.0)));
         },
         one_consistent P shape s r id v here w refl refl s.words log' grows brings others legal refl,
         whole,
-        λ l. subst P (sym whole) (r.obeys l),
+        subst P (sym whole) r.obeys,
       )
 
   stopping_brings : (word : ℕ) → Brings P shape.width s.words r.log (stopping (finding v word) r.log)

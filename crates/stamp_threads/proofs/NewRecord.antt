@@ -1,31 +1,62 @@
--- A new record: no history, zeros, and the first pass alone.
+-- A new record: the first pass alone; no history and zeros, or one put and its words.
 use Rattle.std.proofs.Common.{◌≡◌, ℕ, zero, suc, ◌+◌, ◌≤◌, List, [], ◌∷◌, replicate, take, get_or}
 use Rattle.std.proofs.Common.{false, true≢false, refl, sym, ap, ◌∙◌, subst, arith, length-take-le}
-use Rattle.std.proofs.Common.{add-one}
+use Rattle.std.proofs.Common.{add-one, length, Some}
 use Rattle.std.proofs.lemmas.List.{get_or-take, get_or-replicate, length-replicate}
 use mathlib.Core.Option.{some, some-injective, some-ne-none}
 use lib.ListN.{get_elem?}
 use Rattle.atomic_table.specs.Table.{opening}
+use Rattle.stamp_core.specs.Limits.{Bounds}
+use Rattle.stamp_core.specs.declared.call.Call.TheVariants.{Put}
+use Rattle.stamp_core.specs.declared.reply.Reply.TheVariants.{Done}
+use Rattle.stamp_threads.specs.declared.record_view.RecordEvent.TheVariants.{Mark}
 use Rattle.stamp_threads.specs.declared.record_view.RecordShape.{RecordShape}
-use Rattle.stamp_threads.specs.PassName.{IsRooted}
-use Rattle.stamp_threads.specs.Seats.{StandsAt}
+use Rattle.stamp_threads.specs.PassName.{IsRooted, AreRooted, HasGivenAll}
+use Rattle.stamp_threads.specs.PassView.{entry}
+use Rattle.stamp_threads.specs.Seats.{StandsAt, AreSeated}
 use Rattle.stamp_threads.specs.RecordWord.{word_with}
+use Rattle.stamp_threads.specs.RecordLog.{RecordLog, IsLegalRecord}
 use Rattle.stamp_threads.specs.RecordPass.{RecordPassView, IsConsistentWith, first_pass}
-use Rattle.stamp_threads.specs.RecordRule.{Fits, IsKept}
+use Rattle.stamp_threads.proofs.RecordLogs.{legal_marked, legal_longer}
+use Rattle.stamp_threads.specs.RecordRule.{Fits, IsKept, opening_log, opening_pass}
 use Rattle.stamp_threads.proofs.Beginnings.{begins_all}
 use Rattle.stamp_threads.proofs.ListElements.{only_one}
 use Rattle.stamp_threads.proofs.GivenNames.{regiven, not_longer}
 
 -- it stands at the one place
-only_place : (i k : ℕ) (v : RecordPassView) → StandsAt ((first_pass ∷ []) ∷ []) i k v →
-    (i ≡ 0) × (k ≡ 0) × (v ≡ first_pass)
-only_place zero k v st = only_one (λ l u. (zero ≡ 0) × (l ≡ 0) × (u ≡ first_pass)) first_pass
-    (refl, refl, refl) k v (subst (λ (l : List RecordPassView). get_elem? l k ≡ some v)
+only_place : (v : RecordPassView) (i k : ℕ) (u : RecordPassView) →
+    StandsAt ((v ∷ []) ∷ []) i k u → (i ≡ 0) × (k ≡ 0) × (u ≡ v)
+only_place v zero k u st = only_one (λ l w. (zero ≡ 0) × (l ≡ 0) × (w ≡ v)) v
+    (refl, refl, refl) k u (subst (λ (l : List RecordPassView). get_elem? l k ≡ some u)
     (sym (some-injective _ _ st.1)) st.2)
-only_place (suc i) k v st = absurd (some-ne-none st.0 (sym st.1))
+only_place v (suc i) k u st = absurd (some-ne-none st.0 (sym st.1))
 
 later : (x : ℕ) (xs : List ℕ) (i : ℕ) → get_or (x ∷ xs) (i + 1) 0 ≡ get_or xs i 0
 later x xs i = rw add-one refl
+
+-- the first pass stands beside no other
+stands_alone : (Now : RecordPassView → Type 0) (log : RecordLog) (v : RecordPassView) →
+    v.name ≡ 0 ∷ [] → v.splits ≡ 0 → Now v → AreRooted 1 log →
+    AreSeated Now 1 log ((v ∷ []) ∷ [])
+stands_alone Now log v name splits fits rooted =
+    let named : (u : RecordPassView) → u ≡ v → u.name ≡ 0 ∷ [] =
+    λ u e. ap (λ (w : RecordPassView). w.name) e ∙ name in
+    record {
+      fits = λ i k u st. subst Now (sym (only_place v i k u st).2) fits;
+      apart = λ i k j l u w a b e.
+          let p = only_place v i k u a in
+          let q = only_place v j l w b in
+          (p.0 ∙ sym q.0, p.1 ∙ sym q.1);
+      given = λ i k j l u w a b.
+          let p = only_place v i k u a in
+          let q = only_place v j l w b in
+          regiven u.name (0 ∷ []) u.splits 0 w.name (0 ∷ []) (named u p.2)
+          (ap (λ (x : RecordPassView). x.splits) p.2 ∙ splits) (named w q.2)
+          (not_longer (0 ∷ []) 0);
+      rooted = λ i k u st.
+          subst (IsRooted 1) (sym (named u (only_place v i k u st).2)) (omega arith);
+      entries = rooted;
+    }
 
 pub first_consistent : (width : ℕ) → IsConsistentWith width first_pass
 first_consistent width = record {
@@ -35,11 +66,16 @@ first_consistent width = record {
   given = tt;
 }
 
-pub opens : (P : List ℕ → Type 0) (shape : RecordShape) (first : ℕ) → first ≡ word_with shape.limits.layout 0 false →
-    shape.width ≤ 16 →
-    IsKept P shape (opening (take (shape.width + 1) (first ∷ replicate 16 0)) [] (first_pass ∷ []))
-opens P shape first is narrow =
+pub opens : (shape : RecordShape) (first : ℕ) → first ≡ word_with shape.limits.layout 0 false →
+    shape.width ≤ 16 → IsKept (λ _. Unit {0}) shape
+    (opening (take (shape.width + 1) (first ∷ replicate 16 0)) [] (first_pass ∷ []))
+opens shape first is narrow =
     let cells : List ℕ = take (shape.width + 1) (first ∷ replicate 16 0) in
+    let fits : Fits (λ _. Unit {0}) shape.width cells [] first_pass = record {
+      part = record { observed = begins_all []; own = refl; given = tt };
+      marks = refl;
+      knows = tt;
+    } in
     record {
       log = [];
       roots = 1;
@@ -53,28 +89,59 @@ opens P shape first is narrow =
           (later first (replicate 16 0) i ∙ (get_or-replicate 16 i 0 0 (omega arith) ∙
           sym (get_or-replicate shape.width i 0 0 l)));
       long = length-replicate shape.width 0;
-      obeys = λ l. absurd (omega arith);
-      passes = record {
-        fits = λ i k v st. subst (Fits P shape.width cells []) (sym (only_place i k v st).2)
-            (record {
-              part = record { observed = begins_all []; own = refl; given = tt };
-              marks = refl;
-              knows = tt;
-            });
-        apart = λ i k j l v w a b e.
-            let p = only_place i k v a in
-            let q = only_place j l w b in
-            (p.0 ∙ sym q.0, p.1 ∙ sym q.1);
-        given = λ i k j l v w a b.
-            let p = only_place i k v a in
-            let q = only_place j l w b in
-            regiven v.name (0 ∷ []) v.splits 0 w.name (0 ∷ [])
-            (ap (λ (u : RecordPassView). u.name) p.2)
-            (ap (λ (u : RecordPassView). u.splits) p.2)
-            (ap (λ (u : RecordPassView). u.name) q.2) (not_longer (0 ∷ []) 0);
-        rooted = λ i k v st. subst (IsRooted 1)
-            (sym (ap (λ (u : RecordPassView). u.name) (only_place i k v st).2)) (omega arith);
-        entries = tt;
-      };
+      obeys = tt;
+      passes = stands_alone (Fits (λ _. Unit {0}) shape.width cells []) [] first_pass refl refl
+          fits tt;
       writer = λ e. absurd (true≢false (sym e));
     }
+
+-- and where the first pass has put these words
+module _ (words : List ℕ) where
+  abbrev log : RecordLog
+  log = opening_log (Some words)
+
+  abbrev holder : RecordPassView
+  holder = opening_pass (Some words)
+
+  one_put : (width : ℕ) → IsLegalRecord width log
+  one_put width = legal_longer width (entry first_pass.name Mark ∷ []) first_pass.name (Put words)
+      Done refl refl
+      (legal_marked width [] first_pass.name (first_consistent width).legal)
+
+  none_given : HasGivenAll first_pass.name 0 log
+  none_given = (not_longer first_pass.name 0, (not_longer first_pass.name 0, tt))
+
+  pub holder_consistent : (width : ℕ) → IsConsistentWith width holder
+  holder_consistent width = record {
+    legal = one_put width;
+    own = refl;
+    marks = refl;
+    given = none_given;
+  }
+
+  pub opens_holding : (P : List ℕ → Type 0) (limits : Bounds) (first : ℕ) →
+      first ≡ word_with limits.layout 1 false → 1 ≤ limits.versions → P words →
+      IsKept P (record { limits = limits; width = length words })
+      (opening (first ∷ words) [] (holder ∷ []))
+  opens_holding P limits first is version good =
+      let width : ℕ = length words in
+      let fits : Fits P width (first ∷ words) log holder = record {
+        part = record { observed = begins_all log; own = refl; given = none_given };
+        marks = refl;
+        knows = tt;
+      } in
+      record {
+        log = log;
+        roots = 1;
+        legal = one_put width;
+        wide = omega arith;
+        word_is = is;
+        few = omega arith;
+        fewer = λ e. absurd (true≢false (sym e));
+        rests = λ _ i l. later first words i;
+        long = refl;
+        obeys = good;
+        passes = stands_alone (Fits P width (first ∷ words) log) log holder refl refl fits
+            (omega arith, (omega arith, tt));
+        writer = λ e. absurd (true≢false (sym e));
+      }

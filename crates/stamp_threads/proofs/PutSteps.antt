@@ -93,7 +93,7 @@ module _ (P : List ℕ → Type 0) (shape : RecordShape) (s : State (Unit {0}) (
         fewer = λ _. (let z = free.1 in omega (arith, same));
         rests = λ e. absurd (true≢false (sym now ∙ e));
         long = ap length (content_marked shape.width r.log v.name) ∙ r.long;
-        obeys = λ l. subst P (sym (content_marked shape.width r.log v.name)) (r.obeys (omega (arith, same)));
+        obeys = subst P (sym (content_marked shape.width r.log v.name)) r.obeys;
         passes = one_after P shape s r id v here w refl refl cells' log' grows brings others;
         writer = λ _. record {
           seat = id;
@@ -222,7 +222,7 @@ module _ (P : List ℕ → Type 0) (shape : RecordShape) (s : State (Unit {0}) (
           rests = λ _ i l. get_or-set_other s.words 0 (i + 1) free 0 (λ e. omega arith) ∙
               (k.stand i l ∙ ap (λ (c : List ℕ). get_or c i 0) (sym holds));
           long = ap length holds ∙ k.long;
-          obeys = λ _. subst P (sym holds) k.obeys;
+          obeys = subst P (sym holds) k.obeys;
           passes = one_after P shape s r id v here w refl refl cells' log' grows brings others;
           writer = λ e. absurd (true≢false (sym e ∙ now));
         },

@@ -22,14 +22,6 @@ use Rattle.stamp_threads.proofs.Beginnings.{begins_further}
 use Rattle.stamp_threads.proofs.RecordLogs.{puts_get}
 use Rattle.stamp_threads.proofs.RecordWords.{held_test, puts_of, held_is, same_word, word_small}
 
--- what was put stays put
-puts_beside : (xs ys : RecordLog) → puts xs ≤ puts (xs ++ ys)
-puts_beside [] ys = omega arith
-puts_beside (x ∷ xs) ys = let h = puts_beside xs ys in omega arith
-
-pub puts_begins : (xs ys : RecordLog) → IsPrefix xs ys → puts xs ≤ puts ys
-puts_begins xs ys b = subst (λ (l : RecordLog). puts xs ≤ puts l) b.1 (puts_beside xs b.0)
-
 -- two seats after a meeting
 pub have_met : (shape : RecordShape) (v u : RecordPassView) (me : Seated)
     (v' u' : RecordPassView) → Met shape v u me → v' ≡ first_of me.0 → u' ≡ second_of me.0 →
@@ -277,13 +269,11 @@ module _ (shape : RecordShape) (v : RecordPassView) (loaded : ℕ) where
         })
 
     get_obeys : (found : ℕ) (me3 : Seated) → Told found me3 (first_of me2.0) → found ≡ loaded →
-        1 ≤ puts v.observed → P words
-    get_obeys found me3 told same some =
+        P words
+    get_obeys found me3 told same =
         let o : Confirmed shape reads found me3 P words =
         told_by found me3 true (eq-eqb found loaded same) told in
-        let a = puts_begins v.observed t.log t.left.begins in
-        let b = puts_begins t.log o.log o.left.begins in
-        o.obeys (omega arith)
+        o.obeys
 
   put_lost : (me : Seated) (t : Looked shape v loaded me) → v.phase ≡ Idle →
       HeldTest shape loaded false → (found : ℕ) (me2 : Seated) →
@@ -359,9 +349,9 @@ module _ (key shape : RecordShape) (same : key ≡ shape) (v : RecordPassView) (
         Recorded z Get (Content words) v (first_of me3.0)) same
         (λ f. get_made key v loaded P me me2 words t f loads found me3 told hit) test
 
-    pub get_obeys_of : found ≡ loaded → 1 ≤ puts v.observed → P words
+    pub get_obeys_of : found ≡ loaded → P words
     get_obeys_of hit =
-        subst (λ (z : RecordShape). HeldTest z loaded false → 1 ≤ puts v.observed → P words) same
+        subst (λ (z : RecordShape). HeldTest z loaded false → P words) same
         (λ f. get_obeys key v loaded P me me2 words t f loads found me3 told hit) test
 
 -- the same where the code has a copy of the table's key

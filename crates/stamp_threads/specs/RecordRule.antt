@@ -1,6 +1,6 @@
 -- The rule of a record's words, and what each step on them tells.
 use Rattle.std.specs.Prelude.{◌≡◌, ◌≢◌, ℕ, ◌+◌, ◌<◌, ◌≤◌, ◌==◌, MatchBool, if◌then◌else◌, true}
-use Rattle.std.specs.Prelude.{false, List, [], ◌∷◌, ◌++◌, length, slice_index}
+use Rattle.std.specs.Prelude.{false, List, [], ◌∷◌, ◌++◌, length, slice_index, Option, Some, None}
 use mathlib.Core.List.{IsPrefix}
 use Rattle.atomic_table.specs.Table.{State, Step, Me}
 use Rattle.stamp_core.specs.declared.layout.Layout.{Layout}
@@ -17,7 +17,8 @@ use Rattle.stamp_threads.specs.RecordWord.{word_with}
 use Rattle.stamp_threads.specs.RecordLog.{RecordLog, IsLegalRecord, content_in, puts, puts_in}
 use Rattle.stamp_threads.specs.RecordLog.{is_locked, marker_in, word_after, is_own, marks_of}
 use Rattle.stamp_threads.specs.RecordPass.{RecordPassView, IsConsistentWith, LeavesLockWord}
-use Rattle.stamp_threads.specs.RecordPass.{marks_ahead, first_of, second_of, HasEntered}
+use Rattle.stamp_threads.specs.RecordPass.{marks_ahead, first_of, second_of, first_pass}
+use Rattle.stamp_threads.specs.RecordPass.{HasEntered}
 
 -- what a writer knows: the history is locked by its mark, and what it has stored stands
 pub record KnowsWriting (P : List ℕ → Type 0) (width : ℕ) (cells : List ℕ) (log : RecordLog) (name : List ℕ)
@@ -76,7 +77,7 @@ pub record IsKept (P : List ℕ → Type 0) (shape : RecordShape) (s : State (Un
   pub rests : is_locked log ≡ false → (i : ℕ) → i < shape.width →
       slice_index s.words (i + 1) ≡ slice_index (content_in shape.width log) i
   pub long : length (content_in shape.width log) ≡ shape.width
-  pub obeys : 1 ≤ puts log → P (content_in shape.width log)
+  pub obeys : P (content_in shape.width log)
   pub passes : AreSeated (Fits P shape.width s.words log) roots log s.views
   pub writer : is_locked log ≡ true → HasWriter log s.views
 
@@ -144,7 +145,7 @@ module _ (shape : RecordShape) (v : RecordPassView) (found : ℕ) (me : Seated) 
   pub record Confirmed (P : List ℕ → Type 0) (words : List ℕ) : Type 0 where
     pub log : RecordLog
     pub content : words ≡ content_in shape.width log
-    pub obeys : 1 ≤ puts log → P words
+    pub obeys : P words
     pub left : LeavesLockWord shape v found log
     pub after : me ≡ alone (calling (finding v found) log (get_of words))
     pub consistent : IsConsistentWith shape.width (calling (finding v found) log (get_of words))
@@ -227,3 +228,14 @@ MeetTells shape st m found n = Met shape (first_of m.0) (second_of m.0) n
 abbrev pub EnterTells : RecordShape → Tells
 EnterTells shape st m found n =
     (n ≡ alone (first_of n.0)) × HasEntered shape.width (first_of n.0)
+
+-- the log of a record whose first pass has put these words, if there are any, and that pass
+abbrev pub opening_log : Option (List ℕ) → RecordLog
+opening_log None = []
+opening_log (Some words) =
+    entry first_pass.name Mark ∷ entry first_pass.name (put_of words) ∷ []
+
+abbrev pub opening_pass : Option (List ℕ) → RecordPassView
+opening_pass None = first_pass
+opening_pass (Some words) =
+    record first_pass { observed = opening_log (Some words); own = put_of words ∷ [] }

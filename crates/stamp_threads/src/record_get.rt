@@ -21,9 +21,9 @@ use std::marker::Brand;
 #[inline(always)]
 fn load_all<P: ContentRule>(table: &RecordTable<P>, seat: &mut RecordSeat, into: &mut [u64])
     requires table { (seat.old.table_id ≡ table.now.table_id)
-        × (table.now.table_id.words ≡ table.now.key.width + 1) }
+        × (table.now.table_id.words ≡ table.now.key.shape.width + 1) }
     requires alone { seat.old.me ≡ alone (first_of seat.old.me.0) }
-    requires long { (length into.old ≡ table.now.key.width) × (table.now.key.width ≤ 16) }
+    requires long { (length into.old ≡ table.now.key.shape.width) × (table.now.key.shape.width ≤ 16) }
     requires reading { (version : ℕ) × ((first_of seat.old.me.0).phase ≡ Reading version []) }
     ensures table { seat.new.table_id ≡ seat.old.table_id }
     ensures long { length into.new ≡ length into.old }
@@ -44,7 +44,7 @@ fn got_words<P: ContentRule>(
     seat: &mut RecordSeat,
     into: &mut [u64],
 ) -> Result<(), GetFault>
-    requires shape { (table.now.key ≡ shape) × (shape.width ≤ 16) }
+    requires shape { (table.now.key.shape ≡ shape) × (shape.width ≤ 16) }
     requires long { length into.old ≡ shape.width }
     requires table { (seat.old.table_id ≡ table.now.table_id)
         × (table.now.table_id.words ≡ shape.width + 1) }
@@ -55,8 +55,7 @@ fn got_words<P: ContentRule>(
     ensures alone { seat.new.me ≡ alone (first_of seat.new.me.0) }
     ensures ok { let v = first_of seat.old.me.0 in let w = first_of seat.new.me.0 in
         IfOk result (λ _. Recorded shape Get (Content into.new) v w) }
-    ensures obeys { let v = first_of seat.old.me.0 in
-        1 ≤ puts v.observed → IfOk result (λ _. P.holds into.new) }
+    ensures obeys { IfOk result (λ _. P.holds into.new) }
     ensures err { let v = first_of seat.old.me.0 in let w = first_of seat.new.me.0 in
         IfErr result (λ fault. GetRefused shape v fault w) }
 {
@@ -80,7 +79,7 @@ pub fn get_words<P: ContentRule>(
     seat: &mut RecordSeat,
     into: &mut [u64],
 ) -> Result<(), GetFault>
-    requires shape { (table.now.key ≡ shape) × (shape.width ≤ 16) }
+    requires shape { (table.now.key.shape ≡ shape) × (shape.width ≤ 16) }
     requires long { length into.old ≡ shape.width }
     requires table { (seat.old.table_id ≡ table.now.table_id)
         × (table.now.table_id.words ≡ shape.width + 1) }
@@ -91,8 +90,7 @@ pub fn get_words<P: ContentRule>(
     ensures alone { seat.new.me ≡ alone (first_of seat.new.me.0) }
     ensures ok { let v = first_of seat.old.me.0 in let w = first_of seat.new.me.0 in
         IfOk result (λ _. Recorded shape Get (Content into.new) v w) }
-    ensures obeys { let v = first_of seat.old.me.0 in
-        1 ≤ puts v.observed → IfOk result (λ _. P.holds into.new) }
+    ensures obeys { IfOk result (λ _. P.holds into.new) }
     ensures err { let v = first_of seat.old.me.0 in let w = first_of seat.new.me.0 in
         IfErr result (λ fault. GetRefused shape v fault w) }
 {

@@ -19,15 +19,15 @@ use std::marker::Brand;
 #[inline(always)]
 fn store_all<P: ContentRule>(table: &RecordTable<P>, seat: &mut RecordSeat, words: &[u64])
     requires table { (seat.old.table_id ≡ table.now.table_id)
-        × (table.now.table_id.words ≡ table.now.key.width + 1) }
+        × (table.now.table_id.words ≡ table.now.key.shape.width + 1) }
     requires alone { seat.old.me ≡ alone (first_of seat.old.me.0) }
-    requires long { (length words.now ≡ table.now.key.width) × (table.now.key.width ≤ 16) }
+    requires long { (length words.now ≡ table.now.key.shape.width) × (table.now.key.shape.width ≤ 16) }
     requires writing { (version : ℕ)
         × ((first_of seat.old.me.0).phase ≡ Writing version words.now 0) }
     ensures table { seat.new.table_id ≡ seat.old.table_id }
     ensures told { let v = first_of seat.old.me.0 in
         (version : ℕ) → v.phase ≡ Writing version words.now 0
-        → seat.new.me ≡ alone (with_phase v (Writing version words.now table.now.key.width)) }
+        → seat.new.me ≡ alone (with_phase v (Writing version words.now table.now.key.shape.width)) }
 {
     for i in 0..words.len() {
         store(table, seat, i, words[i]);
@@ -42,7 +42,7 @@ pub fn put_words<P: ContentRule>(
     seat: &mut RecordSeat,
     words: &[u64],
 ) -> Result<(), PutFault>
-    requires shape { (table.now.key ≡ shape) × (shape.width ≤ 16) }
+    requires shape { (table.now.key.shape ≡ shape) × (shape.width ≤ 16) }
     requires long { length words.now ≡ shape.width }
     requires good { P.holds words.now }
     requires table { (seat.old.table_id ≡ table.now.table_id)

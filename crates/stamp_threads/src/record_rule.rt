@@ -1,7 +1,7 @@
 //! The rule of a record's words, and what each step on them tells. These types are for proofs
 //! alone.
 use crate::lock_rule::{GivePass, PartSeats, ShareSeat};
-use crate::record_view::{RecordPasses, RecordShape};
+use crate::record_view::{RecordKey, RecordPasses};
 use atomic_table::{Join, Play, Split, TableRule};
 use std::marker::{Brand, PhantomData};
 
@@ -23,14 +23,13 @@ pub struct RecordRule<P> {
     of: PhantomData<P>,
 }
 
-impl<P: ContentRule> TableRule<(), RecordPasses, RecordShape> for RecordRule<P> {
+impl<P: ContentRule> TableRule<(), RecordPasses, RecordKey> for RecordRule<P> {
     ghost use Rattle.std.specs.Prelude.{[], ◌∷◌};
-    ghost use Rattle.stamp_threads.specs.RecordPass.{first_pass};
-    ghost use Rattle.stamp_threads.specs.RecordRule.{IsKept};
+    ghost use Rattle.stamp_threads.specs.RecordRule.{IsKept, opening_pass};
 
-    ghost holds = { IsKept P.holds };
+    ghost holds = { λ key. IsKept P.holds key.shape };
 
-    ghost first = { λ shape. first_pass ∷ [] };
+    ghost first = { λ key. opening_pass key.first ∷ [] };
 }
 
 /// The shape of the record, and the words that a step puts or has loaded. Each step picks its own.

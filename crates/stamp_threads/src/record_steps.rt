@@ -16,23 +16,23 @@ use crate::record_rule::{
     AcquireStep, ConfirmStep, EnterRecordStep, ContentRule, LoadWordStep, LookStep, MeetRecordStep, OpenStep, RecordRule,
     ReleaseStep, StoreStep, WordsStep,
 };
-use crate::record_view::{RecordPasses, RecordShape};
+use crate::record_view::{RecordKey, RecordPasses};
 use atomic_table::{Seat, Shared};
 
-pub type RecordTable<P> = Shared<(), RecordPasses, RecordShape, RecordRule<P>>;
+pub type RecordTable<P> = Shared<(), RecordPasses, RecordKey, RecordRule<P>>;
 
 pub type RecordSeat = Seat<(), RecordPasses>;
 
 /// Loads the lock word, before a put.
 #[inline(always)]
 pub fn look<C: WordsStep, P: ContentRule>(table: &RecordTable<P>, seat: &mut RecordSeat) -> u64
-    requires step { C.shape ≡ table.now.key }
+    requires step { C.shape ≡ table.now.key.shape }
     requires table { (seat.old.table_id ≡ table.now.table_id)
-        × (table.now.table_id.words ≡ table.now.key.width + 1) }
+        × (table.now.table_id.words ≡ table.now.key.shape.width + 1) }
     requires alone { seat.old.me ≡ alone (first_of seat.old.me.0) }
     requires idle { (first_of seat.old.me.0).phase ≡ Idle }
     ensures table { seat.new.table_id ≡ seat.old.table_id }
-    ensures told { Looked table.now.key (first_of seat.old.me.0) result seat.new.me }
+    ensures told { Looked table.now.key.shape (first_of seat.old.me.0) result seat.new.me }
 {
     table.load::<LookStep<C>>(seat, 0)
 }
@@ -46,18 +46,18 @@ pub fn acquire<C: WordsStep, P: ContentRule>(
     free: u64,
     held: u64,
 ) -> u64
-    requires step { (C.shape ≡ table.now.key) × (C.words ≡ words.now) }
-    requires long { length words.now ≡ table.now.key.width }
+    requires step { (C.shape ≡ table.now.key.shape) × (C.words ≡ words.now) }
+    requires long { length words.now ≡ table.now.key.shape.width }
     requires good { P.holds words.now }
     requires table { (seat.old.table_id ≡ table.now.table_id)
-        × (table.now.table_id.words ≡ table.now.key.width + 1) }
+        × (table.now.table_id.words ≡ table.now.key.shape.width + 1) }
     requires alone { seat.old.me ≡ alone (first_of seat.old.me.0) }
     requires idle { (first_of seat.old.me.0).phase ≡ Idle }
-    requires free { let limits = table.now.key.limits in
+    requires free { let limits = table.now.key.shape.limits in
         (n : ℕ) × (free ≡ word_with limits.layout n false)
         × (held ≡ free + writer_unit limits.layout) × (n < limits.versions) }
     ensures table { seat.new.table_id ≡ seat.old.table_id }
-    ensures told { let key = table.now.key in let v = first_of seat.old.me.0 in
+    ensures told { let key = table.now.key.shape in let v = first_of seat.old.me.0 in
         MatchBool (result == free) (Acquired key v result seat.new.me words.now)
         (Looked key v result seat.new.me) }
 {
@@ -69,9 +69,9 @@ pub fn acquire<C: WordsStep, P: ContentRule>(
 #[inline(always)]
 pub fn store<P: ContentRule>(table: &RecordTable<P>, seat: &mut RecordSeat, place: usize, word: u64)
     requires table { (seat.old.table_id ≡ table.now.table_id)
-        × (table.now.table_id.words ≡ table.now.key.width + 1) }
+        × (table.now.table_id.words ≡ table.now.key.shape.width + 1) }
     requires alone { seat.old.me ≡ alone (first_of seat.old.me.0) }
-    requires inside { (place < table.now.key.width) × (table.now.key.width ≤ 16) }
+    requires inside { (place < table.now.key.shape.width) × (table.now.key.shape.width ≤ 16) }
     requires writing { (version : ℕ) × (words : List ℕ)
         × ((first_of seat.old.me.0).phase ≡ Writing version words place)
         × (word ≡ slice_index words place) }
@@ -90,17 +90,17 @@ pub fn release<C: WordsStep, P: ContentRule>(
     held: u64,
     free: u64,
 )
-    requires step { (C.shape ≡ table.now.key) × (C.words ≡ words.now) }
+    requires step { (C.shape ≡ table.now.key.shape) × (C.words ≡ words.now) }
     requires table { (seat.old.table_id ≡ table.now.table_id)
-        × (table.now.table_id.words ≡ table.now.key.width + 1) }
+        × (table.now.table_id.words ≡ table.now.key.shape.width + 1) }
     requires alone { seat.old.me ≡ alone (first_of seat.old.me.0) }
-    requires writing { let key = table.now.key in
+    requires writing { let key = table.now.key.shape in
         (version : ℕ) × ((first_of seat.old.me.0).phase ≡ Writing version words.now key.width)
         × (held ≡ word_with key.limits.layout version true)
         × (free ≡ held + writer_unit key.limits.layout) }
     ensures table { seat.new.table_id ≡ seat.old.table_id }
     ensures told { let v = first_of seat.old.me.0 in
-        Released table.now.key v held seat.new.me words.now }
+        Released table.now.key.shape v held seat.new.me words.now }
 {
     let _ = words;
     table.compare_exchange::<ReleaseStep<C>>(seat, 0, held, free);
@@ -109,13 +109,13 @@ pub fn release<C: WordsStep, P: ContentRule>(
 /// Loads the lock word, before a get.
 #[inline(always)]
 pub fn open<C: WordsStep, P: ContentRule>(table: &RecordTable<P>, seat: &mut RecordSeat) -> u64
-    requires step { C.shape ≡ table.now.key }
+    requires step { C.shape ≡ table.now.key.shape }
     requires table { (seat.old.table_id ≡ table.now.table_id)
-        × (table.now.table_id.words ≡ table.now.key.width + 1) }
+        × (table.now.table_id.words ≡ table.now.key.shape.width + 1) }
     requires alone { seat.old.me ≡ alone (first_of seat.old.me.0) }
     requires idle { (first_of seat.old.me.0).phase ≡ Idle }
     ensures table { seat.new.table_id ≡ seat.old.table_id }
-    ensures told { Opened table.now.key (first_of seat.old.me.0) result seat.new.me }
+    ensures told { Opened table.now.key.shape (first_of seat.old.me.0) result seat.new.me }
 {
     table.load::<OpenStep<C>>(seat, 0)
 }
@@ -124,9 +124,9 @@ pub fn open<C: WordsStep, P: ContentRule>(table: &RecordTable<P>, seat: &mut Rec
 #[inline(always)]
 pub fn load_word<P: ContentRule>(table: &RecordTable<P>, seat: &mut RecordSeat, place: usize) -> u64
     requires table { (seat.old.table_id ≡ table.now.table_id)
-        × (table.now.table_id.words ≡ table.now.key.width + 1) }
+        × (table.now.table_id.words ≡ table.now.key.shape.width + 1) }
     requires alone { seat.old.me ≡ alone (first_of seat.old.me.0) }
-    requires inside { (place < table.now.key.width) × (table.now.key.width ≤ 16) }
+    requires inside { (place < table.now.key.shape.width) × (table.now.key.shape.width ≤ 16) }
     requires reading { (version : ℕ) × (words : List ℕ)
         × ((first_of seat.old.me.0).phase ≡ Reading version words) × (length words ≡ place) }
     ensures table { seat.new.table_id ≡ seat.old.table_id }
@@ -138,15 +138,15 @@ pub fn load_word<P: ContentRule>(table: &RecordTable<P>, seat: &mut RecordSeat, 
 /// Loads the lock word again. Where it is the word of the first load, these words stood together.
 #[inline(always)]
 pub fn confirm<C: WordsStep, P: ContentRule>(table: &RecordTable<P>, seat: &mut RecordSeat, words: &[u64]) -> u64
-    requires step { (C.shape ≡ table.now.key) × (C.words ≡ words.now) }
+    requires step { (C.shape ≡ table.now.key.shape) × (C.words ≡ words.now) }
     requires table { (seat.old.table_id ≡ table.now.table_id)
-        × (table.now.table_id.words ≡ table.now.key.width + 1) }
+        × (table.now.table_id.words ≡ table.now.key.shape.width + 1) }
     requires alone { seat.old.me ≡ alone (first_of seat.old.me.0) }
     requires reading { (version : ℕ)
         × ((first_of seat.old.me.0).phase ≡ Reading version words.now)
-        × (length words.now ≡ table.now.key.width) }
+        × (length words.now ≡ table.now.key.shape.width) }
     ensures table { seat.new.table_id ≡ seat.old.table_id }
-    ensures told { let key = table.now.key in let v = first_of seat.old.me.0 in
+    ensures told { let key = table.now.key.shape in let v = first_of seat.old.me.0 in
         MatchBool (result == word_to_confirm key.limits.layout v.phase)
         (Confirmed key v result seat.new.me P.holds words.now) (Overtaken key v result seat.new.me) }
 {
@@ -156,11 +156,11 @@ pub fn confirm<C: WordsStep, P: ContentRule>(table: &RecordTable<P>, seat: &mut 
 
 /// A new seat, made by a load: its pass has the next root.
 pub fn enter<C: WordsStep, P: ContentRule>(table: &RecordTable<P>) -> RecordSeat
-    requires step { C.shape ≡ table.now.key }
-    requires table { table.now.table_id.words ≡ table.now.key.width + 1 }
+    requires step { C.shape ≡ table.now.key.shape }
+    requires table { table.now.table_id.words ≡ table.now.key.shape.width + 1 }
     ensures table { result.table_id ≡ table.now.table_id }
     ensures alone { result.me ≡ alone (first_of result.me.0) }
-    ensures entered { HasEntered table.now.key.width (first_of result.me.0) }
+    ensures entered { HasEntered table.now.key.shape.width (first_of result.me.0) }
 {
     let (_, seat) = table.load_new_seat::<EnterRecordStep<C>>(0);
     seat
@@ -169,7 +169,7 @@ pub fn enter<C: WordsStep, P: ContentRule>(table: &RecordTable<P>) -> RecordSeat
 /// A new seat, whose pass has a name that the first one gives.
 pub fn split<P: ContentRule>(table: &RecordTable<P>, seat: &mut RecordSeat) -> RecordSeat
     requires table { (seat.old.table_id ≡ table.now.table_id)
-        × (table.now.table_id.words ≡ table.now.key.width + 1) }
+        × (table.now.table_id.words ≡ table.now.key.shape.width + 1) }
     requires alone { seat.old.me ≡ alone (first_of seat.old.me.0) }
     requires idle { (first_of seat.old.me.0).phase ≡ Idle }
     ensures table { (seat.new.table_id ≡ seat.old.table_id)
@@ -183,7 +183,7 @@ pub fn split<P: ContentRule>(table: &RecordTable<P>, seat: &mut RecordSeat) -> R
 /// Puts both passes on one seat.
 pub fn share_seat<P: ContentRule>(table: &RecordTable<P>, seat: &mut RecordSeat, other: RecordSeat)
     requires table { (seat.old.table_id ≡ table.now.table_id)
-        × (table.now.table_id.words ≡ table.now.key.width + 1) }
+        × (table.now.table_id.words ≡ table.now.key.shape.width + 1) }
     requires other { other.table_id ≡ table.now.table_id }
     requires alone { seat.old.me ≡ alone (first_of seat.old.me.0) }
     requires other_alone { other.me ≡ alone (first_of other.me.0) }
@@ -198,15 +198,15 @@ pub fn share_seat<P: ContentRule>(table: &RecordTable<P>, seat: &mut RecordSeat,
 /// A load by a seat that stands for two passes: it tells that both had observed beginnings of one
 /// history.
 pub fn load_both<C: WordsStep, P: ContentRule>(table: &RecordTable<P>, seat: &mut RecordSeat)
-    requires step { C.shape ≡ table.now.key }
+    requires step { C.shape ≡ table.now.key.shape }
     requires table { (seat.old.table_id ≡ table.now.table_id)
-        × (table.now.table_id.words ≡ table.now.key.width + 1) }
+        × (table.now.table_id.words ≡ table.now.key.shape.width + 1) }
     requires both { seat.old.me ≡ both (first_of seat.old.me.0) (second_of seat.old.me.0) }
     requires idle { ((first_of seat.old.me.0).phase ≡ Idle)
         × ((second_of seat.old.me.0).phase ≡ Idle) }
     ensures table { seat.new.table_id ≡ seat.old.table_id }
     ensures told { let old = seat.old.me.0 in
-        Met table.now.key (first_of old) (second_of old) seat.new.me }
+        Met table.now.key.shape (first_of old) (second_of old) seat.new.me }
 {
     table.load::<MeetRecordStep<C>>(seat, 0);
 }
@@ -214,7 +214,7 @@ pub fn load_both<C: WordsStep, P: ContentRule>(table: &RecordTable<P>, seat: &mu
 /// Puts the two passes of a seat on two seats.
 pub fn part_seats<P: ContentRule>(table: &RecordTable<P>, seat: &mut RecordSeat) -> RecordSeat
     requires table { (seat.old.table_id ≡ table.now.table_id)
-        × (table.now.table_id.words ≡ table.now.key.width + 1) }
+        × (table.now.table_id.words ≡ table.now.key.shape.width + 1) }
     requires both { seat.old.me ≡ both (first_of seat.old.me.0) (second_of seat.old.me.0) }
     requires idle { ((first_of seat.old.me.0).phase ≡ Idle)
         × ((second_of seat.old.me.0).phase ≡ Idle) }

@@ -1,7 +1,7 @@
 //! What a pass of a record knows. But for the shape, no value of these types is made: they stand in
 //! contracts and proofs alone.
 use crate::pass_view::PassView;
-use stamp_core::{Call, Limits, Reply};
+use stamp_core::{Call, Limits, Reply, Words};
 use std::collections::LinkedList;
 
 /// The limits of a record's lock word, of which the readers don't matter, and its width in words.
@@ -9,6 +9,13 @@ use std::collections::LinkedList;
 pub struct RecordShape {
     pub limits: Limits,
     pub width: usize,
+}
+
+/// What the rule of a record reads: its shape, and the content that its first pass put, if it did.
+#[derive(Clone, Copy)]
+pub struct RecordKey {
+    pub shape: RecordShape,
+    pub first: Option<Words>,
 }
 
 /// What a pass made, in the one history of a record.

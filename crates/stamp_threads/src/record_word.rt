@@ -15,6 +15,17 @@ pub fn opening_word(layout: Layout) -> u64
     }
 }
 
+/// The word of a record after one put.
+#[tactic(auto, unfolding(stamp_core::specs::Layout::units_of))]
+pub fn first_word(layout: Layout) -> u64
+    ensures { result ≡ word_with layout 1 false }
+{
+    match layout {
+        Layout::One => 512,
+        Layout::Two => 262_144,
+    }
+}
+
 #[tactic(auto, unfolding(stamp_core::specs::Layout::units_of))]
 #[inline(always)]
 fn is_held_in(layout: Layout, word: u64) -> bool

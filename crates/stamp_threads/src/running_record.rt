@@ -1,11 +1,12 @@
 //! The record that threads share.
-ghost use Rattle.std.specs.Prelude.{◌≡◌, ◌+◌, ◌≤◌, IfOk, IfErr, length};
+ghost use Rattle.std.specs.Prelude.{◌≡◌, ◌+◌, ◌≤◌, ◌-◌, ◌∷◌, [], IfOk, IfErr, Some, length, take};
 ghost use Rattle.stamp_core.specs.declared.call.Call.TheVariants.{Get, Put};
 ghost use Rattle.stamp_core.specs.declared.reply.Reply.TheVariants.{Done, Content};
 ghost use Rattle.stamp_threads.specs.PassView.{after_split, split_off};
-ghost use Rattle.stamp_threads.specs.RecordLog.{puts};
 ghost use Rattle.stamp_threads.specs.RecordPass.{HasEntered, IsConsistentWith, first_pass};
 ghost use Rattle.stamp_threads.specs.RecordCall.{Recorded, PutRefused, GetRefused, HaveMet};
+ghost use Rattle.stamp_threads.specs.RecordRule.{opening_pass, IsKept};
+ghost use Rattle.atomic_table.specs.Table.{opening};
 
 use crate::faults::{GetFault, PutFault};
 use crate::record_get::get_words;
@@ -13,8 +14,8 @@ use crate::record_pass::RecordPass;
 use crate::record_put::put_words;
 use crate::record_rule::{AnyContent, ContentRule, RecordRule};
 use crate::record_steps;
-use crate::record_view::{RecordPasses, RecordShape};
-use crate::record_word::opening_word;
+use crate::record_view::{RecordKey, RecordPasses, RecordShape};
+use crate::record_word::{first_word, opening_word};
 use crate::running_lock::LockError;
 use atomic_table::Table;
 use stamp_core::{Limits, Words};
@@ -26,7 +27,7 @@ use std::marker::{Brand, Model};
 /// together.
 #[derive(Drop)]
 pub struct RuledRecord<P: ContentRule> {
-    pub(crate) table: Table<(), RecordPasses, RecordShape, RecordRule<P>, Global>,
+    pub(crate) table: Table<(), RecordPasses, RecordKey, RecordRule<P>, Global>,
     pub(crate) shape: RecordShape,
 }
 
@@ -38,30 +39,103 @@ impl<P: ContentRule> Model for RuledRecord<P> {
 
     ghost view = { λ r. record { table = r.table.shared.table_id; shape = r.shape } };
 
-    ghost invariant = { λ r. (r.table.shared.key ≡ r.shape)
+    ghost invariant = { λ r. (r.table.shared.key.shape ≡ r.shape)
         × (r.table.shared.table_id.words ≡ r.shape.width + 1)
         × (1 ≤ r.shape.width) × (r.shape.width ≤ 16) };
 }
 
-impl<P: ContentRule> RuledRecord<P> {
+fn key_of(limits: Limits, width: usize, first: Option<Words>) -> RecordKey
+    ensures { result ≡ record {
+      shape = record { limits = limits; width = width };
+      first = first;
+    } }
+{
+    RecordKey {
+        shape: RecordShape { limits, width },
+        first,
+    }
+}
+
+/// The words of a table: the lock word, and these.
+fn row_of(lock_word: u64, words: &[u64]) -> [u64; 17]
+    requires { length words.now ≤ 16 }
+    ensures { take (length words.now + 1) result ≡ lock_word ∷ words.now }
+{
+    let mut row = [0u64; 17];
+    row[0] = lock_word;
+    for i in 0..words.len() {
+        row[i + 1] = words[i];
+    }
+    row
+}
+
+impl RuledRecord<AnyContent> {
     /// A record of zeros, and its first pass. Of the limits only the layout and the versions count:
     /// so many puts it will take in all. It refuses only for want of memory.
     pub fn new(
         alloc: Global,
         limits: Limits,
         width: usize,
-    ) -> Result<(RuledRecord<P>, RecordPass), LockError>
+    ) -> Result<(RunningRecord, RecordPass), LockError>
         requires { (1 ≤ width) × (width ≤ 16) }
         ensures shape { IfOk result (λ r. r.0.shape ≡ record { limits = limits; width = width }) }
         ensures table { IfOk result (λ r. r.1.table ≡ r.0.table) }
         ensures pass { IfOk result (λ r. r.1.view ≡ first_pass) }
         ensures consistent { IfOk result (λ r. IsConsistentWith width r.1.view) }
     {
-        let shape = RecordShape { limits, width };
         let mut row = [0u64; 17];
         row[0] = opening_word(limits.layout());
-        match Table::of_words(alloc, &row[..width + 1], &shape) {
-            Ok((table, seat)) => Ok((RuledRecord { table, shape }, RecordPass { seat })),
+        Self::of_table(alloc, limits, &row[..width + 1], None)
+    }
+}
+
+impl<P: ContentRule> RuledRecord<P> {
+    /// A record of these words, which keep to the rule, and its first pass: as if that had put them.
+    /// So it takes one version. It refuses only for want of memory.
+    pub fn holding(
+        alloc: Global,
+        limits: Limits,
+        first: Words,
+    ) -> Result<(RuledRecord<P>, RecordPass), LockError>
+        requires version { 1 ≤ limits.versions }
+        requires good { P.holds first }
+        ensures shape { IfOk result (λ r.
+            r.0.shape ≡ record { limits = limits; width = length first }) }
+        ensures table { IfOk result (λ r. r.1.table ≡ r.0.table) }
+        ensures pass { IfOk result (λ r. r.1.view ≡ opening_pass (Some first)) }
+        ensures consistent { IfOk result (λ r. IsConsistentWith (length first) r.1.view) }
+    {
+        let width = first.len();
+        let row = row_of(first_word(limits.layout()), first.as_slice());
+        Self::of_table(alloc, limits, &row[..width + 1], Some(first))
+    }
+
+    /// A record of a table of these words: the lock word, and the record's.
+    fn of_table(
+        alloc: Global,
+        limits: Limits,
+        words: &[u64],
+        first: Option<Words>,
+    ) -> Result<(RuledRecord<P>, RecordPass), LockError>
+        requires width { (2 ≤ length words.now) × (length words.now ≤ 17) }
+        requires kept { IsKept P.holds
+            (record { limits = limits; width = length words.now - 1 })
+            (opening words.now [] (opening_pass first ∷ [])) }
+        requires consistent { IsConsistentWith (length words.now - 1) (opening_pass first) }
+        ensures shape { IfOk result (λ r.
+            r.0.shape ≡ record { limits = limits; width = length words.now - 1 }) }
+        ensures table { IfOk result (λ r. r.1.table ≡ r.0.table) }
+        ensures pass { IfOk result (λ r. r.1.view ≡ opening_pass first) }
+    {
+        let key = key_of(limits, words.len() - 1, first);
+        match Table::of_words(alloc, words, &key) {
+            Ok((table, seat)) => {
+                let shape = RecordShape {
+                    limits,
+                    width: words.len() - 1,
+                };
+                Ok((RuledRecord { table, shape }, RecordPass { seat }))
+            }
             Err(_) => Err(LockError::Unmade),
         }
     }
@@ -97,8 +171,7 @@ impl<P: ContentRule> RuledRecord<P> {
         ensures width { IfOk result (λ words. length words ≡ self.now.shape.width) }
         ensures ok { let v = pass.old.view in let w = pass.new.view in
             IfOk result (λ words. Recorded self.now.shape Get (Content words) v w) }
-        ensures obeys { let v = pass.old.view in
-            1 ≤ puts v.observed → IfOk result (λ words. P.holds words) }
+        ensures obeys { IfOk result (λ words. P.holds words) }
         ensures err { let v = pass.old.view in let w = pass.new.view in
             IfErr result (λ fault. GetRefused self.now.shape v fault w) }
     {
@@ -120,8 +193,7 @@ impl<P: ContentRule> RuledRecord<P> {
         ensures width { IfOk result (λ words. length words ≡ self.now.shape.width) }
         ensures ok { let v = pass.old.view in let w = pass.new.view in
             IfOk result (λ words. Recorded self.now.shape Get (Content words) v w) }
-        ensures obeys { let v = pass.old.view in
-            1 ≤ puts v.observed → IfOk result (λ words. P.holds words) }
+        ensures obeys { IfOk result (λ words. P.holds words) }
         ensures err { let v = pass.old.view in let w = pass.new.view in
             IfErr result (λ fault. GetRefused self.now.shape v fault w) }
     {
@@ -141,8 +213,7 @@ impl<P: ContentRule> RuledRecord<P> {
         ensures width { IfOk result (λ words. length words ≡ self.now.shape.width) }
         ensures ok { let v = pass.old.view in let w = pass.new.view in
             IfOk result (λ words. Recorded self.now.shape Get (Content words) v w) }
-        ensures obeys { let v = pass.old.view in
-            1 ≤ puts v.observed → IfOk result (λ words. P.holds words) }
+        ensures obeys { IfOk result (λ words. P.holds words) }
         ensures err { let v = pass.old.view in let w = pass.new.view in
             IfErr result (λ fault. GetRefused self.now.shape v fault w) }
     {
@@ -161,8 +232,7 @@ impl<P: ContentRule> RuledRecord<P> {
         ensures width { length into.new ≡ length into.old }
         ensures ok { let v = pass.old.view in let w = pass.new.view in
             IfOk result (λ _. Recorded self.now.shape Get (Content into.new) v w) }
-        ensures obeys { let v = pass.old.view in
-            1 ≤ puts v.observed → IfOk result (λ _. P.holds into.new) }
+        ensures obeys { IfOk result (λ _. P.holds into.new) }
         ensures err { let v = pass.old.view in let w = pass.new.view in
             IfErr result (λ fault. GetRefused self.now.shape v fault w) }
     {

@@ -2,10 +2,10 @@ use Rattle.std.proofs.Common.{[]}
 use Rattle.stamp_threads.proofs.record_put.put_words.Given as goal
 
 abbrev pub ghosts-look : goal.ghosts-look
-ghosts-look g a = record { shape = a.table.now.key; words = [] }
+ghosts-look g a = record { shape = a.table.now.key.shape; words = [] }
 
 abbrev pub ghosts-acquire : goal.ghosts-acquire
-ghosts-acquire g a = record { shape = a.table.now.key; words = a.words.now }
+ghosts-acquire g a = record { shape = a.table.now.key.shape; words = a.words.now }
 
 abbrev pub ghosts-release : goal.ghosts-release
-ghosts-release g a = record { shape = a.table.now.key; words = a.words.now }
+ghosts-release g a = record { shape = a.table.now.key.shape; words = a.words.now }
