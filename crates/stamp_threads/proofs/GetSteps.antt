@@ -1,5 +1,5 @@
 -- Each step of a get keeps the rule, and tells what it is to tell.
-use Rattle.std.proofs.Common.{◌≡◌, ◌≢◌, ℕ, ◌+◌, ◌<◌, ◌≤◌, eqb, Bool, true, false, true≢false, MatchBool}
+use Rattle.std.proofs.Common.{◌≡◌, ◌≢◌, ℕ, ◌+◌, ◌<◌, eqb, Bool, true, false, true≢false, MatchBool}
 use Rattle.std.proofs.Common.{if◌then◌else◌, List, [], ◌∷◌, ◌++◌, length, get_or, refl, ap, sym}
 use Rattle.std.proofs.Common.{◌∙◌, subst, arith, le_refl, length-append}
 use Rattle.std.proofs.lemmas.Bool.{eqb-true}

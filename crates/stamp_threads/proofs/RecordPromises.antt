@@ -1,6 +1,5 @@
 -- What the steps of a call of a record tell, put together.
 use Rattle.std.proofs.Common.{◌≡◌, ◌≢◌, ℕ, ◌+◌, ◌<◌, ◌≤◌, ◌%◌, ◌/◌, ◌^◌, eqb, Bool, true, false}
-use mathlib.Core.List.{IsPrefix}
 use Rattle.std.proofs.Common.{if◌then◌else◌, MatchBool, List, [], refl, ap, sym, ◌∙◌, subst}
 use Rattle.std.proofs.Common.{◌∷◌, ◌++◌, append_assoc, arith, eq-eqb, ne_eqb}
 use Rattle.stamp_core.specs.declared.call.Call.TheVariants.{Get}

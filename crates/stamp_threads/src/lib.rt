@@ -12,6 +12,7 @@ mod lost;
 mod machine_steps;
 mod pass;
 mod pass_view;
+mod patience;
 mod record_get;
 mod record_pass;
 mod record_put;

@@ -13,8 +13,8 @@ ghost use Rattle.stamp_threads.specs.RecordRule.{Met};
 
 use crate::lock_rule::{GivePass, PartSeats, ShareSeat};
 use crate::record_rule::{
-    AcquireStep, ConfirmStep, EnterRecordStep, ContentRule, LoadWordStep, LookStep, MeetRecordStep, OpenStep, RecordRule,
-    ReleaseStep, StoreStep, WordsStep,
+    AcquireStep, ConfirmStep, ContentRule, EnterRecordStep, LoadWordStep, LookStep, MeetRecordStep,
+    OpenStep, RecordRule, ReleaseStep, StoreStep, WordsStep,
 };
 use crate::record_view::{RecordKey, RecordPasses};
 use atomic_table::{Seat, Shared};
@@ -137,7 +137,11 @@ pub fn load_word<P: ContentRule>(table: &RecordTable<P>, seat: &mut RecordSeat, 
 
 /// Loads the lock word again. Where it is the word of the first load, these words stood together.
 #[inline(always)]
-pub fn confirm<C: WordsStep, P: ContentRule>(table: &RecordTable<P>, seat: &mut RecordSeat, words: &[u64]) -> u64
+pub fn confirm<C: WordsStep, P: ContentRule>(
+    table: &RecordTable<P>,
+    seat: &mut RecordSeat,
+    words: &[u64],
+) -> u64
     requires step { (C.shape ≡ table.now.key.shape) × (C.words ≡ words.now) }
     requires table { (seat.old.table_id ≡ table.now.table_id)
         × (table.now.table_id.words ≡ table.now.key.shape.width + 1) }

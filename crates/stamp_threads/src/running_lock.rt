@@ -13,13 +13,13 @@ use crate::lock_steps;
 use crate::lost::Lost;
 use crate::machine_steps::try_form;
 use crate::pass::Pass;
+use crate::patience::Patience;
 use atomic_table::Table;
 use stamp_core::{Call, Limits, Reply, Word};
 use stamp_machines::Passage;
 use std::alloc::Global;
 use std::marker::{Brand, Model};
 use std::sync::Wait;
-use std::thread;
 
 /// Why a lock or a record is not made.
 #[derive(Clone, Copy, PartialEq, Eq, Debug, Drop)]
@@ -107,8 +107,10 @@ impl RunningLock {
         }
     }
 
-    /// Makes the call, and tries again until it is made: `WriteLock` and `ReadLock` wait for
-    /// others, and let other threads run before they look again. It may go on for ever.
+    /// Makes the call, and tries again until it is made: `WriteLock` and `ReadLock` wait for others.
+    /// Between two looks such a call spins a little, from the eighth look on it lets other threads
+    /// run, and from the sixteenth on it sleeps until the word changes or 100 microseconds are over.
+    /// It may go on for ever.
     pub fn call<R: Wait>(&self, rt: &R, pass: &mut Pass, call: Call) -> Reply
         requires call { IsTrue (is_lock_call call) }
         requires lock { pass.old.table ≡ self.now.table }
@@ -117,14 +119,18 @@ impl RunningLock {
     {
         let mut reply = Reply::Done;
         let mut seen = None;
+        let mut patience = Patience::new();
         for _ in rt.forever() {
-            let (_, passage) = self.step(pass, &call, seen, &mut reply);
+            let has_tried = seen.is_some();
+            let (found, passage) = self.step(pass, &call, seen, &mut reply);
             match passage {
                 Passage::Ended => return reply,
                 Passage::Still(next) => seen = next,
             }
             if seen.is_none() {
-                thread::yield_now();
+                patience.wait(rt, &self.table.shared, found);
+            } else if has_tried {
+                patience.lose();
             }
         }
         unreachable!()

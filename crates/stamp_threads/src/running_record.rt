@@ -244,8 +244,9 @@ impl<P: ContentRule> RuledRecord<P> {
         ensures table { result.table ≡ self.now.table }
         ensures entered { HasEntered self.now.shape.width result.view }
     {
-        let seat = record_steps::enter::<Brand, P>(&self.table.shared);
-        RecordPass { seat }
+        RecordPass {
+            seat: record_steps::enter::<Brand, P>(&self.table.shared),
+        }
     }
 
     /// A new pass, which has observed as much as this one and made no call. It makes one load and

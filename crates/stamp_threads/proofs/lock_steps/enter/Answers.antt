@@ -1,4 +1,4 @@
-use Rattle.std.proofs.Common.{rules, arith}
+use Rattle.std.proofs.Common.{arith}
 use Rattle.stamp_threads.proofs.PassMoves.{allows_enter}
 use Rattle.stamp_threads.proofs.lock_steps.enter.Goals as goal
 

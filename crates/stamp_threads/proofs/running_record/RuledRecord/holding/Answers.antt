@@ -1,4 +1,4 @@
-use Rattle.std.proofs.Common.{◌≡◌, ℕ, ◌+◌, ◌-◌, List, [], ◌∷◌, Some, length, take, ap, ◌∙◌, false}
+use Rattle.std.proofs.Common.{◌≡◌, ℕ, ◌+◌, ◌-◌, [], ◌∷◌, Some, length, take, ap, ◌∙◌, false}
 use Rattle.std.proofs.Common.{subst, arith}
 use Rattle.atomic_table.specs.Table.{opening}
 use Rattle.stamp_core.specs.declared.layout.Layout.{Layout}
