@@ -1,0 +1,84 @@
+//! Passes of threads that come later, and records that begin with a content of their own.
+ghost use Rattle.std.specs.Prelude.{◌≡◌, ◌<◌, slice_index};
+
+use crate::lock_tests::made;
+use crate::record_tests::{made_record, words_of};
+use stamp_core::{Call, Layout, Limits, Reply, Words};
+use stamp_threads::{ContentRule, GetFault, RecordPass, RuledRecord};
+use std::test::Fail;
+use std::thread::join;
+
+#[test]
+fn a_pass_that_enters_finds_what_was_acquired(rt: HostRuntime) -> Result<(), Fail> {
+    let (lock, mut first) = made(rt.alloc(), Layout::One, 127)?;
+    assert_eq!(rt; lock.once(&mut first, Call::TryRead), Ok(Reply::Stamp(257)));
+    let mut second = lock.enter();
+    assert_eq!(rt; lock.once(&mut second, Call::TryRead), Ok(Reply::Stamp(258)));
+    let mut third = lock.split_off(&mut second);
+    assert_eq!(rt; lock.once(&mut third, Call::ReadCount), Ok(Reply::Count(2)));
+    let (first, second) = lock.meet(first, second);
+    let (first, third) = lock.meet(first, third);
+    drop(second);
+    drop(third);
+    assert_eq!(rt; lock.close(first), 258);
+    Ok(())
+}
+
+#[test]
+fn threads_enter_by_a_shared_reference(rt: HostRuntime) -> Result<(), Fail> {
+    let (lock, first) = made(rt.alloc(), Layout::One, 127)?;
+    let (a, b) = join(
+        &rt,
+        || -> Reply { lock.call(&rt, &mut lock.enter(), Call::ReadLock) },
+        || -> Reply { lock.call(&rt, &mut lock.enter(), Call::ReadLock) },
+    );
+    let stamps = [Reply::Stamp(257), Reply::Stamp(258)];
+    assert!(rt; stamps == [a, b] || stamps == [b, a]);
+    assert_eq!(rt; lock.close(first), 258);
+    Ok(())
+}
+
+#[test]
+fn a_pass_that_enters_a_record_gets_its_words(rt: HostRuntime) -> Result<(), Fail> {
+    let (shared, mut first) = made_record(rt.alloc(), Layout::One, 10, 2)?;
+    assert_eq!(rt; shared.put_once(&mut first, words_of(&[3, 4])?), Ok(()));
+    let mut second = shared.enter();
+    assert_eq!(rt; shared.get_once(&mut second), Ok(words_of(&[3, 4])?));
+    let mut third = shared.split_off(&mut second);
+    assert_eq!(rt; shared.get_once(&mut third), Ok(words_of(&[3, 4])?));
+    Ok(())
+}
+
+/// The first word is below the second.
+struct Rising;
+
+impl ContentRule for Rising {
+    ghost use Rattle.std.specs.Prelude.{◌<◌, slice_index};
+
+    ghost holds = { λ words. slice_index words 0 < slice_index words 1 };
+}
+
+/// How far the second word is above the first: by the rule the difference doesn't wrap.
+fn height(shared: &RuledRecord<Rising>, pass: &mut RecordPass) -> Result<u64, GetFault>
+    requires { (pass.old.table ≡ shared.now.table) × (shared.now.shape.width ≡ 2) }
+    ensures { pass.new.table ≡ shared.now.table }
+{
+    let mut row = [0u64; 2];
+    shared.get_into(pass, &mut row)?;
+    Ok(row[1] - row[0])
+}
+
+#[test]
+fn a_record_begins_with_its_first_content(rt: HostRuntime) -> Result<(), Fail> {
+    let limits = Limits::new(1, 10)?;
+    let first = Words::of_row([3, 5, 0, 0, 0, 0, 0, 0, 0, 0, 0, 0, 0, 0, 0, 0], 2);
+    let Ok((shared, mut pass)) = RuledRecord::<Rising>::holding(rt.alloc(), limits, first) else {
+        return Err(Fail::from("no memory for the record"));
+    };
+    assert_eq!(rt; height(&shared, &mut pass), Ok(2));
+    let next = Words::of_row([7, 17, 0, 0, 0, 0, 0, 0, 0, 0, 0, 0, 0, 0, 0, 0], 2);
+    assert_eq!(rt; shared.put_once(&mut pass, next), Ok(()));
+    let mut later = shared.enter();
+    assert_eq!(rt; height(&shared, &mut later), Ok(10));
+    Ok(())
+}
