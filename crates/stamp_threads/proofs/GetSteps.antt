@@ -146,7 +146,8 @@ module _ (P : List ℕ → Type 0) (shape : RecordShape) (s : State (Unit {0}) (
       }
 
 -- the first load of a get, by whether somebody has write mode
-open_at : (P : List ℕ → Type 0) (shape : RecordShape) (s : State (Unit {0}) (List RecordPassView)) (r : IsKept P shape s)
+open_at : (P : List ℕ → Type 0) (shape : RecordShape)
+    (s : State (Unit {0}) (List RecordPassView)) (r : IsKept P shape s)
     (id : ℕ) (v : RecordPassView) → get_elem? s.views id ≡ some (v ∷ []) → v.phase ≡ Idle →
     (b : Bool) → is_locked r.log ≡ b →
     (word : ℕ) → KeptBy P shape s id (if b then observing (finding v word) r.log

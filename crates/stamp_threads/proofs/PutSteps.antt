@@ -230,7 +230,8 @@ module _ (P : List ℕ → Type 0) (shape : RecordShape) (s : State (Unit {0}) (
       )
 
 -- a load that a put begins with
-look_at : (P : List ℕ → Type 0) (shape : RecordShape) (s : State (Unit {0}) (List RecordPassView)) (r : IsKept P shape s)
+look_at : (P : List ℕ → Type 0) (shape : RecordShape)
+    (s : State (Unit {0}) (List RecordPassView)) (r : IsKept P shape s)
     (id : ℕ) (me : Seated) → me ≡ alone (first_of me.0) → (first_of me.0).phase ≡ Idle →
     get_elem? s.views id ≡ some (first_of me.0 ∷ []) →
     KeptBy P shape s id (observing (finding (first_of me.0) (get_or s.words 0 0)) r.log) s.words ×

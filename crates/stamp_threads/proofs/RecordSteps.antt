@@ -27,7 +27,8 @@ use Rattle.stamp_threads.proofs.SeatSteps.{other_part}
 use Rattle.stamp_threads.proofs.SeatMoves.{stands_else}
 
 -- what a pass of the seat that steps knows afterwards
-pub record Brings (P : List ℕ → Type 0) (width : ℕ) (cells : List ℕ) (log : RecordLog) (w : RecordPassView) : Type 0 where
+pub record Brings (P : List ℕ → Type 0) (width : ℕ) (cells : List ℕ) (log : RecordLog)
+    (w : RecordPassView) : Type 0 where
   pub observed : IsPrefix w.observed log
   pub own : made_by is_own w.name log ≡ w.own
   pub marks : marks_of w.name log ≡ puts_in w.own + marks_ahead w.phase

@@ -7,9 +7,9 @@ use Rattle.stamp_threads.specs.PassView.{HasFound}
 use Rattle.stamp_threads.specs.LockLog.{LockLog, Appends}
 use Rattle.stamp_threads.specs.LockPass.{LockPass, IsConsistentWith, LeavesWord}
 
--- the load of the call and its exchange found the two words. Two legal histories, of which the second
--- begins with the first, left them, and after each the call changes the lock. The pass v has observed the second, and made no call: it is w
--- then
+-- The load of the call and its exchange found the two words. Two legal histories, of which the second
+-- begins with the first, left them, and after each the call changes the lock. The pass v has observed
+-- the second, and made no call: it is w then.
 pub record LostExchange (limits : Bounds) (call : Call) (loaded found : ℕ) (v w : LockPass) : Type 0
   where
     pub differ : loaded ≢ found

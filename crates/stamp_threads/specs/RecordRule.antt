@@ -66,7 +66,8 @@ pub record HasWriter (log : RecordLog) (views : List (List RecordPassView)) : Ty
 
 -- there is one legal history, which leaves the lock word; the other words are its content where it
 -- is not locked
-pub record IsKept (P : List ℕ → Type 0) (shape : RecordShape) (s : State (Unit {0}) (List RecordPassView)) : Type 0 where
+pub record IsKept (P : List ℕ → Type 0) (shape : RecordShape)
+    (s : State (Unit {0}) (List RecordPassView)) : Type 0 where
   pub log : RecordLog
   pub roots : ℕ
   pub legal : IsLegalRecord shape.width log
