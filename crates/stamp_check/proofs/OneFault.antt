@@ -1,5 +1,5 @@
 -- What has a fault is not linearized, and has one alone.
-use Rattle.std.proofs.Common.{◌≡◌, ◌⊎◌, ℕ, ◌+◌, ◌<◌, ◌≤◌, List, [], ◌∷◌, ◌++◌, length, get_or, take, drop, refl, sym, ◌∙◌, ap, subst, inl, inr, arith, Some, Result, Ok, Err}
+use Rattle.std.proofs.Common.{◌≡◌, ◌⊎◌, ℕ, ◌+◌, ◌<◌, ◌≤◌, List, [], ◌∷◌, ◌++◌, length, get_or, take, drop, refl, sym, ◌∙◌, ap, subst, inl, inr, arith, Some, Ok, Err}
 use Rattle.std.specs.Prelude.{slice_get}
 use Rattle.std.proofs.lemmas.List.{take_more, take-append-drop, take-take}
 use Rattle.std.proofs.lemmas.Option.{get_or_from_slice_get, slice_get_within}
@@ -13,7 +13,6 @@ use Rattle.stamp_check.specs.declared.checking.Why.{Why}
 use Rattle.stamp_check.specs.declared.checking.Why.TheVariants.{Interval, Order, Overlap, Reply}
 use Rattle.stamp_check.specs.declared.checking.Bad.{Bad}
 use Rattle.stamp_check.specs.FirstFault.{Breaks, IsFirstFault}
-use Rattle.stamp_check.specs.Verdict.{IsVerdict}
 use Rattle.stamp_check.specs.CheckLaws.{FaultsAreExact, OneVerdict, RunsAreAccepted}
 
 unfit : (limits : Bounds) (width : ℕ) (before : List Entry) (e : Entry) (why : Why) → Breaks limits width before e why → ¬ Fits limits width before e

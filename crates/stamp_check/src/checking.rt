@@ -3,6 +3,8 @@ ghost use Rattle.stamp_check.specs.Verdict.{IsVerdict};
 
 use crate::walk::Walk;
 use stamp_core::Record;
+use std::error::Error;
+use std::fmt;
 
 /// What an entry breaks.
 #[derive(Clone, Copy, Debug, PartialEq, Eq)]
@@ -23,6 +25,26 @@ pub struct Bad {
     pub entry: u64,
     pub why: Why,
 }
+
+impl fmt::Display for Bad {
+    fn fmt<W: fmt::Write>(&self, f: &mut fmt::Formatter<W>) -> fmt::Result {
+        let entry = self.entry;
+        match self.why {
+            Why::Interval => write!(
+                f,
+                "entry {entry}: its point is not between its first and last"
+            ),
+            Why::Order => write!(f, "entry {entry}: its point is not above the one before"),
+            Why::Overlap => write!(
+                f,
+                "entry {entry}: it began before its thread's last call ended"
+            ),
+            Why::Reply => write!(f, "entry {entry}: the lock would have answered otherwise"),
+        }
+    }
+}
+
+impl Error for Bad {}
 
 /// Walks once over the entries of a record, in the order of the list: how many they are, where all
 /// are linearized by their points, and else the first fault. It takes no memory, and does not look

@@ -4,6 +4,8 @@ ghost use Rattle.stamp_check.specs.SameVerdict.{HaveSameVerdict};
 ghost use Rattle.stamp_check.specs.Migration.{respelling, respelled_call, respelled_reply, respelled_entry, respelled_record, widened, migrated, CanRespell, AllCanRespell, CanMigrate, IsFirstForeign, IsBadReply};
 
 use stamp_core::{Call, CoreError, Entry, Layout, Limits, Record, Reply, respell};
+use std::error::Error;
+use std::fmt;
 
 /// Why a record is not migrated (1): this entry, counted from 0, is the first whose answered number
 /// is neither 0 nor a stamp of layout 1 of a version up to 2^46-2. The record is handed back as it
@@ -13,6 +15,24 @@ pub struct BadReply {
     pub entry: u64,
     pub unchanged: Record,
 }
+
+impl fmt::Debug for BadReply {
+    fn fmt<W: fmt::Write>(&self, f: &mut fmt::Formatter<W>) -> fmt::Result {
+        write!(f, "BadReply {{ entry: {} }}", self.entry)
+    }
+}
+
+impl fmt::Display for BadReply {
+    fn fmt<W: fmt::Write>(&self, f: &mut fmt::Formatter<W>) -> fmt::Result {
+        write!(
+            f,
+            "entry {}: its reply is no stamp that layout 2 has",
+            self.entry
+        )
+    }
+}
+
+impl Error for BadReply {}
 
 fn respelled(stamp: u64) -> u64
     ensures { result ≡ respelling stamp }

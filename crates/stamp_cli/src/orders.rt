@@ -6,6 +6,8 @@ ghost use Rattle.std.specs.List.{list_all};
 ghost use Rattle.stamp_cli.specs.Order as order;
 
 use stamp_core::Layout;
+use std::error::Error;
+use std::fmt;
 
 /// What the program is told to do.
 #[derive(Clone, Copy, Debug, PartialEq, Eq)]
@@ -32,6 +34,16 @@ pub enum CommandFault {
     /// 1: the words are no form of the command line.
     Bad,
 }
+
+impl fmt::Display for CommandFault {
+    fn fmt<W: fmt::Write>(&self, f: &mut fmt::Formatter<W>) -> fmt::Result {
+        match self {
+            CommandFault::Bad => write!(f, "bad command line"),
+        }
+    }
+}
+
+impl Error for CommandFault {}
 
 fn is_digits(text: &str) -> bool
     ensures { result ≡ list_all is_ascii_digit text.now }

@@ -6,6 +6,8 @@ ghost use Rattle.stamp_core.specs.Decoded.{counts_in};
 
 use crate::layout::Layout;
 use crate::word::Word;
+use std::error::Error;
+use std::fmt;
 use std::marker::Model;
 
 /// Why limits are refused.
@@ -14,6 +16,21 @@ pub enum CoreError {
     /// 1: no reader at all, or more readers or write acquisitions than the layout has room for.
     LimitsOutOfRange,
 }
+
+impl fmt::Display for CoreError {
+    fn fmt<W: fmt::Write>(&self, f: &mut fmt::Formatter<W>) -> fmt::Result {
+        match self {
+            CoreError::LimitsOutOfRange => {
+                write!(
+                    f,
+                    "no reader, or more readers or versions than the layout has room for"
+                )
+            }
+        }
+    }
+}
+
+impl Error for CoreError {}
 
 /// How many readers a lock may have at a time, and how many write acquisitions in all.
 #[derive(Clone, Copy, Debug, PartialEq, Eq)]

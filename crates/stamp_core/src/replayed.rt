@@ -10,6 +10,8 @@ use crate::limits::Limits;
 use crate::reply::Reply;
 use crate::word::Word;
 use std::alloc::{AllocError, AllocFailed, Global};
+use std::error::Error;
+use std::fmt;
 
 /// What calls were answered, and the word that they left.
 #[derive(Drop)]
@@ -28,6 +30,17 @@ pub enum ReplayError {
     /// 2: a growth was refused.
     Memory,
 }
+
+impl fmt::Display for ReplayError {
+    fn fmt<W: fmt::Write>(&self, f: &mut fmt::Formatter<W>) -> fmt::Result {
+        match self {
+            ReplayError::Waits(call) => write!(f, "call {call} would wait"),
+            ReplayError::Memory => write!(f, "out of memory"),
+        }
+    }
+}
+
+impl Error for ReplayError {}
 
 impl From<AllocError> for ReplayError {
     ghost use Rattle.stamp_core.specs.declared.replayed.ReplayError.TheVariants.{Memory};

@@ -1,5 +1,8 @@
 //! Why a script is refused.
 
+use std::error::Error;
+use std::fmt;
+
 /// What is wrong with a script of calls and steps: the first that holds, in this order. It stands
 /// here since the readings of texts answer it too.
 #[derive(Clone, Copy, Debug, PartialEq, Eq)]
@@ -16,3 +19,17 @@ pub enum ScriptError {
     /// there is none.
     RecordWidth,
 }
+
+impl fmt::Display for ScriptError {
+    fn fmt<W: fmt::Write>(&self, f: &mut fmt::Formatter<W>) -> fmt::Result {
+        match self {
+            ScriptError::TooManyThreads => write!(f, "more than 64 threads"),
+            ScriptError::TooManyCalls => write!(f, "a thread of more than 10000 calls"),
+            ScriptError::TooManySteps => write!(f, "more than 1000000 steps"),
+            ScriptError::NoSuchThread(step) => write!(f, "no thread at step {step}"),
+            ScriptError::RecordWidth => write!(f, "a call does not suit the width of the record"),
+        }
+    }
+}
+
+impl Error for ScriptError {}

@@ -6,6 +6,8 @@ ghost use Rattle.stamp_history.specs.declared.read_error.ReadError.TheVariants.{
 
 use crate::read_error::ReadError;
 use std::alloc::{AllocError, AllocFailed};
+use std::error::Error;
+use std::fmt;
 
 /// Why the text of a replay was not answered. Nothing is kept after either.
 #[derive(Clone, Copy, Debug, PartialEq, Eq)]
@@ -15,6 +17,17 @@ pub enum AnswerError {
     /// 2: this call, counted from 0, would wait.
     Waits(u64),
 }
+
+impl fmt::Display for AnswerError {
+    fn fmt<W: fmt::Write>(&self, f: &mut fmt::Formatter<W>) -> fmt::Result {
+        match self {
+            AnswerError::Refused(refusal) => write!(f, "{refusal}"),
+            AnswerError::Waits(call) => write!(f, "call {call} would wait"),
+        }
+    }
+}
+
+impl Error for AnswerError {}
 
 impl From<ReadError> for AnswerError {
     ghost from_gives = { λ fault e. e ≡ Refused fault };

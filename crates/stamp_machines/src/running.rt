@@ -7,6 +7,8 @@ use crate::state::{Progress, State};
 use crate::tally::Tally;
 use stamp_core::{Call, Entry, Record, Word};
 use std::alloc::{AllocError, Global};
+use std::error::Error;
+use std::fmt;
 use std::marker::Model;
 
 /// No run has more steps, and no script.
@@ -31,6 +33,17 @@ pub enum RunError {
     /// 6: a growth was refused.
     Memory,
 }
+
+impl fmt::Display for RunError {
+    fn fmt<W: fmt::Write>(&self, f: &mut fmt::Formatter<W>) -> fmt::Result {
+        match self {
+            RunError::TooManySteps => write!(f, "the run has made 1000000 steps"),
+            RunError::Memory => write!(f, "out of memory"),
+        }
+    }
+}
+
+impl Error for RunError {}
 
 impl From<AllocError> for RunError {
     ghost use Rattle.stamp_machines.specs.declared.running.RunError.{RunError};

@@ -2,6 +2,8 @@
 ghost use Rattle.std.specs.Prelude.{◌≡◌};
 
 use std::alloc::{AllocError, AllocFailed};
+use std::error::Error;
+use std::fmt;
 
 /// Why a book refuses a call, or a copy of its history. The book is as before: no entry was made.
 /// Of a call they come in this order: 3, 1, 2.
@@ -15,6 +17,18 @@ pub enum BookError {
     /// 3: the call waits for others, whether the book is full or not.
     Waits,
 }
+
+impl fmt::Display for BookError {
+    fn fmt<W: fmt::Write>(&self, f: &mut fmt::Formatter<W>) -> fmt::Result {
+        match self {
+            BookError::Full => write!(f, "the book is full"),
+            BookError::Memory => write!(f, "out of memory"),
+            BookError::Waits => write!(f, "the call would wait"),
+        }
+    }
+}
+
+impl Error for BookError {}
 
 impl From<AllocError> for BookError {
     ghost use Rattle.stamp_threads.specs.declared.book_error.BookError.TheVariants.{Memory};

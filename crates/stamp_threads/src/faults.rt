@@ -1,5 +1,8 @@
 //! Why a put or a get was refused.
 
+use std::error::Error;
+use std::fmt;
+
 /// Why words were not put. The put got no write mode and changed no word, and its pass has made no
 /// call more.
 #[derive(Clone, Copy, PartialEq, Eq, Debug, Drop)]
@@ -18,6 +21,28 @@ pub enum PutFault {
     Spent(u64),
 }
 
+impl fmt::Display for PutFault {
+    fn fmt<W: fmt::Write>(&self, f: &mut fmt::Formatter<W>) -> fmt::Result {
+        match self {
+            PutFault::Busy(word) => {
+                write!(
+                    f,
+                    "somebody else is putting (lock word {word}): try again later"
+                )
+            }
+            PutFault::Lost { loaded, found } => {
+                write!(
+                    f,
+                    "the lock word changed from {loaded} to {found} meanwhile: try again"
+                )
+            }
+            PutFault::Spent(word) => write!(f, "no version is left (lock word {word})"),
+        }
+    }
+}
+
+impl Error for PutFault {}
+
 /// Why the words were not read. The get changed nothing, and its pass has made no call more. In the
 /// caller's place, where there is one, may stand any words.
 #[derive(Clone, Copy, PartialEq, Eq, Debug, Drop)]
@@ -32,3 +57,21 @@ pub enum GetFault {
         found: u64,
     },
 }
+
+impl fmt::Display for GetFault {
+    fn fmt<W: fmt::Write>(&self, f: &mut fmt::Formatter<W>) -> fmt::Result {
+        match self {
+            GetFault::Busy(word) => {
+                write!(f, "somebody is putting (lock word {word}): try again later")
+            }
+            GetFault::Lost { loaded, found } => {
+                write!(
+                    f,
+                    "the lock word changed from {loaded} to {found} meanwhile: try again"
+                )
+            }
+        }
+    }
+}
+
+impl Error for GetFault {}

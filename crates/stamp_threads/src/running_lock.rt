@@ -18,6 +18,8 @@ use atomic_table::Table;
 use stamp_core::{Call, Limits, Reply, Word};
 use stamp_machines::Passage;
 use std::alloc::Global;
+use std::error::Error;
+use std::fmt;
 use std::marker::{Brand, Model};
 use std::sync::Wait;
 
@@ -27,6 +29,16 @@ pub enum LockError {
     /// 1: there was no memory for the words. Nothing was made.
     Unmade,
 }
+
+impl fmt::Display for LockError {
+    fn fmt<W: fmt::Write>(&self, f: &mut fmt::Formatter<W>) -> fmt::Result {
+        match self {
+            LockError::Unmade => write!(f, "no memory for the words"),
+        }
+    }
+}
+
+impl Error for LockError {}
 
 /// A lock in one word that threads share by reference, each with a pass of its own.
 #[derive(Drop)]
