@@ -12,11 +12,11 @@ use Rattle.stamp_core.specs.declared.layout.Layout.{Layout}
 use Rattle.stamp_core.specs.declared.decision.Decision.{Decision}
 use Rattle.stamp_core.specs.declared.decision.Decision.TheVariants.{Answer, Change, Wait}
 use Rattle.stamp_core.proofs.Deciding.{decisions_are_transitions, only_locking_waits}
-use Rattle.stamp_machines.specs.LockPhase.{PhaseTurn, Still, Ended, judged}
+use Rattle.stamp_machines.specs.LockPhase.{judged}
 use Rattle.stamp_machines.specs.PhaseState.{PhaseState}
 use Rattle.stamp_machines.specs.Passage.{Changing, IsChanging}
 use Rattle.stamp_machines.specs.declared.access.Access.TheVariants.{Cas}
-use Rattle.stamp_machines.specs.LockCallSteps.{Plans, Ends, Goes}
+use Rattle.stamp_machines.specs.LockCallSteps.{Plans, Ends, LeadsBy}
 
 -- a word that a change leads to is of the limits' layout
 pub by_number : (limits : Bounds) (old : LockWord) (call : Call) (new : LockWord) (reply : Reply) →
@@ -33,11 +33,6 @@ pub decided : (limits : Bounds) (call : Call) (number : ℕ) (d : Decision) → 
 decided limits call number d range is =
     subst (Decides limits (word_at limits number) call) is
     (decisions_are_transitions limits number call range)
-
--- where a phase leads
-abbrev pub LeadsBy : PhaseState → ℕ → PhaseTurn → Type 0
-LeadsBy p found (Still seen) = Goes p found (record p { seen = seen })
-LeadsBy p found (Ended reply) = Ends p found reply
 
 judged_on : (p : PhaseState) (found : ℕ) (d : Decision) → AreInRange p.limits →
     IsTrue (is_lock_call p.call) → IsAdmitted p.limits (word_at p.limits found) →

@@ -8,6 +8,7 @@ pub mod MachineState
 pub mod Machine
 pub mod PhaseState
 pub mod LockCallSteps
+pub mod MachinePhase
 pub mod Passage
 pub mod MachineFields
 pub mod MachineTurn

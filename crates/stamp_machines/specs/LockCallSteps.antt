@@ -7,6 +7,7 @@ use Rattle.stamp_core.specs.Decision.{Answers, Changes, HasNone}
 use Rattle.stamp_core.specs.declared.call.Call.{Call}
 use Rattle.stamp_core.specs.declared.call.Call.TheVariants.{WriteLock, ReadLock}
 use Rattle.stamp_core.specs.declared.reply.Reply.{Reply}
+use Rattle.stamp_machines.specs.LockPhase.{PhaseTurn, Still, Ended}
 use Rattle.stamp_machines.specs.PhaseState.{PhaseState}
 use Rattle.stamp_machines.specs.MachineState.{MachineState, Phase, OnLock, OnRecord}
 use Rattle.stamp_machines.specs.declared.access.Access.{Access}
@@ -39,6 +40,11 @@ pub record Goes (p : PhaseState) (found : ℕ) (q : PhaseState) : Type 0 where
   pub next : ((q.seen ≡ Some found) × (new : ℕ) × (reply : Reply) × Turns p found new reply)
       ⊎ ((q.seen ≡ None) × ((p.call ≡ WriteLock) ⊎ (p.call ≡ ReadLock))
       × HasNone p.limits (word_at p.limits found) p.call)
+
+-- where the phase leads to have found this word
+abbrev pub LeadsBy : PhaseState → ℕ → PhaseTurn → Type 0
+LeadsBy p found (Still seen) = Goes p found (record p { seen = seen })
+LeadsBy p found (Ended reply) = Ends p found reply
 
 -- where a call of the public lock is, which has word 0
 abbrev pub on_lock : Bounds → Call → Option ℕ → PhaseState

@@ -1,7 +1,8 @@
 //! A call as a machine that makes one access a step.
-ghost use Rattle.std.specs.Prelude.{◌≡◌, ◌<◌, ◌≤◌, IsTrue, length};
+ghost use Rattle.std.specs.Prelude.{◌≡◌, ◌<◌, ◌≤◌, IsTrue, IfSome, length};
 ghost use Rattle.stamp_core.specs.Call.{is_lock_call, call_suits};
 ghost use Rattle.stamp_machines.specs.LockCallSteps.{Plans, Leads, lock_phase};
+ghost use Rattle.stamp_machines.specs.MachinePhase.{phase_in, phase_of, LeadsIn};
 ghost use Rattle.stamp_machines.specs.MachineState.{start};
 ghost use Rattle.stamp_machines.specs.Machine.{next_access, after_access, IsFound};
 ghost use Rattle.stamp_core.specs.Word.{IsAdmitted, word_at};
@@ -77,6 +78,9 @@ fn after_public(
           phase = phase_at call.now loaded.now (Stage.Public seen);
         })) found
         (turn_in shape.now call.now loaded.now answer.new result) }
+    ensures phase { IfSome
+        (phase_in shape.now call.now (phase_at call.now loaded.now (Stage.Public seen)))
+        (λ p. LeadsIn p found (turn_in shape.now call.now loaded.now answer.new result)) }
 {
     match passed(shape.limits, call, seen, found, answer) {
         Passage::Still(seen) => Next::To(Stage::Public { seen }),
@@ -102,6 +106,9 @@ fn after_locking(
         ≡ after_in shape.now call.now found
         (phase_at call.now loaded.old (Stage.Locking errand seen)) }
     ensures sound { IsNext shape.now call.now loaded.old loaded.new result }
+    ensures phase { IfSome
+        (phase_in shape.now call.now (phase_at call.now loaded.old (Stage.Locking errand seen)))
+        (λ p. LeadsIn p found (turn_in shape.now call.now loaded.new answer.new result)) }
 {
     match passed(
         shape.record_limits(),
@@ -138,6 +145,8 @@ fn next(
           phase = phase_at call.now loaded.old stage;
         })) found
         (turn_in shape.now call.now loaded.new answer.new result) }
+    ensures phase { IfSome (phase_in shape.now call.now (phase_at call.now loaded.old stage))
+        (λ p. LeadsIn p found (turn_in shape.now call.now loaded.new answer.new result)) }
 {
     match stage {
         Stage::Public { seen } => after_public(shape, call, loaded, seen, found, answer),
@@ -187,6 +196,7 @@ impl Machine {
     pub fn plan(&self) -> Access
         ensures next { result ≡ next_access self.now }
         ensures plans { IsTrue (is_lock_call self.now.call) → Plans (lock_phase self.now) result }
+        ensures phase { IfSome (phase_of self.now) (λ p. Plans p.state result) }
     {
         match self.stage {
             Stage::Public { seen } => planned(0, self.shape.limits, &self.call, seen),
@@ -221,6 +231,7 @@ impl Machine {
         requires { IsFound self found }
         ensures after { result ≡ after_access self found }
         ensures leads { IsTrue (is_lock_call self.call) → Leads (lock_phase self) found result }
+        ensures phase { IfSome (phase_of self) (λ p. LeadsIn p found result) }
     {
         let mut machine = self;
         let mut answer = Reply::Done;
@@ -267,6 +278,8 @@ impl Machine {
         ensures after { turn_of self.new answer.new result ≡ after_access self.old found }
         ensures leads { IsTrue (is_lock_call self.old.call) →
             Leads (lock_phase self.old) found (turn_of self.new answer.new result) }
+        ensures phase { IfSome (phase_of self.old)
+            (λ p. LeadsIn p found (turn_of self.new answer.new result)) }
         ensures call { self.new.call ≡ self.old.call }
     {
         match next(

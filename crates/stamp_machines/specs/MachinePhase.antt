@@ -1,0 +1,39 @@
+-- The lock phase that a machine is in: on word 0 of a lock call, on word 1 of a call of the record.
+use Rattle.std.specs.Prelude.{◌≡◌, ℕ, Option, Some, None}
+use Rattle.stamp_core.specs.declared.call.Call.{Call}
+use Rattle.stamp_machines.specs.LockCallSteps.{on_lock, LeadsBy}
+use Rattle.stamp_machines.specs.LockPhase.{PhaseTurn}
+use Rattle.stamp_machines.specs.Machine.{lock_turn, record_turn}
+use Rattle.stamp_machines.specs.MachineState.{MachineState, Phase, OnLock, OnRecord, record_limits}
+use Rattle.stamp_machines.specs.PhaseState.{PhaseState}
+use Rattle.stamp_machines.specs.RecordPhase.{Errand, Locking, call_for, passed}
+use Rattle.stamp_machines.specs.declared.machine.Turn.{Turn}
+use Rattle.stamp_machines.specs.declared.shape.Shape.{Shape}
+
+-- the phase, and the machine's turn by where the phase leads
+pub record MachinePhase : Type 0 where
+  pub state : PhaseState
+  pub turn : PhaseTurn → Turn
+
+-- where an errand of a call of the record is, whose lock has word 1
+abbrev pub on_record_lock : Shape → Errand → Option ℕ → PhaseState
+on_record_lock shape errand seen =
+    record { at = 1; limits = record_limits shape; call = call_for errand; seen = seen }
+
+abbrev pub phase_in : Shape → Call → Phase → Option MachinePhase
+phase_in shape call (OnLock seen) =
+    Some (record { state = on_lock shape.limits call seen; turn = lock_turn shape call })
+phase_in shape call (OnRecord job (Locking errand seen)) =
+    Some (record {
+      state = on_record_lock shape errand seen;
+      turn = λ t. record_turn shape call job (passed job errand t);
+    })
+phase_in shape call (OnRecord job place) = None
+
+-- none between its phases, at the record's words
+abbrev pub phase_of : MachineState → Option MachinePhase
+phase_of m = phase_in m.shape m.call m.phase
+
+-- where it leads to have found this word: to where the phase leads
+abbrev pub LeadsIn : MachinePhase → ℕ → Turn → Type 0
+LeadsIn p found turn = (t : PhaseTurn) × LeadsBy p.state found t × (turn ≡ p.turn t)
