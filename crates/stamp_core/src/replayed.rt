@@ -1,5 +1,5 @@
 //! Calls taken one after the other, from the opening word.
-ghost use Rattle.std.specs.Prelude.{◌≡◌, IsTrue};
+ghost use Rattle.std.specs.Prelude.{◌≡◌, ◌<◌, IfErr, IsTrue, length};
 ghost use Rattle.std.specs.List.{All};
 ghost use Rattle.stamp_core.specs.Call.{is_lock_call};
 ghost use Rattle.stamp_core.specs.Replayed.{Replays};
@@ -63,10 +63,11 @@ impl<T: Drop> From<AllocFailed<T>> for ReplayError {
 }
 
 /// Takes calls of the lock one after the other, from the opening word. It refuses as 1 `Waits` or
-/// 2 `Memory`, the second perhaps before the first, and keeps nothing then.
+/// 2 `Memory`, the second perhaps before the first, and keeps nothing then. No calls take no memory.
 pub fn replay(alloc: Global, limits: Limits, calls: &[Call]) -> Result<Replayed, ReplayError>
     requires { All (λ call. IsTrue (is_lock_call call)) calls.now }
-    ensures { Replays limits calls.now result }
+    ensures replays { Replays limits calls.now result }
+    ensures memory { IfErr result (λ e. e ≡ ReplayError.Memory → 0 < length calls.now) }
 {
     let mut word = Word::opening_in(limits.layout());
     let mut replies = Vec::new(alloc);
