@@ -117,17 +117,17 @@ fn is_stepped_again(alloc: Global) -> Result<bool, Outcome> {
 }
 
 /// Goes on to the next finished call, and once more where memory was refused.
-fn advance_again(completions: &mut Completions) -> Result<(), AllocError>
-    ensures { OnOk result (completions.new ≡ after_next completions.old.rest) }
+fn advance_again(completions: &mut Completions) -> Result<(), RunError>
+    ensures { OnOk result (completions.new ≡ after_next completions.old) }
 {
     match completions.advance() {
-        Err(_) => completions.advance(),
-        Ok(()) => Ok(()),
+        Err(RunError::Memory) => completions.advance(),
+        other => other,
     }
 }
 
 /// The finished calls are handed on, each once; none is lost where memory was refused.
-fn are_handed_on(alloc: Global, script: &Script, entries: &[Entry]) -> Result<bool, AllocError> {
+fn are_handed_on(alloc: Global, script: &Script, entries: &[Entry]) -> Result<bool, RunError> {
     let mut completions = Completions::start(alloc, script)?;
     for entry in entries {
         advance_again(&mut completions)?;
@@ -142,7 +142,7 @@ fn are_handed_on(alloc: Global, script: &Script, entries: &[Entry]) -> Result<bo
 fn is_handed_on_again(alloc: Global) -> Result<bool, Outcome> {
     let script = script(alloc)?;
     let record = run(alloc, &script)?;
-    are_handed_on(alloc, &script, record.entries()).map_err(|_| Outcome::Refused)
+    Ok(are_handed_on(alloc, &script, record.entries())?)
 }
 
 pub(crate) fn run_outcome(alloc: Global) -> Outcome {

@@ -8,8 +8,18 @@ ghost use Rattle.stamp_history.specs.HistoryText.{entries_data, history_data, hi
 use crate::history_writing::{push_after_entries, push_entry};
 use crate::json_text::{push_comma_if, push_text};
 use crate::read_error::ReadError;
-use stamp_machines::{Completions, Script};
+use stamp_machines::{Completions, RunError, Script};
 use std::alloc::{AllocError, Global};
+
+/// A refusal of `Completions`, which is for want of memory alone.
+fn refused(error: RunError) -> AllocError
+    requires { error ≡ RunError.Memory }
+{
+    match error {
+        RunError::Memory => AllocError,
+        RunError::TooManySteps => unreachable!(),
+    }
+}
 
 /// Appends the list of the entries to come.
 fn push_completions(text: &mut Vec<u8>, completions: &mut Completions) -> Result<(), AllocError>
@@ -19,7 +29,7 @@ fn push_completions(text: &mut Vec<u8>, completions: &mut Completions) -> Result
     push_text(text, "[")?;
     let mut is_later = false;
     loop {
-        completions.advance()?;
+        completions.advance().map_err(refused)?;
         let Some(entry) = completions.get() else {
             break;
         };
@@ -36,7 +46,8 @@ fn push_run(text: &mut Vec<u8>, alloc: Global, script: &Script) -> Result<(), Al
         ≡ text.old.items ++ compact_text (history_data (run_record script.now))) }
 {
     push_text(text, "{\"entries\":")?;
-    push_completions(text, &mut Completions::start(alloc, script)?)?;
+    let mut completions = Completions::start(alloc, script).map_err(refused)?;
+    push_completions(text, &mut completions)?;
     push_after_entries(text, &script.limits(), script.width(), &[])?;
     Ok(())
 }

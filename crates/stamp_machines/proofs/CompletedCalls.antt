@@ -1,5 +1,5 @@
 -- What the steps of a script have finished, and what the later ones do.
-use Rattle.std.proofs.Common.{◌≡◌, ℕ, ◌+◌, ◌≤◌, List, [], ◌∷◌, ◌++◌, length, take, drop}
+use Rattle.std.proofs.Common.{◌≡◌, ℕ, ◌+◌, ◌<◌, ◌≤◌, List, [], ◌∷◌, ◌++◌, length, take, drop}
 use Rattle.std.proofs.Common.{Option, Some, None, refl, sym, ◌∙◌, ap, append_assoc, arith}
 use Rattle.std.specs.Prelude.{fold, slice_get, vec_len}
 use Rattle.std.proofs.lemmas.List.{append-nil, append_cancel_left}
@@ -14,6 +14,7 @@ use Rattle.stamp_machines.specs.Progress.{HasReport}
 use Rattle.stamp_machines.specs.CompletionsFields.{IsAfter, calls_until, calls_after, HandsOn}
 use Rattle.stamp_machines.specs.CompletionsFields.{completing_at}
 use Rattle.stamp_machines.specs.CompletionsFields.{StepMade}
+use Rattle.stamp_machines.specs.Completing.{before_all}
 use Rattle.stamp_machines.specs.StateFields.{world_at, stamps_at, SameState}
 use Rattle.stamp_machines.specs.declared.machine.Turn.{Turn}
 use Rattle.stamp_machines.specs.declared.machine.Turn.TheVariants as turned
@@ -45,6 +46,26 @@ entries-more plan world (t ∷ names) =
       rest.1 ∙ ap (λ (es : List Entry). es ++ rest.0) one.1
           ∙ append_assoc world.entries one.0 rest.0,
     )
+
+no_entry : (entries : List Entry) (e : Entry) → entries ≡ entries ++ e ∷ [] → ⊥
+no_entry entries e more =
+    let none : [] ≡ e ∷ [] =
+    append_cancel_left entries [] (e ∷ []) (append-nil entries ∙ more) in
+    cc
+
+-- the entry that a step leaves is of a call that ended by it
+landed-last : (world : World) (t : ℕ) (b : Begun) (words : List ℕ) (now : Turn) (e : Entry) →
+    (landed world t b words now).entries ≡ world.entries ++ e ∷ [] → e.last ≡ world.position
+landed-last world t b words (turned.Going m) e more =
+    absurd (no_entry world.entries e more)
+landed-last world t b words (turned.Done r) e more =
+    let one = append_cancel_left world.entries _ (e ∷ []) more in
+    cc
+
+stepped-last : (world : World) (t : ℕ) (o : Option Begun) (e : Entry) →
+    (stepped world t o).entries ≡ world.entries ++ e ∷ [] → e.last ≡ world.position
+stepped-last world t None e more = absurd (no_entry world.entries e more)
+stepped-last world t (Some b) e more = landed-last world t b _ _ e more
 
 -- all that a script finishes is what it has finished and what it still does
 until-and-after : (plan : Scripted) (made : ℕ) →
@@ -84,16 +105,18 @@ unfolding execution_of
 opening-after plan s world workers stamps =
     record {
       world = ap (λ (w : World). record w { entries = [] }) world;
+      few = omega arith;
       workers = workers;
       stamps = stamps;
     }
 
 pub opening-completing : (plan : Scripted) (s : State) → world_at [] s 0 ≡ opening plan →
-    completing_at plan s 0
-    ≡ record { last = None; rest = completed_calls plan plan.steps }
+    completing_at plan s 0 ≡ before_all plan
 unfolding execution_of
 opening-completing plan s world =
     ap (λ (es : List Entry). record {
+      plan = plan;
+      made = 0;
       last = slice_get es 0;
       rest = completed_calls plan plan.steps;
     }) (ap (λ (w : World). w.entries) world)
@@ -120,6 +143,7 @@ pub after-reserved : (plan : Scripted) (old mid : State) (made : ℕ) → SameSt
 after-reserved plan old mid made same after =
     record {
       world = simp (same.words, same.begun) after.world;
+      few = after.few;
       workers = same.workers ∙ after.workers;
       stamps = λ t. same.stamps t ∙ after.stamps t;
     }
@@ -159,10 +183,13 @@ handed-on plan old new made t Ended none entries until told =
     let rest : calls_after plan made ≡ told.0 ∷ calls_after plan (made + 1) =
     after-ended plan made (made + 1) told.0
     (until ∙ ap (λ (es : List Entry). gone ++ es) one) in
-    rw (one, rest) refl
+    let ended : made + 1 ≡ told.0.last + 1 =
+    ap (λ (n : ℕ). n + 1)
+    (sym (stepped-last (world_at gone old made) t (current plan (world_at gone old made) t) told.0 told.1)) in
+    rw (one, rest, ended) refl
 
 pub step-made : (plan : Scripted) (old new : State) (made t : ℕ) (p : Progress) →
-    IsAfter plan old made → old.entries.items ≡ [] →
+    IsAfter plan old made → made < length plan.steps → old.entries.items ≡ [] →
     take (made + 1) plan.steps ≡ take made plan.steps ++ t ∷ [] →
     world_at (calls_until plan made) new (made + 1)
     ≡ step plan (world_at (calls_until plan made) old made) t →
@@ -170,7 +197,7 @@ pub step-made : (plan : Scripted) (old new : State) (made t : ℕ) (p : Progress
     ((u : ℕ) → stamps_at new.workers.items u
     ≡ stamps_of u (calls_until plan made ++ new.entries.items)) →
     HasReport plan (world_at (calls_until plan made) old made) t p → StepMade plan new made p
-step-made plan old new made t p after none names world workers stamps told =
+step-made plan old new made t p after left none names world workers stamps told =
     let until' : List Entry = calls_until plan (made + 1) in
     let here : world_at (calls_until plan made) new (made + 1)
     ≡ execution_of plan (take (made + 1) plan.steps) =
@@ -182,6 +209,7 @@ step-made plan old new made t p after none names world workers stamps told =
     record {
       after = record {
         world = ap (λ (w : World). record w { entries = until' }) here;
+        few = omega arith;
         workers = workers ∙ after.workers;
         stamps = λ u. stamps u ∙ ap (λ (es : List Entry). stamps_of u es) (sym until);
       };

@@ -1,12 +1,39 @@
--- What the finished calls of a script are handed on by.
-use Rattle.std.specs.Prelude.{List, Option, drop, slice_get}
+-- How far the finished calls of a script have been handed on.
+use Rattle.std.specs.Prelude.{◌≡◌, ℕ, ◌+◌, ◌<◌, ◌≤◌, List, Option, Some, None, length, drop}
+use Rattle.std.specs.Prelude.{slice_get}
 use Rattle.stamp_core.specs.declared.entry.Entry.{Entry}
+use Rattle.stamp_machines.specs.Script.{Scripted}
+use Rattle.stamp_machines.specs.World.{completed_calls}
 
--- the entry handed on last, and those to come
+-- the script, how many of its steps were made, the entry handed on last, and those to come
 pub record Completing : Type 0 where
+  pub plan : Scripted
+  pub made : ℕ
   pub last : Option Entry
   pub rest : List Entry
 
--- where the first of them has been handed on, if there is one
-abbrev pub after_next : List Entry → Completing
-after_next entries = record { last = slice_get entries 0; rest = drop 1 entries }
+-- before the first step
+abbrev pub before_all : Scripted → Completing
+before_all plan =
+    record { plan = plan; made = 0; last = None; rest = completed_calls plan plan.steps }
+
+-- the steps up to the one by which the call of this entry ended, or else all
+abbrev pub steps_until : Scripted → Option Entry → ℕ
+steps_until plan None = length plan.steps
+steps_until plan (Some e) = e.last + 1
+
+-- where the first of those to come has been handed on, if there is one
+abbrev pub after_next : Completing → Completing
+after_next c =
+    record {
+      plan = c.plan;
+      made = steps_until c.plan (slice_get c.rest 0);
+      last = slice_get c.rest 0;
+      rest = drop 1 c.rest;
+    }
+
+-- it stopped before a step that is left; the steps made before that one ended no call
+pub record Stopped (old new : Completing) : Type 0 where
+  pub same : new ≡ record old { made = new.made; last = None }
+  pub onward : old.made ≤ new.made
+  pub left : new.made < length old.plan.steps

@@ -1,5 +1,5 @@
 -- How the fields of a script's finished calls are read, and what they keep to.
-use Rattle.std.specs.Prelude.{◌≡◌, ℕ, ◌+◌, List, [], length, take, drop, slice_get}
+use Rattle.std.specs.Prelude.{◌≡◌, ℕ, ◌+◌, ◌≤◌, List, [], length, take, drop, slice_get}
 use Rattle.std.specs.Prelude.{vec_len}
 use Rattle.stamp_core.specs.declared.entry.Entry.{Entry}
 use Rattle.stamp_machines.specs.Completing.{Completing, after_next}
@@ -21,7 +21,12 @@ calls_after plan made = drop (length (calls_until plan made)) (completed_calls p
 -- no entry but the last one is kept
 abbrev pub completing_at : Scripted → State → ℕ → Completing
 completing_at plan s made =
-    record { last = slice_get s.entries.items 0; rest = calls_after plan made }
+    record {
+      plan = plan;
+      made = made;
+      last = slice_get s.entries.items 0;
+      rest = calls_after plan made;
+    }
 
 abbrev pub completing_of : Inside → Completing
 completing_of c = completing_at c.script.now c.state c.made
@@ -30,12 +35,14 @@ completing_of c = completing_at c.script.now c.state c.made
 pub record IsAfter (plan : Scripted) (s : State) (made : ℕ) : Type 0 where
   pub world : record (world_at [] s made) { entries = calls_until plan made }
       ≡ execution_of plan (take made plan.steps)
+  pub few : made ≤ length plan.steps
   pub workers : vec_len s.workers ≡ length plan.threads
   pub stamps : (t : ℕ) → stamps_at s.workers.items t ≡ stamps_of t (calls_until plan made)
 
 -- what is to come after a step that is told so
 abbrev pub HandsOn : Scripted → State → ℕ → Progress → Type 0
-HandsOn plan s made Ended = completing_at plan s (made + 1) ≡ after_next (calls_after plan made)
+HandsOn plan s made Ended =
+    completing_at plan s (made + 1) ≡ after_next (completing_at plan s made)
 HandsOn plan s made Idle =
     (s.entries.items ≡ []) × (calls_after plan (made + 1) ≡ calls_after plan made)
 HandsOn plan s made Going =

@@ -1,9 +1,9 @@
 //! The finished calls of a script, one after the other.
-ghost use Rattle.std.specs.Prelude.{◌≡◌, ◌<◌, [], None, IfOk, OnOk, OnErr, length, option_copied};
+ghost use Rattle.std.specs.Prelude.{◌≡◌, ◌<◌, [], IfOk, OnOk, OnErr, length, option_copied};
 ghost use Rattle.stamp_machines.specs.CompletionsFields.{IsAfter, StepMade, completing_at};
-ghost use Rattle.stamp_machines.specs.CompletionsFields.{calls_after};
-ghost use Rattle.stamp_machines.specs.Completing.{after_next};
+ghost use Rattle.stamp_machines.specs.Completing.{before_all, after_next, Stopped};
 
+use crate::running::RunError;
 use crate::script::Script;
 use crate::state::{Progress, State};
 use stamp_core::Entry;
@@ -55,9 +55,9 @@ fn run_on(script: &Script, state: &mut State, made: &mut usize) -> Result<(), Al
     requires none { state.old.entries.items ≡ [] }
     ensures after { IsAfter script.now state.new made.new }
     ensures ok { OnOk result (completing_at script.now state.new made.new
-        ≡ after_next (calls_after script.now made.old)) }
-    ensures err { OnErr result (completing_at script.now state.new made.new
-        ≡ record { last = None; rest = calls_after script.now made.old }) }
+        ≡ after_next (completing_at script.now state.old made.old)) }
+    ensures err { OnErr result (Stopped (completing_at script.now state.old made.old)
+        (completing_at script.now state.new made.new)) }
 {
     let steps = script.steps().len();
     while *made < steps {
@@ -71,14 +71,10 @@ fn run_on(script: &Script, state: &mut State, made: &mut usize) -> Result<(), Al
 }
 
 impl<'a> Completions<'a> {
-    ghost use Rattle.stamp_machines.specs.World.{completed_calls};
-
     /// Before the script's first step. Only want of memory refuses, and leaves nothing.
-    pub fn start(alloc: Global, script: &'a Script) -> Result<Completions<'a>, AllocError>
-        ensures { IfOk result (λ r. r ≡ record {
-          last = None;
-          rest = completed_calls script.now script.now.steps;
-        }) }
+    pub fn start(alloc: Global, script: &'a Script) -> Result<Completions<'a>, RunError>
+        ensures ok { IfOk result (λ r. r ≡ before_all script.now) }
+        ensures memory { OnErr result (result ≡ Err RunError.Memory) }
     {
         let state = State::new(alloc, script.shape(), script.thread_count())?;
         Ok(Completions {
@@ -88,14 +84,18 @@ impl<'a> Completions<'a> {
         })
     }
 
-    /// Runs on until one more call has ended, or else to the script's end. Where memory is refused,
-    /// no entry is lost: made again, it goes on from there.
-    pub fn advance(&mut self) -> Result<(), AllocError>
-        ensures ok { OnOk result (self.new ≡ after_next self.old.rest) }
-        ensures err { OnErr result (self.new ≡ record { last = None; rest = self.old.rest }) }
+    /// Runs on until one more call has ended, or else to the script's end. Only want of memory
+    /// refuses, and only where a step is left. No entry is lost then: made again, it goes on from
+    /// there.
+    pub fn advance(&mut self) -> Result<(), RunError>
+        ensures ok { OnOk result (self.new ≡ after_next self.old) }
+        ensures err { OnErr result (Stopped self.old self.new) }
+        ensures memory { OnErr result (result ≡ Err RunError.Memory) }
+        ensures left { OnErr result (self.old.made < length self.old.plan.steps) }
     {
         self.state.entries.clear();
-        run_on(self.script, &mut self.state, &mut self.made)
+        run_on(self.script, &mut self.state, &mut self.made)?;
+        Ok(())
     }
 
     /// The entry of the call by whose end `advance` stopped; none before it, and after the last.

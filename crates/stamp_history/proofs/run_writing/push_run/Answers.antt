@@ -1,10 +1,11 @@
-use Rattle.std.proofs.Common.{◌≡◌, ◌∙◌, ◌++◌, List, [], true, codes, ap, refl}
+use Rattle.std.proofs.Common.{◌≡◌, ◌∙◌, ◌++◌, List, [], true, codes, ap, refl, arith}
+use Rattle.std.proofs.lemmas.Grind.{common_steps}
 use Rattle.serde_json.specs.Written.{compact_text, members_text}
 use Rattle.serde_json.proofs.OnLiterals.{serde_json_on_literals}
 use Rattle.stamp_core.specs.Record.{Recorded}
 use Rattle.stamp_core.specs.declared.entry.Entry.{Entry}
 use Rattle.stamp_machines.specs.Script.{Scripted}
-use Rattle.stamp_machines.specs.Completing.{Completing}
+use Rattle.stamp_machines.specs.Completing.{Completing, before_all}
 use Rattle.stamp_machines.specs.World.{completed_calls}
 use Rattle.stamp_machines.specs.RunRecord.{run_record}
 use Rattle.stamp_history.specs.HistoryText.{entries_data, after_entries, history_data}
@@ -16,8 +17,11 @@ pub returns : goal.returns
 unfolding serde_json_on_literals
 returns c =
     let plan : Scripted = c.args.script.now in
-    let written : List Entry = c.in_ok-start.field-0.rest in
-    let all : written ≡ completed_calls plan plan.steps = ap (λ (d : Completing). d.rest) c.in_ok-start.ensures in
+    let started : Completing = c.in_ok-completions.completions in
+    let before : started ≡ before_all plan =
+    grind (arith, common_steps, c.start.ensures.ok, c.map_err.ensures.cases, c.in_ok-completions.was) in
+    let written : List Entry = started.rest in
+    let all : written ≡ completed_calls plan plan.steps = ap (λ (d : Completing). d.rest) before in
     let r : Recorded = record { limits = c.limits.result; width = c.width.result; entries = written; report = [] } in
     let same : r ≡ run_record plan = same_record (run_record plan) _ _ _ _ c.limits.ensures.limits c.width.ensures.width all refl in
     let entries = compact_text (entries_data written) in

@@ -50,6 +50,6 @@ returns-clause-ok c =
     ≡ take made plan.steps ++ get_or c.steps.result.now made 0 ∷ [] =
     rw c.steps.ensures.steps (take_more plan.steps made 0 c.requires.few) in
     step-made plan old c.step.new.self made (get_or c.steps.result.now made 0) c.step.result
-    (after-reserved plan c.args.state.now old made same c.requires.after)
+    (after-reserved plan c.args.state.now old made same c.requires.after) c.requires.few
     (same.entries ∙ c.requires.none) names c.step.ensures.world c.step.ensures.workers
     c.step.ensures.stamps c.step.ensures.report

@@ -1,4 +1,4 @@
-use Rattle.std.proofs.Common.{◌≡◌, ◌-◌, []}
+use Rattle.std.proofs.Common.{◌≡◌, ◌≤◌, ◌-◌, []}
 use Rattle.stamp_machines.specs.CompletionsFields.{IsAfter, calls_after}
 use Rattle.stamp_machines.proofs.completions.run_on.Given as goal
 
@@ -7,6 +7,7 @@ invariant-loop-made l =
     record {
       after : IsAfter l.script l.state l.made;
       none : l.state.entries.items ≡ [];
+      onward : l.fn.made ≤ l.made;
       rest : calls_after l.script l.made ≡ calls_after l.script l.fn.made;
     }
 

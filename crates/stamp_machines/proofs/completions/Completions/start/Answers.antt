@@ -16,8 +16,8 @@ invariant_of-result c =
     opening-after plan c.in_ok-state.state world
     (c.in_ok-state.ensures.workers ∙ c.thread_count.ensures.count) c.in_ok-state.ensures.stamps
 
-pub returns : goal.returns
-returns c =
+pub returns-clause-ok : goal.returns-clause-ok
+returns-clause-ok c =
     let plan : Scripted = c.args.script.now in
     let world : world_at [] c.in_ok-state.state 0 ≡ opening plan =
     c.in_ok-state.ensures.world
