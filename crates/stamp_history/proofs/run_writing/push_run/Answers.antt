@@ -23,8 +23,10 @@ returns c =
     let written : List Entry = started.rest in
     let all : written ≡ completed_calls plan plan.steps = ap (λ (d : Completing). d.rest) before in
     let r : Recorded = record { limits = c.limits.result; width = c.width.result; entries = written; report = [] } in
-    let same : r ≡ run_record plan = same_record (run_record plan) _ _ _ _ c.limits.ensures.limits c.width.ensures.width all refl in
+    let same : r ≡ run_record plan =
+    same_record (run_record plan) _ _ _ _ c.limits.ensures.limits c.width.ensures.width all refl in
     let entries = compact_text (entries_data written) in
     let rest = members_text true (after_entries r.limits r.width []) in
-    onto _ (codes "{\"entries\":") (entries ++ rest) c.in_ok-push_text.ensures (onto _ entries rest c.in_ok-push_completions.ensures c.in_ok-push_after_entries.ensures.text)
+    onto _ (codes "{\"entries\":") (entries ++ rest) c.in_ok-push_text.ensures
+    (onto _ entries rest c.in_ok-push_completions.ensures c.in_ok-push_after_entries.ensures.text)
     ∙ ap (λ (h : Recorded). c.args.text.now.items ++ compact_text (history_data h)) same
