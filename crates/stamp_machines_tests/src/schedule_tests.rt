@@ -53,9 +53,13 @@ fn handed_on(alloc: Global, script: &Script) -> Result<Vec<Entry>, Fail> {
         }
     }
     completions.advance()?;
-    match completions.get() {
-        Some(_) => Err(Fail::from("one too many")),
-        None => Ok(entries),
+    if completions.get().is_some() {
+        return Err(Fail::from("one too many"));
+    }
+    // No step is left, so that no memory is asked for.
+    match completions.advance() {
+        Ok(()) => Ok(entries),
+        Err(_) => unreachable!(),
     }
 }
 
