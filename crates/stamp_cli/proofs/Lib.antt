@@ -5,3 +5,4 @@ pub mod OneReplay
 pub mod OneAnswer
 pub mod Replayed
 pub mod HandedOn
+pub mod MadeSoFar

@@ -1,4 +1,6 @@
 pub mod TakesNone
+pub mod Log
+pub mod Results
 pub mod Source
 pub mod Sink
 pub mod Order

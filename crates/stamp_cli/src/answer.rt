@@ -1,7 +1,8 @@
 //! The line that answers an order.
 
-ghost use Rattle.std.specs.Prelude.{◌≡◌, ◌≢◌, ◌↔◌, ◌⊎◌, ◌+◌, ◌<◌, ◌≤◌, length, true, false, IfOk, IfErr, Ok, Err};
+ghost use Rattle.std.specs.Prelude.{◌≡◌, ◌≢◌, ◌↔◌, ◌⊎◌, ◌+◌, ◌<◌, ◌≤◌, length, true, false, IfOk, IfErr, Ok, Err, is_err};
 ghost use Rattle.stamp_cli.specs.Refusal.{is_of_end};
+ghost use Rattle.stamp_cli.specs.Results.{MakesAtMost, any_since};
 ghost use Rattle.stamp_cli.specs.Source.{TakesAtMost, most_bytes};
 ghost use Rattle.stamp_cli.specs.Answer.{Answers, AnswersCheck, AnswersMigrate, AnswersReplay, AnswersReportedRun, AnswersRun};
 ghost use Rattle.stamp_cli.specs.Answer.{IsAnswer, IsInputAnswer, IsRead, LineUnlessMemory, UnlessMemory, line_in, most_reads_of, most_taken_of};
@@ -123,12 +124,11 @@ fn line_of_migrate(alloc: Global, input: &[u8]) -> Result<Vec<u8>, ServeFault>
 
 /// What the order reads of its source. A stamp makes no read.
 fn input_of<S: Source>(alloc: Global, order: Order, source: &mut S) -> Result<Vec<u8>, ServeFault>
-    requires unread { S.reads source.old ≡ 0 }
-    requires unfailed { S.has_failed source.old ≡ false }
-    ensures few { S.reads source.new ≤ most_reads_of order }
+    ensures reads { MakesAtMost (S.reads source.old) (S.reads source.new) (most_reads_of order) (most_taken_of order) }
     ensures took { TakesAtMost (S.left source.old) (S.left source.new) (most_taken_of order) }
     ensures read { IfOk result (λ input. IsRead order (S.left source.old) (S.left source.new) input.items) }
-    ensures failed { (result ≡ Err ServeFault.ReadFault) ↔ (S.has_failed source.new ≡ true) }
+    ensures failed { (result ≡ Err ServeFault.ReadFault)
+        ↔ (any_since is_err (S.reads source.old) (S.reads source.new) ≡ true) }
     ensures only { IfErr result (λ e. (e ≡ ServeFault.ReadFault) ⊎ (e ≡ ServeFault.Memory)) }
 {
     match order {
@@ -161,14 +161,13 @@ pub(crate) fn line_of<S: Source>(
     order: Order,
     source: &mut S,
 ) -> Result<Line, ServeFault>
-    requires unread { S.reads source.old ≡ 0 }
-    requires unfailed { S.has_failed source.old ≡ false }
-    ensures few { S.reads source.new ≤ most_reads_of order }
+    ensures reads { MakesAtMost (S.reads source.old) (S.reads source.new) (most_reads_of order) (most_taken_of order) }
     ensures took { TakesAtMost (S.left source.old) (S.left source.new) (most_taken_of order) }
     ensures ok { IfOk result (λ line. Answers order (S.left source.old) (S.left source.new) (Ok (line_in line))) }
     ensures err { IfErr result (λ e. e ≢ ServeFault.ReadFault → e ≢ ServeFault.Memory
         → Answers order (S.left source.old) (S.left source.new) (Err e)) }
-    ensures failed { (result ≡ Err ServeFault.ReadFault) ↔ (S.has_failed source.new ≡ true) }
+    ensures failed { (result ≡ Err ServeFault.ReadFault)
+        ↔ (any_since is_err (S.reads source.old) (S.reads source.new) ≡ true) }
     ensures not_written { result ≢ Err ServeFault.WriteFault }
 {
     let input = input_of(alloc, order, source)?;

@@ -1,6 +1,7 @@
 //! The input of a command, read to its end.
 
-ghost use Rattle.std.specs.Prelude.{◌≡◌, ◌↔◌, ◌⊎◌, ◌+◌, ◌-◌, ◌<◌, ◌≤◌, length, vec_len, true, false, IfOk, IfErr, Err};
+ghost use Rattle.std.specs.Prelude.{◌≡◌, ◌↔◌, ◌⊎◌, ◌-◌, ◌<◌, ◌≤◌, length, vec_len, true, IfOk, IfErr, Err, is_err};
+ghost use Rattle.stamp_cli.specs.Results.{MakesAtMost, ReadsOnce, any_since};
 ghost use Rattle.stamp_cli.specs.Source.{most_bytes, most_reads, most_taken, Reads, ReadsMore, TakesAtMost};
 
 use crate::faults::ServeFault;
@@ -27,15 +28,11 @@ fn read_more<S: Source>(
 ) -> Result<bool, ServeFault>
     requires room { 0 < length chunk.old }
     requires within { vec_len input.old ≤ most_bytes }
-    requires unfailed { S.has_failed source.old ≡ false }
-    requires few { S.reads source.old ≤ vec_len input.old }
-    requires open { (S.reads source.old ≡ 0) ⊎ (S.has_ended source.old ≡ false) }
-    ensures counted { S.reads source.new ≡ S.reads source.old + 1 }
+    ensures once { ReadsOnce (S.reads source.old) (S.reads source.new) (most_taken - vec_len input.old)
+        (vec_len input.old) (vec_len input.new) result }
     ensures more { IfOk result (λ more. ReadsMore (S.left source.old) (S.left source.new)
         input.old.items input.new.items more) }
-    ensures open { IfOk result (λ more. more ≡ true → S.has_ended source.new ≡ false) }
     ensures took { TakesAtMost (S.left source.old) (S.left source.new) (most_taken - vec_len input.old) }
-    ensures failed { (result ≡ Err ServeFault.ReadFault) ↔ (S.has_failed source.new ≡ true) }
     ensures only { IfErr result (λ e. (e ≡ ServeFault.ReadFault) ⊎ (e ≡ ServeFault.Memory)) }
 {
     let room = chunk.len().min(MOST_BYTES + 1 - input.len());
@@ -48,12 +45,11 @@ fn read_more<S: Source>(
 
 /// The input to its end, or to one byte past the most.
 pub(crate) fn read_input<S: Source>(alloc: Global, source: &mut S) -> Result<Vec<u8>, ServeFault>
-    requires unread { S.reads source.old ≡ 0 }
-    requires unfailed { S.has_failed source.old ≡ false }
-    ensures few { S.reads source.new ≤ most_reads }
+    ensures reads { MakesAtMost (S.reads source.old) (S.reads source.new) most_reads most_taken }
     ensures took { TakesAtMost (S.left source.old) (S.left source.new) most_taken }
     ensures read { IfOk result (λ input. Reads (S.left source.old) (S.left source.new) input.items) }
-    ensures failed { (result ≡ Err ServeFault.ReadFault) ↔ (S.has_failed source.new ≡ true) }
+    ensures failed { (result ≡ Err ServeFault.ReadFault)
+        ↔ (any_since is_err (S.reads source.old) (S.reads source.new) ≡ true) }
     ensures only { IfErr result (λ e. (e ≡ ServeFault.ReadFault) ⊎ (e ≡ ServeFault.Memory)) }
 {
     let mut input = Vec::new(alloc);

@@ -7,6 +7,7 @@ mod faults;
 mod input;
 pub mod laws;
 mod line;
+mod log;
 mod orders;
 mod output;
 mod serving;

@@ -1,21 +1,22 @@
 //! The line of a command, written whole.
 
-ghost use Rattle.std.specs.Prelude.{◌≡◌, ◌<◌, ◌≤◌, length, take, false, IfOk, IfErr, OnOk, OnErr, is_err};
+ghost use Rattle.std.specs.Prelude.{◌≡◌, ◌<◌, ◌≤◌, length, take, IfOk, IfErr, OnOk, OnErr, is_err};
 ghost use Rattle.std.specs.Io.KnownBytes.{Appends, Keeps};
+ghost use Rattle.stamp_cli.specs.Results.{Makes, MakesAtMost, WritesOnce, any_since};
 ghost use Rattle.stamp_cli.specs.Sink.{AppendsFront};
+ghost use Rattle.stamp_cli.specs.TakesNone.{takes_none};
 
 use crate::faults::ServeFault;
 use crate::sinks::Sink;
 
 /// How many of the bytes one write takes, of which there is at least one.
 fn write_some<K: Sink>(sink: &mut K, bytes: &[u8]) -> Result<usize, ServeFault>
-    requires unfailed { K.has_failed sink.old ≡ false }
-    requires some { 0 < length bytes.now }
+    requires { 0 < length bytes.now }
+    ensures once { WritesOnce (K.writes sink.old) (K.writes sink.new) result }
     ensures taken { IfOk result (λ n. (0 < n) × (n ≤ length bytes.now)
         × Appends (K.sent sink.old) (K.sent sink.new) (take n bytes.now)) }
     ensures none { OnErr result (Keeps (K.sent sink.old) (K.sent sink.new)) }
     ensures err { IfErr result (λ e. e ≡ ServeFault.WriteFault) }
-    ensures failed { K.has_failed sink.new ≡ is_err result }
 {
     match sink.write(bytes) {
         Err(_) => Err(ServeFault::WriteFault),
@@ -30,11 +31,12 @@ fn write_some<K: Sink>(sink: &mut K, bytes: &[u8]) -> Result<usize, ServeFault>
 
 /// Writes the line and nothing else.
 pub(crate) fn write_line<K: Sink>(sink: &mut K, line: &[u8]) -> Result<(), ServeFault>
-    requires { K.has_failed sink.old ≡ false }
     ensures ok { OnOk result (Appends (K.sent sink.old) (K.sent sink.new) line.now) }
+    ensures whole { OnOk result (Makes (K.writes sink.old) (K.writes sink.new) (length line.now)) }
     ensures front { OnErr result (AppendsFront (K.sent sink.old) (K.sent sink.new) line.now) }
     ensures err { IfErr result (λ e. e ≡ ServeFault.WriteFault) }
-    ensures failed { K.has_failed sink.new ≡ is_err result }
+    ensures writes { MakesAtMost (K.writes sink.old) (K.writes sink.new) (length line.now) (length line.now) }
+    ensures failed { any_since takes_none (K.writes sink.old) (K.writes sink.new) ≡ is_err result }
 {
     let mut sent = 0;
     while sent < line.len() {

@@ -1,9 +1,11 @@
 //! A command from the bytes that come in to the line that goes out.
 
-ghost use Rattle.std.specs.Prelude.{◌≡◌, ◌≢◌, ◌↔◌, ◌++◌, ◌∷◌, ◌≤◌, [], List, ℕ, true, false, IfOk, IfErr, OnOk, Ok, Err};
+ghost use Rattle.std.specs.Prelude.{◌≡◌, ◌≢◌, ◌↔◌, ◌++◌, ◌∷◌, ◌+◌, [], true, length, IfOk, IfErr, Ok, Err, is_err};
 ghost use Rattle.std.specs.Io.KnownBytes.{Appends, Keeps};
 ghost use Rattle.stamp_cli.specs.Sink.{AppendsFront};
+ghost use Rattle.stamp_cli.specs.Results.{Makes, MakesAtMost, any_since};
 ghost use Rattle.stamp_cli.specs.Source.{TakesAtMost};
+ghost use Rattle.stamp_cli.specs.TakesNone.{takes_none};
 ghost use Rattle.stamp_cli.specs.Answer.{Answered, Answers, most_reads_of, most_taken_of};
 
 use crate::answer::line_of;
@@ -25,31 +27,33 @@ pub fn serve<S: Source, K: Sink>(
     source: &mut S,
     sink: &mut K,
 ) -> Result<Verdict, ServeFault>
-    requires unread { S.reads source.old ≡ 0 }
-    requires source { S.has_failed source.old ≡ false }
-    requires sink { K.has_failed sink.old ≡ false }
-
-    // However it ends, there are no more reads than these, and they take no more bytes than these.
-    ensures few { S.reads source.new ≤ most_reads_of order }
+    // However it ends, there are no more reads than these, none after one that took no byte, and they
+    // take no more bytes than these.
+    ensures reads { MakesAtMost (S.reads source.old) (S.reads source.new)
+        (most_reads_of order) (most_taken_of order) }
     ensures took { TakesAtMost (S.left source.old) (S.left source.new) (most_taken_of order) }
 
     // The answer to what was read is written with a line feed, and nothing else; the verdict is its.
     ensures ok { IfOk result (λ verdict. (line : Answered)
         × Answers order (S.left source.old) (S.left source.new) (Ok line) × (verdict ≡ line.verdict)
-        × Appends (K.sent sink.old) (K.sent sink.new) (line.text ++ 10 ∷ [])) }
+        × Appends (K.sent sink.old) (K.sent sink.new) (line.text ++ 10 ∷ [])
+        × Makes (K.writes sink.old) (K.writes sink.new) (length line.text + 1)) }
 
     // What was read is refused so.
     ensures refused { IfErr result (λ e. e ≢ ServeFault.ReadFault → e ≢ ServeFault.WriteFault
         → e ≢ ServeFault.Memory → Answers order (S.left source.old) (S.left source.new) (Err e)) }
-    ensures read_fault { (result ≡ Err ServeFault.ReadFault) ↔ (S.has_failed source.new ≡ true) }
+    ensures read_fault { (result ≡ Err ServeFault.ReadFault)
+        ↔ (any_since is_err (S.reads source.old) (S.reads source.new) ≡ true) }
 
-    // A write that failed leaves a front of the line, and no other refusal writes.
-    ensures write_fault { (result ≡ Err ServeFault.WriteFault) ↔ (K.has_failed sink.new ≡ true) }
+    // A write that failed leaves a front of the line and is the last, and no other refusal writes.
+    ensures write_fault { (result ≡ Err ServeFault.WriteFault)
+        ↔ (any_since takes_none (K.writes sink.old) (K.writes sink.new) ≡ true) }
     ensures front { result ≡ Err ServeFault.WriteFault → ((line : Answered)
         × Answers order (S.left source.old) (S.left source.new) (Ok line)
-        × AppendsFront (K.sent sink.old) (K.sent sink.new) (line.text ++ 10 ∷ [])) }
+        × AppendsFront (K.sent sink.old) (K.sent sink.new) (line.text ++ 10 ∷ [])
+        × MakesAtMost (K.writes sink.old) (K.writes sink.new) (length line.text + 1) (length line.text + 1)) }
     ensures silent { IfErr result (λ e. e ≢ ServeFault.WriteFault
-        → Keeps (K.sent sink.old) (K.sent sink.new)) }
+        → Keeps (K.sent sink.old) (K.sent sink.new) × (K.writes sink.new ≡ K.writes sink.old)) }
 {
     let Line { mut text, verdict } = line_of(alloc, order, source)?;
     text.push(b'\n')?;

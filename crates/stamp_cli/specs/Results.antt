@@ -1,0 +1,56 @@
+-- The results of a call's reads or writes. A source keeps those of all its reads, and a sink of its writes.
+use Rattle.std.specs.Prelude.{ℕ, ◌+◌, ◌-◌, ◌≡◌, ◌↔◌, ◌≤◌, ◌++◌, List, [], ◌∷◌, length, take, drop, sum_by, All}
+use Rattle.std.specs.Prelude.{Bool, true, false, not, Result, Ok, Err, IfOk, is_err}
+use Rattle.std.specs.List.{list_any}
+use Rattle.std.specs.declared.io.Error.{Error}
+use Rattle.stamp_cli.specs.TakesNone.{takes_none}
+use Rattle.stamp_cli.specs.declared.faults.ServeFault.{ServeFault}
+use Rattle.stamp_cli.specs.declared.faults.ServeFault.TheVariants.{ReadFault}
+
+-- the first one first
+abbrev pub Results : Type 0
+Results = List (Result ℕ Error)
+
+-- how many bytes one took
+abbrev pub bytes_of : Result ℕ Error → ℕ
+bytes_of (Ok n) = n
+bytes_of (Err e) = 0
+
+-- each of these took a byte
+abbrev pub EachTakes : Results → Type 0
+EachTakes results = All (λ result. takes_none result ≡ false) results
+
+-- each one that was made took a byte, and together they took so many
+pub record Makes (old new : Results) (bytes : ℕ) : Type 0 where
+  pub made : Results
+  pub added : new ≡ old ++ made
+  pub few : length made ≤ bytes
+  pub took : sum_by bytes_of made ≡ bytes
+  pub each : EachTakes made
+
+-- no more than `most` were made, none after one that took no byte, and they took no more bytes than `bytes`
+pub record MakesAtMost (old new : Results) (most bytes : ℕ) : Type 0 where
+  pub made : Results
+  pub added : new ≡ old ++ made
+  pub few : length made ≤ most
+  pub took : sum_by bytes_of made ≤ bytes
+  pub to_end : EachTakes (take (length made - 1) made)
+
+-- whether one that was made since passes the test
+abbrev pub any_since : (Result ℕ Error → Bool) → Results → Results → Bool
+any_since test old new = list_any test (drop (length old) new)
+
+-- one read was made; an input, whose length is told, has room for what it took, and grew by it
+pub record ReadsOnce (old new : Results) (room before after : ℕ) (more : Result Bool ServeFault) : Type 0 where
+  pub result : Result ℕ Error
+  pub added : new ≡ old ++ result ∷ []
+  pub within : bytes_of result ≤ room
+  pub fault : (more ≡ Err ReadFault) ↔ (is_err result ≡ true)
+  pub grown : IfOk more (λ m. (after ≡ before + bytes_of result) × (takes_none result ≡ not m))
+
+-- one write was made, and this is what is told of it
+pub record WritesOnce (old new : Results) (told : Result ℕ ServeFault) : Type 0 where
+  pub result : Result ℕ Error
+  pub added : new ≡ old ++ result ∷ []
+  pub bytes : IfOk told (λ n. bytes_of result ≡ n)
+  pub fault : takes_none result ≡ is_err told

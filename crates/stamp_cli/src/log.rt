@@ -1,0 +1,23 @@
+//! The results of reads or writes, one after the other.
+
+ghost use Rattle.std.specs.Prelude.{◌≡◌, ◌++◌, ◌∷◌, []};
+ghost use Rattle.stamp_cli.specs.Log.{results_in};
+
+use std::io;
+use std::snapshot::Snapshot;
+
+/// The results so far. No memory holds them: only contracts see a snapshot.
+#[derive(Drop)]
+pub(crate) enum Log {
+    Empty,
+    After(Snapshot<Log>, Snapshot<io::Result<usize>>),
+}
+
+impl Log {
+    /// Adds a result.
+    pub(crate) fn push(&mut self, last: &io::Result<usize>)
+        ensures { results_in self.new ≡ results_in self.old ++ last.now ∷ [] }
+    {
+        *self = Log::After(Snapshot::of(self), Snapshot::of(last));
+    }
+}
