@@ -2,6 +2,8 @@
 #![tactic(auto)]
 
 #[cfg(test)]
+mod ends_tests;
+#[cfg(test)]
 mod history_tests;
 #[cfg(test)]
 mod run_tests;

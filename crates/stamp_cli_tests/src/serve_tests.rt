@@ -9,10 +9,10 @@ use std::io::{Read, Write};
 use std::test::Fail;
 
 /// Observing 256 and validating it, and what that is answered.
-const INPUT: &[u8] =
+pub(crate) const INPUT: &[u8] =
     br#"{"calls":[["optimistic"],["validate",256]],"readers":127,"versions":1000}"#;
 
-const LINE: &[u8] = b"{\"replies\":[256,\"yes\"],\"word\":256}\n";
+pub(crate) const LINE: &[u8] = b"{\"replies\":[256,\"yes\"],\"word\":256}\n";
 
 /// Gives a byte at each read, and fails once so many reads are made.
 #[derive(Drop)]
@@ -56,14 +56,14 @@ impl Read for Spaces {
 
 /// How a full writer refuses.
 #[derive(Clone, Copy)]
-enum Full {
+pub(crate) enum Full {
     Fails,
     TakesNone,
 }
 
 /// Takes a byte at each write into memory of its own, until it is full.
 #[derive(Drop)]
-struct Narrow {
+pub(crate) struct Narrow {
     taken: [u8; 64],
     count: usize,
     most: usize,
@@ -71,7 +71,7 @@ struct Narrow {
 }
 
 impl Narrow {
-    fn new(most: usize, full: Full) -> Narrow {
+    pub(crate) fn new(most: usize, full: Full) -> Narrow {
         Narrow {
             taken: [0; 64],
             count: 0,
@@ -80,7 +80,7 @@ impl Narrow {
         }
     }
 
-    fn is_taken(&self, bytes: &[u8]) -> bool {
+    pub(crate) fn is_taken(&self, bytes: &[u8]) -> bool {
         self.taken.iter().take(self.count).eq(bytes.iter())
     }
 }

@@ -1,0 +1,204 @@
+//! What a `ReadSource` does with its reader and a `WriteSink` with its writer: one call for each of theirs.
+
+use crate::serve_tests::{Full, INPUT, LINE, Narrow};
+use stamp_cli::{Order, ReadSource, ServeFault, Sink, Source, Verdict, WriteSink, serve};
+use stamp_history::ReadError;
+use std::cell::Cell;
+use std::io;
+use std::io::{Read, Write};
+
+/// What a read gives, or that it fails.
+#[derive(Clone, Copy)]
+enum Turn<'a> {
+    Gives(&'a [u8]),
+    Fails,
+}
+
+/// Answers each read by the next turn, and counts the reads.
+#[derive(Drop)]
+struct Player<'a> {
+    turns: &'a [Turn<'a>],
+    calls: &'a Cell<usize>,
+}
+
+impl Read for Player<'_> {
+    fn read(&mut self, buf: &mut [u8]) -> io::Result<usize> {
+        let call = self.calls.get();
+        self.calls.set(call.saturating_add(1));
+        match self.turns.get(call) {
+            Some(Turn::Gives(bytes)) => {
+                let count = bytes.len().min(buf.len());
+                buf[..count].copy_from_slice(&bytes[..count]);
+                Ok(count)
+            }
+            Some(Turn::Fails) => Err(io::Error::from(io::ErrorKind::Interrupted)),
+            None => Ok(0),
+        }
+    }
+}
+
+#[test]
+fn a_read_of_a_source_is_one_read_of_its_reader(rt: HostRuntime) {
+    let turns = [
+        Turn::Gives(b"abc"),
+        Turn::Fails,
+        Turn::Fails,
+        Turn::Gives(b"de"),
+        Turn::Gives(b""),
+        Turn::Gives(b""),
+        Turn::Gives(b"f"),
+        Turn::Fails,
+        Turn::Gives(b""),
+        Turn::Gives(b"gh"),
+    ];
+    let calls = Cell::new(0);
+    let mut source = ReadSource::new(Player {
+        turns: &turns,
+        calls: &calls,
+    });
+    assert_eq!(rt; calls.get(), 0);
+    for (index, turn) in turns.iter().enumerate() {
+        let mut buffer = [b' '; 8];
+        let result = source.read(&mut buffer);
+        assert_eq!(rt; calls.get(), index + 1);
+        match (turn, result) {
+            (Turn::Gives(bytes), Ok(count)) => assert_eq!(rt; buffer.get(..count), Some(*bytes)),
+            (Turn::Fails, Err(_)) => {}
+            _ => assert!(rt; false, "another result at read {index}"),
+        }
+    }
+}
+
+/// How many bytes a write takes, or that it fails.
+#[derive(Clone, Copy)]
+enum Room {
+    Takes(usize),
+    Full,
+}
+
+/// Answers each write by the next room, and counts the writes, the flushes and the bytes it was handed.
+#[derive(Drop)]
+struct Basin<'a> {
+    rooms: &'a [Room],
+    calls: &'a Cell<usize>,
+    handed: &'a Cell<usize>,
+}
+
+impl Write for Basin<'_> {
+    fn write(&mut self, buf: &[u8]) -> io::Result<usize> {
+        let call = self.calls.get();
+        self.calls.set(call.saturating_add(1));
+        self.handed.set(buf.len());
+        match self.rooms.get(call) {
+            Some(Room::Takes(most)) => Ok(buf.len().min(*most)),
+            _ => Err(io::Error::from(io::ErrorKind::Interrupted)),
+        }
+    }
+
+    fn flush(&mut self) -> io::Result<()> {
+        self.calls.set(self.calls.get().saturating_add(1));
+        Ok(())
+    }
+}
+
+#[test]
+fn a_write_of_a_sink_is_one_write_of_its_writer(rt: HostRuntime) {
+    let rooms = [
+        Room::Takes(3),
+        Room::Full,
+        Room::Full,
+        Room::Takes(8),
+        Room::Takes(0),
+        Room::Takes(0),
+        Room::Takes(1),
+        Room::Full,
+        Room::Takes(0),
+        Room::Takes(7),
+    ];
+    let calls = Cell::new(0);
+    let handed = Cell::new(0);
+    let mut sink = WriteSink::new(Basin {
+        rooms: &rooms,
+        calls: &calls,
+        handed: &handed,
+    });
+    assert_eq!(rt; calls.get(), 0);
+    for (index, room) in rooms.iter().enumerate() {
+        let result = sink.write(b"abcdefgh");
+        assert_eq!(rt; calls.get(), index + 1);
+        assert_eq!(rt; handed.get(), 8);
+        let want = match room {
+            Room::Takes(most) => Some(*most),
+            Room::Full => None,
+        };
+        assert_eq!(rt; result.ok(), want, "write {index}");
+    }
+    let basin = sink.into_inner();
+    assert_eq!(rt; basin.calls.get(), 10);
+}
+
+#[test]
+fn a_source_is_served_again(rt: HostRuntime) {
+    let turns = [
+        Turn::Gives(INPUT),
+        Turn::Gives(b""),
+        Turn::Gives(b""),
+        Turn::Gives(INPUT),
+        Turn::Fails,
+        Turn::Gives(INPUT),
+        Turn::Gives(b""),
+    ];
+    let calls = Cell::new(0);
+    let mut source = ReadSource::new(Player {
+        turns: &turns,
+        calls: &calls,
+    });
+    let not_json = Err(ServeFault::Refused(ReadError::NotJson));
+    let table = [
+        (Order::Replay, Ok(Verdict::Accepted), LINE, 2),
+        // The reader has nothing more: an input of no byte.
+        (Order::Replay, not_json, b"", 3),
+        (Order::Replay, Err(ServeFault::ReadFault), b"", 5),
+        (Order::Stamp(384), Ok(Verdict::Accepted), b"write 1\n", 5),
+        (Order::Replay, Ok(Verdict::Accepted), LINE, 7),
+    ];
+    for (order, want, line, reads) in table {
+        let mut sink = WriteSink::new(Narrow::new(64, Full::Fails));
+        let result = serve(rt.alloc(), order, &mut source, &mut sink);
+        assert_eq!(rt; result, want, "{reads}");
+        assert!(rt; sink.into_inner().is_taken(line), "{reads}");
+        assert_eq!(rt; calls.get(), reads);
+    }
+}
+
+#[test]
+fn a_sink_is_served_again(rt: HostRuntime) {
+    let rooms = [
+        Room::Takes(20),
+        Room::Takes(64),
+        Room::Takes(30),
+        Room::Full,
+        Room::Takes(0),
+        Room::Takes(64),
+    ];
+    let calls = Cell::new(0);
+    let handed = Cell::new(0);
+    let mut sink = WriteSink::new(Basin {
+        rooms: &rooms,
+        calls: &calls,
+        handed: &handed,
+    });
+    let table = [
+        (Ok(Verdict::Accepted), 2, 15),
+        (Err(ServeFault::WriteFault), 4, 5),
+        (Err(ServeFault::WriteFault), 5, 35),
+        (Ok(Verdict::Accepted), 6, 35),
+    ];
+    for (want, writes, last) in table {
+        let mut source = ReadSource::new(INPUT);
+        let result = serve(rt.alloc(), Order::Replay, &mut source, &mut sink);
+        assert_eq!(rt; result, want, "{writes}");
+        assert_eq!(rt; calls.get(), writes);
+        assert_eq!(rt; handed.get(), last);
+    }
+}
