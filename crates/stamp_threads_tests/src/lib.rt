@@ -15,3 +15,5 @@ mod record_thread_tests;
 mod shared_tests;
 #[cfg(test)]
 mod thread_tests;
+#[cfg(test)]
+mod wake_tests;

@@ -1,0 +1,146 @@
+//! Calls on a shared book that wait, and what wakes them.
+ghost use Rattle.std.specs.Prelude.{◌<◌, IsTrue};
+ghost use Rattle.stamp_core.specs.Call.{is_lock_call};
+
+use stamp_check::check;
+use stamp_core::{Call, Layout, Limits, Reply};
+use stamp_threads::{Book, BookError, Shared};
+use std::alloc::Global;
+use std::sync::atomic::{AtomicU64, Ordering};
+use std::sync::{Arc, Wait};
+use std::test::Fail;
+use std::thread;
+use std::thread::Threads;
+use std::time::{Clock, Duration};
+
+/// The shared book of a lock with at most two readers.
+fn shared_book(alloc: Global) -> Result<Arc<Shared, Global>, Fail> {
+    let book = Book::new(alloc, Limits::new(2, 1_000)?, 1_000);
+    Ok(Arc::new(alloc, Shared::new(book))?)
+}
+
+/// A thread that makes a call which waits. Nobody joins it: where it is never woken, the test ends
+/// nevertheless.
+#[derive(Drop)]
+struct Waiter {
+    /// The stamp that it was answered; 0 before.
+    stamp: Arc<AtomicU64, Global>,
+}
+
+impl Waiter {
+    /// Starts the thread, and lets it come to wait.
+    fn start<R: Threads + Wait + Clock + Copy + Send + 'static>(
+        rt: &R,
+        alloc: Global,
+        shared: &Arc<Shared, Global>,
+        thread: u64,
+        call: Call,
+    ) -> Result<Waiter, Fail>
+        requires thread { thread < 64 }
+        requires call { IsTrue (is_lock_call call) }
+    {
+        let stamp = Arc::new(alloc, AtomicU64::new(0))?;
+        let (theirs, told) = (Arc::try_clone(shared)?, Arc::try_clone(&stamp)?);
+        let own = *rt;
+        thread::spawn(
+            rt,
+            move ||
+                requires { (thread < 64) × IsTrue (is_lock_call call) }
+            { acquire_once(&own, &theirs, thread, call, &told) },
+        )?;
+        thread::sleep(rt, Duration::from_millis(20));
+        Ok(Waiter { stamp })
+    }
+
+    /// The stamp that it is answered, 0 where none came in some ten seconds.
+    fn stamp<R: Clock>(&self, rt: &R) -> u64 {
+        for _ in 0..10_000u64 {
+            let stamp = self.stamp.load(Ordering::SeqCst);
+            if stamp != 0 {
+                return stamp;
+            }
+            thread::sleep(rt, Duration::from_millis(1));
+        }
+        0
+    }
+}
+
+/// Makes the call, tells the stamp, and releases.
+fn acquire_once<R: Wait>(rt: &R, shared: &Shared, thread: u64, call: Call, told: &AtomicU64)
+    requires thread { thread < 64 }
+    requires call { IsTrue (is_lock_call call) }
+{
+    if let Ok(Reply::Stamp(stamp)) = shared.call(rt, thread, call) {
+        told.store(stamp, Ordering::SeqCst);
+        let _ = shared.call(rt, thread, Call::Unlock(stamp));
+    }
+}
+
+#[test]
+fn a_shared_book_is_the_one_handed_in(rt: HostRuntime) -> Result<(), Fail> {
+    let limits = Limits::in_layout(Layout::Two, 3, 5)?;
+    let mut book = Book::new(rt.alloc(), limits, 2);
+    assert_eq!(rt; book.act(3, Call::TryWrite), Ok(Reply::Stamp(196_608)));
+    let before = book.record()?;
+    let shared = Shared::new(book);
+    let record = shared.record(&rt)?;
+    assert!(rt; record.entries() == before.entries());
+    assert_eq!(rt; record.limits(), limits);
+    assert_eq!(rt; shared.call(&rt, 4, Call::Unlock(196_608)), Ok(Reply::Done));
+    assert_eq!(rt; shared.call(&rt, 4, Call::TryRead), Err(BookError::Full));
+    let record = shared.record(&rt)?;
+    assert!(rt; record.entries().first() == before.entries().first());
+    assert_eq!(rt; check(&record), Ok(2));
+    Ok(())
+}
+
+#[test]
+fn a_downgrade_wakes_a_reader(rt: HostRuntime) -> Result<(), Fail> {
+    let shared = shared_book(rt.alloc())?;
+    assert_eq!(rt; shared.call(&rt, 0, Call::WriteLock), Ok(Reply::Stamp(384)));
+    let reader = Waiter::start(&rt, rt.alloc(), &shared, 1, Call::ReadLock)?;
+    assert_eq!(rt; shared.call(&rt, 0, Call::ToRead(384)), Ok(Reply::Stamp(513)));
+    assert_eq!(rt; reader.stamp(&rt), 514);
+    Ok(())
+}
+
+#[test]
+fn a_reader_who_leaves_wakes_one_who_waits_for_room(rt: HostRuntime) -> Result<(), Fail> {
+    let shared = shared_book(rt.alloc())?;
+    assert_eq!(rt; shared.call(&rt, 0, Call::ReadLock), Ok(Reply::Stamp(257)));
+    assert_eq!(rt; shared.call(&rt, 0, Call::ReadLock), Ok(Reply::Stamp(258)));
+    let reader = Waiter::start(&rt, rt.alloc(), &shared, 1, Call::ReadLock)?;
+    assert_eq!(rt; shared.call(&rt, 0, Call::UnlockRead(257)), Ok(Reply::Done));
+    assert_eq!(rt; reader.stamp(&rt), 258);
+    Ok(())
+}
+
+#[test]
+fn the_last_reader_wakes_a_writer(rt: HostRuntime) -> Result<(), Fail> {
+    let shared = shared_book(rt.alloc())?;
+    assert_eq!(rt; shared.call(&rt, 0, Call::ReadLock), Ok(Reply::Stamp(257)));
+    assert_eq!(rt; shared.call(&rt, 0, Call::ReadLock), Ok(Reply::Stamp(258)));
+    let writer = Waiter::start(&rt, rt.alloc(), &shared, 1, Call::WriteLock)?;
+    assert_eq!(rt; shared.call(&rt, 0, Call::TryUnlockRead), Ok(Reply::Yes));
+    assert_eq!(rt; shared.call(&rt, 0, Call::TryUnlockRead), Ok(Reply::Yes));
+    assert_eq!(rt; writer.stamp(&rt), 384);
+    Ok(())
+}
+
+/// A writer waits before the reader and one after, so that to wake one of the three isn't enough.
+#[test]
+fn a_downgrade_wakes_the_reader_among_writers(rt: HostRuntime) -> Result<(), Fail> {
+    for _ in 0..8u64 {
+        let shared = shared_book(rt.alloc())?;
+        assert_eq!(rt; shared.call(&rt, 0, Call::WriteLock), Ok(Reply::Stamp(384)));
+        let first = Waiter::start(&rt, rt.alloc(), &shared, 1, Call::WriteLock)?;
+        let reader = Waiter::start(&rt, rt.alloc(), &shared, 2, Call::ReadLock)?;
+        let second = Waiter::start(&rt, rt.alloc(), &shared, 3, Call::WriteLock)?;
+        assert_eq!(rt; shared.call(&rt, 0, Call::ToRead(384)), Ok(Reply::Stamp(513)));
+        assert_eq!(rt; reader.stamp(&rt), 514);
+        assert_eq!(rt; shared.call(&rt, 0, Call::UnlockRead(513)), Ok(Reply::Done));
+        let written = [first.stamp(&rt), second.stamp(&rt)];
+        assert!(rt; written == [640, 896] || written == [896, 640]);
+    }
+    Ok(())
+}
