@@ -95,16 +95,3 @@ fn each_other_call_once(rt: HostRuntime) -> Result<(), Fail> {
     assert_eq!(rt; lock.close(pass), 512);
     Ok(())
 }
-
-#[test]
-fn what_one_pass_acquired_the_other_meets(rt: HostRuntime) -> Result<(), Fail> {
-    let (lock, pass) = made(rt.alloc(), Layout::One, 127)?;
-    let (mut first, second) = lock.split(pass);
-    assert_eq!(rt; lock.once(&mut first, Call::TryWrite), stamp(384));
-    let (first, mut second) = lock.meet(first, second);
-    drop(first);
-    assert_eq!(rt; lock.once(&mut second, Call::IsWriteLocked), Ok(Reply::Yes));
-    assert_eq!(rt; lock.once(&mut second, Call::WriteLock), stamp(0));
-    assert_eq!(rt; lock.close(second), 384);
-    Ok(())
-}

@@ -40,6 +40,35 @@ fn two_threads_write_in_turns(rt: HostRuntime) -> Result<(), Fail> {
     Ok(())
 }
 
+/// Makes the call once, and hands back the pass.
+fn once_by(lock: &RunningLock, mut pass: Pass, call: Call) -> (Result<Reply, Lost>, Pass)
+    requires call { IsTrue (is_lock_call call) }
+    requires lock { pass.table ≡ lock.now.table }
+    ensures { result.1.table ≡ lock.now.table }
+{
+    let answer = lock.once(&mut pass, call);
+    (answer, pass)
+}
+
+#[test]
+fn what_one_pass_acquired_the_other_meets(rt: HostRuntime) -> Result<(), Fail> {
+    let (lock, pass) = made(rt.alloc(), Layout::One, 127)?;
+    let (first, second) = lock.split(pass);
+    let ((written, first), (validated, second)) = join(
+        &rt,
+        || once_by(&lock, first, Call::TryWrite),
+        || once_by(&lock, second, Call::Validate(0)),
+    );
+    assert_eq!(rt; written, Ok(Reply::Stamp(384)));
+    assert_eq!(rt; validated, Ok(Reply::No));
+    let (first, mut second) = lock.meet(first, second);
+    drop(first);
+    assert_eq!(rt; lock.once(&mut second, Call::IsWriteLocked), Ok(Reply::Yes));
+    assert_eq!(rt; lock.once(&mut second, Call::WriteLock), Ok(Reply::Stamp(0)));
+    assert_eq!(rt; lock.close(second), 384);
+    Ok(())
+}
+
 /// How often each of these was answered.
 #[derive(Clone, Copy, Debug, PartialEq, Eq)]
 struct Tally {
