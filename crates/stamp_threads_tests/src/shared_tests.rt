@@ -4,8 +4,8 @@ ghost use Rattle.stamp_core.specs.Call.{is_lock_call};
 
 use crate::book_tests::opened;
 use stamp_check::check;
-use stamp_core::{Call, Record, Reply};
-use stamp_threads::{BookError, Shared};
+use stamp_core::{Call, Layout, Limits, Record, Reply};
+use stamp_threads::{Book, BookError, Shared};
 use std::alloc::Global;
 use std::sync::{Barrier, Wait};
 use std::test::Fail;
@@ -106,6 +106,24 @@ fn a_full_book_is_told_to_those_who_share_it(rt: HostRuntime) -> Result<(), Fail
     Ok(())
 }
 
+#[test]
+fn a_shared_book_is_the_one_handed_in(rt: HostRuntime) -> Result<(), Fail> {
+    let limits = Limits::in_layout(Layout::Two, 3, 5)?;
+    let mut book = Book::new(rt.alloc(), limits, 2);
+    assert_eq!(rt; book.act(3, Call::TryWrite), Ok(Reply::Stamp(196_608)));
+    let before = book.record()?;
+    let shared = Shared::new(book);
+    let record = shared.record(&rt)?;
+    assert!(rt; record.entries() == before.entries());
+    assert_eq!(rt; record.limits(), limits);
+    assert_eq!(rt; shared.call(&rt, 4, Call::Unlock(196_608)), Ok(Reply::Done));
+    assert_eq!(rt; shared.call(&rt, 4, Call::TryRead), Err(BookError::Full));
+    let record = shared.record(&rt)?;
+    assert!(rt; record.entries().first() == before.entries().first());
+    assert_eq!(rt; check(&record), Ok(2));
+    Ok(())
+}
+
 /// Acquires read mode once the other thread is there, and asks until both hold it.
 fn read_beside<R: Wait>(
     rt: &R,
@@ -202,36 +220,5 @@ fn four_threads_of_50_000_calls(rt: HostRuntime) -> Result<(), Fail> {
     for caller in [zero, one, two, three] {
         assert!(rt; is_kept(&record, &caller.ok_or("refused")?));
     }
-    Ok(())
-}
-
-/// Writes until the other thread had time to wait, and gives write mode back.
-fn write_beside<R: Wait>(rt: &R, shared: &Shared, both: &Barrier) -> Option<Reply> {
-    shared.call(rt, 0, Call::WriteLock).ok()?;
-    both.wait(rt);
-    for _ in 0..20_000u64 {
-        shared.call(rt, 0, Call::IsReadLocked).ok()?;
-    }
-    shared.call(rt, 0, Call::UnlockWrite(384)).ok()
-}
-
-/// Comes once the writer is there, and waits for read mode.
-fn wait_beside<R: Wait>(rt: &R, shared: &Shared, both: &Barrier) -> Option<Reply> {
-    both.wait(rt);
-    shared.call(rt, 1, Call::ReadLock).ok()
-}
-
-#[test]
-fn a_reader_that_waits_is_woken(rt: HostRuntime) -> Result<(), Fail> {
-    let shared = Shared::new(opened(rt.alloc(), 640_000)?);
-    let both = Barrier::new(2);
-    let (released, read) = join(
-        &rt,
-        || write_beside(&rt, &shared, &both),
-        || wait_beside(&rt, &shared, &both),
-    );
-    assert_eq!(rt; released, Some(Reply::Done));
-    assert_eq!(rt; read, Some(Reply::Stamp(513)));
-    assert_eq!(rt; check(&shared.record(&rt)?), Ok(20_003));
     Ok(())
 }

@@ -64,7 +64,10 @@ fn what_one_pass_acquired_the_other_meets(rt: HostRuntime) -> Result<(), Fail> {
     let (first, mut second) = lock.meet(first, second);
     drop(first);
     assert_eq!(rt; lock.once(&mut second, Call::IsWriteLocked), Ok(Reply::Yes));
-    assert_eq!(rt; lock.once(&mut second, Call::WriteLock), Ok(Reply::Stamp(0)));
+    assert_eq!(rt;
+        lock.once(&mut second, Call::WriteLock),
+        Ok(Reply::Stamp(0))
+    );
     assert_eq!(rt; lock.close(second), 384);
     Ok(())
 }

@@ -2,9 +2,8 @@
 ghost use Rattle.std.specs.Prelude.{◌<◌, IsTrue};
 ghost use Rattle.stamp_core.specs.Call.{is_lock_call};
 
-use stamp_check::check;
-use stamp_core::{Call, Layout, Limits, Reply};
-use stamp_threads::{Book, BookError, Shared};
+use stamp_core::{Call, Limits, Reply};
+use stamp_threads::{Book, Shared};
 use std::alloc::Global;
 use std::sync::atomic::{AtomicU64, Ordering};
 use std::sync::{Arc, Wait};
@@ -77,20 +76,15 @@ fn acquire_once<R: Wait>(rt: &R, shared: &Shared, thread: u64, call: Call, told:
 }
 
 #[test]
-fn a_shared_book_is_the_one_handed_in(rt: HostRuntime) -> Result<(), Fail> {
-    let limits = Limits::in_layout(Layout::Two, 3, 5)?;
-    let mut book = Book::new(rt.alloc(), limits, 2);
-    assert_eq!(rt; book.act(3, Call::TryWrite), Ok(Reply::Stamp(196_608)));
-    let before = book.record()?;
-    let shared = Shared::new(book);
-    let record = shared.record(&rt)?;
-    assert!(rt; record.entries() == before.entries());
-    assert_eq!(rt; record.limits(), limits);
-    assert_eq!(rt; shared.call(&rt, 4, Call::Unlock(196_608)), Ok(Reply::Done));
-    assert_eq!(rt; shared.call(&rt, 4, Call::TryRead), Err(BookError::Full));
-    let record = shared.record(&rt)?;
-    assert!(rt; record.entries().first() == before.entries().first());
-    assert_eq!(rt; check(&record), Ok(2));
+fn a_writer_who_leaves_wakes_a_reader(rt: HostRuntime) -> Result<(), Fail> {
+    let shared = shared_book(rt.alloc())?;
+    assert_eq!(rt; shared.call(&rt, 0, Call::WriteLock), Ok(Reply::Stamp(384)));
+    let reader = Waiter::start(&rt, rt.alloc(), &shared, 1, Call::ReadLock)?;
+    assert_eq!(rt;
+        shared.call(&rt, 0, Call::UnlockWrite(384)),
+        Ok(Reply::Done)
+    );
+    assert_eq!(rt; reader.stamp(&rt), 513);
     Ok(())
 }
 
@@ -99,7 +93,10 @@ fn a_downgrade_wakes_a_reader(rt: HostRuntime) -> Result<(), Fail> {
     let shared = shared_book(rt.alloc())?;
     assert_eq!(rt; shared.call(&rt, 0, Call::WriteLock), Ok(Reply::Stamp(384)));
     let reader = Waiter::start(&rt, rt.alloc(), &shared, 1, Call::ReadLock)?;
-    assert_eq!(rt; shared.call(&rt, 0, Call::ToRead(384)), Ok(Reply::Stamp(513)));
+    assert_eq!(rt;
+        shared.call(&rt, 0, Call::ToRead(384)),
+        Ok(Reply::Stamp(513))
+    );
     assert_eq!(rt; reader.stamp(&rt), 514);
     Ok(())
 }
@@ -127,20 +124,25 @@ fn the_last_reader_wakes_a_writer(rt: HostRuntime) -> Result<(), Fail> {
     Ok(())
 }
 
-/// A writer waits before the reader and one after, so that to wake one of the three isn't enough.
+/// Two writers wait before the reader and one after, so that it isn't enough to wake some.
 #[test]
 fn a_downgrade_wakes_the_reader_among_writers(rt: HostRuntime) -> Result<(), Fail> {
     for _ in 0..8u64 {
         let shared = shared_book(rt.alloc())?;
         assert_eq!(rt; shared.call(&rt, 0, Call::WriteLock), Ok(Reply::Stamp(384)));
         let first = Waiter::start(&rt, rt.alloc(), &shared, 1, Call::WriteLock)?;
-        let reader = Waiter::start(&rt, rt.alloc(), &shared, 2, Call::ReadLock)?;
-        let second = Waiter::start(&rt, rt.alloc(), &shared, 3, Call::WriteLock)?;
-        assert_eq!(rt; shared.call(&rt, 0, Call::ToRead(384)), Ok(Reply::Stamp(513)));
+        let second = Waiter::start(&rt, rt.alloc(), &shared, 2, Call::WriteLock)?;
+        let reader = Waiter::start(&rt, rt.alloc(), &shared, 3, Call::ReadLock)?;
+        let third = Waiter::start(&rt, rt.alloc(), &shared, 4, Call::WriteLock)?;
+        assert_eq!(rt;
+            shared.call(&rt, 0, Call::ToRead(384)),
+            Ok(Reply::Stamp(513))
+        );
         assert_eq!(rt; reader.stamp(&rt), 514);
         assert_eq!(rt; shared.call(&rt, 0, Call::UnlockRead(513)), Ok(Reply::Done));
-        let written = [first.stamp(&rt), second.stamp(&rt)];
-        assert!(rt; written == [640, 896] || written == [896, 640]);
+        let mut written = [first.stamp(&rt), second.stamp(&rt), third.stamp(&rt)];
+        written.sort_unstable();
+        assert_eq!(rt; written, [640, 896, 1_152]);
     }
     Ok(())
 }
