@@ -4,6 +4,8 @@
 #[cfg(test)]
 mod book_tests;
 #[cfg(test)]
+mod counted_put_tests;
+#[cfg(test)]
 mod enter_tests;
 #[cfg(test)]
 mod lock_tests;

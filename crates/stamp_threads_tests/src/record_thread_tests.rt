@@ -1,91 +1,13 @@
 //! Threads that really share a record.
-ghost use Rattle.std.specs.Prelude.{◌≡◌, ◌++◌, ◌∷◌, [], length, MatchBool};
-ghost use Rattle.stamp_threads.specs.RecordRule.{put_of};
+ghost use Rattle.std.specs.Prelude.{◌≡◌};
 
 use crate::record_tests::{made_record, words_of};
 use stamp_core::{Layout, Words};
 use stamp_threads::{GetFault, PutFault, RecordPass, RunningRecord};
-use std::sync::Wait;
 use std::sync::atomic::{AtomicBool, Ordering};
 use std::test::Fail;
 use std::thread;
 use std::thread::{Threads, join};
-
-/// Puts the words, and tries again while others put; false where no version is left.
-fn put_until_made<R: Wait>(
-    rt: &R,
-    shared: &RunningRecord,
-    pass: &mut RecordPass,
-    words: &Words,
-) -> bool
-    requires table { pass.old.table ≡ shared.now.table }
-    requires width { length words.now ≡ shared.now.shape.width }
-    ensures table { pass.new.table ≡ shared.now.table }
-    ensures own { let own = pass.old.view.own in
-        MatchBool result (pass.new.view.own ≡ own ++ put_of words.now ∷ [])
-        (pass.new.view.own ≡ own) }
-{
-    for _ in rt.forever() {
-        match shared.put_once(pass, *words) {
-            Ok(()) => return true,
-            Err(PutFault::Busy(_) | PutFault::Lost { .. }) => thread::yield_now(),
-            Err(PutFault::Spent(_)) => return false,
-        }
-    }
-    unreachable!()
-}
-
-/// How many puts were made until the versions were spent.
-fn put_until_spent<R: Wait>(rt: &R, shared: &RunningRecord, mut pass: RecordPass) -> u64
-    requires { (pass.table ≡ shared.now.table) × (shared.now.shape.width ≡ 2) }
-{
-    let mut made = 0u64;
-    let Some(words) = Words::new(&[5, 6]) else {
-        return 0;
-    };
-    for _ in 0..1_000u64 {
-        if !put_until_made(rt, shared, &mut pass, &words) {
-            break;
-        }
-        made = made.wrapping_add(1);
-    }
-    made
-}
-
-#[test]
-fn two_threads_share_the_versions(rt: HostRuntime) -> Result<(), Fail> {
-    let (shared, pass) = made_record(rt.alloc(), Layout::One, 50, 2)?;
-    let (first, second) = shared.split(pass);
-    let (second, mut third) = shared.split(second);
-    let (a, b) = join(
-        &rt,
-        || put_until_spent(&rt, &shared, first),
-        || put_until_spent(&rt, &shared, second),
-    );
-    assert_eq!(rt; a.wrapping_add(b), 50);
-    assert_eq!(rt;
-        shared.put_once(&mut third, words_of(&[1, 2])?),
-        Err(PutFault::Spent(13_056))
-    );
-    Ok(())
-}
-
-/// How many puts of 1 to 1000 were made; nobody else puts.
-fn put_in_turn(shared: &RunningRecord, mut pass: RecordPass) -> (u64, RecordPass)
-    requires { (pass.table ≡ shared.now.table) × (shared.now.shape.width ≡ 2) }
-    ensures { result.1.table ≡ shared.now.table }
-{
-    let mut made = 0u64;
-    for i in 1..=1_000u64 {
-        let Some(words) = Words::new(&[i, i]) else {
-            break;
-        };
-        if shared.put_once(&mut pass, words).is_ok() {
-            made = made.wrapping_add(1);
-        }
-    }
-    (made, pass)
-}
 
 /// What a reader has found so far.
 #[derive(Clone, Copy)]
@@ -168,41 +90,6 @@ fn two_readers<R: Threads + Sync>(
     let (first, second) = shared.meet(first, second);
     drop(second);
     (a && b, first)
-}
-
-/// One thread puts in turn, and two others read.
-fn put_beside_readers<R: Threads + Sync>(
-    rt: &R,
-    shared: &RunningRecord,
-    putting: RecordPass,
-    reading: RecordPass,
-) -> ((u64, RecordPass), (bool, RecordPass))
-    requires passes { (putting.table ≡ shared.now.table) × (reading.table ≡ shared.now.table) }
-    requires width { shared.now.shape.width ≡ 2 }
-    ensures { (result.0.1.table ≡ shared.now.table) × (result.1.1.table ≡ shared.now.table) }
-{
-    join(
-        rt,
-        || put_in_turn(shared, putting),
-        || -> (bool, RecordPass)
-            requires { reading.table ≡ shared.now.table }
-            ensures { result.1.table ≡ shared.entry.now.table }
-        { two_readers(rt, shared, reading, 1_000) },
-    )
-}
-
-#[test]
-fn two_threads_read_what_a_third_puts(rt: HostRuntime) -> Result<(), Fail> {
-    let (shared, pass) = made_record(rt.alloc(), Layout::One, 1_000, 2)?;
-    let (putting, reading) = shared.split(pass);
-    let ((made, putting), (is_right, reading)) = put_beside_readers(&rt, &shared, putting, reading);
-    assert_eq!(rt; made, 1_000);
-    assert!(rt; is_right);
-    let last = words_of(&[1_000, 1_000])?;
-    let (mut putting, mut reading) = shared.meet(putting, reading);
-    assert_eq!(rt; shared.get_once(&mut putting), Ok(last));
-    assert_eq!(rt; shared.get_once(&mut reading), Ok(last));
-    Ok(())
 }
 
 /// Tries so many puts, each of sixteen times the same number: twice the try, and 1 more of the

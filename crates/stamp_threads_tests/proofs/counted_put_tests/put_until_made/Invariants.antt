@@ -1,5 +1,5 @@
 use Rattle.std.proofs.Common.{◌≡◌}
-use Rattle.stamp_threads_tests.proofs.record_thread_tests.put_until_made.Given as goal
+use Rattle.stamp_threads_tests.proofs.counted_put_tests.put_until_made.Given as goal
 
 abbrev pub invariant-loop : goal.invariant-loop
 invariant-loop g l = record {
