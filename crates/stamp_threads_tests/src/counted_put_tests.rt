@@ -53,11 +53,12 @@ fn start_with_others(here: &AtomicU64, threads: u64) {
         if here.load(Ordering::SeqCst) >= threads {
             break;
         }
+        thread::yield_now();
     }
 }
 
-/// Puts again and again until no version is left: how many puts were made, and the refusal at the
-/// end, or none after so many tries.
+/// Puts again and again, in turns with others, until no version is left: how many puts were made,
+/// and the refusal at the end, or none after so many tries.
 fn put_until_spent(
     shared: &RunningRecord,
     mut pass: RecordPass,
@@ -73,9 +74,10 @@ fn put_until_spent(
         };
         match shared.put_once(&mut pass, words) {
             Ok(()) => made = made.wrapping_add(1),
-            Err(PutFault::Busy(_) | PutFault::Lost { .. }) => thread::yield_now(),
+            Err(PutFault::Busy(_) | PutFault::Lost { .. }) => {}
             Err(spent) => return (made, Some(spent)),
         }
+        thread::yield_now();
     }
     (made, None)
 }
@@ -113,6 +115,7 @@ fn put_in_turn(shared: &RunningRecord, mut pass: RecordPass, here: &AtomicU64) -
         if shared.put_once(&mut pass, words).is_ok() {
             made = made.wrapping_add(1);
         }
+        thread::yield_now();
     }
     (made, pass)
 }
@@ -141,6 +144,7 @@ fn get_in_turn(
         if let (Ok(words), Some(k)) = (shared.get_once(&mut pass), last) {
             last = number_in_turn(words.as_slice(), k);
         }
+        thread::yield_now();
     }
     (last, pass)
 }
