@@ -1,0 +1,4 @@
+pub mod Replying
+pub mod Validating
+pub mod Sectioning
+pub mod Tries

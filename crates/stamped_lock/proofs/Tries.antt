@@ -1,0 +1,47 @@
+-- A refused call is a try.
+use Rattle.std.proofs.Common.{◌≡◌, ℕ, refl, ◌∙◌}
+use Rattle.stamp_threads.specs.declared.record_view.RecordShape.{RecordShape}
+use Rattle.stamp_threads.specs.declared.faults.PutFault.{PutFault}
+use Rattle.stamp_threads.specs.declared.faults.PutFault.TheVariants.{Busy, Lost, Spent}
+use Rattle.stamp_threads.specs.declared.faults.GetFault.{GetFault}
+use Rattle.stamp_threads.specs.declared.faults.GetFault.TheVariants as get
+use Rattle.stamp_threads.specs.RecordCall.{SawWord}
+use Rattle.stamp_threads.proofs.Beginnings.{begins_all, begins_further}
+use Rattle.stamped_lock.specs.RecordCalls.{RecordHandleView, Tried, RefusesPut, RefusesGet}
+
+pub tried_none : (h : RecordHandleView) → Tried h h
+tried_none h = record {
+  same = refl;
+  begins = begins_all h.pass.observed;
+  own = refl;
+  same_pass = record { name = refl; splits = refl };
+}
+
+tried_word : (shape : RecordShape) (word : ℕ) (h h' : RecordHandleView) → h'.shared ≡ h.shared →
+    SawWord shape h.pass word h'.pass → Tried h h'
+tried_word shape word h h' same saw = record {
+  same = same;
+  begins = saw.left.begins;
+  own = saw.own;
+  same_pass = saw.same;
+}
+
+pub tried_put : (fault : PutFault) (h h' : RecordHandleView) → RefusesPut fault h h' → Tried h h'
+tried_put (Busy word) h h' r = tried_word _ _ h h' r.same r.refused.saw
+tried_put (Lost loaded found) h h' r = tried_word _ _ h h' r.same r.refused.saw
+tried_put (Spent word) h h' r = tried_word _ _ h h' r.same r.refused.saw
+
+pub tried_get : (fault : GetFault) (h h' : RecordHandleView) → RefusesGet fault h h' → Tried h h'
+tried_get (get.Busy word) h h' r = tried_word _ _ h h' r.same r.refused.saw
+tried_get (get.Lost loaded found) h h' r = tried_word _ _ h h' r.same r.refused.saw
+
+pub tried_further : (h u h' : RecordHandleView) → Tried h u → Tried u h' → Tried h h'
+tried_further h u h' a b = record {
+  same = b.same ∙ a.same;
+  begins = begins_further h.pass.observed u.pass.observed h'.pass.observed a.begins b.begins;
+  own = b.own ∙ a.own;
+  same_pass = record {
+    name = b.same_pass.name ∙ a.same_pass.name;
+    splits = b.same_pass.splits ∙ a.same_pass.splits;
+  };
+}

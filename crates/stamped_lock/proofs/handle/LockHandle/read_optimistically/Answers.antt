@@ -1,0 +1,34 @@
+use Rattle.std.proofs.Common.{◌<◌, rules, inl, inr}
+use Rattle.stamped_lock.proofs.Validating.{unwritten}
+use Rattle.stamped_lock.proofs.Sectioning.{returns_once, ReadSection-also}
+use Rattle.stamped_lock.proofs.handle.LockHandle.read_optimistically.Goals as goal
+
+pub returns-in_default : goal.returns-in_default
+returns-in_default g c = inr (
+  c.try_optimistic_read.new.self,
+  inl (search rules),
+  ReadSection-also _ _ _ _ _ (returns_once g.F.Fn c.args.f) c.read_with.ensures,
+)
+
+pub returns : goal.returns
+returns g c = inr (
+  c.validate-valid.new.self,
+  inr (c.in-Some.stamp, c.try_optimistic_read.new.self, search rules, search rules),
+  ReadSection-also _ _ _ _ _ (returns_once g.F.Fn c.args.f) c.read_with-2.ensures,
+)
+
+pub returns-then-valid : goal.returns-then-valid
+returns-then-valid g c =
+    let some : 0 < c.in-Some.stamp = search rules in
+    inl (record {
+      read = record {
+        stamp = c.in-Some.stamp;
+        some = some;
+        between = c.try_optimistic_read.new.self;
+        began = c.in-Some.ensures;
+        ran = search rules;
+        ended = c.if-valid.ensures;
+      };
+      unwritten = unwritten c.in-Some.stamp c.args.self.now c.try_optimistic_read.new.self
+          c.validate-valid.new.self some c.in-Some.ensures c.if-valid.ensures;
+    })

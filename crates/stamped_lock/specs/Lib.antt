@@ -1,0 +1,5 @@
+pub mod HandleView
+pub mod Replies
+pub mod Made
+pub mod Sections
+pub mod RecordCalls

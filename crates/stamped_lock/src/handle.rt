@@ -1,0 +1,245 @@
+//! The handles of a lock.
+ghost use Rattle.std.specs.Prelude.{◌≡◌, IfOk, IsTrue, Some};
+ghost use Rattle.stamp_core.specs.Call.{is_lock_call};
+ghost use Rattle.stamp_core.specs.declared.call.Call.TheVariants.{TryWrite, TryRead, WriteLock};
+ghost use Rattle.stamp_core.specs.declared.call.Call.TheVariants.{ReadLock, Optimistic, Validate};
+ghost use Rattle.stamp_core.specs.declared.call.Call.TheVariants.{UnlockWrite, UnlockRead, Unlock};
+ghost use Rattle.stamp_core.specs.declared.call.Call.TheVariants.{ToWrite, ToRead, ToOptimistic};
+ghost use Rattle.stamp_core.specs.declared.call.Call.TheVariants.{TryUnlockWrite, TryUnlockRead};
+ghost use Rattle.stamp_core.specs.declared.call.Call.TheVariants.{IsWriteLocked, IsReadLocked};
+ghost use Rattle.stamp_core.specs.declared.call.Call.TheVariants.{ReadCount};
+ghost use Rattle.stamp_core.specs.declared.reply.Reply.TheVariants.{Count};
+ghost use Rattle.stamp_threads.specs.Answered.{try_form};
+ghost use Rattle.stamp_threads.specs.PassView.{after_split, split_off};
+ghost use Rattle.stamped_lock.specs.Made.{Made, MadeOrLost};
+ghost use Rattle.stamped_lock.specs.Replies.{stamped, tested, released, MayReply, NeverLoses};
+
+use crate::answers::{count_in, release_in, some_stamp_in, stamp_in, test_in};
+use crate::mismatch::Mismatch;
+use crate::stamp::Stamp;
+use stamp_core::{Call, Reply};
+use stamp_threads::{Lost, Pass, RunningLock};
+use std::marker::Model;
+use std::sync::Wait;
+
+/// One thread's way to the lock. A handle can be moved to another thread, and can't be copied;
+/// `split` makes another one.
+///
+/// It has no bytes but the lock's reference. What a thread acquires belongs to the stamp, and not to
+/// the handle: dropping a handle releases nothing.
+#[derive(Drop)]
+pub struct LockHandle<'a> {
+    lock: &'a RunningLock,
+    pass: Pass,
+    ghost own: { pass.table ≡ lock.now.table },
+}
+
+impl<'a> Model for LockHandle<'a> {
+    ghost use Rattle.std.specs.Prelude.{◌≡◌};
+    ghost use Rattle.stamped_lock.specs.HandleView.{HandleView};
+
+    ghost Value = { HandleView };
+
+    ghost view = { λ h. record { lock = h.lock.now; pass = h.pass.view } };
+}
+
+impl<'a> LockHandle<'a> {
+    /// The handle of a lock and a pass of it.
+    pub(crate) fn new(lock: &'a RunningLock, pass: Pass) -> LockHandle<'a>
+        requires { pass.table ≡ lock.now.table }
+        ensures lock { result.lock ≡ lock.now }
+        ensures pass { result.pass ≡ pass.view }
+    {
+        LockHandle { lock, pass }
+    }
+
+    /// Makes the call, and tries again until it is made.
+    #[inline(always)]
+    fn make<R: Wait>(&mut self, rt: &R, call: Call) -> Reply
+        requires { IsTrue (is_lock_call call) }
+        ensures made { Made call result self.old self.new }
+        ensures reply { MayReply call result }
+    {
+        self.lock.call(rt, &mut self.pass, call)
+    }
+
+    /// Makes a call that doesn't wait, by one load and at most one exchange.
+    #[inline(always)]
+    pub(crate) fn make_once(&mut self, call: Call) -> Result<Reply, Lost>
+        requires call { IsTrue (is_lock_call call) }
+        requires at_once { try_form call ≡ call }
+        ensures made { MadeOrLost call (λ r. r) result self.old self.new }
+        ensures reply { IfOk result (λ r. MayReply call r) }
+    {
+        self.lock.once(&mut self.pass, call)
+    }
+
+    /// Makes a call that can't lose, by one load and at most one exchange.
+    #[inline(always)]
+    fn make_surely(&mut self, call: Call) -> Reply
+        requires { NeverLoses call }
+        ensures made { Made call result self.old self.new }
+        ensures reply { MayReply call result }
+    {
+        match self.lock.once(&mut self.pass, call) {
+            Ok(reply) => reply,
+            Err(_) => unreachable!(),
+        }
+    }
+
+    /// Acquires write mode (`writeLock`). It waits while anybody holds the lock. None where no version
+    /// is left, which no lock of layout 1 comes to.
+    pub fn write<R: Wait>(&mut self, rt: &R) -> Option<Stamp>
+        ensures { Made WriteLock (stamped result) self.old self.new }
+    {
+        stamp_in(self.make(rt, Call::WriteLock))
+    }
+
+    /// Acquires write mode if nobody holds the lock (`tryWriteLock`). None where somebody does, or no
+    /// version is left. It waits for no holder.
+    pub fn try_write<R: Wait>(&mut self, rt: &R) -> Option<Stamp>
+        ensures { Made TryWrite (stamped result) self.old self.new }
+    {
+        stamp_in(self.make(rt, Call::TryWrite))
+    }
+
+    /// Acquires read mode (`readLock`). It waits while there is a writer, or no room for a reader.
+    pub fn read<R: Wait>(&mut self, rt: &R) -> Stamp
+        ensures { Made ReadLock (stamped (Some result)) self.old self.new }
+    {
+        some_stamp_in(self.make(rt, Call::ReadLock))
+    }
+
+    /// Acquires read mode if there is no writer, and room for a reader (`tryReadLock`). It waits for no
+    /// holder.
+    pub fn try_read<R: Wait>(&mut self, rt: &R) -> Option<Stamp>
+        ensures { Made TryRead (stamped result) self.old self.new }
+    {
+        stamp_in(self.make(rt, Call::TryRead))
+    }
+
+    /// A stamp to be validated later (`tryOptimisticRead`). None while there is a writer. It holds
+    /// nothing, so it isn't released. One load.
+    #[inline(always)]
+    pub fn try_optimistic_read(&mut self) -> Option<Stamp>
+        ensures { Made Optimistic (stamped result) self.old self.new }
+    {
+        stamp_in(self.make_surely(Call::Optimistic))
+    }
+
+    /// Whether nobody acquired write mode since the stamp was issued (`validate`). Also true of a stamp
+    /// whose mode is held. One load.
+    #[inline(always)]
+    pub fn validate(&mut self, stamp: Stamp) -> bool
+        ensures { Made (Validate stamp) (tested result) self.old self.new }
+    {
+        test_in(self.make_surely(Call::Validate(stamp.number())))
+    }
+
+    /// Releases write mode (`unlockWrite`). `Mismatch` where the stamp doesn't stand for it: the lock
+    /// is as it was. It never waits, and tries nothing again: while the stamp stands for write mode,
+    /// nobody else can change the lock but by releasing it.
+    #[inline(always)]
+    pub fn unlock_write(&mut self, stamp: Stamp) -> Result<(), Mismatch>
+        ensures { Made (UnlockWrite stamp) (released result) self.old self.new }
+    {
+        release_in(self.make_surely(Call::UnlockWrite(stamp.number())))
+    }
+
+    /// Releases one hold of read mode (`unlockRead`). `Mismatch` where the stamp doesn't stand for one:
+    /// the lock is as it was.
+    pub fn unlock_read<R: Wait>(&mut self, rt: &R, stamp: Stamp) -> Result<(), Mismatch>
+        ensures { Made (UnlockRead stamp) (released result) self.old self.new }
+    {
+        release_in(self.make(rt, Call::UnlockRead(stamp.number())))
+    }
+
+    /// Releases the mode that the stamp stands for (`unlock`). `Mismatch` where it stands for none that
+    /// is held: the lock is as it was.
+    pub fn unlock<R: Wait>(&mut self, rt: &R, stamp: Stamp) -> Result<(), Mismatch>
+        ensures { Made (Unlock stamp) (released result) self.old self.new }
+    {
+        release_in(self.make(rt, Call::Unlock(stamp.number())))
+    }
+
+    /// Goes on in write mode (`tryConvertToWriteLock`): from write mode with the same stamp, from read
+    /// mode if there is no other reader, from an optimistic stamp if it is valid and nobody holds the
+    /// lock. None otherwise: the lock is as it was, and the old stamp still stands. It waits for no
+    /// holder.
+    pub fn try_convert_to_write<R: Wait>(&mut self, rt: &R, stamp: Stamp) -> Option<Stamp>
+        ensures { Made (ToWrite stamp) (stamped result) self.old self.new }
+    {
+        stamp_in(self.make(rt, Call::ToWrite(stamp.number())))
+    }
+
+    /// Goes on in read mode (`tryConvertToReadLock`): from write mode, from read mode with the same
+    /// stamp, from an optimistic stamp if it is valid and there is room for a reader. None otherwise:
+    /// the lock is as it was, and the old stamp still stands. It waits for no holder.
+    pub fn try_convert_to_read<R: Wait>(&mut self, rt: &R, stamp: Stamp) -> Option<Stamp>
+        ensures { Made (ToRead stamp) (stamped result) self.old self.new }
+    {
+        stamp_in(self.make(rt, Call::ToRead(stamp.number())))
+    }
+
+    /// Releases the mode that the stamp stands for, and answers an optimistic stamp
+    /// (`tryConvertToOptimisticRead`); a valid optimistic stamp is answered itself. None otherwise: the
+    /// lock is as it was. It waits for no holder.
+    pub fn try_convert_to_optimistic<R: Wait>(&mut self, rt: &R, stamp: Stamp) -> Option<Stamp>
+        ensures { Made (ToOptimistic stamp) (stamped result) self.old self.new }
+    {
+        stamp_in(self.make(rt, Call::ToOptimistic(stamp.number())))
+    }
+
+    /// Releases write mode without a stamp, if it is held (`tryUnlockWrite`). False where it isn't. It
+    /// is meant for recovery after an error.
+    pub fn try_unlock_write<R: Wait>(&mut self, rt: &R) -> bool
+        ensures { Made TryUnlockWrite (tested result) self.old self.new }
+    {
+        test_in(self.make(rt, Call::TryUnlockWrite))
+    }
+
+    /// Releases one hold of read mode without a stamp, if there is one (`tryUnlockRead`). False where
+    /// there is none. It is meant for recovery after an error.
+    pub fn try_unlock_read<R: Wait>(&mut self, rt: &R) -> bool
+        ensures { Made TryUnlockRead (tested result) self.old self.new }
+    {
+        test_in(self.make(rt, Call::TryUnlockRead))
+    }
+
+    /// Whether write mode is held (`isWriteLocked`). One load.
+    #[inline(always)]
+    pub fn is_write_locked(&mut self) -> bool
+        ensures { Made IsWriteLocked (tested result) self.old self.new }
+    {
+        test_in(self.make_surely(Call::IsWriteLocked))
+    }
+
+    /// Whether read mode is held (`isReadLocked`). One load.
+    #[inline(always)]
+    pub fn is_read_locked(&mut self) -> bool
+        ensures { Made IsReadLocked (tested result) self.old self.new }
+    {
+        test_in(self.make_surely(Call::IsReadLocked))
+    }
+
+    /// How many hold read mode (`getReadLockCount`). One load.
+    #[inline(always)]
+    pub fn read_count(&mut self) -> u64
+        ensures { Made ReadCount (Count result) self.old self.new }
+    {
+        count_in(self.make_surely(Call::ReadCount))
+    }
+
+    /// One more handle of the same lock, which has observed as much as this one and made no call.
+    pub fn split(&mut self) -> LockHandle<'a>
+        ensures lock { (self.new.lock ≡ self.old.lock) × (result.lock ≡ self.old.lock) }
+        ensures given { self.new.pass ≡ after_split self.old.pass }
+        ensures new { result.pass ≡ split_off self.old.pass }
+    {
+        let pass = self.lock.split_off(&mut self.pass);
+        LockHandle {
+            lock: self.lock,
+            pass,
+        }
+    }
+}

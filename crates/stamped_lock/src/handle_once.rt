@@ -1,0 +1,108 @@
+//! The calls of a handle that are tried once: one load and at most one exchange, whatever others do.
+ghost use Rattle.stamp_core.specs.declared.call.Call.TheVariants.{TryWrite, TryRead, UnlockWrite};
+ghost use Rattle.stamp_core.specs.declared.call.Call.TheVariants.{UnlockRead, Unlock, ToWrite};
+ghost use Rattle.stamp_core.specs.declared.call.Call.TheVariants.{ToRead, ToOptimistic};
+ghost use Rattle.stamp_core.specs.declared.call.Call.TheVariants.{TryUnlockWrite, TryUnlockRead};
+ghost use Rattle.stamped_lock.specs.Made.{MadeOrLost, UnlockedOrLost};
+ghost use Rattle.stamped_lock.specs.Replies.{stamped, tested};
+
+use crate::answers::{release_in, stamp_in, test_in};
+use crate::handle::LockHandle;
+use crate::stamp::Stamp;
+use crate::unlock_error::UnlockError;
+use stamp_core::Call;
+use stamp_threads::Lost;
+
+impl<'a> LockHandle<'a> {
+    /// `try_write`, tried once. `Lost` where another thread changed the lock in between: nothing was
+    /// acquired, and the call can be made again.
+    #[inline(always)]
+    pub fn try_write_once(&mut self) -> Result<Option<Stamp>, Lost>
+        ensures { MadeOrLost TryWrite stamped result self.old self.new }
+    {
+        let reply = self.make_once(Call::TryWrite)?;
+        Ok(stamp_in(reply))
+    }
+
+    /// `try_read`, tried once. `Lost` where another thread changed the lock in between: nothing was
+    /// acquired, and the call can be made again.
+    #[inline(always)]
+    pub fn try_read_once(&mut self) -> Result<Option<Stamp>, Lost>
+        ensures { MadeOrLost TryRead stamped result self.old self.new }
+    {
+        let reply = self.make_once(Call::TryRead)?;
+        Ok(stamp_in(reply))
+    }
+
+    /// `unlock_read`, tried once. `Lost` where another thread changed the lock in between: nothing was
+    /// released, and the call can be made again.
+    #[inline(always)]
+    pub fn unlock_read_once(&mut self, stamp: Stamp) -> Result<(), UnlockError>
+        ensures { UnlockedOrLost (UnlockRead stamp) result self.old self.new }
+    {
+        let reply = self.make_once(Call::UnlockRead(stamp.number()))?;
+        release_in(reply)?;
+        Ok(())
+    }
+
+    /// `unlock`, tried once. `Lost` where another thread changed the lock in between: nothing was
+    /// released, and the call can be made again.
+    #[inline(always)]
+    pub fn unlock_once(&mut self, stamp: Stamp) -> Result<(), UnlockError>
+        ensures { UnlockedOrLost (Unlock stamp) result self.old self.new }
+    {
+        let reply = self.make_once(Call::Unlock(stamp.number()))?;
+        release_in(reply)?;
+        Ok(())
+    }
+
+    /// `try_convert_to_write`, tried once. `Lost` where another thread changed the lock in between: the
+    /// old stamp still stands, and the call can be made again.
+    #[inline(always)]
+    pub fn try_convert_to_write_once(&mut self, stamp: Stamp) -> Result<Option<Stamp>, Lost>
+        ensures { MadeOrLost (ToWrite stamp) stamped result self.old self.new }
+    {
+        let reply = self.make_once(Call::ToWrite(stamp.number()))?;
+        Ok(stamp_in(reply))
+    }
+
+    /// `try_convert_to_read`, tried once. `Lost` where another thread changed the lock in between: the
+    /// old stamp still stands, and the call can be made again.
+    #[inline(always)]
+    pub fn try_convert_to_read_once(&mut self, stamp: Stamp) -> Result<Option<Stamp>, Lost>
+        ensures { MadeOrLost (ToRead stamp) stamped result self.old self.new }
+    {
+        let reply = self.make_once(Call::ToRead(stamp.number()))?;
+        Ok(stamp_in(reply))
+    }
+
+    /// `try_convert_to_optimistic`, tried once. `Lost` where another thread changed the lock in between:
+    /// the old stamp still stands, and the call can be made again.
+    #[inline(always)]
+    pub fn try_convert_to_optimistic_once(&mut self, stamp: Stamp) -> Result<Option<Stamp>, Lost>
+        ensures { MadeOrLost (ToOptimistic stamp) stamped result self.old self.new }
+    {
+        let reply = self.make_once(Call::ToOptimistic(stamp.number()))?;
+        Ok(stamp_in(reply))
+    }
+
+    /// `try_unlock_write`, tried once. `Lost` where another thread changed the lock in between: nothing
+    /// was released, and the call can be made again.
+    #[inline(always)]
+    pub fn try_unlock_write_once(&mut self) -> Result<bool, Lost>
+        ensures { MadeOrLost TryUnlockWrite tested result self.old self.new }
+    {
+        let reply = self.make_once(Call::TryUnlockWrite)?;
+        Ok(test_in(reply))
+    }
+
+    /// `try_unlock_read`, tried once. `Lost` where another thread changed the lock in between: nothing
+    /// was released, and the call can be made again.
+    #[inline(always)]
+    pub fn try_unlock_read_once(&mut self) -> Result<bool, Lost>
+        ensures { MadeOrLost TryUnlockRead tested result self.old self.new }
+    {
+        let reply = self.make_once(Call::TryUnlockRead)?;
+        Ok(test_in(reply))
+    }
+}

@@ -1,0 +1,49 @@
+//! A lock with three modes that threads share: write, read, and optimistic read. It is the lock of
+//! `java.util.concurrent.locks.StampedLock`, and each call's doc has Java's name for it.
+//!
+//! `StampedLock::new` makes the lock. Each thread gets a `LockHandle` by its `enter`, and makes its
+//! calls by this handle. A call that acquires a mode answers a `Stamp`, and a call that releases the mode
+//! takes it. The lock has no owner: any thread may release by a stamp, and nobody may acquire write
+//! mode twice.
+//!
+//! # How long a call takes
+//!
+//! - `write` and `read` wait until the mode is free.
+//! - `try_optimistic_read`, `validate`, `unlock_write` and the three queries make one load and at most
+//!   one exchange, which can't be lost.
+//! - Every other call waits for no holder. Where another thread changes the lock at the same time, it
+//!   tries again, until it is made.
+//! - A call whose name ends in `_once` doesn't even try again. It makes one load and at most one
+//!   exchange, and answers `Lost` where another thread changed the lock in between.
+//!
+//! # Sections
+//!
+//! `write_with` and `read_with` acquire a mode, run a closure and release. `read_optimistically` is
+//! Java's idiom for a short read: an optimistic stamp, a closure, a validation; and where that
+//! fails the closure again, in read mode.
+#![tactic(auto)]
+
+mod answers;
+mod handle;
+mod handle_once;
+mod lock;
+mod mismatch;
+mod record;
+mod record_handle;
+mod sections;
+mod spent;
+mod stamp;
+mod unlock_error;
+mod write_error;
+
+pub use handle::LockHandle;
+pub use lock::StampedLock;
+pub use mismatch::Mismatch;
+pub use record::StampedRecord;
+pub use record_handle::RecordHandle;
+pub use spent::Spent;
+pub use stamp::Stamp;
+pub use stamp_core::{Layout, Limits, StampKind};
+pub use stamp_threads::{AnyContent, ContentRule, GetFault, LockError, Lost, PutFault};
+pub use unlock_error::UnlockError;
+pub use write_error::WriteError;

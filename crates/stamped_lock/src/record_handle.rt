@@ -1,0 +1,114 @@
+//! The handles of a record.
+ghost use Rattle.std.specs.Prelude.{◌≡◌, IfOk, IfErr, OnOk, OnErr};
+ghost use Rattle.stamp_core.specs.declared.call.Call.TheVariants.{Get, Put};
+ghost use Rattle.stamp_core.specs.declared.reply.Reply.TheVariants.{Done, Content};
+ghost use Rattle.stamp_threads.specs.PassView.{after_split, split_off};
+ghost use Rattle.stamped_lock.specs.RecordCalls.{Recording, RefusesPut, RefusesGet};
+ghost use Rattle.stamped_lock.specs.RecordCalls.{RecordingAtLast, SpentAtLast};
+
+use crate::record::StampedRecord;
+use crate::spent::Spent;
+use stamp_threads::{ContentRule, GetFault, PutFault, RecordPass};
+use std::marker::Model;
+use std::sync::Wait;
+use std::thread;
+
+/// One thread's way to the record. A handle can be moved to another thread, and can't be copied;
+/// `split` makes another one. It has no bytes but the record's reference.
+#[derive(Drop)]
+pub struct RecordHandle<'a, const N: usize, P: ContentRule> {
+    shared: &'a StampedRecord<N, P>,
+    pass: RecordPass,
+    ghost own: { pass.table ≡ shared.now.table },
+}
+
+impl<'a, const N: usize, P: ContentRule> Model for RecordHandle<'a, N, P> {
+    ghost use Rattle.std.specs.Prelude.{◌≡◌};
+    ghost use Rattle.stamped_lock.specs.RecordCalls.{RecordHandleView};
+
+    ghost Value = { RecordHandleView };
+
+    ghost view = { λ h. record { shared = h.shared.now; pass = h.pass.view } };
+}
+
+impl<'a, const N: usize, P: ContentRule> RecordHandle<'a, N, P> {
+    /// The handle of a record and a pass of it.
+    pub(crate) fn new(shared: &'a StampedRecord<N, P>, pass: RecordPass) -> RecordHandle<'a, N, P>
+        requires { pass.table ≡ shared.now.table }
+        ensures shared { result.shared ≡ shared.now }
+        ensures pass { result.pass ≡ pass.view }
+    {
+        RecordHandle { shared, pass }
+    }
+
+    /// Puts the words if nobody else is putting. It waits for nobody, and where it fails nothing was
+    /// put: `Busy` where the first look found somebody putting, `Lost` where the lock word changed
+    /// after it, `Spent` where no version is left.
+    pub fn put_once(&mut self, row: [u64; N]) -> Result<(), PutFault>
+        requires { P.holds row }
+        ensures ok { let h = self.old in let w = self.new in
+            OnOk result (Recording (Put row.entry) Done h w) }
+        ensures err { let h = self.old in let w = self.new in
+            IfErr result (λ fault. RefusesPut fault h w) }
+    {
+        self.shared.put_by(&mut self.pass, &row)
+    }
+
+    /// Gets the words if nobody is putting. It waits for nobody: it fails as `Busy` where the first
+    /// look found somebody putting, and as `Lost` where the lock word changed after it.
+    pub fn get_once(&mut self) -> Result<[u64; N], GetFault>
+        ensures rule { IfOk result (λ row. P.holds row) }
+        ensures ok { let h = self.old in let w = self.new in
+            IfOk result (λ row. Recording Get (Content row) h w) }
+        ensures err { let h = self.old in let w = self.new in
+            IfErr result (λ fault. RefusesGet fault h w) }
+    {
+        self.shared.get_by(&mut self.pass)
+    }
+
+    /// Gets the words. While somebody is putting it lets other threads run and tries again.
+    pub fn get<R: Wait>(&mut self, rt: &R) -> [u64; N]
+        ensures rule { P.holds result }
+        ensures made { RecordingAtLast Get (Content result) self.old self.new }
+    {
+        for _ in rt.forever() {
+            if let Ok(row) = self.get_once() {
+                return row;
+            }
+            thread::yield_now();
+        }
+        unreachable!()
+    }
+
+    /// Puts the words. While somebody else is putting it lets other threads run and tries again. It
+    /// fails only where no version is left; nothing was put then.
+    pub fn put<R: Wait>(&mut self, rt: &R, row: [u64; N]) -> Result<(), Spent>
+        requires { P.holds row }
+        ensures made { let h = self.old in let w = self.new in
+            OnOk result (RecordingAtLast (Put row.entry) Done h w) }
+        ensures spent { let h = self.old in let w = self.new in
+            OnErr result (SpentAtLast h w) }
+    {
+        for _ in rt.forever() {
+            match self.put_once(row) {
+                Ok(()) => return Ok(()),
+                Err(PutFault::Spent(_)) => return Err(Spent),
+                Err(PutFault::Busy(_) | PutFault::Lost { .. }) => thread::yield_now(),
+            }
+        }
+        unreachable!()
+    }
+
+    /// One more handle of the same record, which has observed as much as this one and made no call.
+    pub fn split(&mut self) -> RecordHandle<'a, N, P>
+        ensures shared { (self.new.shared ≡ self.old.shared) × (result.shared ≡ self.old.shared) }
+        ensures given { self.new.pass ≡ after_split self.old.pass }
+        ensures new { result.pass ≡ split_off self.old.pass }
+    {
+        let pass = self.shared.split_by(&mut self.pass);
+        RecordHandle {
+            shared: self.shared,
+            pass,
+        }
+    }
+}

@@ -1,0 +1,77 @@
+//! Sections: a closure between two calls of the lock.
+ghost use Rattle.std.specs.Fn.{FnOnceReturnsAt, FnReturnsAt};
+ghost use Rattle.stamped_lock.specs.Sections.{WriteSection, ReadSection, OptimisticSection};
+
+use crate::handle::LockHandle;
+use crate::mismatch::Mismatch;
+use crate::write_error::WriteError;
+use std::sync::Wait;
+
+impl<'a> LockHandle<'a> {
+    /// Runs the closure in write mode: acquires it (it waits as `write` does), runs the closure and
+    /// releases. The closure gets the handle as it is in between.
+    ///
+    /// `Spent` where no version was left: the closure has not run. `Mismatch` where another thread had
+    /// released the lock before the closure ended, by this stamp or without one: the closure was not
+    /// alone then, so its answer is dropped.
+    pub fn write_with<T: Drop, R: Wait, F: FnOnce(&LockHandle<'a>) -> T>(
+        &mut self,
+        rt: &R,
+        f: F,
+    ) -> Result<T, WriteError>
+        requires { F.IsAlwaysCallable f }
+        ensures { WriteSection (λ t m. FnOnceReturnsAt F.FnOnce f m t) result self.old self.new }
+    {
+        let Some(stamp) = self.write(rt) else {
+            return Err(WriteError::Spent);
+        };
+        let written = f(self);
+        match self.unlock_write(stamp) {
+            Ok(()) => Ok(written),
+            Err(_) => Err(WriteError::Mismatch),
+        }
+    }
+
+    /// Runs the closure in read mode: acquires it (it waits as `read` does), runs the closure and
+    /// releases. The closure gets the handle as it is in between.
+    ///
+    /// `Mismatch` where others had released every read hold before the closure ended: a writer may have
+    /// come then, so its answer is dropped.
+    pub fn read_with<T: Drop, R: Wait, F: FnOnce(&LockHandle<'a>) -> T>(
+        &mut self,
+        rt: &R,
+        f: F,
+    ) -> Result<T, Mismatch>
+        requires { F.IsAlwaysCallable f }
+        ensures { ReadSection (λ t m. FnOnceReturnsAt F.FnOnce f m t) result self.old self.new }
+    {
+        let stamp = self.read(rt);
+        let found = f(self);
+        self.unlock_read(rt, stamp)?;
+        Ok(found)
+    }
+
+    /// Runs the closure between an optimistic stamp and its validation, and answers what it did while
+    /// nobody acquired write mode. Where there is a writer, or one comes, the closure runs again in read
+    /// mode, as in `read_with`: it may run twice, and what it reads first may be torn.
+    ///
+    /// It waits and refuses as `read_with` does, and only then.
+    pub fn read_optimistically<T: Drop, R: Wait, F: Fn(&LockHandle<'a>) -> T>(
+        &mut self,
+        rt: &R,
+        f: F,
+    ) -> Result<T, Mismatch>
+        requires { F.IsAlwaysCallable f }
+        ensures { OptimisticSection (λ t m. FnReturnsAt F.Fn f m t) result self.old self.new }
+    {
+        let Some(stamp) = self.try_optimistic_read() else {
+            return self.read_with(rt, f);
+        };
+        let made = f(self);
+        let valid = self.validate(stamp);
+        if valid {
+            return Ok(made);
+        }
+        self.read_with(rt, f)
+    }
+}

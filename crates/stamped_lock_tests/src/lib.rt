@@ -1,0 +1,17 @@
+//! The tests of `stamped_lock`, in a crate of their own, since one with tests is proved twice.
+#![tactic(auto)]
+
+#[cfg(test)]
+mod conversion_tests;
+#[cfg(test)]
+mod error_tests;
+#[cfg(test)]
+mod lock_tests;
+#[cfg(test)]
+mod once_tests;
+#[cfg(test)]
+mod section_tests;
+#[cfg(test)]
+mod stamp_tests;
+#[cfg(test)]
+mod thread_tests;
