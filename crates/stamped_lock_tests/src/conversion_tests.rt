@@ -58,18 +58,18 @@ const ROWS: [(Found, u64, [u64; 3]); 10] = [
 fn each_mode_is_converted_to_each(rt: HostRuntime) -> Result<(), Fail> {
     for (found, number, [to_write, to_read, to_optimistic]) in ROWS {
         let old = stamp(number)?;
-        let (lock, pass) = made(rt.alloc())?;
-        let mut lock = lock.handle(pass);
+        let lock = made(rt.alloc())?;
+        let mut lock = lock.enter();
         bring(&rt, &mut lock, found);
         let new = lock.try_convert_to_write(&rt, old);
         assert_eq!(rt; new, Stamp::new(to_write), "{number} at {found:?}");
-        let (lock, pass) = made(rt.alloc())?;
-        let mut lock = lock.handle(pass);
+        let lock = made(rt.alloc())?;
+        let mut lock = lock.enter();
         bring(&rt, &mut lock, found);
         let new = lock.try_convert_to_read(&rt, old);
         assert_eq!(rt; new, Stamp::new(to_read), "{number} at {found:?}");
-        let (lock, pass) = made(rt.alloc())?;
-        let mut lock = lock.handle(pass);
+        let lock = made(rt.alloc())?;
+        let mut lock = lock.enter();
         bring(&rt, &mut lock, found);
         let new = lock.try_convert_to_optimistic(&rt, old);
         assert_eq!(rt; new, Stamp::new(to_optimistic), "{number} at {found:?}");
@@ -79,8 +79,8 @@ fn each_mode_is_converted_to_each(rt: HostRuntime) -> Result<(), Fail> {
 
 #[test]
 fn a_conversion_releases_what_was_held(rt: HostRuntime) -> Result<(), Fail> {
-    let (lock, pass) = made(rt.alloc())?;
-    let mut lock = lock.handle(pass);
+    let lock = made(rt.alloc())?;
+    let mut lock = lock.enter();
     assert_eq!(rt; lock.write(&rt), Stamp::new(384));
     assert_eq!(rt; lock.try_convert_to_read(&rt, stamp(384)?), Stamp::new(513));
     assert!(rt; !lock.is_write_locked());

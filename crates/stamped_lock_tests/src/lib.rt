@@ -10,6 +10,8 @@ mod lock_tests;
 #[cfg(test)]
 mod once_tests;
 #[cfg(test)]
+mod record_tests;
+#[cfg(test)]
 mod section_tests;
 #[cfg(test)]
 mod stamp_tests;

@@ -1,16 +1,12 @@
 //! Calls of one thread, by worked rows.
-ghost use Rattle.std.specs.Prelude.{◌≡◌, IfOk};
-
-use stamped_lock::{Layout, Limits, Mismatch, Pass, Stamp, StampedLock};
+use stamped_lock::{Layout, Limits, Mismatch, Stamp, StampedLock};
 use std::alloc::Global;
 use std::test::Fail;
 
 /// A lock of the widest limits; the test fails where there is no memory for it.
-pub fn made(alloc: Global) -> Result<(StampedLock, Pass), Fail>
-    ensures { IfOk result (λ r. r.1.table ≡ r.0.table) }
-{
+pub fn made(alloc: Global) -> Result<StampedLock, Fail> {
     match StampedLock::new(alloc) {
-        Ok((lock, pass)) => Ok((lock, pass)),
+        Ok(lock) => Ok(lock),
         Err(_) => Err(Fail::from("no memory for the lock")),
     }
 }
@@ -21,14 +17,12 @@ pub fn made_with(
     layout: Layout,
     readers: u64,
     versions: u64,
-) -> Result<(StampedLock, Pass), Fail>
-    ensures { IfOk result (λ r. r.1.table ≡ r.0.table) }
-{
+) -> Result<StampedLock, Fail> {
     let Ok(limits) = Limits::in_layout(layout, readers, versions) else {
         return Err(Fail::from("limits"));
     };
     match StampedLock::with_limits(alloc, limits) {
-        Ok((lock, pass)) => Ok((lock, pass)),
+        Ok(lock) => Ok(lock),
         Err(_) => Err(Fail::from("no memory for the lock")),
     }
 }
@@ -43,8 +37,8 @@ pub fn stamp(number: u64) -> Result<Stamp, Fail> {
 
 #[test]
 fn a_released_write_stamp_validates_until_the_next_writer(rt: HostRuntime) -> Result<(), Fail> {
-    let (lock, pass) = made(rt.alloc())?;
-    let mut lock = lock.handle(pass);
+    let lock = made(rt.alloc())?;
+    let mut lock = lock.enter();
     assert_eq!(rt; lock.try_optimistic_read(), Stamp::new(256));
     assert_eq!(rt; lock.write(&rt), Stamp::new(384));
     assert!(rt; lock.is_write_locked());
@@ -65,8 +59,8 @@ fn a_released_write_stamp_validates_until_the_next_writer(rt: HostRuntime) -> Re
 
 #[test]
 fn readers_are_counted_and_keep_a_writer_out(rt: HostRuntime) -> Result<(), Fail> {
-    let (lock, pass) = made(rt.alloc())?;
-    let mut lock = lock.handle(pass);
+    let lock = made(rt.alloc())?;
+    let mut lock = lock.enter();
     assert!(rt; !lock.is_read_locked());
     assert_eq!(rt; lock.read(&rt), stamp(257)?);
     assert_eq!(rt; lock.try_read(&rt), Stamp::new(258));
@@ -82,8 +76,8 @@ fn readers_are_counted_and_keep_a_writer_out(rt: HostRuntime) -> Result<(), Fail
 
 #[test]
 fn a_release_by_another_stamp_is_a_mismatch(rt: HostRuntime) -> Result<(), Fail> {
-    let (lock, pass) = made(rt.alloc())?;
-    let mut lock = lock.handle(pass);
+    let lock = made(rt.alloc())?;
+    let mut lock = lock.enter();
     assert_eq!(rt; lock.write(&rt), Stamp::new(384));
     assert_eq!(rt; lock.unlock_write(stamp(640)?), Err(Mismatch));
     assert_eq!(rt; lock.unlock_read(&rt, stamp(384)?), Err(Mismatch));
@@ -96,8 +90,8 @@ fn a_release_by_another_stamp_is_a_mismatch(rt: HostRuntime) -> Result<(), Fail>
 
 #[test]
 fn a_release_without_a_stamp_says_whether_there_was_a_hold(rt: HostRuntime) -> Result<(), Fail> {
-    let (lock, pass) = made(rt.alloc())?;
-    let mut lock = lock.handle(pass);
+    let lock = made(rt.alloc())?;
+    let mut lock = lock.enter();
     assert!(rt; !lock.try_unlock_write(&rt));
     assert!(rt; !lock.try_unlock_read(&rt));
     assert_eq!(rt; lock.write(&rt), Stamp::new(384));
@@ -112,8 +106,8 @@ fn a_release_without_a_stamp_says_whether_there_was_a_hold(rt: HostRuntime) -> R
 
 #[test]
 fn beyond_its_limits_a_lock_answers_none(rt: HostRuntime) -> Result<(), Fail> {
-    let (lock, pass) = made_with(rt.alloc(), Layout::One, 1, 1)?;
-    let mut lock = lock.handle(pass);
+    let lock = made_with(rt.alloc(), Layout::One, 1, 1)?;
+    let mut lock = lock.enter();
     assert_eq!(rt; lock.try_read(&rt), Stamp::new(257));
     assert_eq!(rt; lock.try_read(&rt), None);
     assert!(rt; lock.try_unlock_read(&rt));
@@ -126,8 +120,8 @@ fn beyond_its_limits_a_lock_answers_none(rt: HostRuntime) -> Result<(), Fail> {
 
 #[test]
 fn the_second_layout_has_stamps_of_its_own(rt: HostRuntime) -> Result<(), Fail> {
-    let (lock, pass) = made_with(rt.alloc(), Layout::Two, 65_535, 1_000_000)?;
-    let mut lock = lock.handle(pass);
+    let lock = made_with(rt.alloc(), Layout::Two, 65_535, 1_000_000)?;
+    let mut lock = lock.enter();
     assert_eq!(rt; lock.try_optimistic_read(), Stamp::new(131_072));
     assert_eq!(rt; lock.write(&rt), Stamp::new(196_608));
     assert_eq!(rt; lock.unlock_write(stamp(196_608)?), Ok(()));
@@ -137,8 +131,8 @@ fn the_second_layout_has_stamps_of_its_own(rt: HostRuntime) -> Result<(), Fail> 
 
 #[test]
 fn what_one_handle_acquired_the_other_meets(rt: HostRuntime) -> Result<(), Fail> {
-    let (lock, pass) = made(rt.alloc())?;
-    let (mut first, mut second) = lock.handle(pass).split();
+    let lock = made(rt.alloc())?;
+    let (mut first, mut second) = (lock.enter(), lock.enter());
     assert_eq!(rt; first.write(&rt), Stamp::new(384));
     assert!(rt; second.is_write_locked());
     assert_eq!(rt; second.try_read(&rt), None);

@@ -5,8 +5,8 @@ use std::test::Fail;
 
 #[test]
 fn alone_a_call_that_is_tried_once_is_made(rt: HostRuntime) -> Result<(), Fail> {
-    let (lock, pass) = made(rt.alloc())?;
-    let mut lock = lock.handle(pass);
+    let lock = made(rt.alloc())?;
+    let mut lock = lock.enter();
     assert_eq!(rt; lock.try_write_once(), Ok(Stamp::new(384)));
     assert_eq!(rt; lock.try_write_once(), Ok(None));
     assert_eq!(rt; lock.try_read_once(), Ok(None));
@@ -26,8 +26,8 @@ fn alone_a_call_that_is_tried_once_is_made(rt: HostRuntime) -> Result<(), Fail> 
 
 #[test]
 fn alone_a_conversion_that_is_tried_once_is_made(rt: HostRuntime) -> Result<(), Fail> {
-    let (lock, pass) = made(rt.alloc())?;
-    let mut lock = lock.handle(pass);
+    let lock = made(rt.alloc())?;
+    let mut lock = lock.enter();
     assert_eq!(rt;
         lock.try_convert_to_read_once(stamp(256)?),
         Ok(Stamp::new(257))
@@ -48,8 +48,8 @@ fn alone_a_conversion_that_is_tried_once_is_made(rt: HostRuntime) -> Result<(), 
 
 #[test]
 fn alone_a_release_without_a_stamp_that_is_tried_once_is_made(rt: HostRuntime) -> Result<(), Fail> {
-    let (lock, pass) = made(rt.alloc())?;
-    let mut lock = lock.handle(pass);
+    let lock = made(rt.alloc())?;
+    let mut lock = lock.enter();
     assert_eq!(rt; lock.try_unlock_write_once(), Ok(false));
     assert_eq!(rt; lock.try_unlock_read_once(), Ok(false));
     assert_eq!(rt; lock.write(&rt), Stamp::new(384));

@@ -6,8 +6,8 @@ use std::test::Fail;
 
 #[test]
 fn a_section_answers_its_closure_and_is_released(rt: HostRuntime) -> Result<(), Fail> {
-    let (lock, pass) = made(rt.alloc())?;
-    let (mut lock, mut other) = lock.handle(pass).split();
+    let lock = made(rt.alloc())?;
+    let (mut lock, mut other) = (lock.enter(), lock.enter());
     assert_eq!(rt; lock.write_with(&rt, |_| other.is_write_locked()), Ok(true));
     assert_eq!(rt; lock.try_optimistic_read(), Stamp::new(512));
     assert_eq!(rt; lock.read_with(&rt, |_| other.read_count()), Ok(1));
@@ -17,8 +17,8 @@ fn a_section_answers_its_closure_and_is_released(rt: HostRuntime) -> Result<(), 
 
 #[test]
 fn an_optimistic_read_that_validates_runs_once(rt: HostRuntime) -> Result<(), Fail> {
-    let (lock, pass) = made(rt.alloc())?;
-    let mut lock = lock.handle(pass);
+    let lock = made(rt.alloc())?;
+    let mut lock = lock.enter();
     let runs = AtomicU64::new(0);
     let answer = lock.read_optimistically(&rt, |_| runs.fetch_add(1, Ordering::SeqCst));
     assert_eq!(rt; answer, Ok(0));
@@ -28,8 +28,8 @@ fn an_optimistic_read_that_validates_runs_once(rt: HostRuntime) -> Result<(), Fa
 
 #[test]
 fn a_section_that_was_released_by_others_is_a_mismatch(rt: HostRuntime) -> Result<(), Fail> {
-    let (lock, pass) = made(rt.alloc())?;
-    let (mut lock, mut other) = lock.handle(pass).split();
+    let lock = made(rt.alloc())?;
+    let (mut lock, mut other) = (lock.enter(), lock.enter());
     assert_eq!(rt;
         lock.write_with(&rt, |_| other.try_unlock_write(&rt)),
         Err(WriteError::Mismatch)
@@ -44,8 +44,8 @@ fn a_section_that_was_released_by_others_is_a_mismatch(rt: HostRuntime) -> Resul
 
 #[test]
 fn with_no_version_left_a_closure_does_not_run(rt: HostRuntime) -> Result<(), Fail> {
-    let (lock, pass) = made_with(rt.alloc(), Layout::One, 127, 1)?;
-    let mut lock = lock.handle(pass);
+    let lock = made_with(rt.alloc(), Layout::One, 127, 1)?;
+    let mut lock = lock.enter();
     let runs = AtomicU64::new(0);
     let first = lock.write_with(&rt, |_| runs.fetch_add(1, Ordering::SeqCst));
     assert_eq!(rt; first, Ok(0));

@@ -18,9 +18,9 @@ fn add_often<R: Wait>(rt: &R, mut lock: LockHandle<'_>, sum: &AtomicU64) {
 
 #[test]
 fn sections_of_two_writers_come_one_after_the_other(rt: HostRuntime) -> Result<(), Fail> {
-    let (lock, pass) = made(rt.alloc())?;
-    let (first, second) = lock.handle(pass).split();
-    let (first, third) = first.split();
+    let lock = made(rt.alloc())?;
+    let (mut first, second) = (lock.enter(), lock.enter());
+    let third = first.split();
     let sum = AtomicU64::new(0);
     join(
         &rt,
@@ -64,8 +64,8 @@ fn read_both<R: Wait>(
 
 #[test]
 fn an_optimistic_read_is_never_torn(rt: HostRuntime) -> Result<(), Fail> {
-    let (lock, pass) = made(rt.alloc())?;
-    let (writer, reader) = lock.handle(pass).split();
+    let lock = made(rt.alloc())?;
+    let (writer, reader) = (lock.enter(), lock.enter());
     let both = (AtomicU64::new(0), AtomicU64::new(0));
     let ((), torn) = join(
         &rt,
@@ -98,8 +98,8 @@ fn read_beside<R: Wait>(rt: &R, mut lock: LockHandle<'_>, turn: &Barrier) -> Res
 
 #[test]
 fn an_optimistic_read_that_a_writer_came_into_runs_again(rt: HostRuntime) -> Result<(), Fail> {
-    let (lock, pass) = made(rt.alloc())?;
-    let (writer, reader) = lock.handle(pass).split();
+    let lock = made(rt.alloc())?;
+    let (writer, reader) = (lock.enter(), lock.enter());
     let turn = Barrier::new(2);
     let ((), run) = join(
         &rt,
@@ -127,8 +127,8 @@ fn read_until_lost(mut lock: LockHandle<'_>, is_over: &AtomicBool) -> Option<Los
 
 #[test]
 fn an_exchange_is_lost_where_threads_meet(rt: HostRuntime) -> Result<(), Fail> {
-    let (lock, pass) = made(rt.alloc())?;
-    let (first, second) = lock.handle(pass).split();
+    let lock = made(rt.alloc())?;
+    let (first, second) = (lock.enter(), lock.enter());
     let is_over = AtomicBool::new(false);
     let (a, b) = join(
         &rt,

@@ -1,0 +1,72 @@
+//! A record whose readers rely on its rule.
+ghost use Rattle.std.specs.Prelude.{◌≡◌, ◌<◌, slice_index};
+
+use stamped_lock::{ContentRule, Layout, Limits, PutFault, RecordHandle, Spent, StampedRecord};
+use std::sync::Wait;
+use std::test::Fail;
+use std::thread::join;
+
+/// The first word, a bid, is below the second, an ask.
+struct BidBelowAsk;
+
+impl ContentRule for BidBelowAsk {
+    ghost use Rattle.std.specs.Prelude.{◌<◌, slice_index};
+
+    ghost holds = { λ row. slice_index row 0 < slice_index row 1 };
+}
+
+type Board = StampedRecord<2, BidBelowAsk>;
+
+/// How far the ask is above the bid, read so often: the least and the most.
+fn spreads<R: Wait>(rt: &R, mut board: RecordHandle<'_, 2, BidBelowAsk>) -> (u64, u64) {
+    let mut least = u64::MAX;
+    let mut most = 0;
+    for _ in 0..1_000u64 {
+        let row = board.get(rt);
+        let spread = row[1] - row[0];
+        least = least.min(spread);
+        most = most.max(spread);
+    }
+    (least, most)
+}
+
+/// Puts bids from 1 to 1000, with asks from one to seven above them.
+fn quote<R: Wait>(rt: &R, mut board: RecordHandle<'_, 2, BidBelowAsk>) -> Result<(), Spent> {
+    for bid in 1..=1_000u64 {
+        board.put(rt, [bid, bid + 1 + bid % 7])?;
+    }
+    Ok(())
+}
+
+#[test]
+fn readers_rely_on_the_rule_beside_a_writer(rt: HostRuntime) -> Result<(), Fail> {
+    let Ok(board) = Board::new(rt.alloc(), [10, 11]) else {
+        return Err(Fail::from("no memory for the record"));
+    };
+    let (quoted, (least, most)) = join(
+        &rt,
+        || quote(&rt, board.enter()),
+        || spreads(&rt, board.enter()),
+    );
+    assert_eq!(rt; quoted, Ok(()));
+    assert!(rt; least >= 1 && most <= 7);
+    let mut last = board.enter();
+    assert_eq!(rt; last.get_once(), Ok([1_000, 1_007]));
+    assert_eq!(rt; last.split().get(&rt), [1_000, 1_007]);
+    Ok(())
+}
+
+#[test]
+fn the_first_content_takes_a_version(rt: HostRuntime) -> Result<(), Fail> {
+    let limits = Limits::in_layout(Layout::Two, 1, 2)?;
+    let Ok(board) = Board::with_limits(rt.alloc(), limits, [3, 5]) else {
+        return Err(Fail::from("no memory for the record"));
+    };
+    let mut handle = board.enter();
+    assert_eq!(rt; handle.get_once(), Ok([3, 5]));
+    assert_eq!(rt; handle.put_once([4, 6]), Ok(()));
+    assert_eq!(rt; handle.put_once([5, 7]), Err(PutFault::Spent(393_216)));
+    assert_eq!(rt; handle.put(&rt, [5, 7]), Err(Spent));
+    assert_eq!(rt; handle.get(&rt), [4, 6]);
+    Ok(())
+}
