@@ -80,8 +80,10 @@ impl Limits {
     }
 
     /// The widest limits of a layout.
+    #[tactic(auto, unfolding(crate::specs::Layout::units_of))]
     pub fn widest(layout: Layout) -> Limits
-        ensures { result ≡ widest layout }
+        ensures widest { result ≡ widest layout }
+        ensures version { 1 ≤ result.versions }
     {
         Limits {
             layout,

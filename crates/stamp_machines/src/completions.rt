@@ -98,7 +98,8 @@ impl<'a> Completions<'a> {
         Ok(())
     }
 
-    /// The entry of the call by whose end `advance` stopped; none before it, and after the last.
+    /// The entry of the call by whose end `advance` stopped; none before it, after the last, and where
+    /// `advance` was refused.
     pub fn get(&self) -> Option<&Entry>
         ensures { option_copied result ≡ self.now.last }
     {

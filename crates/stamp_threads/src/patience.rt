@@ -16,7 +16,7 @@ const YIELDING: u32 = 16;
 const NAP: u64 = 100;
 
 /// How often a call has looked in vain. At first it spins a little, then it lets other threads run,
-/// and then it sleeps until the word changes or 100 microseconds are over.
+/// and then it sleeps, 100 microseconds at most each time.
 #[derive(Drop)]
 pub struct Patience {
     rounds: u32,
@@ -27,7 +27,7 @@ impl Patience {
         Patience { rounds: 0 }
     }
 
-    /// Spins, and from the eighth round on lets other threads run.
+    /// Spins, and after eight rounds lets other threads run.
     fn spin(&mut self) {
         if self.rounds < SPINNING {
             for _ in 0..1u32 << self.rounds {

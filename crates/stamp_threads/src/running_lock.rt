@@ -120,9 +120,9 @@ impl RunningLock {
     }
 
     /// Makes the call, and tries again until it is made: `WriteLock` and `ReadLock` wait for others.
-    /// Between two looks such a call spins a little, from the eighth look on it lets other threads
-    /// run, and from the sixteenth on it sleeps until the word changes or 100 microseconds are over.
-    /// It may go on for ever.
+    /// Before it looks again it spins a little, the first eight times; the next eight it lets other
+    /// threads run; after that, where it waits, it sleeps 100 microseconds at most each time. It may
+    /// go on for ever.
     pub fn call<R: Wait>(&self, rt: &R, pass: &mut Pass, call: Call) -> Reply
         requires call { IsTrue (is_lock_call call) }
         requires lock { pass.old.table ≡ self.now.table }
@@ -148,8 +148,8 @@ impl RunningLock {
         unreachable!()
     }
 
-    /// A pass for a thread that has none. It has observed all calls that took effect before it
-    /// entered, and made none. It makes one load and takes no memory.
+    /// A pass for a thread that has none. It has observed a history of the lock, and made no call. It
+    /// makes one load and takes no memory.
     pub fn enter(&self) -> Pass
         ensures lock { result.table ≡ self.now.table }
         ensures entered { HasEntered self.now.limits result.view }

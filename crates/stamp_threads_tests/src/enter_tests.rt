@@ -13,7 +13,10 @@ fn a_pass_that_enters_finds_what_was_acquired(rt: HostRuntime) -> Result<(), Fai
     let (lock, mut first) = made(rt.alloc(), Layout::One, 127)?;
     assert_eq!(rt; lock.once(&mut first, Call::TryRead), Ok(Reply::Stamp(257)));
     let mut second = lock.enter();
-    assert_eq!(rt; lock.once(&mut second, Call::TryRead), Ok(Reply::Stamp(258)));
+    assert_eq!(rt;
+        lock.once(&mut second, Call::TryRead),
+        Ok(Reply::Stamp(258))
+    );
     let mut third = lock.split_off(&mut second);
     assert_eq!(rt; lock.once(&mut third, Call::ReadCount), Ok(Reply::Count(2)));
     let (first, second) = lock.meet(first, second);
