@@ -33,49 +33,6 @@ fn sections_of_two_writers_come_one_after_the_other(rt: HostRuntime) -> Result<(
     Ok(())
 }
 
-/// Writes the same number to both places.
-fn write_both<R: Wait>(rt: &R, mut lock: LockHandle<'_>, both: &(AtomicU64, AtomicU64)) {
-    for number in 0..10_000 {
-        let _ = lock.write_with(rt, |_| {
-            both.0.store(number, Ordering::SeqCst);
-            both.1.store(number, Ordering::SeqCst);
-        });
-    }
-}
-
-/// How often the two places that were read were not the same.
-fn read_both<R: Wait>(
-    rt: &R,
-    mut lock: LockHandle<'_>,
-    both: &(AtomicU64, AtomicU64),
-) -> Result<u64, Mismatch> {
-    let mut torn = 0u64;
-    for _ in 0..10_000 {
-        let (first, second) = lock.read_optimistically(rt, |_| {
-            let first = both.0.load(Ordering::SeqCst);
-            (first, both.1.load(Ordering::SeqCst))
-        })?;
-        if first != second {
-            torn = torn.wrapping_add(1);
-        }
-    }
-    Ok(torn)
-}
-
-#[test]
-fn an_optimistic_read_is_never_torn(rt: HostRuntime) -> Result<(), Fail> {
-    let lock = made(rt.alloc())?;
-    let (writer, reader) = (lock.enter(), lock.enter());
-    let both = (AtomicU64::new(0), AtomicU64::new(0));
-    let ((), torn) = join(
-        &rt,
-        || write_both(&rt, writer, &both),
-        || read_both(&rt, reader, &both),
-    );
-    assert_eq!(rt; torn, Ok(0));
-    Ok(())
-}
-
 /// Acquires write mode while the reader is in its closure.
 fn write_between<R: Wait>(rt: &R, mut lock: LockHandle<'_>, turn: &Barrier) {
     turn.wait(rt);
