@@ -145,7 +145,7 @@ fn read_beside<R: Wait>(
 fn two_readers_see_each_other(rt: HostRuntime) -> Result<(), Fail> {
     let shared = Shared::new(opened(rt.alloc(), 640_000)?);
     let both = Barrier::new(2);
-    let (first, last) = (Caller::new(rt.alloc(), 0), Caller::new(rt.alloc(), 63));
+    let (zero, one) = (Caller::new(rt.alloc(), 0), Caller::new(rt.alloc(), 1));
     let (zero, one) = join(
         &rt,
         || read_beside(&rt, &shared, zero, &both),
