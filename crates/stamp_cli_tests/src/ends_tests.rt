@@ -63,7 +63,9 @@ fn a_read_of_a_source_is_one_read_of_its_reader(rt: HostRuntime) {
         assert_eq!(rt; calls.get(), index + 1);
         match (turn, result) {
             (Turn::Gives(bytes), Ok(count)) => assert_eq!(rt; buffer.get(..count), Some(*bytes)),
-            (Turn::Fails, Err(_)) => {}
+            (Turn::Fails, Err(error)) => {
+                assert!(rt; error.kind() == io::ErrorKind::Interrupted);
+            }
             _ => assert!(rt; false, "another result at read {index}"),
         }
     }
@@ -127,11 +129,13 @@ fn a_write_of_a_sink_is_one_write_of_its_writer(rt: HostRuntime) {
         let result = sink.write(b"abcdefgh");
         assert_eq!(rt; calls.get(), index + 1);
         assert_eq!(rt; handed.get(), 8);
-        let want = match room {
-            Room::Takes(most) => Some(*most),
-            Room::Full => None,
-        };
-        assert_eq!(rt; result.ok(), want, "write {index}");
+        match (room, result) {
+            (Room::Takes(most), Ok(count)) => assert_eq!(rt; count, *most),
+            (Room::Full, Err(error)) => {
+                assert!(rt; error.kind() == io::ErrorKind::Interrupted);
+            }
+            _ => assert!(rt; false, "another result at write {index}"),
+        }
     }
     let basin = sink.into_inner();
     assert_eq!(rt; basin.calls.get(), 10);

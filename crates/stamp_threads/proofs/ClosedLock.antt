@@ -1,5 +1,5 @@
 -- The last state of a lock's table.
-use Rattle.std.proofs.Common.{◌≡◌, ℕ, List, [], ◌∷◌, get_or, refl, ap, sym, ◌∙◌, subst}
+use Rattle.std.proofs.Common.{◌≡◌, ℕ, Bool, List, [], ◌∷◌, get_or, refl, ap, sym, ◌∙◌, subst}
 use mathlib.Core.Option.{some, some-injective, some-ne-none}
 use lib.ListN.{get_elem?}
 use Rattle.atomic_table.specs.Table.{Me, Final, Seen}
@@ -15,9 +15,9 @@ word_there : (words : List ℕ) (n : ℕ) → get_elem? words 0 ≡ some n → g
 word_there [] n e = absurd (some-ne-none n (sym e))
 word_there (x ∷ words) n e = some-injective x n e
 
-pub closes : (limits : Bounds) (id : ℕ) (v : LockPass) (me : Me (Unit {0}) (List LockPass))
+pub closes : {enterable : Bool} (limits : Bounds) (id : ℕ) (v : LockPass) (me : Me (Unit {0}) (List LockPass))
     (words : List ℕ) (slots : List (Unit {0})) (word : ℕ) → me ≡ alone v →
-    Final (Seen (IsKept limits) id me.0) words slots → get_elem? words 0 ≡ some word →
+    Final (Seen (IsKept enterable limits) id me.0) words slots → get_elem? words 0 ≡ some word →
     Closes limits v word
 closes limits id v me words slots word is end at =
     let s = end.0 in

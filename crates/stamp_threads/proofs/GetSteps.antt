@@ -35,7 +35,7 @@ use Rattle.stamp_threads.proofs.RecordSteps.{others_mark, one_after, one_consist
 use Rattle.stamp_threads.proofs.RecordSteps.{only_consistent, observing_brings, same_knows}
 use Rattle.stamp_threads.proofs.RecordSteps.{idle_quiet, KeptBy}
 
-module _ (P : List ℕ → Type 0) (shape : RecordShape) (s : State (Unit {0}) (List RecordPassView)) (r : IsKept P shape s)
+module _ {enterable : Bool} (P : List ℕ → Type 0) (shape : RecordShape) (s : State (Unit {0}) (List RecordPassView)) (r : IsKept enterable P shape s)
     (id : ℕ) (v : RecordPassView) (here : get_elem? s.views id ≡ some (v ∷ [])) (version : ℕ)
     (xs : List ℕ) (reading : v.phase ≡ Reading version xs) where
   pub reading_quiet : IsWriting v.phase → ⊥
@@ -50,7 +50,7 @@ module _ (P : List ℕ → Type 0) (shape : RecordShape) (s : State (Unit {0}) (
 
   -- one more word is loaded
   loads : (k : ℕ) → length xs ≡ k → k < shape.width →
-      KeptBy P shape s id (loaded_one v (get_or s.words (k + 1) 0)) s.words
+      KeptBy enterable P shape s id (loaded_one v (get_or s.words (k + 1) 0)) s.words
   loads k long inside =
       let x : ℕ = get_or s.words (k + 1) 0 in
       let w = loaded_one v x in
@@ -82,7 +82,7 @@ module _ (P : List ℕ → Type 0) (shape : RecordShape) (s : State (Unit {0}) (
   -- the lock word is as it was, and the words are the content
   confirms : length xs ≡ shape.width →
       get_or s.words 0 0 ≡ word_with shape.limits.layout version false →
-      KeptBy P shape s id (calling (finding v (get_or s.words 0 0)) r.log (get_of xs)) s.words ×
+      KeptBy enterable P shape s id (calling (finding v (get_or s.words 0 0)) r.log (get_of xs)) s.words ×
       IsConsistentWith shape.width (calling (finding v (get_or s.words 0 0)) r.log (get_of xs)) ×
       (xs ≡ content_in shape.width r.log) × P xs
   confirms long same =
@@ -117,6 +117,7 @@ module _ (P : List ℕ → Type 0) (shape : RecordShape) (s : State (Unit {0}) (
         record {
           log = log';
           roots = r.roots;
+          closed = r.closed;
           legal = legal;
           wide = r.wide;
           word_is = r.word_is ∙ sym (same_word shape.limits.layout (puts log') (puts r.log)
@@ -146,11 +147,11 @@ module _ (P : List ℕ → Type 0) (shape : RecordShape) (s : State (Unit {0}) (
       }
 
 -- the first load of a get, by whether somebody has write mode
-open_at : (P : List ℕ → Type 0) (shape : RecordShape)
-    (s : State (Unit {0}) (List RecordPassView)) (r : IsKept P shape s)
+open_at : {enterable : Bool} (P : List ℕ → Type 0) (shape : RecordShape)
+    (s : State (Unit {0}) (List RecordPassView)) (r : IsKept enterable P shape s)
     (id : ℕ) (v : RecordPassView) → get_elem? s.views id ≡ some (v ∷ []) → v.phase ≡ Idle →
     (b : Bool) → is_locked r.log ≡ b →
-    (word : ℕ) → KeptBy P shape s id (if b then observing (finding v word) r.log
+    (word : ℕ) → KeptBy enterable P shape s id (if b then observing (finding v word) r.log
     else opening (finding v word) r.log) s.words
 open_at P shape s r id v here idle true e word =
     only_views P shape s r id v here (idle_quiet v.phase idle) (observing (finding v word) r.log)
@@ -169,9 +170,9 @@ open_at P shape s r id v here idle false e word =
       };
     })
 
-pub allows_open : (P : List ℕ → Type 0) (shape : RecordShape) (slots id : ℕ) (me : Seated) →
+pub allows_open : {enterable : Bool} (P : List ℕ → Type 0) (shape : RecordShape) (slots id : ℕ) (me : Seated) →
     me ≡ alone (first_of me.0) → (first_of me.0).phase ≡ Idle →
-    Allows (IsKept P shape) slots id me 0 (λ n. n) (OpenTells shape (step slots 0 0 0 none) me)
+    Allows (IsKept enterable P shape) slots id me 0 (λ n. n) (OpenTells shape (step slots 0 0 0 none) me)
 allows_open P shape slots id me is idle s r _ at _ =
     let v : RecordPassView = first_of me.0 in
     let here : get_elem? s.views id ≡ some (v ∷ []) =
@@ -183,7 +184,7 @@ allows_open P shape slots id me is idle s r _ at _ =
       w ∷ [],
       keeps,
       tt,
-      subst (KeptBy P shape s id w) (sym (set-get_or s.words 0 0))
+      subst (KeptBy _ P shape s id w) (sym (set-get_or s.words 0 0))
           (open_at P shape s r id v here idle (is_locked r.log) refl word),
       record {
         log = r.log;
@@ -197,10 +198,10 @@ allows_open P shape slots id me is idle s r _ at _ =
     )
 
 -- a load of a word of the record
-pub allows_load_word : (P : List ℕ → Type 0) (shape : RecordShape) (slots id : ℕ) (me : Seated) (version k : ℕ)
+pub allows_load_word : {enterable : Bool} (P : List ℕ → Type 0) (shape : RecordShape) (slots id : ℕ) (me : Seated) (version k : ℕ)
     (xs : List ℕ) → me ≡ alone (first_of me.0) → (first_of me.0).phase ≡ Reading version xs →
     length xs ≡ k → k < shape.width →
-    Allows (IsKept P shape) slots id me (k + 1) (λ n. n)
+    Allows (IsKept enterable P shape) slots id me (k + 1) (λ n. n)
     (LoadTells (step slots (k + 1) 0 0 none) me)
 allows_load_word P shape slots id me version k xs is reading long inside s r _ there _ =
     let v : RecordPassView = first_of me.0 in
@@ -210,19 +211,19 @@ allows_load_word P shape slots id me version k xs is reading long inside s r _ t
       w ∷ [],
       keeps,
       tt,
-      subst (KeptBy P shape s id w) (sym (set-get_or s.words (k + 1) 0))
+      subst (KeptBy _ P shape s id w) (sym (set-get_or s.words (k + 1) 0))
           (loads P shape s r id v here version xs reading k long inside),
       λ i. (w ∷ [], (is i).1),
     )
 
 -- the second load of the lock word, by whether it is the word of the first
-confirm_at : (P : List ℕ → Type 0) (shape : RecordShape) (s : State (Unit {0}) (List RecordPassView))
-    (r : IsKept P shape s) (id : ℕ) (me : Seated) (version : ℕ) (xs : List ℕ) →
+confirm_at : {enterable : Bool} (P : List ℕ → Type 0) (shape : RecordShape) (s : State (Unit {0}) (List RecordPassView))
+    (r : IsKept enterable P shape s) (id : ℕ) (me : Seated) (version : ℕ) (xs : List ℕ) →
     me ≡ alone (first_of me.0) → get_elem? s.views id ≡ some (first_of me.0 ∷ []) →
     (first_of me.0).phase ≡ Reading version xs → length xs ≡ shape.width → (b : Bool) →
     eqb (get_or s.words 0 0) (word_with shape.limits.layout version false) ≡ b →
     (w : List RecordPassView) × (a : Act (Unit {0})) × Valid s.homes me.1 a ×
-    IsKept P shape (stepped s 0 (get_or s.words 0 0) id me.1 w a) ×
+    IsKept enterable P shape (stepped s 0 (get_or s.words 0 0) id me.1 w a) ×
     MatchBool b
     (Confirmed shape (first_of me.0) (get_or s.words 0 0) (w, carried_after me.1 a) P xs)
     (Overtaken shape (first_of me.0) (get_or s.words 0 0) (w, carried_after me.1 a))
@@ -233,7 +234,7 @@ confirm_at P shape s r id me version xs is here reading long true e =
       w ∷ [],
       keeps,
       tt,
-      subst (KeptBy P shape s id w) (sym (set-get_or s.words 0 0)) t.0,
+      subst (KeptBy _ P shape s id w) (sym (set-get_or s.words 0 0)) t.0,
       record {
         log = r.log;
         content = t.2;
@@ -251,7 +252,7 @@ confirm_at P shape s r id me version xs is here reading long false e =
       w ∷ [],
       keeps,
       tt,
-      subst (KeptBy P shape s id w) (sym (set-get_or s.words 0 0))
+      subst (KeptBy _ P shape s id w) (sym (set-get_or s.words 0 0))
           (only_views P shape s r id v here quiet w refl refl brings),
       record {
         log = r.log;
@@ -262,10 +263,10 @@ confirm_at P shape s r id me version xs is here reading long false e =
       },
     )
 
-pub allows_confirm : (P : List ℕ → Type 0) (shape : RecordShape) (slots id : ℕ) (me : Seated) (version : ℕ)
+pub allows_confirm : {enterable : Bool} (P : List ℕ → Type 0) (shape : RecordShape) (slots id : ℕ) (me : Seated) (version : ℕ)
     (xs : List ℕ) → me ≡ alone (first_of me.0) → (first_of me.0).phase ≡ Reading version xs →
     length xs ≡ shape.width →
-    Allows (IsKept P shape) slots id me 0 (λ n. n)
+    Allows (IsKept enterable P shape) slots id me 0 (λ n. n)
     (ConfirmTells P shape xs (step slots 0 0 0 none) me)
 allows_confirm P shape slots id me version xs is reading long s r _ there _ =
     let v : RecordPassView = first_of me.0 in

@@ -1,5 +1,5 @@
 -- A new lock: no history, and the first pass alone.
-use Rattle.std.proofs.Common.{◌≡◌, ℕ, zero, suc, List, [], ◌∷◌, refl, sym, ◌∙◌, ap, subst, arith}
+use Rattle.std.proofs.Common.{◌≡◌, ℕ, Bool, zero, suc, List, [], ◌∷◌, refl, sym, ◌∙◌, ap, subst, arith}
 use mathlib.Core.Option.{some, some-injective, some-ne-none}
 use lib.ListN.{get_elem?}
 use Rattle.atomic_table.specs.Table.{opening}
@@ -26,11 +26,12 @@ only_place (suc i) k v st = absurd (some-ne-none st.0 (sym st.1))
 first_part : IsPart every [] first_pass
 first_part = record { observed = begins_all []; own = refl; given = tt }
 
-pub opens : (limits : Bounds) (word : ℕ) → RepresentsAt limits word [] →
-    IsKept limits (opening (word ∷ []) [] (first_pass ∷ []))
+pub opens : {enterable : Bool} (limits : Bounds) (word : ℕ) → RepresentsAt limits word [] →
+    IsKept enterable limits (opening (word ∷ []) [] (first_pass ∷ []))
 opens limits word represents = record {
   log = [];
   roots = 1;
+  closed = λ _. refl;
   one_word = refl;
   legal = record { calls = tt; legal = tt };
   represents = represents;

@@ -1,7 +1,7 @@
 -- A new record: the first pass alone; no history and zeros, or one put and its words.
 use Rattle.std.proofs.Common.{◌≡◌, ℕ, zero, suc, ◌+◌, ◌≤◌, List, [], ◌∷◌, replicate, take, get_or}
 use Rattle.std.proofs.Common.{false, true≢false, refl, sym, ap, ◌∙◌, subst, arith, length-take-le}
-use Rattle.std.proofs.Common.{add-one, length, Some}
+use Rattle.std.proofs.Common.{add-one, length, Some, Bool}
 use Rattle.std.proofs.lemmas.List.{get_or-take, get_or-replicate, length-replicate}
 use mathlib.Core.Option.{some, some-injective, some-ne-none}
 use lib.ListN.{get_elem?}
@@ -66,8 +66,8 @@ first_consistent width = record {
   given = tt;
 }
 
-pub opens : (shape : RecordShape) (first : ℕ) → first ≡ word_with shape.limits.layout 0 false →
-    shape.width ≤ 16 → IsKept (λ _. Unit {0}) shape
+pub opens : {enterable : Bool} (shape : RecordShape) (first : ℕ) → first ≡ word_with shape.limits.layout 0 false →
+    shape.width ≤ 16 → IsKept enterable (λ _. Unit {0}) shape
     (opening (take (shape.width + 1) (first ∷ replicate 16 0)) [] (first_pass ∷ []))
 opens shape first is narrow =
     let cells : List ℕ = take (shape.width + 1) (first ∷ replicate 16 0) in
@@ -79,6 +79,7 @@ opens shape first is narrow =
     record {
       log = [];
       roots = 1;
+      closed = λ _. refl;
       legal = (first_consistent shape.width).legal;
       wide = length-take-le (shape.width + 1) (first ∷ replicate 16 0) (omega arith);
       word_is = get_or-take (shape.width + 1) (first ∷ replicate 16 0) 0 0 (omega arith) ∙ is;
@@ -119,9 +120,9 @@ module _ (words : List ℕ) where
     given = none_given;
   }
 
-  pub opens_holding : (P : List ℕ → Type 0) (limits : Bounds) (first : ℕ) →
+  pub opens_holding : {enterable : Bool} (P : List ℕ → Type 0) (limits : Bounds) (first : ℕ) →
       first ≡ word_with limits.layout 1 false → 1 ≤ limits.versions → P words →
-      IsKept P (record { limits = limits; width = length words })
+      IsKept enterable P (record { limits = limits; width = length words })
       (opening (first ∷ words) [] (holder ∷ []))
   opens_holding P limits first is version good =
       let width : ℕ = length words in
@@ -133,6 +134,7 @@ module _ (words : List ℕ) where
       record {
         log = log;
         roots = 1;
+        closed = λ _. refl;
         legal = one_put width;
         wide = omega arith;
         word_is = is;

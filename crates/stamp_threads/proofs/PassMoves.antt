@@ -1,6 +1,6 @@
 -- Splits and joins of seats keep the rule of the running word.
 use Rattle.std.proofs.Common.{◌≡◌, ℕ, ◌+◌, List, [], ◌∷◌, ◌++◌, map, take, drop, set, refl, ap, sym}
-use Rattle.std.proofs.Common.{subst, arith}
+use Rattle.std.proofs.Common.{Bool, true, false, true≢false, ◌∙◌, subst, arith}
 use Rattle.atomic_table.specs.Table.{State, Me, Splits, Joins, Enters}
 use Rattle.stamp_core.specs.Limits.{Bounds}
 use Rattle.stamp_threads.specs.PassView.{IsPart, every, after_split, split_off, entering}
@@ -12,12 +12,13 @@ use Rattle.stamp_threads.proofs.GivenNames.{part-after_split, part-split_off}
 use Rattle.stamp_threads.proofs.SeatMoves.{gives, together, parted}
 use Rattle.stamp_threads.proofs.NewComers.{comes, new_part}
 
-with_views : (limits : Bounds) (s : State (Unit {0}) (List LockPass)) (r : IsKept limits s)
-    (roots : ℕ) (views : List (List LockPass)) → AreSeated (IsPart every r.log) roots r.log views →
-    IsKept limits record { words = s.words; homes = s.homes; views = views }
-with_views limits s r roots views passes = record {
+with_views : {enterable : Bool} (limits : Bounds) (s : State (Unit {0}) (List LockPass)) (r : IsKept enterable limits s)
+    (roots : ℕ) (closed : enterable ≡ false → roots ≡ 1) (views : List (List LockPass)) → AreSeated (IsPart every r.log) roots r.log views →
+    IsKept enterable limits record { words = s.words; homes = s.homes; views = views }
+with_views limits s r roots closed views passes = record {
   log = r.log;
   roots = roots;
+  closed = closed;
   one_word = r.one_word;
   legal =
       r.legal;
@@ -26,25 +27,25 @@ with_views limits s r roots views passes = record {
 }
 
 -- a pass gives a new one
-pub splits_give : (limits : Bounds) (id : ℕ) (me : Me (Unit {0}) (List LockPass)) →
-    me ≡ alone (first_of me.0) → Splits (IsKept limits) id me.0 (map after_split me.0)
+pub splits_give : (enterable : Bool) (limits : Bounds) (id : ℕ) (me : Me (Unit {0}) (List LockPass)) →
+    me ≡ alone (first_of me.0) → Splits (IsKept enterable limits) id me.0 (map after_split me.0)
     (map split_off me.0)
-splits_give limits id me is =
-    subst (λ (vs : List LockPass). Splits (IsKept limits) id vs (map after_split vs)
+splits_give enterable limits id me is =
+    subst (λ (vs : List LockPass). Splits (IsKept enterable limits) id vs (map after_split vs)
     (map split_off vs)) (sym (ap (λ (m : Me (Unit {0}) (List LockPass)). m.0) is)) (λ s r at.
     let v : LockPass = first_of me.0 in
     let f = r.passes.fits id 0 v (v ∷ [], at, refl) in
-    with_views limits s r r.roots (set s.views id (after_split v ∷ []) ++ (split_off v ∷ []) ∷ [])
+    with_views limits s r r.roots r.closed (set s.views id (after_split v ∷ []) ++ (split_off v ∷ []) ∷ [])
     (gives (IsPart every r.log) r.roots r.log s.views r.passes id v at (part-after_split every r.log v f)
     (part-split_off every r.log v f)))
 
 -- two passes go on one seat
-pub joins_share : (limits : Bounds) (id : ℕ) (me : Me (Unit {0}) (List LockPass)) (other : ℕ)
+pub joins_share : (enterable : Bool) (limits : Bounds) (id : ℕ) (me : Me (Unit {0}) (List LockPass)) (other : ℕ)
     (them : Me (Unit {0}) (List LockPass)) → me ≡ alone (first_of me.0) →
     them ≡ alone (first_of them.0)
-    → Joins (IsKept limits) id me.0 other them.0 (me.0 ++ them.0) []
-joins_share limits id me other them is their =
-    subst (λ (p : List LockPass × List LockPass). Joins (IsKept limits) id p.0 other p.1
+    → Joins (IsKept enterable limits) id me.0 other them.0 (me.0 ++ them.0) []
+joins_share enterable limits id me other them is their =
+    subst (λ (p : List LockPass × List LockPass). Joins (IsKept enterable limits) id p.0 other p.1
     (p.0 ++ p.1) [])
     (λ i. (
       sym (ap (λ (m : Me (Unit {0}) (List LockPass)). m.0) is) i,
@@ -52,19 +53,19 @@ joins_share limits id me other them is their =
     )) (λ s r at away there.
     let v : LockPass = first_of me.0 in
     let u : LockPass = first_of them.0 in
-    with_views limits s r r.roots (set (set s.views id (v ∷ u ∷ [])) other [])
+    with_views limits s r r.roots r.closed (set (set s.views id (v ∷ u ∷ [])) other [])
     (together (IsPart every r.log) r.roots r.log s.views r.passes id v other u at away there))
 
 -- and on two again
-pub splits_part : (limits : Bounds) (id : ℕ) (me : Me (Unit {0}) (List LockPass)) →
+pub splits_part : (enterable : Bool) (limits : Bounds) (id : ℕ) (me : Me (Unit {0}) (List LockPass)) →
     me ≡ both (first_of me.0) (second_of me.0) →
-    Splits (IsKept limits) id me.0 (take 1 me.0) (drop 1 me.0)
-splits_part limits id me is =
-    subst (λ (vs : List LockPass). Splits (IsKept limits) id vs (take 1 vs) (drop 1 vs))
+    Splits (IsKept enterable limits) id me.0 (take 1 me.0) (drop 1 me.0)
+splits_part enterable limits id me is =
+    subst (λ (vs : List LockPass). Splits (IsKept enterable limits) id vs (take 1 vs) (drop 1 vs))
     (sym (ap (λ (m : Me (Unit {0}) (List LockPass)). m.0) is)) (λ s r at.
     let v : LockPass = first_of me.0 in
     let u : LockPass = second_of me.0 in
-    with_views limits s r r.roots (set s.views id (v ∷ []) ++ (u ∷ []) ∷ [])
+    with_views limits s r r.roots r.closed (set s.views id (v ∷ []) ++ (u ∷ []) ∷ [])
     (parted (IsPart every r.log) r.roots r.log s.views r.passes id v u at))
 
 pub splits_consistent : (limits : Bounds) (v : LockPass) → IsConsistentWith limits v →
@@ -85,13 +86,14 @@ splits_consistent limits v c = (
 )
 
 -- a load that makes a seat of its own
-pub allows_enter : (limits : Bounds) (slots : ℕ) → Enters (IsKept limits) slots 0
+pub allows_enter : {enterable : Bool} (limits : Bounds) (slots : ℕ) → enterable ≡ true →
+    Enters (IsKept enterable limits) slots 0
     (λ n w. ((w, []) ≡ alone (first_of w)) × HasEntered limits (first_of w))
-allows_enter limits slots s r _ _ =
+allows_enter limits slots may s r _ _ =
     let v : LockPass = entering r.roots tt r.log in
     let part : IsPart every r.log v = new_part every r.roots tt r.log r.passes.entries in (
       v ∷ [],
-      with_views limits s r (r.roots + 1) (s.views ++ (v ∷ []) ∷ [])
+      with_views limits s r (r.roots + 1) (λ shut. absurd (true≢false (sym may ∙ shut))) (s.views ++ (v ∷ []) ∷ [])
           (comes (IsPart every r.log) r.roots r.log s.views r.passes tt part),
       (
         refl,

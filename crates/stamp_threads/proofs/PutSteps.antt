@@ -39,14 +39,14 @@ use Rattle.stamp_threads.proofs.RecordSteps.{others_mark, one_after, one_consist
 use Rattle.stamp_threads.proofs.RecordSteps.{only_views, only_consistent, observing_brings}
 use Rattle.stamp_threads.proofs.RecordSteps.{locked_by, reader_knows, idle_quiet, KeptBy}
 
-module _ (P : List ℕ → Type 0) (shape : RecordShape) (s : State (Unit {0}) (List RecordPassView)) (r : IsKept P shape s)
+module _ {enterable : Bool} (P : List ℕ → Type 0) (shape : RecordShape) (s : State (Unit {0}) (List RecordPassView)) (r : IsKept enterable P shape s)
     (id : ℕ) (v : RecordPassView) (here : get_elem? s.views id ≡ some (v ∷ [])) where
   -- write mode is got
   acquires : (n held : ℕ) (xs : List ℕ) → v.phase ≡ Idle →
       get_or s.words 0 0 ≡ word_with shape.limits.layout n false →
       held ≡ word_with shape.limits.layout n true → n < shape.limits.versions →
       length xs ≡ shape.width → P xs →
-      KeptBy P shape s id (acquiring (finding v (get_or s.words 0 0)) r.log xs)
+      KeptBy enterable P shape s id (acquiring (finding v (get_or s.words 0 0)) r.log xs)
       (set s.words 0 held)
   acquires n held xs idle at is room long good =
       let w = acquiring (finding v (get_or s.words 0 0)) r.log xs in
@@ -84,6 +84,7 @@ module _ (P : List ℕ → Type 0) (shape : RecordShape) (s : State (Unit {0}) (
       record {
         log = log';
         roots = r.roots;
+        closed = r.closed;
         legal = legal_marked shape.width r.log v.name r.legal;
         wide = length-set s.words 0 held ∙ r.wide;
         word_is = get_or-set_same s.words 0 held 0 (let z = r.wide in omega arith) ∙
@@ -118,7 +119,7 @@ module _ (P : List ℕ → Type 0) (shape : RecordShape) (s : State (Unit {0}) (
 
       -- one more word is stored
       stores : (x : ℕ) → stored < shape.width → x ≡ get_or xs stored 0 →
-          KeptBy P shape s id (stored_one v) (set s.words (stored + 1) x)
+          KeptBy enterable P shape s id (stored_one v) (set s.words (stored + 1) x)
       stores x inside right =
           let w = stored_one v in
           let cells' : List ℕ = set s.words (stored + 1) x in
@@ -158,6 +159,7 @@ module _ (P : List ℕ → Type 0) (shape : RecordShape) (s : State (Unit {0}) (
           record {
             log = r.log;
             roots = r.roots;
+            closed = r.closed;
             legal = r.legal;
             wide = length-set s.words (stored + 1) x ∙ r.wide;
             word_is = get_or-set_other s.words (stored + 1) 0 x 0 (λ e. omega arith) ∙ r.word_is;
@@ -181,7 +183,7 @@ module _ (P : List ℕ → Type 0) (shape : RecordShape) (s : State (Unit {0}) (
   releases : (version free : ℕ) (xs : List ℕ) → v.phase ≡ Writing version xs shape.width →
       free ≡ word_with shape.limits.layout (version + 1) false →
       (held : ℕ) →
-      KeptBy P shape s id (calling (finding v held) r.log (put_of xs)) (set s.words 0 free) ×
+      KeptBy enterable P shape s id (calling (finding v held) r.log (put_of xs)) (set s.words 0 free) ×
       IsConsistentWith shape.width (calling (finding v held) r.log (put_of xs))
   releases version free xs writing is held =
       let w = calling (finding v held) r.log (put_of xs) in
@@ -212,6 +214,7 @@ module _ (P : List ℕ → Type 0) (shape : RecordShape) (s : State (Unit {0}) (
         record {
           log = log';
           roots = r.roots;
+          closed = r.closed;
           legal = legal;
           wide = length-set s.words 0 free ∙ r.wide;
           word_is = get_or-set_same s.words 0 free 0 (omega arith) ∙
@@ -230,11 +233,11 @@ module _ (P : List ℕ → Type 0) (shape : RecordShape) (s : State (Unit {0}) (
       )
 
 -- a load that a put begins with
-look_at : (P : List ℕ → Type 0) (shape : RecordShape)
-    (s : State (Unit {0}) (List RecordPassView)) (r : IsKept P shape s)
+look_at : {enterable : Bool} (P : List ℕ → Type 0) (shape : RecordShape)
+    (s : State (Unit {0}) (List RecordPassView)) (r : IsKept enterable P shape s)
     (id : ℕ) (me : Seated) → me ≡ alone (first_of me.0) → (first_of me.0).phase ≡ Idle →
     get_elem? s.views id ≡ some (first_of me.0 ∷ []) →
-    KeptBy P shape s id (observing (finding (first_of me.0) (get_or s.words 0 0)) r.log) s.words ×
+    KeptBy enterable P shape s id (observing (finding (first_of me.0) (get_or s.words 0 0)) r.log) s.words ×
     Looked shape (first_of me.0) (get_or s.words 0 0)
     (observing (finding (first_of me.0) (get_or s.words 0 0)) r.log ∷ [], me.1)
 look_at P shape s r id me is idle here =
@@ -253,27 +256,27 @@ look_at P shape s r id me is idle here =
       },
     )
 
-pub allows_look : (P : List ℕ → Type 0) (shape : RecordShape) (slots id : ℕ) (me : Seated) →
+pub allows_look : {enterable : Bool} (P : List ℕ → Type 0) (shape : RecordShape) (slots id : ℕ) (me : Seated) →
     me ≡ alone (first_of me.0) → (first_of me.0).phase ≡ Idle →
-    Allows (IsKept P shape) slots id me 0 (λ n. n) (LookTells shape (step slots 0 0 0 none) me)
+    Allows (IsKept enterable P shape) slots id me 0 (λ n. n) (LookTells shape (step slots 0 0 0 none) me)
 allows_look P shape slots id me is idle s r _ at _ =
     let v : RecordPassView = first_of me.0 in
     let here : get_elem? s.views id ≡ some (v ∷ []) =
     at ∙ ap (λ (m : Seated). some m.0) is in
     let w = observing (finding v (get_or s.words 0 0)) r.log in
     let t = look_at P shape s r id me is idle here in
-    (w ∷ [], keeps, tt, subst (KeptBy P shape s id w) (sym (set-get_or s.words 0 0)) t.0, t.1)
+    (w ∷ [], keeps, tt, subst (KeptBy _ P shape s id w) (sym (set-get_or s.words 0 0)) t.0, t.1)
 
 -- the exchange that gets write mode, by whether the word found is the old one
-acquire_at : (P : List ℕ → Type 0) (shape : RecordShape) (s : State (Unit {0}) (List RecordPassView))
-    (r : IsKept P shape s) (id : ℕ) (me : Seated) (n old held : ℕ) (xs : List ℕ) →
+acquire_at : {enterable : Bool} (P : List ℕ → Type 0) (shape : RecordShape) (s : State (Unit {0}) (List RecordPassView))
+    (r : IsKept enterable P shape s) (id : ℕ) (me : Seated) (n old held : ℕ) (xs : List ℕ) →
     me ≡ alone (first_of me.0) → (first_of me.0).phase ≡ Idle →
     get_elem? s.views id ≡ some (first_of me.0 ∷ []) →
     old ≡ word_with shape.limits.layout n false →
     held ≡ old + writer_unit shape.limits.layout → n < shape.limits.versions →
     length xs ≡ shape.width → P xs → (b : Bool) → eqb (get_or s.words 0 0) old ≡ b →
     (w : List RecordPassView) × (a : Act (Unit {0})) × Valid s.homes me.1 a ×
-    IsKept P shape (stepped s 0 (either b held (get_or s.words 0 0)) id me.1 w a) ×
+    IsKept enterable P shape (stepped s 0 (either b held (get_or s.words 0 0)) id me.1 w a) ×
     MatchBool b
     (Acquired shape (first_of me.0) (get_or s.words 0 0) (w, carried_after me.1 a) xs)
     (Looked shape (first_of me.0) (get_or s.words 0 0) (w, carried_after me.1 a))
@@ -298,25 +301,25 @@ acquire_at P shape s r id me n old held xs is idle here free up room long good f
     let v : RecordPassView = first_of me.0 in
     let w = observing (finding v (get_or s.words 0 0)) r.log in
     let t = look_at P shape s r id me is idle here in
-    (w ∷ [], keeps, tt, subst (KeptBy P shape s id w) (sym (set-get_or s.words 0 0)) t.0, t.1)
+    (w ∷ [], keeps, tt, subst (KeptBy _ P shape s id w) (sym (set-get_or s.words 0 0)) t.0, t.1)
 
-pub allows_acquire : (P : List ℕ → Type 0) (shape : RecordShape) (slots id : ℕ) (me : Seated) (n old held : ℕ)
+pub allows_acquire : {enterable : Bool} (P : List ℕ → Type 0) (shape : RecordShape) (slots id : ℕ) (me : Seated) (n old held : ℕ)
     (xs : List ℕ) → me ≡ alone (first_of me.0) → (first_of me.0).phase ≡ Idle →
     old ≡ word_with shape.limits.layout n false →
     held ≡ old + writer_unit shape.limits.layout → n < shape.limits.versions →
     length xs ≡ shape.width → P xs →
-    Allows (IsKept P shape) slots id me 0 (λ m. either (m == old) held m)
+    Allows (IsKept enterable P shape) slots id me 0 (λ m. either (m == old) held m)
     (AcquireTells shape xs (step slots 0 old held none) me)
 allows_acquire P shape slots id me n old held xs is idle free up room long good s r _ at _ =
     acquire_at P shape s r id me n old held xs is idle (at ∙ ap (λ (m : Seated). some m.0) is) free
     up room long good (eqb (get_or s.words 0 0) old) refl
 
 -- a store of a word of the record
-pub allows_store : (P : List ℕ → Type 0) (shape : RecordShape) (slots id : ℕ) (me : Seated) (version stored x : ℕ)
+pub allows_store : {enterable : Bool} (P : List ℕ → Type 0) (shape : RecordShape) (slots id : ℕ) (me : Seated) (version stored x : ℕ)
     (xs : List ℕ) → me ≡ alone (first_of me.0) →
     (first_of me.0).phase ≡ Writing version xs stored → stored < shape.width →
     x ≡ get_or xs stored 0 →
-    Allows (IsKept P shape) slots id me (stored + 1) (λ _. x)
+    Allows (IsKept enterable P shape) slots id me (stored + 1) (λ _. x)
     (λ _. StoreTells (step slots (stored + 1) x 0 none) me x)
 allows_store P shape slots id me version stored x xs is writing inside right s r _ there _ =
     let v : RecordPassView = first_of me.0 in
@@ -330,14 +333,14 @@ allows_store P shape slots id me version stored x xs is writing inside right s r
     )
 
 -- the exchange that releases
-pub allows_release : (P : List ℕ → Type 0) (shape : RecordShape) (slots id : ℕ) (me : Seated) (version held free : ℕ)
+pub allows_release : (enterable : Bool) (P : List ℕ → Type 0) (shape : RecordShape) (slots id : ℕ) (me : Seated) (version held free : ℕ)
     (xs : List ℕ) → me ≡ alone (first_of me.0) →
     (first_of me.0).phase ≡ Writing version xs shape.width →
     held ≡ word_with shape.limits.layout version true →
     free ≡ held + writer_unit shape.limits.layout →
-    Allows (IsKept P shape) slots id me 0 (λ m. either (m == held) free m)
+    Allows (IsKept enterable P shape) slots id me 0 (λ m. either (m == held) free m)
     (ReleaseTells shape xs (step slots 0 held free none) me)
-allows_release P shape slots id me version held free xs is writing down up s r _ there _ =
+allows_release enterable P shape slots id me version held free xs is writing down up s r _ there _ =
     let v : RecordPassView = first_of me.0 in
     let here : get_elem? s.views id ≡ some (v ∷ []) =
     there ∙ ap (λ (m : Seated). some m.0) is in
@@ -353,7 +356,7 @@ allows_release P shape slots id me version held free xs is writing down up s r _
       w ∷ [],
       keeps,
       tt,
-      subst (λ (b : Bool). KeptBy P shape s id w
+      subst (λ (b : Bool). KeptBy enterable P shape s id w
           (set s.words 0 (either b free (get_or s.words 0 0)))) (sym (eq-eqb _ _ same)) t.0,
       record {
         log = r.log;

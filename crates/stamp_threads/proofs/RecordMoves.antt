@@ -1,7 +1,7 @@
 -- Splits and joins of seats, and the load of two passes, keep the rule of a record's words. All are
 -- made between calls.
 use Rattle.std.proofs.Common.{◌≡◌, ◌≢◌, ℕ, ◌+◌, true, List, [], ◌∷◌, ◌++◌, map, take, drop, length}
-use Rattle.std.proofs.Common.{set, refl, ap, sym, ◌∙◌, subst, arith}
+use Rattle.std.proofs.Common.{Bool, false, true≢false, set, refl, ap, sym, ◌∙◌, subst, arith}
 use mathlib.Core.Option.{none, some, some-injective}
 use lib.ListN.{get_elem?}
 use lib.Seq.{set-get_or}
@@ -29,14 +29,16 @@ use Rattle.stamp_threads.proofs.SeatMoves.{gives, together, parted, stands_else,
 use Rattle.stamp_threads.proofs.RecordSteps.{Brings, passes_after, consistent_after, idle_quiet}
 
 -- the views alone change
-with_views : (P : List ℕ → Type 0) (shape : RecordShape) (s : State (Unit {0}) (List RecordPassView))
-    (r : IsKept P shape s) (roots : ℕ) (views : List (List RecordPassView)) →
+with_views : {enterable : Bool} (P : List ℕ → Type 0) (shape : RecordShape) (s : State (Unit {0}) (List RecordPassView))
+    (r : IsKept enterable P shape s) (roots : ℕ) (closed : enterable ≡ false → roots ≡ 1)
+    (views : List (List RecordPassView)) →
     AreSeated (Fits P shape.width s.words r.log) roots r.log views →
     (is_locked r.log ≡ true → HasWriter r.log views) →
-    IsKept P shape record { words = s.words; homes = s.homes; views = views }
-with_views P shape s r roots views passes writer = record {
+    IsKept enterable P shape record { words = s.words; homes = s.homes; views = views }
+with_views P shape s r roots closed views passes writer = record {
   log = r.log;
   roots = roots;
+  closed = closed;
   legal = r.legal;
   wide = r.wide;
   word_is = r.word_is;
@@ -124,17 +126,17 @@ module _ (log : RecordLog) (views : List (List RecordPassView)) (id : ℕ)
         marker = h.marker;
       }
 
-split_kept : (P : List ℕ → Type 0) (shape : RecordShape) (s : State (Unit {0}) (List RecordPassView))
-    (r : IsKept P shape s) (id : ℕ) (v : RecordPassView) →
+split_kept : {enterable : Bool} (P : List ℕ → Type 0) (shape : RecordShape) (s : State (Unit {0}) (List RecordPassView))
+    (r : IsKept enterable P shape s) (id : ℕ) (v : RecordPassView) →
     get_elem? s.views id ≡ some (v ∷ []) → v.phase ≡ Idle →
-    IsKept P shape record {
+    IsKept enterable P shape record {
       words = s.words;
       homes = s.homes;
       views = set s.views id (after_split v ∷ []) ++ (split_off v ∷ []) ∷ [];
     }
 split_kept P shape s r id v here idle =
     let f = r.passes.fits id 0 v (v ∷ [], here, refl) in
-    with_views P shape s r r.roots (set s.views id (after_split v ∷ []) ++ (split_off v ∷ []) ∷ [])
+    with_views P shape s r r.roots r.closed (set s.views id (after_split v ∷ []) ++ (split_off v ∷ []) ∷ [])
     (gives (Fits P shape.width s.words r.log) r.roots r.log s.views r.passes id v here
     (fits-after_split P shape.width s.words r.log v f)
     (fits-split_off P shape.width s.words r.log v idle f))
@@ -142,11 +144,11 @@ split_kept P shape s r id v here idle =
     (after_split v ∷ []) (split_off v ∷ []))
 
 -- a pass gives a new one
-pub splits_give : (P : List ℕ → Type 0) (shape : RecordShape) (id : ℕ) (me : Seated) → me ≡ alone (first_of me.0) →
+pub splits_give : (enterable : Bool) (P : List ℕ → Type 0) (shape : RecordShape) (id : ℕ) (me : Seated) → me ≡ alone (first_of me.0) →
     (first_of me.0).phase ≡ Idle →
-    Splits (IsKept P shape) id me.0 (map after_split me.0) (map split_off me.0)
-splits_give P shape id me is idle =
-    subst (λ (vs : List RecordPassView). Splits (IsKept P shape) id vs (map after_split vs)
+    Splits (IsKept enterable P shape) id me.0 (map after_split me.0) (map split_off me.0)
+splits_give enterable P shape id me is idle =
+    subst (λ (vs : List RecordPassView). Splits (IsKept enterable P shape) id vs (map after_split vs)
     (map split_off vs)) (sym (ap (λ (m : Seated). m.0) is))
     (λ s r at. split_kept P shape s r id (first_of me.0) at idle)
 
@@ -175,51 +177,51 @@ consistent_in table width v is c other is' =
     let same : width ≡ other = omega arith in
     subst (λ (n : ℕ). IsConsistentWith n v) same c
 
-join_kept : (P : List ℕ → Type 0) (shape : RecordShape) (id : ℕ) (v : RecordPassView) (other : ℕ)
+join_kept : {enterable : Bool} (P : List ℕ → Type 0) (shape : RecordShape) (id : ℕ) (v : RecordPassView) (other : ℕ)
     (u : RecordPassView) → v.phase ≡ Idle → u.phase ≡ Idle →
-    Joins (IsKept P shape) id (v ∷ []) other (u ∷ []) (v ∷ u ∷ []) []
+    Joins (IsKept enterable P shape) id (v ∷ []) other (u ∷ []) (v ∷ u ∷ []) []
 join_kept P shape id v other u idle still s r at away there =
     let views' : List (List RecordPassView) = set s.views id (v ∷ u ∷ []) in
-    with_views P shape s r r.roots (set views' other [])
+    with_views P shape s r r.roots r.closed (set views' other [])
     (together (Fits P shape.width s.words r.log) r.roots r.log s.views r.passes id v other u at away there)
     (λ l. writer_stays r.log views' other (u ∷ []) there (one_idle u still)
     (writer_stays r.log s.views id (v ∷ []) at (one_idle v idle) (r.writer l) (v ∷ u ∷ [])) [])
 
 -- two passes go on one seat
-pub joins_share : (P : List ℕ → Type 0) (shape : RecordShape) (id : ℕ) (me : Seated) (other : ℕ) (them : Seated) →
+pub joins_share : (enterable : Bool) (P : List ℕ → Type 0) (shape : RecordShape) (id : ℕ) (me : Seated) (other : ℕ) (them : Seated) →
     me ≡ alone (first_of me.0) → them ≡ alone (first_of them.0) →
     (first_of me.0).phase ≡ Idle → (first_of them.0).phase ≡ Idle →
-    Joins (IsKept P shape) id me.0 other them.0 (me.0 ++ them.0) []
-joins_share P shape id me other them is their idle still =
+    Joins (IsKept enterable P shape) id me.0 other them.0 (me.0 ++ them.0) []
+joins_share enterable P shape id me other them is their idle still =
     subst (λ (p : List RecordPassView × List RecordPassView).
-    Joins (IsKept P shape) id p.0 other p.1 (p.0 ++ p.1) [])
+    Joins (IsKept enterable P shape) id p.0 other p.1 (p.0 ++ p.1) [])
     (λ i. (sym (ap (λ (m : Seated). m.0) is) i, sym (ap (λ (m : Seated). m.0) their) i))
     (join_kept P shape id (first_of me.0) other (first_of them.0) idle still)
 
-part_kept : (P : List ℕ → Type 0) (shape : RecordShape) (id : ℕ) (v u : RecordPassView) → v.phase ≡ Idle →
-    u.phase ≡ Idle → Splits (IsKept P shape) id (v ∷ u ∷ []) (v ∷ []) (u ∷ [])
+part_kept : {enterable : Bool} (P : List ℕ → Type 0) (shape : RecordShape) (id : ℕ) (v u : RecordPassView) → v.phase ≡ Idle →
+    u.phase ≡ Idle → Splits (IsKept enterable P shape) id (v ∷ u ∷ []) (v ∷ []) (u ∷ [])
 part_kept P shape id v u idle still s r at =
-    with_views P shape s r r.roots (set s.views id (v ∷ []) ++ (u ∷ []) ∷ [])
+    with_views P shape s r r.roots r.closed (set s.views id (v ∷ []) ++ (u ∷ []) ∷ [])
     (parted (Fits P shape.width s.words r.log) r.roots r.log s.views r.passes id v u at)
     (λ l. writer_beside r.log s.views id (v ∷ u ∷ []) at (two_idle v u idle still) (r.writer l)
     (v ∷ []) (u ∷ []))
 
 -- and on two again
-pub splits_part : (P : List ℕ → Type 0) (shape : RecordShape) (id : ℕ) (me : Seated) →
+pub splits_part : (enterable : Bool) (P : List ℕ → Type 0) (shape : RecordShape) (id : ℕ) (me : Seated) →
     me ≡ both (first_of me.0) (second_of me.0) → (first_of me.0).phase ≡ Idle →
     (second_of me.0).phase ≡ Idle →
-    Splits (IsKept P shape) id me.0 (take 1 me.0) (drop 1 me.0)
-splits_part P shape id me is idle still =
-    subst (λ (vs : List RecordPassView). Splits (IsKept P shape) id vs (take 1 vs) (drop 1 vs))
+    Splits (IsKept enterable P shape) id me.0 (take 1 me.0) (drop 1 me.0)
+splits_part enterable P shape id me is idle still =
+    subst (λ (vs : List RecordPassView). Splits (IsKept enterable P shape) id vs (take 1 vs) (drop 1 vs))
     (sym (ap (λ (m : Seated). m.0) is))
     (part_kept P shape id (first_of me.0) (second_of me.0) idle still)
 
 -- a load by a seat that stands for two
-pub allows_meet : (P : List ℕ → Type 0) (shape : RecordShape) (slots id : ℕ) (me : Seated) →
+pub allows_meet : (enterable : Bool) (P : List ℕ → Type 0) (shape : RecordShape) (slots id : ℕ) (me : Seated) →
     me ≡ both (first_of me.0) (second_of me.0) → (first_of me.0).phase ≡ Idle →
     (second_of me.0).phase ≡ Idle →
-    Allows (IsKept P shape) slots id me 0 (λ n. n) (MeetTells shape (step slots 0 0 0 none) me)
-allows_meet P shape slots id me is idle still s r _ at _ =
+    Allows (IsKept enterable P shape) slots id me 0 (λ n. n) (MeetTells shape (step slots 0 0 0 none) me)
+allows_meet enterable P shape slots id me is idle still s r _ at _ =
     let v : RecordPassView = first_of me.0 in
     let u : RecordPassView = second_of me.0 in
     let vs : List RecordPassView = v ∷ u ∷ [] in
@@ -250,10 +252,10 @@ allows_meet P shape slots id me is idle still s r _ at _ =
       ws,
       keeps,
       tt,
-      subst (λ (words : List ℕ). IsKept P shape
+      subst (λ (words : List ℕ). IsKept enterable P shape
           record { words = words; homes = s.homes; views = set s.views id ws })
           (sym (set-get_or s.words 0 0))
-          (with_views P shape s r r.roots (set s.views id ws)
+          (with_views P shape s r r.roots r.closed (set s.views id ws)
           (passes_after P shape s r id vs ws here same s.words r.log grows brings
           (λ _ _ _ _ _ h. h))
           (λ l. writer_stays r.log s.views id vs here (two_idle v u idle still) (r.writer l) ws)),
@@ -283,17 +285,19 @@ writer_before log views us t = record {
 }
 
 -- a load that makes a seat of its own
-pub allows_enter : (P : List ℕ → Type 0) (shape : RecordShape) (slots : ℕ) →
-    Enters (IsKept P shape) slots 0
+pub allows_enter : {enterable : Bool} (P : List ℕ → Type 0) (shape : RecordShape) (slots : ℕ) →
+    enterable ≡ true →
+    Enters (IsKept enterable P shape) slots 0
     (λ n w. ((w, []) ≡ alone (first_of w)) × HasEntered shape.width (first_of w))
-allows_enter P shape slots s r _ _ =
+allows_enter P shape slots may s r _ _ =
     let v : RecordPassView = entering r.roots Idle r.log in
     let part = new_part is_own r.roots Idle r.log r.passes.entries in
     let marks = ap length (new_none is_mark r.roots r.log r.passes.entries) in
     let fits : Fits P shape.width s.words r.log v =
     record { part = part; marks = marks; knows = tt } in (
       v ∷ [],
-      with_views P shape s r (r.roots + 1) (s.views ++ (v ∷ []) ∷ [])
+      with_views P shape s r (r.roots + 1)
+          (λ shut. absurd (true≢false (sym may ∙ shut))) (s.views ++ (v ∷ []) ∷ [])
           (comes (Fits P shape.width s.words r.log) r.roots r.log s.views r.passes Idle fits)
           (λ l. writer_before r.log s.views (v ∷ []) (r.writer l)),
       (

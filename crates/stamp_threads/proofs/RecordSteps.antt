@@ -1,7 +1,7 @@
 -- What every step of a seat on a record's words keeps, by what its passes know afterwards.
 use Rattle.std.proofs.Common.{◌≡◌, ◌≢◌, ◌⊎◌, ℕ, ◌+◌, ◌<◌, ◌≤◌, true, true≢false, List}
 use Rattle.std.proofs.Common.{[], ◌∷◌, length, set, get_or, refl, ap, sym, ◌∙◌, subst}
-use Rattle.std.proofs.Common.{⊎_elim, arith}
+use Rattle.std.proofs.Common.{⊎_elim, arith, Bool}
 use mathlib.Core.Option.{some, some-injective}
 use mathlib.Core.List.{IsPrefix}
 use lib.ListN.{get_elem?}
@@ -41,7 +41,7 @@ OthersKnow P shape s log id cells' log' = (i k : ℕ) (u : RecordPassView) → i
     StandsAt s.views i k u → Knows P shape.width s.words log u.name u.phase →
     Knows P shape.width cells' log' u.name u.phase
 
-module _ (P : List ℕ → Type 0) (shape : RecordShape) (s : State (Unit {0}) (List RecordPassView)) (r : IsKept P shape s)
+module _ {enterable : Bool} (P : List ℕ → Type 0) (shape : RecordShape) (s : State (Unit {0}) (List RecordPassView)) (r : IsKept enterable P shape s)
     (id : ℕ) (vs ws : List RecordPassView) (at : get_elem? s.views id ≡ some vs)
     (same : Same vs ws) (cells' : List ℕ) (log' : RecordLog) (grows : Grows vs r.log log')
     (brings : (k : ℕ) (w : RecordPassView) → get_elem? ws k ≡ some w →
@@ -90,7 +90,7 @@ module _ (P : List ℕ → Type 0) (shape : RecordShape) (s : State (Unit {0}) (
         given = subst (HasGivenAll w.name w.splits) (sym e) f.part.given;
       }
 
-module _ (P : List ℕ → Type 0) (shape : RecordShape) (s : State (Unit {0}) (List RecordPassView)) (r : IsKept P shape s)
+module _ {enterable : Bool} (P : List ℕ → Type 0) (shape : RecordShape) (s : State (Unit {0}) (List RecordPassView)) (r : IsKept enterable P shape s)
     (id : ℕ) (v : RecordPassView) (here : get_elem? s.views id ≡ some (v ∷ [])) where
   pub stands_here : StandsAt s.views id 0 v
   stands_here = (v ∷ [], here, refl)
@@ -171,7 +171,7 @@ module _ (P : List ℕ → Type 0) (shape : RecordShape) (s : State (Unit {0}) (
   -- no word and no entry changes
   module _ (quiet : IsWriting v.phase → ⊥) (w : RecordPassView) (name : w.name ≡ v.name)
       (splits : w.splits ≡ v.splits) (brings : Brings P shape.width s.words r.log w) where
-    pub only_views : IsKept P shape record {
+    pub only_views : IsKept enterable P shape record {
       words = s.words;
       homes = s.homes;
       views = set s.views id (w ∷ []);
@@ -179,6 +179,7 @@ module _ (P : List ℕ → Type 0) (shape : RecordShape) (s : State (Unit {0}) (
     only_views = record {
       log = r.log;
       roots = r.roots;
+      closed = r.closed;
       legal = r.legal;
       wide = r.wide;
       word_is = r.word_is;
@@ -259,7 +260,7 @@ pub idle_quiet : (phase : RecordPhase) → phase ≡ Idle → IsWriting phase �
 idle_quiet phase e w = subst IsWriting e w
 
 -- the rule after a step of this seat, whose pass is w then, on these words
-abbrev pub KeptBy : (List ℕ → Type 0) → RecordShape → State (Unit {0}) (List RecordPassView) → ℕ → RecordPassView →
+abbrev pub KeptBy : Bool → (List ℕ → Type 0) → RecordShape → State (Unit {0}) (List RecordPassView) → ℕ → RecordPassView →
     List ℕ → Type 0
-KeptBy P shape s id w words =
-    IsKept P shape record { words = words; homes = s.homes; views = set s.views id (w ∷ []) }
+KeptBy enterable P shape s id w words =
+    IsKept enterable P shape record { words = words; homes = s.homes; views = set s.views id (w ∷ []) }

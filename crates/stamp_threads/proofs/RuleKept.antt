@@ -35,7 +35,7 @@ use Rattle.stamp_threads.proofs.SeatSteps.{Same, same_one, same_two, stands_on, 
 use Rattle.stamp_threads.proofs.SeatSteps.{other_part}
 use Rattle.stamp_threads.proofs.LockLogs.{legal_longer, represents_unchanged, represents_changed}
 
-module _ (limits : Bounds) (s : State (Unit {0}) (List LockPass)) (r : IsKept limits s) (id : ℕ)
+module _ {enterable : Bool} (limits : Bounds) (s : State (Unit {0}) (List LockPass)) (r : IsKept enterable limits s) (id : ℕ)
     (vs ws : List LockPass) (log' : LockLog) (at : get_elem? s.views id ≡ some vs)
     (same : Same vs ws) (grows : Grows vs r.log log')
     (all : (k : ℕ) (w : LockPass) → get_elem? ws k ≡ some w →
@@ -62,10 +62,11 @@ module _ (limits : Bounds) (s : State (Unit {0}) (List LockPass)) (r : IsKept li
 
   pub kept_after : (word : ℕ) (homes : List (Option (Unit {0}))) → IsLegalLog limits log' →
       RepresentsAt limits word (events_after limits log') →
-      IsKept limits record { words = set s.words 0 word; homes = homes; views = set s.views id ws }
+      IsKept enterable limits record { words = set s.words 0 word; homes = homes; views = set s.views id ws }
   kept_after word homes legal represents = record {
     log = log';
     roots = r.roots;
+    closed = r.closed;
     one_word = length-set s.words 0 word ∙ r.one_word;
     legal = legal;
     represents = subst (λ (n : ℕ). RepresentsAt limits n (events_after limits log'))
@@ -77,13 +78,13 @@ module _ (limits : Bounds) (s : State (Unit {0}) (List LockPass)) (r : IsKept li
   }
 
 -- the rule, and what the pass knows, after a step of a seat that stands for one
-abbrev Steps : (limits : Bounds) (s : State (Unit {0}) (List LockPass)) → ℕ → ℕ →
+abbrev Steps : Bool → (limits : Bounds) (s : State (Unit {0}) (List LockPass)) → ℕ → ℕ →
     List (Option (Unit {0})) → LockPass → Type 0
-Steps limits s id word homes w = IsKept limits
+Steps enterable limits s id word homes w = IsKept enterable limits
     record { words = set s.words 0 word; homes = homes; views = set s.views id (w ∷ []) } ×
     IsConsistentWith limits w
 
-module _ (limits : Bounds) (s : State (Unit {0}) (List LockPass)) (r : IsKept limits s) (id : ℕ)
+module _ {enterable : Bool} (limits : Bounds) (s : State (Unit {0}) (List LockPass)) (r : IsKept enterable limits s) (id : ℕ)
     (v : LockPass) (homes : List (Option (Unit {0}))) (at : get_elem? s.views id ≡ some (v ∷ []))
   where
     part_now : IsPart every r.log v
@@ -96,7 +97,7 @@ module _ (limits : Bounds) (s : State (Unit {0}) (List LockPass)) (r : IsKept li
     abbrev looked : LockPass
     looked = finding v (get_or s.words 0 0)
 
-    pub observes_all : Steps limits s id (get_or s.words 0 0) homes (observing looked r.log)
+    pub observes_all : Steps enterable limits s id (get_or s.words 0 0) homes (observing looked r.log)
     observes_all =
         let w : LockPass = observing looked r.log in
         let same = same_one v w refl refl in
@@ -115,7 +116,7 @@ module _ (limits : Bounds) (s : State (Unit {0}) (List LockPass)) (r : IsKept li
           →
           RepresentsAt limits word (events_after limits
           (r.log ++ entry v.name (call, t.reply) ∷ []))
-          → Steps limits s id word homes (adding looked r.log (call, t.reply))
+          → Steps enterable limits s id word homes (adding looked r.log (call, t.reply))
       makes_call t word is represents =
           let m : Call × Reply = (call, t.reply) in
           let log' : LockLog = r.log ++ entry v.name m ∷ [] in
@@ -136,7 +137,7 @@ module _ (limits : Bounds) (s : State (Unit {0}) (List LockPass)) (r : IsKept li
       by_appended : (appended : List LockEvent) (reply : Reply) →
           transition_after limits r.log call ≡
           Some (record { appended = appended; reply = reply }) →
-          Steps limits s id (get_or s.words 0 0) homes (answering appended reply call looked r.log)
+          Steps enterable limits s id (get_or s.words 0 0) homes (answering appended reply call looked r.log)
       by_appended [] reply is = makes_call (record { appended = []; reply = reply })
           (get_or s.words 0 0) is (represents_unchanged limits r.log call v.name
           (record { appended = []; reply = reply }) is _ refl r.represents)
@@ -144,16 +145,16 @@ module _ (limits : Bounds) (s : State (Unit {0}) (List LockPass)) (r : IsKept li
 
       by_transition : (o : Rattle.std.proofs.Common.Option Transition) →
           transition_after limits r.log call ≡ o →
-          Steps limits s id (get_or s.words 0 0) homes (reading o call looked r.log)
+          Steps enterable limits s id (get_or s.words 0 0) homes (reading o call looked r.log)
       by_transition None is = observes_all
       by_transition (Some t) is = by_appended t.appended t.reply is
 
-      pub loads : Steps limits s id (get_or s.words 0 0) homes (after_load limits call looked r.log)
+      pub loads : Steps enterable limits s id (get_or s.words 0 0) homes (after_load limits call looked r.log)
       loads = by_transition (transition_after limits r.log call) refl
 
       pub wins : (old new : ℕ) (reply : Reply) → get_or s.words 0 0 ≡ old →
           Changes limits (word_at limits old) call (word_at limits new) reply →
-          Steps limits s id new homes (after_win limits call looked r.log)
+          Steps enterable limits s id new homes (after_win limits call looked r.log)
       wins old new reply hit changes =
           let m : Moves limits (events_after limits r.log) call (word_at limits old)
           (word_at limits new) reply = changes (events_after limits r.log)
@@ -161,14 +162,14 @@ module _ (limits : Bounds) (s : State (Unit {0}) (List LockPass)) (r : IsKept li
           let t : Transition = record { appended = m.appended; reply = reply } in
           let made = makes_call t new m.transition_is
           (represents_changed limits r.log call v.name t m.transition_is new m.represented) in
-          subst (λ (w : LockPass). Steps limits s id new homes w)
+          subst (λ (w : LockPass). Steps enterable limits s id new homes w)
           (sym (ap (λ (o : Rattle.std.proofs.Common.Option Transition). making o call looked r.log)
           m.transition_is)) made
 
 -- a load
-pub allows_load : (limits : Bounds) (call : Call) (slots id : ℕ)
+pub allows_load : {enterable : Bool} (limits : Bounds) (call : Call) (slots id : ℕ)
     (me : Me (Unit {0}) (List LockPass)) → IsTrue (is_lock_call call) → me ≡ alone (first_of me.0) →
-    Allows (IsKept limits) slots id me 0 (λ n. n) (LoadTells limits call (step slots 0 0 0 none) me)
+    Allows (IsKept enterable limits) slots id me 0 (λ n. n) (LoadTells limits call (step slots 0 0 0 none) me)
 allows_load limits call slots id me lock is s r _ at _ =
     let v : LockPass = first_of me.0 in
     let here : get_elem? s.views id ≡ some (v ∷ []) =
@@ -196,14 +197,14 @@ abbrev TellsBy : Bool → Bounds → Call → LockPass → ℕ → Me (Unit {0})
 TellsBy b limits call v found n = (n ≡ alone (first_of n.0)) ×
     MatchBool b (Won limits call v found (first_of n.0)) (Loaded limits call v found (first_of n.0))
 
-exchange_at : (limits : Bounds) (s : State (Unit {0}) (List LockPass)) (r : IsKept limits s)
+exchange_at : {enterable : Bool} (limits : Bounds) (s : State (Unit {0}) (List LockPass)) (r : IsKept enterable limits s)
     (id : ℕ) (me : Me (Unit {0}) (List LockPass)) (call : Call) (old new : ℕ) (reply : Reply) →
     IsTrue (is_lock_call call) → me ≡ alone (first_of me.0) →
     get_elem? s.views id ≡ some (first_of me.0 ∷ [])
     → Changes limits (word_at limits old) call (word_at limits new) reply → (b : Bool) →
     eqb (get_or s.words 0 0) old ≡ b
     → (w : List LockPass) × (a : Act (Unit {0})) × Valid s.homes me.1 a ×
-    IsKept limits (stepped s 0 (either b new (get_or s.words 0 0)) id me.1 w a)
+    IsKept enterable limits (stepped s 0 (either b new (get_or s.words 0 0)) id me.1 w a)
     × TellsBy b limits call (first_of me.0) (get_or s.words 0 0) (w, carried_after me.1 a)
 exchange_at limits s r id me call old new reply lock is here changes true e =
     let v : LockPass = first_of me.0 in
@@ -245,11 +246,11 @@ exchange_at limits s r id me call old new reply lock is here changes false e =
     )
 
 -- an exchange
-pub allows_exchange : (limits : Bounds) (call : Call) (slots id : ℕ)
+pub allows_exchange : {enterable : Bool} (limits : Bounds) (call : Call) (slots id : ℕ)
     (me : Me (Unit {0}) (List LockPass)) (old new : ℕ) (reply : Reply) →
     IsTrue (is_lock_call call) → me ≡ alone (first_of me.0)
     → Changes limits (word_at limits old) call (word_at limits new) reply
-    → Allows (IsKept limits) slots id me 0 (λ n. either (n == old) new n)
+    → Allows (IsKept enterable limits) slots id me 0 (λ n. either (n == old) new n)
     (ExchangeTells limits call (step slots 0 old new none) me)
 allows_exchange limits call slots id me old new reply lock is changes s r _ at _ =
     exchange_at limits s r id me call old new reply lock is
@@ -257,9 +258,9 @@ allows_exchange limits call slots id me old new reply lock is changes s r _ at _
     (eqb (get_or s.words 0 0) old) refl
 
 -- a load by a seat that stands for two
-pub allows_meet : (limits : Bounds) (slots id : ℕ) (me : Me (Unit {0}) (List LockPass)) →
+pub allows_meet : {enterable : Bool} (limits : Bounds) (slots id : ℕ) (me : Me (Unit {0}) (List LockPass)) →
     me ≡ both (first_of me.0) (second_of me.0) →
-    Allows (IsKept limits) slots id me 0 (λ n. n) (MeetTells limits (step slots 0 0 0 none) me)
+    Allows (IsKept enterable limits) slots id me 0 (λ n. n) (MeetTells limits (step slots 0 0 0 none) me)
 allows_meet limits slots id me is s r _ at _ =
     let v : LockPass = first_of me.0 in
     let u : LockPass = second_of me.0 in

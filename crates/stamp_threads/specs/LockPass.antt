@@ -1,5 +1,5 @@
 -- What a pass of a running lock knows.
-use Rattle.std.specs.Prelude.{◌≡◌, ℕ, List, [], ◌∷◌}
+use Rattle.std.specs.Prelude.{◌≡◌, ℕ, Bool, List, [], ◌∷◌}
 use mathlib.Core.List.{IsPrefix}
 use Rattle.atomic_table.specs.Seated.{TableId}
 use Rattle.stamp_core.specs.Limits.{Bounds}
@@ -16,10 +16,11 @@ use Rattle.stamp_threads.specs.LockLog.{LockLog, events_after, IsLegalLog}
 abbrev pub LockPass : Type 0
 LockPass = PassView (Call × Reply) (Unit {0})
 
--- a lock is seen as which one it is, and its limits
+-- a lock is seen as which one it is, its limits, and whether passes may enter
 pub record LockView : Type 0 where
   pub table : TableId
   pub limits : Bounds
+  pub enterable : Bool
 
 -- a pass is seen as the lock that gave it, and what it knows
 pub record Token : Type 0 where

@@ -1,6 +1,6 @@
 -- The rule of the running word, and what each step of it tells.
 use Rattle.std.specs.Prelude.{◌≡◌, ℕ, ◌==◌, MatchBool, List, [], ◌∷◌, length, slice_index, Option}
-use Rattle.std.specs.Prelude.{Some, None}
+use Rattle.std.specs.Prelude.{Some, None, Bool, false}
 use Rattle.atomic_table.specs.Table.{State, Step, Me}
 use Rattle.stamp_core.specs.Limits.{Bounds}
 use Rattle.stamp_core.specs.LockEvent.{LockEvent}
@@ -17,10 +17,11 @@ use Rattle.stamp_threads.specs.LockPass.{second_of}
 use Rattle.stamp_threads.specs.HaveMet.{HaveMet}
 
 -- there is one legal history, whose events the word represents; each pass that stands knows a part
--- of it, and their names are apart
-pub record IsKept (limits : Bounds) (s : State (Unit {0}) (List LockPass)) : Type 0 where
+-- of it, and their names are apart. Where passes may not enter, the first root is the only one
+pub record IsKept (enterable : Bool) (limits : Bounds) (s : State (Unit {0}) (List LockPass)) : Type 0 where
   pub log : LockLog
   pub roots : ℕ
+  pub closed : enterable ≡ false → roots ≡ 1
   pub one_word : length s.words ≡ 1
   pub legal : IsLegalLog limits log
   pub represents : RepresentsAt limits (slice_index s.words 0) (events_after limits log)

@@ -1,5 +1,5 @@
 -- What a pass of a running record knows.
-use Rattle.std.specs.Prelude.{◌≡◌, ℕ, ◌+◌, ◌≤◌, List, [], ◌∷◌}
+use Rattle.std.specs.Prelude.{◌≡◌, ℕ, Bool, ◌+◌, ◌≤◌, List, [], ◌∷◌}
 use mathlib.Core.List.{IsPrefix}
 use Rattle.atomic_table.specs.Seated.{TableId}
 use Rattle.stamp_threads.specs.declared.pass_view.PassView.{PassView}
@@ -17,10 +17,11 @@ use Rattle.stamp_threads.specs.RecordLog.{word_after}
 abbrev pub RecordPassView : Type 0
 RecordPassView = PassView RecordEvent RecordPhase
 
--- a record is seen as which one it is, and its shape
+-- a record is seen as which one it is, its shape, and whether passes may enter
 pub record RecordView : Type 0 where
   pub table : TableId
   pub shape : RecordShape
+  pub enterable : Bool
 
 -- a pass is seen as the record that gave it, and what it knows
 pub record RecordToken : Type 0 where

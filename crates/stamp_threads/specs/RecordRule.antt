@@ -1,6 +1,6 @@
 -- The rule of a record's words, and what each step on them tells.
 use Rattle.std.specs.Prelude.{◌≡◌, ◌≢◌, ℕ, ◌+◌, ◌<◌, ◌≤◌, ◌==◌, MatchBool, if◌then◌else◌, true}
-use Rattle.std.specs.Prelude.{false, List, [], ◌∷◌, ◌++◌, length, slice_index, Option, Some, None}
+use Rattle.std.specs.Prelude.{Bool, false, List, [], ◌∷◌, ◌++◌, length, slice_index, Option, Some, None}
 use mathlib.Core.List.{IsPrefix}
 use Rattle.atomic_table.specs.Table.{State, Step, Me}
 use Rattle.stamp_core.specs.declared.layout.Layout.{Layout}
@@ -65,11 +65,12 @@ pub record HasWriter (log : RecordLog) (views : List (List RecordPassView)) : Ty
   pub marker : marker_in log ≡ writer.name
 
 -- there is one legal history, which leaves the lock word; the other words are its content where it
--- is not locked
-pub record IsKept (P : List ℕ → Type 0) (shape : RecordShape)
+-- is not locked. Where passes may not enter, the first root is the only one
+pub record IsKept (enterable : Bool) (P : List ℕ → Type 0) (shape : RecordShape)
     (s : State (Unit {0}) (List RecordPassView)) : Type 0 where
   pub log : RecordLog
   pub roots : ℕ
+  pub closed : enterable ≡ false → roots ≡ 1
   pub legal : IsLegalRecord shape.width log
   pub wide : length s.words ≡ shape.width + 1
   pub word_is : slice_index s.words 0 ≡ word_after shape.limits.layout log

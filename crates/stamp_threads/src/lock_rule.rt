@@ -8,16 +8,23 @@ use std::marker::{Brand, PhantomData};
 /// The passes that a seat of the table stands for: one, and two while they meet.
 pub type Passes = LinkedList<PassView<(Call, Reply), ()>>;
 
+/// What the rule of a lock reads: its limits, and whether passes may enter.
+#[derive(Clone, Copy)]
+pub struct LockKey {
+    pub limits: Limits,
+    pub enterable: bool,
+}
+
 pub struct LockRule;
 
-impl TableRule<(), Passes, Limits> for LockRule {
+impl TableRule<(), Passes, LockKey> for LockRule {
     ghost use Rattle.std.specs.Prelude.{[], ◌∷◌};
     ghost use Rattle.stamp_threads.specs.LockPass.{first_pass};
     ghost use Rattle.stamp_threads.specs.LockRule.{IsKept};
 
-    ghost holds = { IsKept };
+    ghost holds = { λ key. IsKept key.enterable key.limits };
 
-    ghost first = { λ limits. first_pass ∷ [] };
+    ghost first = { λ _. first_pass ∷ [] };
 }
 
 /// The limits of the lock, and the call that a step is made for. Each step picks its own.

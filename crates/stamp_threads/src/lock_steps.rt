@@ -1,5 +1,5 @@
 //! The steps on the running word, by the seats of its table.
-ghost use Rattle.std.specs.Prelude.{◌≡◌, IsTrue};
+ghost use Rattle.std.specs.Prelude.{◌≡◌, IsTrue, true};
 ghost use Rattle.stamp_core.specs.Call.{is_lock_call};
 ghost use Rattle.stamp_core.specs.Word.{word_at};
 ghost use Rattle.stamp_core.specs.Decision.{Changes};
@@ -10,27 +10,27 @@ ghost use Rattle.stamp_threads.specs.LockRule.{Loaded, Exchanged};
 ghost use Rattle.stamp_threads.specs.HaveMet.{HaveMet};
 
 use crate::lock_rule::{
-    EnterStep, ExchangeStep, GivePass, LoadStep, LockRule, MeetStep, PartSeats, Passes, ShareSeat,
-    StepFor,
+    EnterStep, ExchangeStep, GivePass, LoadStep, LockKey, LockRule, MeetStep, PartSeats, Passes,
+    ShareSeat, StepFor,
 };
 use atomic_table::{Seat, Shared};
-use stamp_core::{Call, Limits, Reply};
+use stamp_core::{Call, Reply};
 
-pub type LockTable = Shared<(), Passes, Limits, LockRule>;
+pub type LockTable = Shared<(), Passes, LockKey, LockRule>;
 
 pub type LockSeat = Seat<(), Passes>;
 
 /// Loads the word. The call is made by it where it changes nothing.
 #[inline(always)]
 pub fn load<C: StepFor>(table: &LockTable, seat: &mut LockSeat, call: &Call) -> u64
-    requires step { (C.limits ≡ table.now.key) × (C.call ≡ call.now) }
+    requires step { (C.limits ≡ table.now.key.limits) × (C.call ≡ call.now) }
     requires lock { IsTrue (is_lock_call call.now) }
     requires table { (seat.old.table_id ≡ table.now.table_id) × (table.now.table_id.words ≡ 1) }
     requires alone { seat.old.me ≡ alone (first_of seat.old.me.0) }
     ensures table { seat.new.table_id ≡ seat.old.table_id }
     ensures alone { seat.new.me ≡ alone (first_of seat.new.me.0) }
     ensures told { let v = first_of seat.old.me.0 in
-        Loaded table.now.key call.now v result (first_of seat.new.me.0) }
+        Loaded table.now.key.limits call.now v result (first_of seat.new.me.0) }
 {
     let _ = call;
     table.load::<LoadStep<C>>(seat, 0)
@@ -45,16 +45,16 @@ pub fn exchange<C: StepFor>(
     old: u64,
     new: u64,
 ) -> u64
-    requires step { (C.limits ≡ table.now.key) × (C.call ≡ call.now) }
+    requires step { (C.limits ≡ table.now.key.limits) × (C.call ≡ call.now) }
     requires lock { IsTrue (is_lock_call call.now) }
     requires table { (seat.old.table_id ≡ table.now.table_id) × (table.now.table_id.words ≡ 1) }
     requires alone { seat.old.me ≡ alone (first_of seat.old.me.0) }
-    requires changes { let limits = table.now.key in
+    requires changes { let limits = table.now.key.limits in
         (reply : Reply) × Changes limits (word_at limits old) call.now (word_at limits new) reply }
     ensures table { seat.new.table_id ≡ seat.old.table_id }
     ensures alone { seat.new.me ≡ alone (first_of seat.new.me.0) }
     ensures told { let v = first_of seat.old.me.0 in
-        Exchanged table.now.key call.now old v result (first_of seat.new.me.0) }
+        Exchanged table.now.key.limits call.now old v result (first_of seat.new.me.0) }
 {
     let _ = call;
     table.compare_exchange::<ExchangeStep<C>>(seat, 0, old, new)
@@ -62,11 +62,12 @@ pub fn exchange<C: StepFor>(
 
 /// A new seat, made by a load: its pass has the next root.
 pub fn enter<C: StepFor>(table: &LockTable) -> LockSeat
-    requires step { C.limits ≡ table.now.key }
+    requires step { C.limits ≡ table.now.key.limits }
+    requires enterable { table.now.key.enterable ≡ true }
     requires table { table.now.table_id.words ≡ 1 }
     ensures table { result.table_id ≡ table.now.table_id }
     ensures alone { result.me ≡ alone (first_of result.me.0) }
-    ensures entered { HasEntered table.now.key (first_of result.me.0) }
+    ensures entered { HasEntered table.now.key.limits (first_of result.me.0) }
 {
     let (_, seat) = table.load_new_seat::<EnterStep<C>>(0);
     seat
@@ -87,13 +88,13 @@ pub fn split(table: &LockTable, seat: &mut LockSeat) -> LockSeat
 /// A load by a seat that stands for two passes: it tells that both had observed beginnings of one
 /// history.
 pub fn load_both<C: StepFor>(table: &LockTable, seat: &mut LockSeat)
-    requires step { C.limits ≡ table.now.key }
+    requires step { C.limits ≡ table.now.key.limits }
     requires table { (seat.old.table_id ≡ table.now.table_id) × (table.now.table_id.words ≡ 1) }
     requires both { seat.old.me ≡ both (first_of seat.old.me.0) (second_of seat.old.me.0) }
     ensures table { seat.new.table_id ≡ seat.old.table_id }
     ensures both { seat.new.me ≡ both (first_of seat.new.me.0) (second_of seat.new.me.0) }
     ensures met { let old = seat.old.me.0 in let new = seat.new.me.0 in
-        HaveMet table.now.key (first_of old) (second_of old) (first_of new) (second_of new) }
+        HaveMet table.now.key.limits (first_of old) (second_of old) (first_of new) (second_of new) }
 {
     table.load::<MeetStep<C>>(seat, 0);
 }

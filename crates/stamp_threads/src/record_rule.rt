@@ -27,7 +27,7 @@ impl<P: ContentRule> TableRule<(), RecordPasses, RecordKey> for RecordRule<P> {
     ghost use Rattle.std.specs.Prelude.{[], ◌∷◌};
     ghost use Rattle.stamp_threads.specs.RecordRule.{IsKept, opening_pass};
 
-    ghost holds = { λ key. IsKept P.holds key.shape };
+    ghost holds = { λ key. IsKept key.enterable P.holds key.shape };
 
     ghost first = { λ key. opening_pass key.first ∷ [] };
 }

@@ -161,6 +161,7 @@ pub fn confirm<C: WordsStep, P: ContentRule>(
 /// A new seat, made by a load: its pass has the next root.
 pub fn enter<C: WordsStep, P: ContentRule>(table: &RecordTable<P>) -> RecordSeat
     requires step { C.shape ≡ table.now.key.shape }
+    requires enterable { table.now.key.enterable ≡ true }
     requires table { table.now.table_id.words ≡ table.now.key.shape.width + 1 }
     ensures table { result.table_id ≡ table.now.table_id }
     ensures alone { result.me ≡ alone (first_of result.me.0) }

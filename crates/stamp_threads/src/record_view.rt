@@ -11,11 +11,13 @@ pub struct RecordShape {
     pub width: usize,
 }
 
-/// What the rule of a record reads: its shape, and the content that its first pass put, if it did.
+/// What the rule of a record reads: its shape, the content that its first pass put, if it did, and
+/// whether passes may enter.
 #[derive(Clone, Copy)]
 pub struct RecordKey {
     pub shape: RecordShape,
     pub first: Option<Words>,
+    pub enterable: bool,
 }
 
 /// What a pass made, in the one history of a record.

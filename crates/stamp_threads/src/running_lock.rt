@@ -1,5 +1,5 @@
 //! The lock that threads share.
-ghost use Rattle.std.specs.Prelude.{◌≡◌, IfOk, IfErr, OnOk, IsTrue};
+ghost use Rattle.std.specs.Prelude.{◌≡◌, IfOk, IfErr, OnOk, IsTrue, true, false};
 ghost use Rattle.stamp_core.specs.Call.{is_lock_call};
 ghost use Rattle.stamp_threads.specs.PassView.{after_split, split_off};
 ghost use Rattle.stamp_threads.specs.LockPass.{HasEntered, IsConsistentWith, first_pass};
@@ -8,7 +8,7 @@ ghost use Rattle.stamp_threads.specs.LostExchange.{LostExchange};
 ghost use Rattle.stamp_threads.specs.HaveMet.{HaveMet};
 ghost use Rattle.stamp_threads.specs.Closes.{Closes};
 
-use crate::lock_rule::{LockRule, Passes};
+use crate::lock_rule::{LockKey, LockRule, Passes};
 use crate::lock_steps;
 use crate::lost::Lost;
 use crate::machine_steps::try_form;
@@ -43,7 +43,7 @@ impl Error for LockError {}
 /// A lock in one word that threads share by reference, each with a pass of its own.
 #[derive(Drop)]
 pub struct RunningLock {
-    pub(crate) table: Table<(), Passes, Limits, LockRule, Global>,
+    pub(crate) table: Table<(), Passes, LockKey, LockRule, Global>,
     pub(crate) limits: Limits,
 }
 
@@ -53,22 +53,62 @@ impl Model for RunningLock {
 
     ghost Value = { LockView };
 
-    ghost view = { λ l. record { table = l.table.shared.table_id; limits = l.limits } };
+    ghost view = { λ l. record {
+      table = l.table.shared.table_id;
+      limits = l.limits;
+      enterable = l.table.shared.key.enterable;
+    } };
 
-    ghost invariant = { λ l. (l.table.shared.key ≡ l.limits)
+    ghost invariant = { λ l. (l.table.shared.key.limits ≡ l.limits)
         × (l.table.shared.table_id.words ≡ 1) × (l.table.shared.table_id.slots ≡ 0) };
 }
 
 impl RunningLock {
-    /// A lock that nobody holds, and its first pass. It refuses only for want of memory.
+    /// A lock that nobody holds, and its first pass, of which all others are split off. It refuses
+    /// only for want of memory.
     pub fn new(alloc: Global, limits: Limits) -> Result<(RunningLock, Pass), LockError>
         ensures limits { IfOk result (λ r. r.0.limits ≡ limits) }
+        ensures closed { IfOk result (λ r. r.0.enterable ≡ false) }
         ensures lock { IfOk result (λ r. r.1.table ≡ r.0.table) }
         ensures pass { IfOk result (λ r. r.1.view ≡ first_pass) }
         ensures consistent { IfOk result (λ r. IsConsistentWith limits r.1.view) }
     {
+        RunningLock::of_key(
+            alloc,
+            LockKey {
+                limits,
+                enterable: false,
+            },
+        )
+    }
+
+    /// As `new`, of a lock that threads may also `enter`.
+    pub fn enterable(alloc: Global, limits: Limits) -> Result<(RunningLock, Pass), LockError>
+        ensures limits { IfOk result (λ r. r.0.limits ≡ limits) }
+        ensures enterable { IfOk result (λ r. r.0.enterable ≡ true) }
+        ensures lock { IfOk result (λ r. r.1.table ≡ r.0.table) }
+        ensures pass { IfOk result (λ r. r.1.view ≡ first_pass) }
+        ensures consistent { IfOk result (λ r. IsConsistentWith limits r.1.view) }
+    {
+        RunningLock::of_key(
+            alloc,
+            LockKey {
+                limits,
+                enterable: true,
+            },
+        )
+    }
+
+    fn of_key(alloc: Global, key: LockKey) -> Result<(RunningLock, Pass), LockError>
+        ensures limits { IfOk result (λ r. r.0.limits ≡ key.limits) }
+        ensures enterable { IfOk result (λ r. r.0.enterable ≡ key.enterable) }
+        ensures lock { IfOk result (λ r. r.1.table ≡ r.0.table) }
+        ensures pass { IfOk result (λ r. r.1.view ≡ first_pass) }
+        ensures consistent { IfOk result (λ r. IsConsistentWith key.limits r.1.view) }
+    {
+        let limits = key.limits;
         let opening = Word::opening_in(limits.layout()).bits();
-        match Table::of_words(alloc, &[opening], &limits) {
+        match Table::of_words(alloc, &[opening], &key) {
             Ok((table, seat)) => Ok((RunningLock { table, limits }, Pass { seat })),
             Err(_) => Err(LockError::Unmade),
         }
@@ -148,9 +188,10 @@ impl RunningLock {
         unreachable!()
     }
 
-    /// A pass for a thread that has none. It has observed a history of the lock, and made no call. It
-    /// makes one load and takes no memory.
+    /// A pass for a thread that has none, of an enterable lock. It has observed a history of the
+    /// lock, and made no call. It makes one load and takes no memory.
     pub fn enter(&self) -> Pass
+        requires { self.now.enterable ≡ true }
         ensures lock { result.table ≡ self.now.table }
         ensures entered { HasEntered self.now.limits result.view }
     {

@@ -1,5 +1,6 @@
 //! The record that threads share.
 ghost use Rattle.std.specs.Prelude.{◌≡◌, ◌+◌, ◌≤◌, ◌-◌, ◌∷◌, [], IfOk, IfErr, Some, length, take};
+ghost use Rattle.std.specs.Prelude.{true, false};
 ghost use Rattle.stamp_core.specs.declared.call.Call.TheVariants.{Get, Put};
 ghost use Rattle.stamp_core.specs.declared.reply.Reply.TheVariants.{Done, Content};
 ghost use Rattle.stamp_threads.specs.PassView.{after_split, split_off};
@@ -37,22 +38,28 @@ impl<P: ContentRule> Model for RuledRecord<P> {
 
     ghost Value = { RecordView };
 
-    ghost view = { λ r. record { table = r.table.shared.table_id; shape = r.shape } };
+    ghost view = { λ r. record {
+      table = r.table.shared.table_id;
+      shape = r.shape;
+      enterable = r.table.shared.key.enterable;
+    } };
 
     ghost invariant = { λ r. (r.table.shared.key.shape ≡ r.shape)
         × (r.table.shared.table_id.words ≡ r.shape.width + 1)
         × (1 ≤ r.shape.width) × (r.shape.width ≤ 16) };
 }
 
-fn key_of(limits: Limits, width: usize, first: Option<Words>) -> RecordKey
+fn key_of(limits: Limits, width: usize, first: Option<Words>, enterable: bool) -> RecordKey
     ensures { result ≡ record {
       shape = record { limits = limits; width = width };
       first = first;
+      enterable = enterable;
     } }
 {
     RecordKey {
         shape: RecordShape { limits, width },
         first,
+        enterable,
     }
 }
 
@@ -70,8 +77,9 @@ fn row_of(lock_word: u64, words: &[u64]) -> [u64; 17]
 }
 
 impl RuledRecord<AnyContent> {
-    /// A record of zeros, and its first pass. Of the limits only the layout and the versions count:
-    /// so many puts it will take in all. It refuses only for want of memory.
+    /// A record of zeros, and its first pass, of which all others are split off. Of the limits only
+    /// the layout and the versions count: so many puts it will take in all. It refuses only for want
+    /// of memory.
     pub fn new(
         alloc: Global,
         limits: Limits,
@@ -79,19 +87,20 @@ impl RuledRecord<AnyContent> {
     ) -> Result<(RunningRecord, RecordPass), LockError>
         requires { (1 ≤ width) × (width ≤ 16) }
         ensures shape { IfOk result (λ r. r.0.shape ≡ record { limits = limits; width = width }) }
+        ensures closed { IfOk result (λ r. r.0.enterable ≡ false) }
         ensures table { IfOk result (λ r. r.1.table ≡ r.0.table) }
         ensures pass { IfOk result (λ r. r.1.view ≡ first_pass) }
         ensures consistent { IfOk result (λ r. IsConsistentWith width r.1.view) }
     {
         let mut row = [0u64; 17];
         row[0] = opening_word(limits.layout());
-        Self::of_table(alloc, limits, &row[..width + 1], None)
+        Self::of_table(alloc, limits, &row[..width + 1], None, false)
     }
 }
 
 impl<P: ContentRule> RuledRecord<P> {
-    /// A record of these words, which keep to the rule, and its first pass: as if that had put them.
-    /// So it takes one version. It refuses only for want of memory.
+    /// A record of these words, which keep to the rule, and its first pass, of which all others are
+    /// split off: as if that had put them. So it takes one version. It refuses only for want of memory.
     pub fn holding(
         alloc: Global,
         limits: Limits,
@@ -101,13 +110,51 @@ impl<P: ContentRule> RuledRecord<P> {
         requires good { P.holds first }
         ensures shape { IfOk result (λ r.
             r.0.shape ≡ record { limits = limits; width = length first }) }
+        ensures closed { IfOk result (λ r. r.0.enterable ≡ false) }
+        ensures table { IfOk result (λ r. r.1.table ≡ r.0.table) }
+        ensures pass { IfOk result (λ r. r.1.view ≡ opening_pass (Some first)) }
+        ensures consistent { IfOk result (λ r. IsConsistentWith (length first) r.1.view) }
+    {
+        Self::of_put(alloc, limits, first, false)
+    }
+
+    /// As `holding`, of a record that threads may also `enter`.
+    pub fn enterable(
+        alloc: Global,
+        limits: Limits,
+        first: Words,
+    ) -> Result<(RuledRecord<P>, RecordPass), LockError>
+        requires version { 1 ≤ limits.versions }
+        requires good { P.holds first }
+        ensures shape { IfOk result (λ r.
+            r.0.shape ≡ record { limits = limits; width = length first }) }
+        ensures enterable { IfOk result (λ r. r.0.enterable ≡ true) }
+        ensures table { IfOk result (λ r. r.1.table ≡ r.0.table) }
+        ensures pass { IfOk result (λ r. r.1.view ≡ opening_pass (Some first)) }
+        ensures consistent { IfOk result (λ r. IsConsistentWith (length first) r.1.view) }
+    {
+        Self::of_put(alloc, limits, first, true)
+    }
+
+    /// A record of which these words were put.
+    fn of_put(
+        alloc: Global,
+        limits: Limits,
+        first: Words,
+        enterable: bool,
+    ) -> Result<(RuledRecord<P>, RecordPass), LockError>
+        requires version { 1 ≤ limits.versions }
+        requires good { P.holds first }
+        ensures shape { IfOk result (λ r.
+            r.0.shape ≡ record { limits = limits; width = length first }) }
+        ensures enterable { IfOk result (λ r. r.0.enterable ≡ enterable) }
         ensures table { IfOk result (λ r. r.1.table ≡ r.0.table) }
         ensures pass { IfOk result (λ r. r.1.view ≡ opening_pass (Some first)) }
         ensures consistent { IfOk result (λ r. IsConsistentWith (length first) r.1.view) }
     {
         let width = first.len();
         let row = row_of(first_word(limits.layout()), first.as_slice());
-        Self::of_table(alloc, limits, &row[..width + 1], Some(first))
+        Self::of_table(alloc, limits, &row[..width + 1], Some(first), enterable)
     }
 
     /// A record of a table of these words: the lock word, and the record's.
@@ -116,18 +163,20 @@ impl<P: ContentRule> RuledRecord<P> {
         limits: Limits,
         words: &[u64],
         first: Option<Words>,
+        enterable: bool,
     ) -> Result<(RuledRecord<P>, RecordPass), LockError>
         requires width { (2 ≤ length words.now) × (length words.now ≤ 17) }
-        requires kept { IsKept P.holds
+        requires kept { IsKept enterable P.holds
             (record { limits = limits; width = length words.now - 1 })
             (opening words.now [] (opening_pass first ∷ [])) }
         requires consistent { IsConsistentWith (length words.now - 1) (opening_pass first) }
         ensures shape { IfOk result (λ r.
             r.0.shape ≡ record { limits = limits; width = length words.now - 1 }) }
+        ensures enterable { IfOk result (λ r. r.0.enterable ≡ enterable) }
         ensures table { IfOk result (λ r. r.1.table ≡ r.0.table) }
         ensures pass { IfOk result (λ r. r.1.view ≡ opening_pass first) }
     {
-        let key = key_of(limits, words.len() - 1, first);
+        let key = key_of(limits, words.len() - 1, first, enterable);
         match Table::of_words(alloc, words, &key) {
             Ok((table, seat)) => {
                 let shape = RecordShape {
@@ -239,8 +288,10 @@ impl<P: ContentRule> RuledRecord<P> {
         get_words(&self.table.shared, self.shape, &mut pass.seat, into)
     }
 
-    /// A pass for a thread that has none: it has made no call. It makes one load and takes no memory.
+    /// A pass for a thread that has none, of an enterable record: it has made no call. It makes one
+    /// load and takes no memory.
     pub fn enter(&self) -> RecordPass
+        requires { self.now.enterable ≡ true }
         ensures table { result.table ≡ self.now.table }
         ensures entered { HasEntered self.now.shape.width result.view }
     {

@@ -1,16 +1,29 @@
 //! Passes of threads that come later, and records that begin with a content of their own.
-ghost use Rattle.std.specs.Prelude.{◌≡◌, ◌<◌, slice_index};
+ghost use Rattle.std.specs.Prelude.{◌≡◌, ◌<◌, IfOk, slice_index, true};
 
-use crate::lock_tests::made;
-use crate::record_tests::{made_record, words_of};
-use stamp_core::{Call, Layout, Limits, Reply, Words};
-use stamp_threads::{ContentRule, GetFault, RecordPass, RuledRecord};
+use crate::record_tests::words_of;
+use stamp_core::{Call, Limits, Reply, Words};
+use stamp_threads::{
+    AnyContent, ContentRule, GetFault, Pass, PutFault, RecordPass, RuledRecord, RunningLock,
+};
+use std::alloc::Global;
 use std::test::Fail;
 use std::thread::join;
 
+/// A lock that threads may enter, and its first pass.
+fn enterable_lock(alloc: Global) -> Result<(RunningLock, Pass), Fail>
+    ensures table { IfOk result (λ r. r.1.table ≡ r.0.table) }
+    ensures enterable { IfOk result (λ r. r.0.enterable ≡ true) }
+{
+    match RunningLock::enterable(alloc, Limits::new(127, 1_000_000)?) {
+        Ok((lock, pass)) => Ok((lock, pass)),
+        Err(_) => Err(Fail::from("no memory for the lock")),
+    }
+}
+
 #[test]
 fn a_pass_that_enters_finds_what_was_acquired(rt: HostRuntime) -> Result<(), Fail> {
-    let (lock, mut first) = made(rt.alloc(), Layout::One, 127)?;
+    let (lock, mut first) = enterable_lock(rt.alloc())?;
     assert_eq!(rt; lock.once(&mut first, Call::TryRead), Ok(Reply::Stamp(257)));
     let mut second = lock.enter();
     assert_eq!(rt;
@@ -29,7 +42,7 @@ fn a_pass_that_enters_finds_what_was_acquired(rt: HostRuntime) -> Result<(), Fai
 
 #[test]
 fn threads_enter_by_a_shared_reference(rt: HostRuntime) -> Result<(), Fail> {
-    let (lock, first) = made(rt.alloc(), Layout::One, 127)?;
+    let (lock, first) = enterable_lock(rt.alloc())?;
     let (a, b) = join(
         &rt,
         || -> Reply { lock.call(&rt, &mut lock.enter(), Call::ReadLock) },
@@ -41,14 +54,30 @@ fn threads_enter_by_a_shared_reference(rt: HostRuntime) -> Result<(), Fail> {
     Ok(())
 }
 
+/// Of the three puts that the limits allow the first content is one.
 #[test]
-fn a_pass_that_enters_a_record_gets_its_words(rt: HostRuntime) -> Result<(), Fail> {
-    let (shared, mut first) = made_record(rt.alloc(), Layout::One, 10, 2)?;
-    assert_eq!(rt; shared.put_once(&mut first, words_of(&[3, 4])?), Ok(()));
+fn entering_a_record_takes_no_version(rt: HostRuntime) -> Result<(), Fail> {
+    let limits = Limits::new(1, 3)?;
+    let first = words_of(&[1, 2])?;
+    let Ok((shared, mut pass)) = RuledRecord::<AnyContent>::enterable(rt.alloc(), limits, first)
+    else {
+        return Err(Fail::from("no memory for the record"));
+    };
     let mut second = shared.enter();
-    assert_eq!(rt; shared.get_once(&mut second), Ok(words_of(&[3, 4])?));
-    let mut third = shared.split_off(&mut second);
+    assert_eq!(rt; shared.get_once(&mut second), Ok(first));
+    assert_eq!(rt; shared.put_once(&mut pass, words_of(&[3, 4])?), Ok(()));
+    let mut third = shared.enter();
     assert_eq!(rt; shared.get_once(&mut third), Ok(words_of(&[3, 4])?));
+    let mut fourth = shared.split_off(&mut third);
+    assert_eq!(rt; shared.put_once(&mut fourth, words_of(&[5, 6])?), Ok(()));
+    assert_eq!(rt;
+        shared.get_once(&mut shared.enter()),
+        Ok(words_of(&[5, 6])?)
+    );
+    assert_eq!(rt;
+        shared.put_once(&mut pass, words_of(&[7, 8])?),
+        Err(PutFault::Spent(1_024))
+    );
     Ok(())
 }
 
@@ -81,7 +110,7 @@ fn a_record_begins_with_its_first_content(rt: HostRuntime) -> Result<(), Fail> {
     assert_eq!(rt; height(&shared, &mut pass), Ok(2));
     let next = Words::of_row([7, 17, 0, 0, 0, 0, 0, 0, 0, 0, 0, 0, 0, 0, 0, 0], 2);
     assert_eq!(rt; shared.put_once(&mut pass, next), Ok(()));
-    let mut later = shared.enter();
+    let mut later = shared.split_off(&mut pass);
     assert_eq!(rt; height(&shared, &mut later), Ok(10));
     Ok(())
 }

@@ -75,16 +75,16 @@ fn read_100<R: Wait>(rt: &R, shared: &Shared, mut caller: Caller) -> Option<Call
 #[test]
 fn two_threads_read_and_their_calls_are_entered(rt: HostRuntime) -> Result<(), Fail> {
     let shared = Shared::new(opened(rt.alloc(), 1000)?);
-    let (zero, one) = (Caller::new(rt.alloc(), 0), Caller::new(rt.alloc(), 1));
-    let (zero, one) = join(
+    let (first, last) = (Caller::new(rt.alloc(), 0), Caller::new(rt.alloc(), 63));
+    let (first, last) = join(
         &rt,
-        || read_100(&rt, &shared, zero),
-        || read_100(&rt, &shared, one),
+        || read_100(&rt, &shared, first),
+        || read_100(&rt, &shared, last),
     );
     let record = shared.record(&rt)?;
     assert_eq!(rt; check(&record), Ok(400));
-    assert!(rt; is_kept(&record, &zero.ok_or("refused")?));
-    assert!(rt; is_kept(&record, &one.ok_or("refused")?));
+    assert!(rt; is_kept(&record, &first.ok_or("refused")?));
+    assert!(rt; is_kept(&record, &last.ok_or("refused")?));
     assert_eq!(rt; shared.call(&rt, 2, Call::ReadCount), Ok(Reply::Count(0)));
     Ok(())
 }

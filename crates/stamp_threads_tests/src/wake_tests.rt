@@ -22,7 +22,7 @@ fn shared_book(alloc: Global) -> Result<Arc<Shared, Global>, Fail> {
 /// nevertheless.
 #[derive(Drop)]
 struct Waiter {
-    /// The stamp that it was answered; 0 before.
+    /// The stamp that it was answered, 0 for none; `u64::MAX` before.
     stamp: Arc<AtomicU64, Global>,
 }
 
@@ -38,7 +38,7 @@ impl Waiter {
         requires thread { thread < 64 }
         requires call { IsTrue (is_lock_call call) }
     {
-        let stamp = Arc::new(alloc, AtomicU64::new(0))?;
+        let stamp = Arc::new(alloc, AtomicU64::new(u64::MAX))?;
         let (theirs, told) = (Arc::try_clone(shared)?, Arc::try_clone(&stamp)?);
         let own = *rt;
         thread::spawn(
@@ -51,16 +51,16 @@ impl Waiter {
         Ok(Waiter { stamp })
     }
 
-    /// The stamp that it is answered, 0 where none came in some ten seconds.
+    /// The stamp that it is answered, `u64::MAX` where no answer came in some ten seconds.
     fn stamp<R: Clock>(&self, rt: &R) -> u64 {
         for _ in 0..10_000u64 {
             let stamp = self.stamp.load(Ordering::SeqCst);
-            if stamp != 0 {
+            if stamp != u64::MAX {
                 return stamp;
             }
             thread::sleep(rt, Duration::from_millis(1));
         }
-        0
+        u64::MAX
     }
 }
 
@@ -85,6 +85,21 @@ fn a_writer_who_leaves_wakes_a_reader(rt: HostRuntime) -> Result<(), Fail> {
         Ok(Reply::Done)
     );
     assert_eq!(rt; reader.stamp(&rt), 513);
+    Ok(())
+}
+
+/// The reader who upgrades takes the last version, so that the writer who waits can have none.
+#[test]
+fn a_waiting_writer_is_told_that_no_version_is_left(rt: HostRuntime) -> Result<(), Fail> {
+    let book = Book::new(rt.alloc(), Limits::new(2, 1)?, 1_000);
+    let shared = Arc::new(rt.alloc(), Shared::new(book))?;
+    assert_eq!(rt; shared.call(&rt, 0, Call::ReadLock), Ok(Reply::Stamp(257)));
+    let writer = Waiter::start(&rt, rt.alloc(), &shared, 1, Call::WriteLock)?;
+    assert_eq!(rt;
+        shared.call(&rt, 0, Call::ToWrite(257)),
+        Ok(Reply::Stamp(384))
+    );
+    assert_eq!(rt; writer.stamp(&rt), 0);
     Ok(())
 }
 

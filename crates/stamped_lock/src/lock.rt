@@ -17,11 +17,14 @@ pub struct StampedLock {
 }
 
 impl Model for StampedLock {
+    ghost use Rattle.std.specs.Prelude.{◌≡◌, true};
     ghost use Rattle.stamp_threads.specs.LockPass.{LockView};
 
     ghost Value = { LockView };
 
     ghost view = { λ l. l.running };
+
+    ghost invariant = { λ l. l.running.enterable ≡ true };
 }
 
 impl StampedLock {
@@ -38,7 +41,7 @@ impl StampedLock {
     pub fn with_limits(alloc: Global, limits: Limits) -> Result<StampedLock, LockError>
         ensures { IfOk result (λ lock. lock.limits ≡ limits) }
     {
-        let (running, first) = RunningLock::new(alloc, limits)?;
+        let (running, first) = RunningLock::enterable(alloc, limits)?;
         drop(first);
         Ok(StampedLock { running })
     }

@@ -1,15 +1,11 @@
 //! The record.
-ghost use Rattle.std.specs.Prelude.{◌≡◌, ◌≤◌, IfOk, IfErr};
+ghost use Rattle.std.specs.Prelude.{◌≡◌, ◌≤◌, IfOk};
 ghost use Rattle.stamp_core.specs.Limits.{widest};
-ghost use Rattle.stamp_core.specs.declared.call.Call.TheVariants.{Get, Put};
-ghost use Rattle.stamp_core.specs.declared.reply.Reply.TheVariants.{Done, Content};
-ghost use Rattle.stamp_threads.specs.PassView.{after_split, split_off};
 ghost use Rattle.stamp_threads.specs.RecordPass.{HasEntered};
-ghost use Rattle.stamp_threads.specs.RecordCall.{Recorded, PutRefused, GetRefused};
 
 use crate::record_handle::RecordHandle;
 use stamp_core::{Layout, Limits, Words};
-use stamp_threads::{ContentRule, GetFault, LockError, PutFault, RecordPass, RuledRecord};
+use stamp_threads::{ContentRule, LockError, RuledRecord};
 use std::alloc::Global;
 use std::marker::Model;
 
@@ -22,14 +18,15 @@ pub struct StampedRecord<const N: usize, P: ContentRule> {
 }
 
 impl<const N: usize, P: ContentRule> Model for StampedRecord<N, P> {
-    ghost use Rattle.std.specs.Prelude.{◌≡◌, ◌≤◌};
+    ghost use Rattle.std.specs.Prelude.{◌≡◌, ◌≤◌, true};
     ghost use Rattle.stamp_threads.specs.RecordPass.{RecordView};
 
     ghost Value = { RecordView };
 
     ghost view = { λ r. r.shared };
 
-    ghost invariant = { λ r. (r.shared.shape.width ≡ N) × (1 ≤ N) × (N ≤ 16) };
+    ghost invariant = { λ r. (r.shared.shape.width ≡ N) × (1 ≤ N) × (N ≤ 16)
+        × (r.shared.enterable ≡ true) };
 }
 
 impl<const N: usize, P: ContentRule> StampedRecord<N, P> {
@@ -60,7 +57,7 @@ impl<const N: usize, P: ContentRule> StampedRecord<N, P> {
         let Some(words) = Words::new(&first) else {
             unreachable!()
         };
-        let (shared, pass) = RuledRecord::holding(alloc, limits, words)?;
+        let (shared, pass) = RuledRecord::enterable(alloc, limits, words)?;
         drop(pass);
         Ok(StampedRecord { shared })
     }
@@ -70,55 +67,6 @@ impl<const N: usize, P: ContentRule> StampedRecord<N, P> {
         ensures shared { result.shared ≡ self.now }
         ensures entered { HasEntered N result.pass }
     {
-        RecordHandle::new(self, self.new_pass())
-    }
-
-    fn new_pass(&self) -> RecordPass
-        ensures own { result.table ≡ self.now.table }
-        ensures entered { HasEntered N result.view }
-    {
-        self.shared.enter()
-    }
-
-    /// A put by a pass of this record.
-    pub(crate) fn put_by(&self, pass: &mut RecordPass, row: &[u64; N]) -> Result<(), PutFault>
-        requires own { pass.old.table ≡ self.now.table }
-        requires rule { P.holds row.now }
-        ensures own { pass.new.table ≡ self.now.table }
-        ensures ok { let v = pass.old.view in let w = pass.new.view in
-            IfOk result (λ _. Recorded self.now.shape (Put row.now) Done v w) }
-        ensures err { let v = pass.old.view in let w = pass.new.view in
-            IfErr result (λ fault. PutRefused self.now.shape v fault w) }
-    {
-        let shared = &self.shared;
-        let Some(words) = Words::new(row) else {
-            unreachable!()
-        };
-        shared.put_once(pass, words)
-    }
-
-    /// A get by a pass of this record.
-    pub(crate) fn get_by(&self, pass: &mut RecordPass) -> Result<[u64; N], GetFault>
-        requires own { pass.old.table ≡ self.now.table }
-        ensures own { pass.new.table ≡ self.now.table }
-        ensures rule { IfOk result (λ row. P.holds row) }
-        ensures ok { let v = pass.old.view in let w = pass.new.view in
-            IfOk result (λ row. Recorded self.now.shape Get (Content row) v w) }
-        ensures err { let v = pass.old.view in let w = pass.new.view in
-            IfErr result (λ fault. GetRefused self.now.shape v fault w) }
-    {
-        let mut row = [0; N];
-        self.shared.get_into(pass, &mut row)?;
-        Ok(row)
-    }
-
-    /// One more pass, split off this one.
-    pub(crate) fn split_by(&self, pass: &mut RecordPass) -> RecordPass
-        requires own { pass.old.table ≡ self.now.table }
-        ensures own { (pass.new.table ≡ self.now.table) × (result.table ≡ self.now.table) }
-        ensures given { pass.new.view ≡ after_split pass.old.view }
-        ensures new { result.view ≡ split_off pass.old.view }
-    {
-        self.shared.split_off(pass)
+        RecordHandle::new(&self.shared, self.shared.enter())
     }
 }

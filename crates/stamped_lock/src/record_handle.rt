@@ -1,14 +1,14 @@
 //! The handles of a record.
-ghost use Rattle.std.specs.Prelude.{◌≡◌, IfOk, IfErr, OnOk, OnErr};
+ghost use Rattle.std.specs.Prelude.{◌≡◌, ◌≤◌, IfOk, IfErr, OnOk, OnErr};
 ghost use Rattle.stamp_core.specs.declared.call.Call.TheVariants.{Get, Put};
 ghost use Rattle.stamp_core.specs.declared.reply.Reply.TheVariants.{Done, Content};
 ghost use Rattle.stamp_threads.specs.PassView.{after_split, split_off};
 ghost use Rattle.stamped_lock.specs.RecordCalls.{Recording, RefusesPut, RefusesGet};
 ghost use Rattle.stamped_lock.specs.RecordCalls.{RecordingAtLast, SpentAtLast};
 
-use crate::record::StampedRecord;
 use crate::spent::Spent;
-use stamp_threads::{ContentRule, GetFault, PutFault, RecordPass};
+use stamp_core::Words;
+use stamp_threads::{ContentRule, GetFault, PutFault, RecordPass, RuledRecord};
 use std::marker::Model;
 use std::sync::Wait;
 use std::thread;
@@ -17,9 +17,10 @@ use std::thread;
 /// `split` makes another one. It has no bytes but the record's reference.
 #[derive(Drop)]
 pub struct RecordHandle<'a, const N: usize, P: ContentRule> {
-    shared: &'a StampedRecord<N, P>,
+    shared: &'a RuledRecord<P>,
     pass: RecordPass,
     ghost own: { pass.table ≡ shared.now.table },
+    ghost width: { (shared.now.shape.width ≡ N) × (1 ≤ N) × (N ≤ 16) },
 }
 
 impl<'a, const N: usize, P: ContentRule> Model for RecordHandle<'a, N, P> {
@@ -33,8 +34,9 @@ impl<'a, const N: usize, P: ContentRule> Model for RecordHandle<'a, N, P> {
 
 impl<'a, const N: usize, P: ContentRule> RecordHandle<'a, N, P> {
     /// The handle of a record and a pass of it.
-    pub(crate) fn new(shared: &'a StampedRecord<N, P>, pass: RecordPass) -> RecordHandle<'a, N, P>
-        requires { pass.table ≡ shared.now.table }
+    pub(crate) fn new(shared: &'a RuledRecord<P>, pass: RecordPass) -> RecordHandle<'a, N, P>
+        requires own { pass.table ≡ shared.now.table }
+        requires width { (shared.now.shape.width ≡ N) × (1 ≤ N) × (N ≤ 16) }
         ensures shared { result.shared ≡ shared.now }
         ensures pass { result.pass ≡ pass.view }
     {
@@ -51,7 +53,11 @@ impl<'a, const N: usize, P: ContentRule> RecordHandle<'a, N, P> {
         ensures err { let h = self.old in let w = self.new in
             IfErr result (λ fault. RefusesPut fault h w) }
     {
-        self.shared.put_by(&mut self.pass, &row)
+        let shared = self.shared;
+        let Some(words) = Words::new(&row) else {
+            unreachable!()
+        };
+        shared.put_once(&mut self.pass, words)
     }
 
     /// Gets the words if nobody is putting. It waits for nobody: it fails as `Busy` where the first
@@ -63,7 +69,9 @@ impl<'a, const N: usize, P: ContentRule> RecordHandle<'a, N, P> {
         ensures err { let h = self.old in let w = self.new in
             IfErr result (λ fault. RefusesGet fault h w) }
     {
-        self.shared.get_by(&mut self.pass)
+        let mut row = [0; N];
+        self.shared.get_into(&mut self.pass, &mut row)?;
+        Ok(row)
     }
 
     /// Gets the words. While somebody is putting it lets other threads run and tries again.
@@ -105,7 +113,7 @@ impl<'a, const N: usize, P: ContentRule> RecordHandle<'a, N, P> {
         ensures given { self.new.pass ≡ after_split self.old.pass }
         ensures new { result.pass ≡ split_off self.old.pass }
     {
-        let pass = self.shared.split_by(&mut self.pass);
+        let pass = self.shared.split_off(&mut self.pass);
         RecordHandle {
             shared: self.shared,
             pass,

@@ -3,4 +3,4 @@ use Rattle.stamp_threads.proofs.RecordMoves.{allows_enter}
 use Rattle.stamp_threads.proofs.record_steps.enter.Goals as goal
 
 pub load_new_seat-seat-requires : goal.load_new_seat-seat-requires
-load_new_seat-seat-requires g c = (omega arith, rw (c.requires.step) (allows_enter _ _ _))
+load_new_seat-seat-requires g c = (omega arith, rw (c.requires.step) (allows_enter _ _ _ c.requires.enterable))

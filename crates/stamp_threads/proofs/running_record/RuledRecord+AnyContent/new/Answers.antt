@@ -15,7 +15,7 @@ of_table-requires-clause-kept c =
     let word = c.opening_word.result in
     let long = length-take-le (width + 1) (word ∷ replicate 16 0) (omega arith) in
     let same : width ≡ length (take (width + 1) (word ∷ replicate 16 0)) - 1 = omega arith in
-    subst (λ (n : ℕ). IsKept (λ _. Unit {0}) (record { limits = limits; width = n })
+    subst (λ (n : ℕ). IsKept false (λ _. Unit {0}) (record { limits = limits; width = n })
     (opening (take (width + 1) (word ∷ replicate 16 0)) [] (first_pass ∷ []))) same
     (opens (record { limits = limits; width = width }) _
     (c.opening_word.ensures ∙ ap (λ (l : Layout). word_with l 0 false) c.layout.ensures.layout)

@@ -5,7 +5,7 @@ use Rattle.stamp_core.specs.declared.layout.Layout.{Layout}
 use Rattle.stamp_threads.specs.RecordWord.{word_with}
 use Rattle.stamp_threads.specs.RecordRule.{IsKept, opening_pass}
 use Rattle.stamp_threads.proofs.NewRecord.{opens_holding}
-use Rattle.stamp_threads.proofs.running_record.RuledRecord.holding.Goals as goal
+use Rattle.stamp_threads.proofs.running_record.RuledRecord.of_put.Goals as goal
 
 pub of_table-requires-clause-kept : goal.of_table-requires-clause-kept
 of_table-requires-clause-kept g c =
@@ -15,7 +15,7 @@ of_table-requires-clause-kept g c =
     let row : take (c.len-width.result + 1) c.row_of-row.result ≡ word ∷ words =
     rw (c.len-width.ensures.len, ← c.as_slice.ensures) c.row_of-row.ensures in
     let same : length words ≡ length (word ∷ words) - 1 = omega arith in
-    rw row (subst (λ (n : ℕ). IsKept g.P.ContentRule.holds (record { limits = limits; width = n })
+    rw row (subst (λ (n : ℕ). IsKept c.args.enterable g.P.ContentRule.holds (record { limits = limits; width = n })
     (opening (word ∷ words) [] (opening_pass (Some words) ∷ []))) same
     (opens_holding words _ limits _
     (c.first_word.ensures ∙ ap (λ (l : Layout). word_with l 1 false) c.layout.ensures.layout)
