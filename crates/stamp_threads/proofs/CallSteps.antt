@@ -26,7 +26,10 @@ module _ (limits : Bounds) (call : Call) (v : LockPass) (found : ℕ) (w : LockP
       Answered limits call reply v w
   answered_at log reply left is consistent = record {
     log = log;
-    begins = left.begins;
+    word = found;
+    left = left;
+    earlier = [];
+    last = ap (λ (u : LockPass). u.found) is;
     observed = ap (λ (u : LockPass). u.observed) is;
     own = ap (λ (u : LockPass). u.own) is;
     name = ap (λ (u : LockPass). u.name) is;

@@ -10,7 +10,7 @@ pub mod RuleKept
 pub mod PassMoves
 pub mod NewLock
 pub mod ClosedLock
-pub mod LostExchanges
+pub mod TwoAccesses
 pub mod CallSteps
 pub mod Looks
 pub mod RecordWords

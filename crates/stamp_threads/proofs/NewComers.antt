@@ -48,9 +48,9 @@ new_none kind m (e ∷ log) r =
     (new_none kind m log r.1)
 
 -- it knows the whole history
-pub new_part : {E P : Type 0} (is_own : E → Bool) (m : ℕ) (phase : P) (log : List (Entry E)) →
-    AreRooted m log → IsPart is_own log (entering m phase log)
-new_part is_own m phase log r = record {
+pub new_part : {E P : Type 0} (is_own : E → Bool) (m : ℕ) (phase : P) (log : List (Entry E))
+    (word : ℕ) → AreRooted m log → IsPart is_own log (entering m phase log word)
+new_part is_own m phase log word r = record {
   observed = begins_all log;
   own = new_none is_own m log r;
   given = new_unused m log r;
@@ -58,9 +58,9 @@ new_part is_own m phase log r = record {
 
 module _ {E P : Type 0} (Fits : PassView E P → Type 0) (m : ℕ) (log : List (Entry E))
     (seats : List (List (PassView E P))) (r : AreSeated Fits m log seats) (phase : P)
-    (fits : Fits (entering m phase log)) where
+    (word : ℕ) (fits : Fits (entering m phase log word)) where
   abbrev w : PassView E P
-  w = entering m phase log
+  w = entering m phase log word
 
   abbrev After : List (List (PassView E P))
   After = seats ++ (w ∷ []) ∷ []

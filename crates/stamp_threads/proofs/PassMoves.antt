@@ -1,5 +1,6 @@
 -- Splits and joins of seats keep the rule of the running word.
-use Rattle.std.proofs.Common.{◌≡◌, ℕ, ◌+◌, List, [], ◌∷◌, ◌++◌, map, take, drop, set, refl, ap, sym}
+use Rattle.std.proofs.Common.{◌≡◌, ℕ, ◌+◌, List, [], ◌∷◌, ◌++◌, map, take, drop, set, refl, ap}
+use Rattle.std.proofs.Common.{sym, get_or}
 use Rattle.std.proofs.Common.{Bool, true, false, true≢false, ◌∙◌, subst, arith}
 use Rattle.atomic_table.specs.Table.{State, Me, Splits, Joins, Enters}
 use Rattle.stamp_core.specs.Limits.{Bounds}
@@ -90,15 +91,18 @@ pub allows_enter : {enterable : Bool} (limits : Bounds) (slots : ℕ) → entera
     Enters (IsKept enterable limits) slots 0
     (λ n w. ((w, []) ≡ alone (first_of w)) × HasEntered limits (first_of w))
 allows_enter limits slots may s r _ _ =
-    let v : LockPass = entering r.roots tt r.log in
-    let part : IsPart every r.log v = new_part every r.roots tt r.log r.passes.entries in (
+    let v : LockPass = entering r.roots tt r.log (get_or s.words 0 0) in
+    let part : IsPart every r.log v = new_part every r.roots tt r.log (get_or s.words 0 0) r.passes.entries in (
       v ∷ [],
-      with_views limits s r (r.roots + 1) (λ shut. absurd (true≢false (sym may ∙ shut))) (s.views ++ (v ∷ []) ∷ [])
-          (comes (IsPart every r.log) r.roots r.log s.views r.passes tt part),
+      with_views limits s r (r.roots + 1)
+          (λ shut. absurd (true≢false (sym may ∙ shut))) (s.views ++ (v ∷ []) ∷ [])
+          (comes (IsPart every r.log) r.roots r.log s.views r.passes tt (get_or s.words 0 0) part),
       (
         refl,
         record {
           root = r.roots;
+          word = get_or s.words 0 0;
+          represents = r.represents;
           name = refl;
           splits = refl;
           own = refl;

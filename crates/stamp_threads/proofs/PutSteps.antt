@@ -361,6 +361,7 @@ allows_release enterable P shape slots id me version held free xs is writing dow
       record {
         log = r.log;
         begins = (fits_here P shape s r id v here).part.observed;
+        word_is = sym same ∙ r.word_is;
         after = λ i. (w ∷ [], (is i).1);
         few = (let l = r.fewer k.locked in let p = puts_put r.log v.name xs in omega arith);
         consistent = t.1;

@@ -1,7 +1,7 @@
 -- Splits and joins of seats, and the load of two passes, keep the rule of a record's words. All are
 -- made between calls.
 use Rattle.std.proofs.Common.{◌≡◌, ◌≢◌, ℕ, ◌+◌, true, List, [], ◌∷◌, ◌++◌, map, take, drop, length}
-use Rattle.std.proofs.Common.{Bool, false, true≢false, set, refl, ap, sym, ◌∙◌, subst, arith}
+use Rattle.std.proofs.Common.{Bool, false, true≢false, get_or, set, refl, ap, sym, ◌∙◌, subst, arith}
 use mathlib.Core.Option.{none, some, some-injective}
 use lib.ListN.{get_elem?}
 use lib.Seq.{set-get_or}
@@ -288,22 +288,25 @@ writer_before log views us t = record {
 pub allows_enter : {enterable : Bool} (P : List ℕ → Type 0) (shape : RecordShape) (slots : ℕ) →
     enterable ≡ true →
     Enters (IsKept enterable P shape) slots 0
-    (λ n w. ((w, []) ≡ alone (first_of w)) × HasEntered shape.width (first_of w))
+    (λ n w. ((w, []) ≡ alone (first_of w)) × HasEntered shape (first_of w))
 allows_enter P shape slots may s r _ _ =
-    let v : RecordPassView = entering r.roots Idle r.log in
-    let part = new_part is_own r.roots Idle r.log r.passes.entries in
+    let v : RecordPassView = entering r.roots Idle r.log (get_or s.words 0 0) in
+    let part = new_part is_own r.roots Idle r.log (get_or s.words 0 0) r.passes.entries in
     let marks = ap length (new_none is_mark r.roots r.log r.passes.entries) in
     let fits : Fits P shape.width s.words r.log v =
     record { part = part; marks = marks; knows = tt } in (
       v ∷ [],
       with_views P shape s r (r.roots + 1)
           (λ shut. absurd (true≢false (sym may ∙ shut))) (s.views ++ (v ∷ []) ∷ [])
-          (comes (Fits P shape.width s.words r.log) r.roots r.log s.views r.passes Idle fits)
+          (comes (Fits P shape.width s.words r.log) r.roots r.log s.views r.passes Idle
+          (get_or s.words 0 0) fits)
           (λ l. writer_before r.log s.views (v ∷ []) (r.writer l)),
       (
         refl,
         record {
           root = r.roots;
+          word = get_or s.words 0 0;
+          word_is = r.word_is;
           name = refl;
           splits = refl;
           own = refl;

@@ -2,22 +2,23 @@
 use Rattle.std.proofs.Common.{◌≡◌, ◌≢◌, ℕ, ◌+◌, ◌<◌, ◌≤◌, ◌%◌, ◌/◌, ◌^◌, eqb, Bool, true, false}
 use Rattle.std.proofs.Common.{if◌then◌else◌, MatchBool, List, [], refl, ap, sym, ◌∙◌, subst}
 use Rattle.std.proofs.Common.{◌∷◌, ◌++◌, append_assoc, arith, eq-eqb, ne_eqb}
-use Rattle.stamp_core.specs.declared.call.Call.TheVariants.{Get}
-use Rattle.stamp_core.specs.declared.reply.Reply.TheVariants.{Content}
+use Rattle.stamp_core.specs.declared.call.Call.TheVariants.{Get, Put}
+use Rattle.stamp_core.specs.declared.reply.Reply.TheVariants.{Content, Done}
 use Rattle.stamp_threads.specs.declared.record_view.RecordPhase.{RecordPhase}
 use Rattle.stamp_core.specs.Limits.{AreInRange}
 use Rattle.stamp_threads.specs.declared.record_view.RecordShape.{RecordShape}
-use Rattle.stamp_threads.specs.declared.record_view.RecordPhase.TheVariants.{Idle, Reading}
-use Rattle.stamp_threads.specs.PassView.{observing, finding, HasFound}
+use Rattle.stamp_threads.specs.declared.record_view.RecordPhase.TheVariants.{Idle, Reading, Writing}
+use Rattle.stamp_threads.specs.declared.record_view.RecordEvent.TheVariants.{Mark}
+use Rattle.stamp_threads.specs.PassView.{entry, observing, finding, HasFound}
 use Rattle.stamp_threads.specs.Seats.{alone, both}
 use Rattle.stamp_threads.specs.RecordWord.{version_unit, writer_unit, word_with}
 use Rattle.stamp_threads.specs.RecordLog.{RecordLog, puts, is_locked}
 use Rattle.stamp_threads.specs.RecordPass.{RecordPassView, LeavesLockWord, first_of, second_of}
-use Rattle.stamp_threads.specs.RecordRule.{Seated, with_phase, opening, Looked, Acquired, Opened}
+use Rattle.stamp_threads.specs.RecordRule.{Seated, with_phase, opening, acquiring, Looked, Acquired, Opened, Released}
 use Rattle.stamp_threads.specs.RecordRule.{Confirmed, Overtaken, word_to_confirm, Met}
 use Rattle.stamp_threads.specs.RecordCall.{Recorded, SawWord, WasBusy, WasLost, WasSpent}
 use Rattle.stamp_threads.specs.RecordCall.{HaveMet}
-use Rattle.stamp_threads.proofs.Beginnings.{begins_further}
+use Rattle.stamp_threads.proofs.Beginnings.{begins_further, begins_more}
 use Rattle.stamp_threads.proofs.RecordLogs.{puts_get}
 use Rattle.stamp_threads.proofs.RecordWords.{held_test, puts_of, held_is, same_word, word_small}
 
@@ -254,7 +255,10 @@ module _ (shape : RecordShape) (v : RecordPassView) (loaded : ℕ) where
         subst (λ (m : Seated). Recorded shape Get (Content words) v (first_of m.0)) (sym o.after)
         (record {
           log = o.log;
-          begins = begins_further v.observed t.log o.log t.left.begins o.left.begins;
+          first = t.log;
+          at_first = t.left;
+          longer = o.left.begins;
+          left = sym same ∙ o.left.word_is;
           replies = ap Content o.content;
           observed = refl;
           own = refl;
@@ -273,6 +277,51 @@ module _ (shape : RecordShape) (v : RecordPassView) (loaded : ℕ) where
         let o : Confirmed shape reads found me3 P words =
         told_by found me3 true (eq-eqb found loaded same) told in
         o.obeys
+
+  put_made : (me me2 me3 me4 : Seated) (words : List ℕ) (found held : ℕ)
+      (t : Looked shape v loaded me) (got : Acquired shape (first_of me.0) found me2 words) →
+      found ≡ loaded →
+      me3 ≡ alone (with_phase (first_of me2.0) (Writing (puts got.log) words shape.width)) →
+      held ≡ loaded + writer_unit shape.limits.layout →
+      Released shape (first_of me3.0) held me4 words →
+      Recorded shape (Put words) Done v (first_of me4.0)
+  put_made me me2 me3 me4 words found held t got hit stored up told =
+      let u : RecordPassView = observing (finding v loaded) t.log in
+      let is : first_of me.0 ≡ u = ap (λ (m : Seated). first_of m.0) t.after in
+      let a : Acquired shape u found me2 words =
+      subst (λ (x : RecordPassView). Acquired shape x found me2 words) is got in
+      let x : RecordPassView = with_phase (acquiring (finding u found) a.log words)
+      (Writing (puts got.log) words shape.width) in
+      let x_is : first_of me3.0 ≡ x = ap (λ (m : Seated). first_of m.0) stored ∙
+      ap (λ (m : Seated). with_phase (first_of m.0) (Writing (puts got.log) words shape.width))
+      a.after in
+      let o : Released shape x held me4 words =
+      subst (λ (y : RecordPassView). Released shape y held me4 words) x_is told in
+      let mark = entry v.name Mark in
+      subst (λ (m : Seated). Recorded shape (Put words) Done v (first_of m.0)) (sym o.after) (record {
+        word = loaded;
+        looks = ap (λ (l : List ℕ). l ++ held ∷ [])
+            (append_assoc v.found (loaded ∷ []) (found ∷ [])) ∙
+            (append_assoc v.found (loaded ∷ found ∷ []) (held ∷ []) ∙
+            (λ i. v.found ++ loaded ∷ hit i ∷ up i ∷ []));
+        first = a.log;
+        at_first = record {
+          begins = begins_further v.observed t.log a.log t.left.begins a.left.begins;
+          legal = a.left.legal;
+          word_is = sym hit ∙ a.left.word_is;
+          few = a.left.few;
+        };
+        log = o.log;
+        longer = begins_further a.log (a.log ++ mark ∷ []) o.log (begins_more a.log (mark ∷ [])) o.begins;
+        left = sym up ∙ o.word_is;
+        replies = refl;
+        observed = refl;
+        own = refl;
+        same = record { name = refl; splits = refl };
+        idle = refl;
+        few = o.few;
+        consistent = o.consistent;
+      })
 
   put_lost : (me : Seated) (t : Looked shape v loaded me) → v.phase ≡ Idle →
       HeldTest shape loaded false → (found : ℕ) (me2 : Seated) →
@@ -320,6 +369,18 @@ module _ (key shape : RecordShape) (same : key ≡ shape) (v : RecordPassView) (
       subst (λ (z : RecordShape). HeldTest z loaded false →
       WasLost z v loaded found (first_of me2.0)) same
       (λ f. put_lost key v loaded me t idle f found me2 told differ) test
+
+  pub put_made_of : (me me2 me3 me4 : Seated) (words : List ℕ) (found held : ℕ)
+      (t : Looked key v loaded me) (got : Acquired key (first_of me.0) found me2 words) →
+      found ≡ loaded →
+      me3 ≡ alone (with_phase (first_of me2.0) (Writing (puts got.log) words key.width)) →
+      held ≡ loaded + writer_unit shape.limits.layout →
+      Released key (first_of me3.0) held me4 words →
+      Recorded shape (Put words) Done v (first_of me4.0)
+  put_made_of me me2 me3 me4 words found held t got hit stored up told =
+      subst (λ (z : RecordShape). held ≡ loaded + writer_unit z.limits.layout →
+      Recorded z (Put words) Done v (first_of me4.0)) same
+      (λ is. put_made key v loaded me me2 me3 me4 words found held t got hit stored is told) up
 
   pub get_busy_of : (me : Seated) → Opened key v loaded me → v.phase ≡ Idle →
       HeldTest shape loaded true → WasBusy shape v loaded (first_of me.0)

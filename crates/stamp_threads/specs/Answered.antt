@@ -1,13 +1,14 @@
 -- A call that was made.
-use Rattle.std.specs.Prelude.{◌≡◌, ◌⊎◌, ℕ, [], ◌∷◌, ◌++◌}
+use Rattle.std.specs.Prelude.{◌≡◌, ◌⊎◌, ℕ, List, [], ◌∷◌, ◌++◌}
 use mathlib.Core.List.{IsPrefix}
 use Rattle.stamp_core.specs.Limits.{Bounds}
 use Rattle.stamp_core.specs.declared.call.Call.{Call}
 use Rattle.stamp_core.specs.declared.call.Call.TheVariants.{TryWrite, TryRead, WriteLock, ReadLock}
 use Rattle.stamp_core.specs.declared.reply.Reply.{Reply}
+use Rattle.stamp_threads.specs.declared.pass_view.Entry.{Entry}
 use Rattle.stamp_threads.specs.PassView.{entry, HasFound}
 use Rattle.stamp_threads.specs.LockLog.{LockLog}
-use Rattle.stamp_threads.specs.LockPass.{LockPass, IsConsistentWith}
+use Rattle.stamp_threads.specs.LockPass.{LockPass, IsConsistentWith, LeavesWord}
 
 -- the call that doesn't wait, where there is one that does
 abbrev pub try_form : Call → Call
@@ -19,18 +20,34 @@ try_form call = call
 abbrev pub IsWaiting : Call → Type 0
 IsWaiting call = (call ≡ WriteLock) ⊎ (call ≡ ReadLock)
 
--- the history goes on from what the pass v had observed and ends with this call and reply, which is
--- one more of its own; w is the pass after it
+-- the history goes on from what the pass v had observed, and leaves the word that the last access
+-- found; then comes this call with its reply, which is one more of the pass's own. w is the pass
+-- after it
 pub record Answered (limits : Bounds) (call : Call) (reply : Reply) (v w : LockPass) : Type 0 where
   pub log : LockLog
-  pub begins : IsPrefix v.observed log
+  pub word : ℕ
+  pub left : LeavesWord limits v word log
+  pub earlier : List ℕ
+  pub last : HasFound v (earlier ++ word ∷ []) w
   pub observed : w.observed ≡ log ++ entry v.name (call, reply) ∷ []
   pub own : w.own ≡ v.own ++ (call, reply) ∷ []
   pub name : w.name ≡ v.name
   pub splits : w.splits ≡ v.splits
   pub consistent : IsConsistentWith limits w
 
+-- two accesses of the word were made. The word that the first found is the one that a history left,
+-- and what came before the last entry goes on from that history
+pub record LooksTwice (limits : Bounds) (v w : LockPass) : Type 0 where
+  pub loaded : ℕ
+  pub found : ℕ
+  pub looks : HasFound v (loaded ∷ found ∷ []) w
+  pub first : LockLog
+  pub at_first : LeavesWord limits v loaded first
+  pub log : LockLog
+  pub longer : IsPrefix first log
+  pub made : Entry (Call × Reply)
+  pub observed : w.observed ≡ log ++ made ∷ []
+
 -- one access of the word was made, or two
-abbrev pub LooksOnceOrTwice : LockPass → LockPass → Type 0
-LooksOnceOrTwice v w = ((word : ℕ) × HasFound v (word ∷ []) w)
-    ⊎ ((loaded : ℕ) × (found : ℕ) × HasFound v (loaded ∷ found ∷ []) w)
+abbrev pub LooksOnceOrTwice : Bounds → LockPass → LockPass → Type 0
+LooksOnceOrTwice limits v w = ((word : ℕ) × HasFound v (word ∷ []) w) ⊎ LooksTwice limits v w

@@ -50,11 +50,14 @@ pub record LeavesWord (limits : Bounds) (v : LockPass) (word : ℕ) (log : LockL
   pub legal : IsLegalLog limits log
   pub represents : RepresentsAt limits word (events_after limits log)
 
--- a pass that entered: its path is empty, it has observed a legal history, and it has made no call
+-- a pass that entered: its path is empty, it has observed a legal history, which left the word that
+-- its load found, and it has made no call
 pub record HasEntered (limits : Bounds) (v : LockPass) : Type 0 where
   pub root : ℕ
+  pub word : ℕ
   pub name : v.name ≡ root ∷ []
   pub splits : v.splits ≡ 0
   pub own : v.own ≡ []
-  pub found : v.found ≡ []
+  pub found : v.found ≡ word ∷ []
+  pub represents : RepresentsAt limits word (events_after limits v.observed)
   pub consistent : IsConsistentWith limits v

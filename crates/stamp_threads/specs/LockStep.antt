@@ -1,5 +1,5 @@
 -- One access of a lock call on the running word.
-use Rattle.std.specs.Prelude.{◌≡◌, ℕ}
+use Rattle.std.specs.Prelude.{◌≡◌, ℕ, List}
 use mathlib.Core.List.{IsPrefix}
 use Rattle.stamp_core.specs.Limits.{Bounds}
 use Rattle.stamp_core.specs.declared.reply.Reply.{Reply}
@@ -7,12 +7,15 @@ use Rattle.stamp_machines.specs.PhaseState.{PhaseState}
 use Rattle.stamp_machines.specs.LockCallSteps.{Goes}
 use Rattle.stamp_machines.specs.declared.lock_phase.Passage.{Passage}
 use Rattle.stamp_machines.specs.declared.lock_phase.Passage.TheVariants.{Still, Ended}
+use Rattle.stamp_threads.specs.PassView.{HasFound}
 use Rattle.stamp_threads.specs.LockPass.{LockPass, IsConsistentWith, LeavesWord}
 use Rattle.stamp_threads.specs.Answered.{Answered}
 
 -- the pass has observed more, and made no call
 pub record Waited (v w : LockPass) : Type 0 where
   pub begins : IsPrefix v.observed w.observed
+  pub words : List ℕ
+  pub found : HasFound v words w
   pub own : w.own ≡ v.own
   pub name : w.name ≡ v.name
   pub splits : w.splits ≡ v.splits

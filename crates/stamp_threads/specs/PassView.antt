@@ -59,15 +59,16 @@ module _ {E P : Type 0} where
   first_pass phase =
       record { name = 0 ∷ []; splits = 0; observed = []; own = []; phase = phase; found = [] }
 
-  -- a pass that enters by this root: it has observed the whole history, and made nothing
-  abbrev pub entering : ℕ → P → List (Entry E) → PassView E P
-  entering root phase log = record {
+  -- a pass that enters by this root: it has observed the whole history, found this word, and made
+  -- nothing
+  abbrev pub entering : ℕ → P → List (Entry E) → ℕ → PassView E P
+  entering root phase log word = record {
     name = root ∷ [];
     splits = 0;
     observed = log;
     own = [];
     phase = phase;
-    found = [];
+    found = word ∷ [];
   }
 
   -- it is the same pass still

@@ -15,7 +15,7 @@ use Rattle.stamp_threads.specs.declared.faults.GetFault.{GetFault}
 use Rattle.stamp_threads.specs.declared.faults.GetFault.TheVariants as get
 use Rattle.stamp_threads.specs.PassView.{entry, HasFound, IsSamePass}
 use Rattle.stamp_threads.specs.RecordWord.{word_with, writer_unit}
-use Rattle.stamp_threads.specs.RecordLog.{RecordLog, content_in, is_locked, marker_in, puts}
+use Rattle.stamp_threads.specs.RecordLog.{RecordLog, word_after, content_in, is_locked, marker_in, puts}
 use Rattle.stamp_threads.specs.RecordPass.{RecordPassView, IsConsistentWith, LeavesLockWord}
 
 -- what a call that was made found at the lock word: a get's two loads found one word, and so did a
@@ -24,12 +24,23 @@ abbrev pub words_found : Layout → Call → ℕ → List ℕ
 words_found layout (Put words) word = word ∷ word ∷ (word + writer_unit layout) ∷ []
 words_found layout _ word = word ∷ word ∷ []
 
--- the history goes on from what the pass had observed and ends with this call and reply, which is
--- the record's after the history before it, and one more of the pass's own
+-- and the last of these
+abbrev pub last_found : Layout → Call → ℕ → ℕ
+last_found layout (Put words) word = word + writer_unit layout
+last_found layout _ word = word
+
+-- a first history goes on from what the pass had observed, and leaves the word that its accesses
+-- found; the log goes on from that, and leaves the last of these words. Then comes this call with
+-- the reply that the log gives it, which is one more of the pass's own
 pub record Recorded (shape : RecordShape) (call : Call) (reply : Reply) (v w : RecordPassView) :
     Type 0 where
+  pub word : ℕ
+  pub looks : HasFound v (words_found shape.limits.layout call word) w
+  pub first : RecordLog
+  pub at_first : LeavesLockWord shape v word first
   pub log : RecordLog
-  pub begins : IsPrefix v.observed log
+  pub longer : IsPrefix first log
+  pub left : last_found shape.limits.layout call word ≡ word_after shape.limits.layout log
   pub replies : RecordReplies (content_in shape.width log) call reply
   pub observed : w.observed ≡ log ++ entry v.name (Called call reply) ∷ []
   pub own : w.own ≡ v.own ++ Called call reply ∷ []
@@ -37,8 +48,6 @@ pub record Recorded (shape : RecordShape) (call : Call) (reply : Reply) (v w : R
   pub idle : w.phase ≡ Idle
   pub few : puts w.observed ≤ shape.limits.versions
   pub consistent : IsConsistentWith shape.width w
-  pub word : ℕ
-  pub looks : HasFound v (words_found shape.limits.layout call word) w
 
 -- the pass has observed a history that leaves this word, and made no call: where that history is
 -- locked, another pass made its last mark

@@ -62,12 +62,15 @@ pub record LeavesLockWord (shape : RecordShape) (v : RecordPassView) (word : ℕ
   pub word_is : word ≡ word_after shape.limits.layout log
   pub few : puts log ≤ shape.limits.versions
 
--- a pass that entered: its path is empty, it has observed a legal history, and it has made no call
-pub record HasEntered (width : ℕ) (v : RecordPassView) : Type 0 where
+-- a pass that entered: its path is empty, it has observed a legal history, which left the lock word
+-- that its load found, and it has made no call
+pub record HasEntered (shape : RecordShape) (v : RecordPassView) : Type 0 where
   pub root : ℕ
+  pub word : ℕ
   pub name : v.name ≡ root ∷ []
   pub splits : v.splits ≡ 0
   pub own : v.own ≡ []
-  pub found : v.found ≡ []
+  pub found : v.found ≡ word ∷ []
+  pub word_is : word ≡ word_after shape.limits.layout v.observed
   pub idle : v.phase ≡ Idle
-  pub consistent : IsConsistentWith width v
+  pub consistent : IsConsistentWith shape.width v

@@ -130,6 +130,7 @@ module _ (shape : RecordShape) (v : RecordPassView) (found : ℕ) (me : Seated) 
   pub record Released (words : List ℕ) : Type 0 where
     pub log : RecordLog
     pub begins : IsPrefix v.observed log
+    pub word_is : found ≡ word_after shape.limits.layout log
     pub after : me ≡ alone (calling (finding v found) log (put_of words))
     pub few : puts (log ++ entry v.name (put_of words) ∷ []) ≤ shape.limits.versions
     pub consistent : IsConsistentWith shape.width (calling (finding v found) log (put_of words))
@@ -229,7 +230,7 @@ MeetTells shape st m found n = Met shape (first_of m.0) (second_of m.0) n
 -- and a seat that is made by a load
 abbrev pub EnterTells : RecordShape → Tells
 EnterTells shape st m found n =
-    (n ≡ alone (first_of n.0)) × HasEntered shape.width (first_of n.0)
+    (n ≡ alone (first_of n.0)) × HasEntered shape (first_of n.0)
 
 -- the log of a record whose first pass has put these words, if there are any, and that pass
 abbrev pub opening_log : Option (List ℕ) → RecordLog

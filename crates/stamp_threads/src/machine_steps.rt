@@ -150,6 +150,7 @@ impl RunningLock {
         ensures passage { IsPassage self.now.limits call.now result.1 answer.new }
         ensures told { let p = on_lock self.now.limits call.now seen in
             Stepped p result.0 result.1 answer.new pass.old.view pass.new.view }
+        ensures looks { HasFound pass.old.view (result.0 ∷ []) pass.new.view }
     {
         match seen {
             Some(old) => self.exchange_step(pass, self.limits, call, old, answer),

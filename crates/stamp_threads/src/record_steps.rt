@@ -165,7 +165,7 @@ pub fn enter<C: WordsStep, P: ContentRule>(table: &RecordTable<P>) -> RecordSeat
     requires table { table.now.table_id.words ≡ table.now.key.shape.width + 1 }
     ensures table { result.table_id ≡ table.now.table_id }
     ensures alone { result.me ≡ alone (first_of result.me.0) }
-    ensures entered { HasEntered table.now.key.shape.width (first_of result.me.0) }
+    ensures entered { HasEntered table.now.key.shape (first_of result.me.0) }
 {
     let (_, seat) = table.load_new_seat::<EnterRecordStep<C>>(0);
     seat

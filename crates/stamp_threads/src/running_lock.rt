@@ -124,7 +124,7 @@ impl RunningLock {
         ensures lock { pass.new.table ≡ self.now.table }
         ensures ok { let v = pass.old.view in let w = pass.new.view in
             IfOk result (λ r. Answered self.now.limits (try_form call) r v w) }
-        ensures looks { OnOk result (LooksOnceOrTwice pass.old.view pass.new.view) }
+        ensures looks { OnOk result (LooksOnceOrTwice self.now.limits pass.old.view pass.new.view) }
         ensures lost { let v = pass.old.view in let w = pass.new.view in
             IfErr result (λ l.
             LostExchange self.now.limits (try_form call) l.loaded l.found v w) }
@@ -143,7 +143,7 @@ impl RunningLock {
         ensures lock { pass.new.table ≡ self.now.table }
         ensures ok { let v = pass.old.view in let w = pass.new.view in
             IfOk result (λ r. Answered limits call.now r v w) }
-        ensures looks { OnOk result (LooksOnceOrTwice pass.old.view pass.new.view) }
+        ensures looks { OnOk result (LooksOnceOrTwice self.now.limits pass.old.view pass.new.view) }
         ensures lost { let v = pass.old.view in let w = pass.new.view in
             IfErr result (λ l. LostExchange limits call.now l.loaded l.found v w) }
     {

@@ -293,7 +293,7 @@ impl<P: ContentRule> RuledRecord<P> {
     pub fn enter(&self) -> RecordPass
         requires { self.now.enterable ≡ true }
         ensures table { result.table ≡ self.now.table }
-        ensures entered { HasEntered self.now.shape.width result.view }
+        ensures entered { HasEntered self.now.shape result.view }
     {
         RecordPass {
             seat: record_steps::enter::<Brand, P>(&self.table.shared),

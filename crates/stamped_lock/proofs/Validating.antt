@@ -75,6 +75,6 @@ unwritten s h m n some issued valid =
     let b = valid.answered in
     record {
       goes_on = subst (IsPrefix m.pass.observed) (sym b.observed)
-          (begins_further m.pass.observed b.log _ b.begins (begins_more b.log _));
+          (begins_further m.pass.observed b.log _ b.left.begins (begins_more b.log _));
       version = versions_same m.lock.limits s h.pass m.pass n.pass some a b;
     }

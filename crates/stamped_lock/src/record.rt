@@ -65,7 +65,7 @@ impl<const N: usize, P: ContentRule> StampedRecord<N, P> {
     /// A handle, for one thread at a time. It has made no call. It takes one load and no memory.
     pub fn enter(&self) -> RecordHandle<'_, N, P>
         ensures shared { result.shared ≡ self.now }
-        ensures entered { HasEntered N result.pass }
+        ensures entered { HasEntered self.now.shape result.pass }
     {
         RecordHandle::new(&self.shared, self.shared.enter())
     }

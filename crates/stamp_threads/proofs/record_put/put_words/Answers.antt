@@ -6,7 +6,7 @@ use Rattle.stamp_threads.specs.RecordPass.{first_of}
 use Rattle.stamp_threads.specs.RecordRule.{Seated}
 use Rattle.stamp_threads.proofs.RecordWords.{unit_small}
 use Rattle.stamp_threads.proofs.RecordPromises.{goes_on, acquired_word_of, found_small}
-use Rattle.stamp_threads.proofs.RecordPromises.{put_busy_of, put_spent_of, put_lost_of}
+use Rattle.stamp_threads.proofs.RecordPromises.{put_busy_of, put_spent_of, put_lost_of, put_made_of}
 use Rattle.stamp_threads.proofs.record_put.put_words.Goals as goal
 
 pub turned-held-requires : goal.turned-held-requires
@@ -64,3 +64,11 @@ returns-then-found-loaded-clause-err g c = put_lost_of _ _ c.requires.shape.0 _ 
     c.look-loaded.ensures.told c.requires.idle (sym c.is_held.ensures ∙ c.if-is_held.false) _ _
     (rw (ne_eqb _ _ c.if-found-loaded.true) at c.acquire-found.ensures.told)
     c.if-found-loaded.true
+
+pub returns-clause-ok : goal.returns-clause-ok
+returns-clause-ok g c =
+    let got = rw (eq-eqb _ _ c.if-found-loaded.false) at c.acquire-found.ensures.told in
+    let phase = ap (λ (m : Seated). (first_of m.0).phase) got.after in
+    put_made_of _ _ c.requires.shape.0 _ _ _ _ _ _ _ _ _ c.look-loaded.ensures.told got
+    c.if-found-loaded.false (c.store_all.ensures.told (puts got.log) phase) c.turned-held.ensures
+    c.release.ensures.told

@@ -1,5 +1,6 @@
--- A call whose machine goes on after an exchange has lost it.
-use Rattle.std.proofs.Common.{◌≡◌, ⊎_elim, ℕ, Option, Some, None, [], ◌∷◌, ap, ◌∙◌, subst}
+-- A call of two accesses: the second answers it, or has lost.
+use Rattle.std.proofs.Common.{◌≡◌, ⊎_elim, ℕ, Option, Some, None, List, [], ◌∷◌, ◌++◌, ap, ◌∙◌}
+use Rattle.std.proofs.Common.{subst, append_assoc}
 use Rattle.stamp_core.specs.Limits.{Bounds}
 use Rattle.stamp_core.specs.Decision.{Changes, Moves}
 use Rattle.stamp_core.specs.Word.{word_at}
@@ -9,12 +10,12 @@ use Rattle.stamp_machines.specs.LockNumber.{RepresentsAt}
 use Rattle.stamp_machines.specs.PhaseState.{PhaseState}
 use Rattle.stamp_machines.specs.LockCallSteps.{Goes, on_lock}
 use Rattle.stamp_machines.specs.declared.lock_phase.Passage.{Passage}
-use Rattle.stamp_machines.specs.declared.lock_phase.Passage.TheVariants.{Still}
+use Rattle.stamp_machines.specs.declared.lock_phase.Passage.TheVariants.{Still, Ended}
 use Rattle.stamp_threads.specs.LockLog.{LockLog, events_after, Appends}
 use Rattle.stamp_threads.specs.LockPass.{LockPass}
 use Rattle.stamp_threads.specs.LockStep.{Stepped, WentOn}
-use Rattle.stamp_threads.specs.PassView.{HasFound}
-use Rattle.stamp_threads.specs.Answered.{IsWaiting}
+use Rattle.stamp_threads.specs.PassView.{entry, HasFound}
+use Rattle.stamp_threads.specs.Answered.{Answered, IsWaiting}
 use Rattle.stamp_threads.specs.LostExchange.{LostExchange}
 use Rattle.stamp_threads.proofs.Beginnings.{begins_further}
 use Rattle.stamp_threads.proofs.Looks.{looks_twice}
@@ -82,3 +83,38 @@ lost_twice limits call first second passage passage' reply reply' loaded found v
     let b' = subst (λ (x : Passage). Stepped (on_lock limits call first) found x reply' u w) goes'
     b in
     loses (on_lock limits call None) first second loaded found v u w never a' b' one two
+
+-- a call that has gone on, and is answered by the next access
+answered_next : (limits : Bounds) (call : Call) (reply : Reply) (loaded : ℕ) (v u w : LockPass) →
+    WentOn limits v loaded u → HasFound v (loaded ∷ []) u → Answered limits call reply u w →
+    Answered limits call reply v w
+answered_next limits call reply loaded v u w g looks a = record {
+  log = a.log;
+  word = a.word;
+  left = record {
+    begins = begins_further v.observed u.observed a.log g.left.begins a.left.begins;
+    legal = a.left.legal;
+    represents = a.left.represents;
+  };
+  earlier = loaded ∷ a.earlier;
+  last = a.last ∙ (ap (λ (l : List ℕ). l ++ (a.earlier ++ a.word ∷ [])) looks ∙
+      append_assoc v.found (loaded ∷ []) (a.earlier ++ a.word ∷ []));
+  observed = a.observed ∙ ap (λ (n : List ℕ). a.log ++ entry n (call, reply) ∷ []) g.name;
+  own = a.own ∙ ap (λ (l : List (Call × Reply)). l ++ (call, reply) ∷ []) g.own;
+  name = a.name ∙ g.name;
+  splits = a.splits ∙ g.splits;
+  consistent = a.consistent;
+}
+
+-- a call that has ended by two accesses
+pub made_twice : (limits : Bounds) (call : Call) (first : Option ℕ) (passage passage' : Passage)
+    (reply reply' : Reply) (loaded found : ℕ) (v u w : LockPass) → passage ≡ Still first →
+    passage' ≡ Ended → Stepped (on_lock limits call None) loaded passage reply v u →
+    Stepped (on_lock limits call first) found passage' reply' u w → HasFound v (loaded ∷ []) u →
+    Answered limits call reply' v w
+made_twice limits call first passage passage' reply reply' loaded found v u w goes ends a b looks =
+    let a' = subst (λ (x : Passage). Stepped (on_lock limits call None) loaded x reply v u) goes
+    a in
+    let b' = subst (λ (x : Passage). Stepped (on_lock limits call first) found x reply' u w) ends
+    b in
+    answered_next limits call reply' loaded v u w a'.1 looks b'
