@@ -17,34 +17,46 @@ use Rattle.stamp_core.specs.declared.call.Call.TheVariants.{Get, Put, PutIf}
 use Rattle.stamp_core.specs.declared.reply.Reply.{Reply}
 use Rattle.stamp_check.specs.LockReplies.{LockReplies, ContentReplies}
 
-pub lock_answer : (limits : Bounds) (width : ℕ) (before : List Entry) (e : Entry) → is_lock_call e.call ≡ true → LockReplies limits before e → IsAnswered limits width before e
-lock_answer limits width before e lock r = subst (λ (b : Bool). MatchBool b (LockReplies limits before e) (ContentReplies width before e)) (sym lock) r
+pub lock_answer : (limits : Bounds) (width : ℕ) (before : List Entry) (e : Entry) → is_lock_call e.call ≡ true →
+    LockReplies limits before e → IsAnswered limits width before e
+lock_answer limits width before e lock r = subst
+    (λ (b : Bool). MatchBool b (LockReplies limits before e) (ContentReplies width before e)) (sym lock) r
 
-pub lock_answered : (limits : Bounds) (width : ℕ) (before : List Entry) (e : Entry) → is_lock_call e.call ≡ true → IsAnswered limits width before e → LockReplies limits before e
-lock_answered limits width before e lock r = subst (λ (b : Bool). MatchBool b (LockReplies limits before e) (ContentReplies width before e)) lock r
+pub lock_answered : (limits : Bounds) (width : ℕ) (before : List Entry) (e : Entry) → is_lock_call e.call ≡ true →
+    IsAnswered limits width before e → LockReplies limits before e
+lock_answered limits width before e lock r = subst
+    (λ (b : Bool). MatchBool b (LockReplies limits before e) (ContentReplies width before e)) lock r
 
-pub record_answer : (limits : Bounds) (width : ℕ) (before : List Entry) (e : Entry) → is_lock_call e.call ≡ false → ContentReplies width before e → IsAnswered limits width before e
-record_answer limits width before e lock r = subst (λ (b : Bool). MatchBool b (LockReplies limits before e) (ContentReplies width before e)) (sym lock) r
+pub record_answer : (limits : Bounds) (width : ℕ) (before : List Entry) (e : Entry) → is_lock_call e.call ≡ false →
+    ContentReplies width before e → IsAnswered limits width before e
+record_answer limits width before e lock r = subst
+    (λ (b : Bool). MatchBool b (LockReplies limits before e) (ContentReplies width before e)) (sym lock) r
 
-pub record_answered : (limits : Bounds) (width : ℕ) (before : List Entry) (e : Entry) → is_lock_call e.call ≡ false → IsAnswered limits width before e → ContentReplies width before e
-record_answered limits width before e lock r = subst (λ (b : Bool). MatchBool b (LockReplies limits before e) (ContentReplies width before e)) lock r
+pub record_answered : (limits : Bounds) (width : ℕ) (before : List Entry) (e : Entry) → is_lock_call e.call ≡
+    false → IsAnswered limits width before e → ContentReplies width before e
+record_answered limits width before e lock r =
+    subst (λ (b : Bool). MatchBool b (LockReplies limits before e) (ContentReplies width before e)) lock r
 
 -- a call of the lock leaves the content
-pub lock_keeps : (content : List ℕ) (call : Call) (reply : Reply) → is_lock_call call ≡ true → content_next content call reply ≡ content
+pub lock_keeps : (content : List ℕ) (call : Call) (reply : Reply) → is_lock_call call ≡ true →
+    content_next content call reply ≡ content
 lock_keeps content Get reply h = refl
 lock_keeps content (Put words) reply h = cc
 lock_keeps content (PutIf expected words) reply h = cc
 lock_keeps content _ reply h = refl
 
-no_events : (limits : Bounds) (events : List LockEvent) (call : Call) → is_lock_call call ≡ false → appended_by (transition limits events call) ≡ []
+no_events : (limits : Bounds) (events : List LockEvent) (call : Call) → is_lock_call call ≡ false →
+    appended_by (transition limits events call) ≡ []
 no_events limits events Get lock = refl
 no_events limits events (Put words) lock = refl
 no_events limits events (PutIf expected words) lock = refl
 no_events limits events _ lock = cc
 
 -- a call of the record leaves the events
-pub record_keeps : (limits : Bounds) (events : List LockEvent) (call : Call) → is_lock_call call ≡ false → events ++ appended_by (transition limits events call) ≡ events
-record_keeps limits events call lock = ap (λ (xs : List LockEvent). events ++ xs) (no_events limits events call lock) ∙ append-nil events
+pub record_keeps : (limits : Bounds) (events : List LockEvent) (call : Call) → is_lock_call call ≡ false → events ++
+    appended_by (transition limits events call) ≡ events
+record_keeps limits events call lock = ap (λ (xs : List LockEvent). events ++ xs)
+    (no_events limits events call lock) ∙ append-nil events
 
 first_test : (n : ℕ) (b : Bool) → (nat_lt 0 n && b) ≡ true → 0 < n
 first_test n b h = grind (arith, nat_tests)

@@ -1,5 +1,6 @@
 -- What has a fault is not linearized, and has one alone.
-use Rattle.std.proofs.Common.{◌≡◌, ◌⊎◌, ℕ, ◌+◌, ◌<◌, ◌≤◌, List, [], ◌∷◌, ◌++◌, length, get_or, take, drop, refl, sym, ◌∙◌, ap, subst, inl, inr, arith, Some, Ok, Err}
+use Rattle.std.proofs.Common.{◌≡◌, ◌⊎◌, ℕ, ◌+◌, ◌<◌, ◌≤◌, List, [], ◌∷◌, ◌++◌, length, get_or, take}
+use Rattle.std.proofs.Common.{drop, refl, sym, ◌∙◌, ap, subst, inl, inr, arith, Some, Ok, Err}
 use Rattle.std.specs.Prelude.{slice_get}
 use Rattle.std.proofs.lemmas.List.{take_more, take-append-drop, take-take}
 use Rattle.std.proofs.lemmas.Option.{get_or_from_slice_get, slice_get_within}
@@ -15,13 +16,15 @@ use Rattle.stamp_check.specs.declared.checking.Bad.{Bad}
 use Rattle.stamp_check.specs.FirstFault.{Breaks, IsFirstFault}
 use Rattle.stamp_check.specs.CheckLaws.{FaultsAreExact, OneVerdict, RunsAreAccepted}
 
-unfit : (limits : Bounds) (width : ℕ) (before : List Entry) (e : Entry) (why : Why) → Breaks limits width before e why → ¬ Fits limits width before e
+unfit : (limits : Bounds) (width : ℕ) (before : List Entry) (e : Entry) (why : Why) →
+    Breaks limits width before e why → ¬ Fits limits width before e
 unfit limits width before e Interval breaks fits = breaks fits.within
 unfit limits width before e Order breaks fits = breaks.1 fits.rises
 unfit limits width before e Overlap breaks fits = breaks.2 fits.follows
 unfit limits width before e Reply breaks fits = breaks.3 fits.answered
 
-same_why : (limits : Bounds) (width : ℕ) (before : List Entry) (e : Entry) (a b : Why) → Breaks limits width before e a → Breaks limits width before e b → a ≡ b
+same_why : (limits : Bounds) (width : ℕ) (before : List Entry) (e : Entry) (a b : Why) →
+    Breaks limits width before e a → Breaks limits width before e b → a ≡ b
 same_why limits width before e Interval Interval x y = refl
 same_why limits width before e Interval Order x y = absurd (x y.0)
 same_why limits width before e Interval Overlap x y = absurd (x y.0)
@@ -39,18 +42,23 @@ same_why limits width before e Reply Order x y = absurd (y.1 x.1)
 same_why limits width before e Reply Overlap x y = absurd (y.2 x.2)
 same_why limits width before e Reply Reply x y = refl
 
-linearized_take : (limits : Bounds) (width : ℕ) (entries : List Entry) (n : ℕ) → AreLinearized limits width entries → AreLinearized limits width (take n entries)
-linearized_take limits width entries n all = linearized_first limits width (take n entries) (drop n entries) (subst (λ (xs : List Entry). AreLinearized limits width xs) (sym (take-append-drop n entries)) all)
+linearized_take : (limits : Bounds) (width : ℕ) (entries : List Entry) (n : ℕ) →
+    AreLinearized limits width entries → AreLinearized limits width (take n entries)
+linearized_take limits width entries n all = linearized_first limits width (take n entries) (drop n entries)
+    (subst (λ (xs : List Entry). AreLinearized limits width xs) (sym (take-append-drop n entries)) all)
 
 -- the entries up to a fault, and its own, are not linearized
-not_with : (r : Recorded) (i : ℕ) (why : Why) → IsFirstFault r i why → ¬ AreLinearized r.limits r.width (take (i + 1) r.entries)
+not_with : (r : Recorded) (i : ℕ) (why : Why) → IsFirstFault r i why →
+    ¬ AreLinearized r.limits r.width (take (i + 1) r.entries)
 not_with r i why fault all =
     let e = fault.entry in
     let is : get_or r.entries i e ≡ e = get_or_from_slice_get r.entries i e e fault.is_entry in
     let lt : i < length r.entries = slice_get_within r.entries i e fault.is_entry in
-    let more : take (i + 1) r.entries ≡ take i r.entries ++ e ∷ [] = take_more r.entries i e lt ∙ ap (λ (x : Entry). take i r.entries ++ x ∷ []) is in
+    let more : take (i + 1) r.entries ≡ take i r.entries ++ e ∷ [] = take_more r.entries i e lt ∙
+        ap (λ (x : Entry). take i r.entries ++ x ∷ []) is in
     unfit r.limits r.width (take i r.entries) e why fault.breaks
-    (linearized_fits r.limits r.width (take i r.entries) [] e (subst (λ (xs : List Entry). AreLinearized r.limits r.width xs) more all))
+    (linearized_fits r.limits r.width (take i r.entries) [] e
+        (subst (λ (xs : List Entry). AreLinearized r.limits r.width xs) more all))
 
 pub faults_are_exact : FaultsAreExact
 faults_are_exact r i why fault all = not_with r i why fault (linearized_take r.limits r.width r.entries (i + 1) all)
@@ -59,17 +67,21 @@ not_before : (r : Recorded) (i j : ℕ) (a b : Why) → IsFirstFault r i a → I
 not_before r i j a b x y lt =
     let shorter : i + 1 ≤ j = omega arith in
     let all = linearized_take r.limits r.width (take j r.entries) (i + 1) y.before in
-    not_with r i a x (subst (λ (xs : List Entry). AreLinearized r.limits r.width xs) (take-take (i + 1) j r.entries shorter) all)
+    not_with r i a x (subst (λ (xs : List Entry). AreLinearized r.limits r.width xs)
+        (take-take (i + 1) j r.entries shorter) all)
 
-same_entry : (entries : List Entry) (i j : ℕ) (d e : Entry) → i ≡ j → slice_get entries i ≡ Some d → slice_get entries j ≡ Some e → d ≡ e
+same_entry : (entries : List Entry) (i j : ℕ) (d e : Entry) → i ≡ j → slice_get entries i ≡ Some d →
+    slice_get entries j ≡ Some e → d ≡ e
 same_entry entries i j d e same x y = cc
 
 same_place : (r : Recorded) (i j : ℕ) (a b : Why) → IsFirstFault r i a → IsFirstFault r j b → i ≡ j → a ≡ b
 same_place r i j a b x y same =
     let before = take i r.entries in
-    let breaks : Breaks r.limits r.width before y.entry b = subst (λ (k : ℕ). Breaks r.limits r.width (take k r.entries) y.entry b) (sym same) y.breaks in
+    let breaks : Breaks r.limits r.width before y.entry b =
+        subst (λ (k : ℕ). Breaks r.limits r.width (take k r.entries) y.entry b) (sym same) y.breaks in
     let entry : y.entry ≡ x.entry = sym (same_entry r.entries i j x.entry y.entry same x.is_entry y.is_entry) in
-    same_why r.limits r.width before x.entry a b x.breaks (subst (λ (e : Entry). Breaks r.limits r.width before e b) entry breaks)
+    same_why r.limits r.width before x.entry a b x.breaks
+        (subst (λ (e : Entry). Breaks r.limits r.width before e b) entry breaks)
 
 one_fault : (r : Recorded) (a b : Bad) → IsFirstFault r a.entry a.why → IsFirstFault r b.entry b.why → a ≡ b
 one_fault r a b x y = by (order a.entry b.entry)
@@ -78,7 +90,8 @@ one_fault r a b x y = by (order a.entry b.entry)
     order n m = grind arith
 
     same : (x y : Bad) → x.entry ≡ y.entry → x.why ≡ y.why → x ≡ y
-    same x y e w = let parts : record { entry = x.entry; why = x.why } ≡ record { entry = y.entry; why = y.why } = cc in parts
+    same x y e w = let parts : record { entry = x.entry; why = x.why } ≡ record { entry = y.entry; why = y.why } =
+        cc in parts
 
     by : (a.entry < b.entry) ⊎ (b.entry < a.entry) ⊎ (a.entry ≡ b.entry) → a ≡ b
     by (inl lt) = absurd (not_before r a.entry b.entry a.why b.why x y lt)

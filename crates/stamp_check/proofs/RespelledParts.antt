@@ -30,14 +30,20 @@ respelled_recorded r known = record {
   width = known.width;
   entries = omega (arith, known.entries, length-map r.entries respelled_entry);
   report = report known.report;
-  suit = All-map (SuitsRecord r.width) respelled_entry r.entries (All-weaker (SuitsRecord r.width) (λ (e : Entry). SuitsRecord r.width (respelled_entry e)) (λ e s. record { thread = s.thread; call = subst IsTrue (suits_alike r.width e.call) s.call }) r.entries known.suit);
+  suit = All-map (SuitsRecord r.width) respelled_entry r.entries
+      (All-weaker (SuitsRecord r.width) (λ (e : Entry). SuitsRecord r.width (respelled_entry e))
+      (λ e s. record { thread = s.thread; call = subst IsTrue (suits_alike r.width e.call) s.call }) r.entries
+      known.suit);
 }
   where
-    report : (length r.report ≡ 0) ⊎ (length r.report ≡ length r.entries) → (length r.report ≡ 0) ⊎ (length r.report ≡ length (map respelled_entry r.entries))
+    report : (length r.report ≡ 0) ⊎ (length r.report ≡ length r.entries) → (length r.report ≡ 0) ⊎
+        (length r.report ≡ length (map respelled_entry r.entries))
     report (inl none) = inl none
     report (inr each) = inr (each ∙ sym (length-map r.entries respelled_entry))
 
-pub widened_by : (limits : Bounds) (readers versions most least : ℕ) → readers ≡ limits.readers → versions ≡ limits.versions → most ≡ (units_of Two).versions → least ≡ min versions most → bounds Two readers least ≡ widened limits
+pub widened_by : (limits : Bounds) (readers versions most least : ℕ) → readers ≡ limits.readers → versions ≡
+    limits.versions → most ≡ (units_of Two).versions → least ≡ min versions most → bounds Two readers least ≡
+    widened limits
 unfolding units_of
 widened_by limits readers versions most least e f g h = cc
 
@@ -45,7 +51,10 @@ widened_by limits readers versions most least e f g h = cc
 pub neither : false ≡ true → ⊥
 neither e = cc
 
-pub respelled_by : (r : Recorded) (limits wider : Bounds) (width : ℕ) (entries respelled : List Entry) (report : List (ℕ × ℕ)) → r ≡ recorded limits width entries report → wider ≡ widened limits → respelled ≡ map respelled_entry entries → IsRecorded r → IsRecorded (recorded wider width respelled report)
+pub respelled_by : (r : Recorded) (limits wider : Bounds) (width : ℕ) (entries respelled : List Entry)
+    (report : List (ℕ × ℕ)) → r ≡ recorded limits width entries report → wider ≡ widened limits → respelled ≡
+    map respelled_entry entries → IsRecorded r → IsRecorded (recorded wider width respelled report)
 respelled_by r limits wider width entries respelled report parts e f known =
-    let same : recorded wider width respelled report ≡ recorded (widened limits) width (map respelled_entry entries) report = cc in
+    let same : recorded wider width respelled report ≡
+        recorded (widened limits) width (map respelled_entry entries) report = cc in
     subst IsRecorded (ap respelled_record parts ∙ sym same) (respelled_recorded r known)

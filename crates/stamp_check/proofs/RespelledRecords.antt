@@ -1,5 +1,6 @@
 -- A migrated record is linearized where the old one is, and has the same first fault.
-use Rattle.std.proofs.Common.{◌≡◌, ℕ, ◌+◌, ◌-◌, ◌<◌, ◌≤◌, List, [], length, get_or, take, map, refl, sym, ◌∙◌, ap, subst, arith, true, false, Option, Some, None, Ok, Err}
+use Rattle.std.proofs.Common.{◌≡◌, ℕ, ◌+◌, ◌-◌, ◌<◌, ◌≤◌, List, [], length, get_or, take, map, refl}
+use Rattle.std.proofs.Common.{sym, ◌∙◌, ap, subst, arith, true, false, Option, Some, None, Ok, Err}
 use Rattle.std.specs.Prelude.{◌↔◌, slice_get, option_map}
 use Rattle.std.specs.List.{All, AllPairs, AllAdjacentBelow}
 use Rattle.std.proofs.lemmas.List.{length-map, length-take, get_or-map, take-map}
@@ -9,7 +10,8 @@ use Rattle.stamp_core.specs.Limits.{Bounds, AreInRange}
 use Rattle.stamp_core.specs.Content.{zeros}
 use Rattle.stamp_core.specs.Record.{Recorded, IsRecorded}
 use Rattle.stamp_core.specs.History.{IsLegal}
-use Rattle.stamp_core.specs.Linearized.{history_of, IsWithin, KeepsThreadOrder, AreLinearized, IsLinearized, RisesAbove, FollowsItsThread}
+use Rattle.stamp_core.specs.Linearized.{history_of, IsWithin, KeepsThreadOrder, AreLinearized}
+use Rattle.stamp_core.specs.Linearized.{IsLinearized, RisesAbove, FollowsItsThread}
 use Rattle.stamp_core.specs.declared.entry.Entry.{Entry}
 use Rattle.stamp_core.specs.declared.layout.Layout.{Layout}
 use Rattle.stamp_core.specs.declared.layout.Layout.TheVariants.{One, Two}
@@ -17,54 +19,81 @@ use Rattle.stamp_check.specs.declared.checking.Why.{Why}
 use Rattle.stamp_check.specs.declared.checking.Why.TheVariants.{Interval, Order, Overlap, Reply}
 use Rattle.stamp_check.specs.FirstFault.{Breaks, IsFirstFault}
 use Rattle.stamp_check.specs.SameVerdict.{HaveSameVerdict}
-use Rattle.stamp_check.specs.Migration.{respelled_entry, respelled_record, widened, migrated, migrated_from, CanRespell, AllCanRespell, CanMigrate, IsFirstForeign}
+use Rattle.stamp_check.specs.Migration.{respelled_entry, respelled_record, widened, migrated}
+use Rattle.stamp_check.specs.Migration.{migrated_from, CanRespell, AllCanRespell, CanMigrate}
+use Rattle.stamp_check.specs.Migration.{IsFirstForeign}
 use Rattle.stamp_check.specs.MigrationLaws.{MigrationKeepsLinearized, MigrationKeepsFaults, MigrationKeepsVerdicts}
 use Rattle.stamp_check.proofs.RespelledEntries.{legal_alike, answered_alike}
 
 -- what is true of respelled entries where it is true of the entries
-all_alike : (P Q : Entry → Type 0) (es : List Entry) → ((e : Entry) → P (respelled_entry e) ↔ Q e) → All P (map respelled_entry es) ↔ All Q es
+all_alike : (P Q : Entry → Type 0) (es : List Entry) → ((e : Entry) → P (respelled_entry e) ↔ Q e) →
+    All P (map respelled_entry es) ↔ All Q es
 all_alike P Q es same = (
-  λ all k d lt. (same (get_or es k d)).0 (subst P (get_or-map respelled_entry es k d d lt) (all k d (omega (arith, length-map es respelled_entry)))),
-  λ all k d lt. let within : k < length es = omega (arith, length-map es respelled_entry) in subst P (sym (get_or-map respelled_entry es k d d within)) ((same (get_or es k d)).1 (all k d within)),
+  λ all k d lt. (same (get_or es k d)).0 (subst P (get_or-map respelled_entry es k d d lt)
+      (all k d (omega (arith, length-map es respelled_entry)))),
+  λ all k d lt. let within : k < length es = omega (arith, length-map es respelled_entry) in
+      subst P (sym (get_or-map respelled_entry es k d d within)) ((same (get_or es k d)).1 (all k d within)),
 )
 
-related_alike : (R : Entry → Entry → Type 0) (es : List Entry) (i j : ℕ) (d : Entry) → ((a b : Entry) → R (respelled_entry a) (respelled_entry b) ↔ R a b) → i < length es → j < length es → R (get_or (map respelled_entry es) i d) (get_or (map respelled_entry es) j d) ↔ R (get_or es i d) (get_or es j d)
+related_alike : (R : Entry → Entry → Type 0) (es : List Entry) (i j : ℕ) (d : Entry) →
+    ((a b : Entry) → R (respelled_entry a) (respelled_entry b) ↔ R a b) → i < length es → j < length es →
+    R (get_or (map respelled_entry es) i d) (get_or (map respelled_entry es) j d) ↔ R (get_or es i d) (get_or es j d)
 related_alike R es i j d same lt within =
-    rw (get_or-map respelled_entry es i d d lt, get_or-map respelled_entry es j d d within) (same (get_or es i d) (get_or es j d))
+    rw (get_or-map respelled_entry es i d d lt, get_or-map respelled_entry es j d d within)
+        (same (get_or es i d) (get_or es j d))
 
-adjacent_alike : (R : Entry → Entry → Type 0) (es : List Entry) → ((a b : Entry) → R (respelled_entry a) (respelled_entry b) ↔ R a b) → AllAdjacentBelow R (map respelled_entry es) (length (map respelled_entry es)) ↔ AllAdjacentBelow R es (length es)
+adjacent_alike : (R : Entry → Entry → Type 0) (es : List Entry) →
+    ((a b : Entry) → R (respelled_entry a) (respelled_entry b) ↔ R a b) →
+    AllAdjacentBelow R (map respelled_entry es) (length (map respelled_entry es)) ↔ AllAdjacentBelow R es (length es)
 adjacent_alike R es same = (
-  λ all k d lt. (related_alike R es k (k + 1) d same (omega arith) lt).0 (all k d (omega (arith, length-map es respelled_entry))),
-  λ all k d lt. let within : k + 1 < length es = omega (arith, length-map es respelled_entry) in (related_alike R es k (k + 1) d same (omega arith) within).1 (all k d within),
+  λ all k d lt. (related_alike R es k (k + 1) d same (omega arith) lt).0
+      (all k d (omega (arith, length-map es respelled_entry))),
+  λ all k d lt. let within : k + 1 < length es = omega (arith, length-map es respelled_entry) in
+      (related_alike R es k (k + 1) d same (omega arith) within).1 (all k d within),
 )
 
-pairs_alike : (R : Entry → Entry → Type 0) (es : List Entry) → ((a b : Entry) → R (respelled_entry a) (respelled_entry b) ↔ R a b) → AllPairs R (map respelled_entry es) ↔ AllPairs R es
+pairs_alike : (R : Entry → Entry → Type 0) (es : List Entry) →
+    ((a b : Entry) → R (respelled_entry a) (respelled_entry b) ↔ R a b) → AllPairs R (map respelled_entry es) ↔
+    AllPairs R es
 pairs_alike R es same = (
-  λ all i j d lt end. (related_alike R es i j d same (omega arith) end).0 (all i j d lt (omega (arith, length-map es respelled_entry))),
-  λ all i j d lt end. let within : j < length es = omega (arith, length-map es respelled_entry) in (related_alike R es i j d same (omega arith) within).1 (all i j d lt within),
+  λ all i j d lt end. (related_alike R es i j d same (omega arith) end).0
+      (all i j d lt (omega (arith, length-map es respelled_entry))),
+  λ all i j d lt end. let within : j < length es = omega (arith, length-map es respelled_entry) in
+      (related_alike R es i j d same (omega arith) within).1 (all i j d lt within),
 )
 
 -- thread and positions stay
 within_alike : (e : Entry) → IsWithin (respelled_entry e) ↔ IsWithin e
 within_alike e = (λ h. record { begun = h.begun; ended = h.ended }, λ h. record { begun = h.begun; ended = h.ended })
 
-rises_alike : (before : List Entry) (e : Entry) → RisesAbove (map respelled_entry before) (respelled_entry e) ↔ RisesAbove before e
+rises_alike : (before : List Entry) (e : Entry) → RisesAbove (map respelled_entry before) (respelled_entry e) ↔
+    RisesAbove before e
 rises_alike before e = (
-  λ h d some. subst (λ (x : Entry). x.point < e.point) (last d some) (h d (omega (arith, length-map before respelled_entry))),
-  λ h d some. let here : 0 < length before = omega (arith, length-map before respelled_entry) in subst (λ (x : Entry). x.point < e.point) (sym (last d here)) (h d here),
+  λ h d some. subst (λ (x : Entry). x.point < e.point) (last d some)
+      (h d (omega (arith, length-map before respelled_entry))),
+  λ h d some. let here : 0 < length before = omega (arith, length-map before respelled_entry) in
+      subst (λ (x : Entry). x.point < e.point) (sym (last d here)) (h d here),
 )
   where
-    last : (d : Entry) → 0 < length before → get_or (map respelled_entry before) (length (map respelled_entry before) - 1) d ≡ respelled_entry (get_or before (length before - 1) d)
-    last d some = ap (λ (n : ℕ). get_or (map respelled_entry before) (n - 1) d) (length-map before respelled_entry) ∙ get_or-map respelled_entry before (length before - 1) d d (omega arith)
+    last : (d : Entry) → 0 < length before → get_or (map respelled_entry before)
+        (length (map respelled_entry before) - 1) d ≡ respelled_entry (get_or before (length before - 1) d)
+    last d some = ap (λ (n : ℕ). get_or (map respelled_entry before) (n - 1) d)
+        (length-map before respelled_entry) ∙ get_or-map respelled_entry before (length before - 1) d d (omega arith)
 
-follows_alike : (before : List Entry) (e : Entry) → FollowsItsThread (map respelled_entry before) (respelled_entry e) ↔ FollowsItsThread before e
-follows_alike before e = all_alike (λ (d : Entry). KeepsThreadOrder d (respelled_entry e)) (λ (d : Entry). KeepsThreadOrder d e) before (λ d. (λ h. h, λ h. h))
+follows_alike : (before : List Entry) (e : Entry) →
+    FollowsItsThread (map respelled_entry before) (respelled_entry e) ↔ FollowsItsThread before e
+follows_alike before e = all_alike (λ (d : Entry). KeepsThreadOrder d (respelled_entry e))
+    (λ (d : Entry). KeepsThreadOrder d e) before (λ d. (λ h. h, λ h. h))
 
 -- the whole
-linearized_alike : (limits : Bounds) (width : ℕ) (es : List Entry) → limits.layout ≡ One → AreInRange limits → AllCanRespell es → length es ≤ 70368744177662 → AreLinearized (widened limits) width (map respelled_entry es) ↔ AreLinearized limits width es
+linearized_alike : (limits : Bounds) (width : ℕ) (es : List Entry) → limits.layout ≡ One → AreInRange limits →
+    AllCanRespell es → length es ≤ 70368744177662 → AreLinearized (widened limits) width (map respelled_entry es) ↔
+    AreLinearized limits width es
 linearized_alike limits width es one range can room = (
-  λ h. record { within = within.0 h.within; rising = rising.0 h.rising; apart = apart.0 h.apart; legal = legal.0 h.legal },
-  λ h. record { within = within.1 h.within; rising = rising.1 h.rising; apart = apart.1 h.apart; legal = legal.1 h.legal },
+  λ h. record { within = within.0 h.within; rising = rising.0 h.rising; apart = apart.0 h.apart; legal =
+      legal.0 h.legal },
+  λ h. record { within = within.1 h.within; rising = rising.1 h.rising; apart = apart.1 h.apart; legal =
+      legal.1 h.legal },
 )
   where
     within : All IsWithin (map respelled_entry es) ↔ All IsWithin es
@@ -73,7 +102,8 @@ linearized_alike limits width es one range can room = (
     Below : Entry → Entry → Type 0
     Below e f = e.point < f.point
 
-    rising : AllAdjacentBelow Below (map respelled_entry es) (length (map respelled_entry es)) ↔ AllAdjacentBelow Below es (length es)
+    rising : AllAdjacentBelow Below (map respelled_entry es) (length (map respelled_entry es)) ↔
+        AllAdjacentBelow Below es (length es)
     rising = adjacent_alike Below es (λ a b. (λ h. h, λ h. h))
 
     apart : AllPairs KeepsThreadOrder (map respelled_entry es) ↔ AllPairs KeepsThreadOrder es
@@ -85,7 +115,10 @@ linearized_alike limits width es one range can room = (
 not_alike : {P Q : Type 0} → P ↔ Q → (¬ P) ↔ (¬ Q)
 not_alike same = (λ no h. no (same.1 h), λ no h. no (same.0 h))
 
-breaks_alike : (limits : Bounds) (width : ℕ) (before : List Entry) (e : Entry) (why : Why) → limits.layout ≡ One → AreInRange limits → CanRespell e.reply → length before < 70368744177662 → Breaks (widened limits) width (map respelled_entry before) (respelled_entry e) why ↔ Breaks limits width before e why
+breaks_alike : (limits : Bounds) (width : ℕ) (before : List Entry) (e : Entry) (why : Why) → limits.layout ≡ One →
+    AreInRange limits → CanRespell e.reply → length before < 70368744177662 →
+    Breaks (widened limits) width (map respelled_entry before) (respelled_entry e) why ↔
+    Breaks limits width before e why
 breaks_alike limits width before e Interval one range can room = not_alike (within_alike e)
 breaks_alike limits width before e Order one range can room =
     let w = within_alike e in
@@ -110,25 +143,36 @@ some_is : {X : Type 0} {x y : X} → Some x ≡ Some y → x ≡ y
 some_is e = cc
 
 -- an entry of respelled ones is a respelled entry
-respelled_of : (es : List Entry) (i : ℕ) (x : Entry) → slice_get (map respelled_entry es) i ≡ Some x → (e : Entry) × ((slice_get es i ≡ Some e) × (respelled_entry e ≡ x))
+respelled_of : (es : List Entry) (i : ℕ) (x : Entry) → slice_get (map respelled_entry es) i ≡ Some x → (e : Entry) ×
+    ((slice_get es i ≡ Some e) × (respelled_entry e ≡ x))
 respelled_of es i x at = by (slice_get es i) refl
   where
     by : (o : Option Entry) → slice_get es i ≡ o → (e : Entry) × ((slice_get es i ≡ Some e) × (respelled_entry e ≡ x))
-    by None h = let m = slice_get-map respelled_entry es i in absurd (none (sym at ∙ m ∙ ap (option_map respelled_entry) h))
-    by (Some e) h = let m = slice_get-map respelled_entry es i in (e, (h, some_is (sym (ap (option_map respelled_entry) h) ∙ sym m ∙ at)))
+    by None h = let m = slice_get-map respelled_entry es i in
+        absurd (none (sym at ∙ m ∙ ap (option_map respelled_entry) h))
+    by (Some e) h = let m = slice_get-map respelled_entry es i in
+        (e, (h, some_is (sym (ap (option_map respelled_entry) h) ∙ sym m ∙ at)))
 
-at_respelled : (es : List Entry) (i : ℕ) (e : Entry) → slice_get es i ≡ Some e → slice_get (map respelled_entry es) i ≡ Some (respelled_entry e)
+at_respelled : (es : List Entry) (i : ℕ) (e : Entry) → slice_get es i ≡ Some e →
+    slice_get (map respelled_entry es) i ≡ Some (respelled_entry e)
 at_respelled es i e at = slice_get-map respelled_entry es i ∙ ap (option_map respelled_entry) at
 
 pub can_at : (es : List Entry) (i : ℕ) (e : Entry) → AllCanRespell es → slice_get es i ≡ Some e → CanRespell e.reply
-can_at es i e can at = subst (λ (x : Entry). CanRespell x.reply) (get_or_from_slice_get es i e e at) (All-get_or (λ (x : Entry). CanRespell x.reply) es i e (slice_get_within es i e at) can)
+can_at es i e can at = subst (λ (x : Entry). CanRespell x.reply) (get_or_from_slice_get es i e e at)
+    (All-get_or (λ (x : Entry). CanRespell x.reply) es i e (slice_get_within es i e at) can)
 
-faults_alike : (r : Recorded) (i : ℕ) (why : Why) → r.limits.layout ≡ One → AreInRange r.limits → AllCanRespell r.entries → length r.entries ≤ 640000 → IsFirstFault (respelled_record r) i why ↔ IsFirstFault r i why
+faults_alike : (r : Recorded) (i : ℕ) (why : Why) → r.limits.layout ≡ One → AreInRange r.limits →
+    AllCanRespell r.entries → length r.entries ≤ 640000 → IsFirstFault (respelled_record r) i why ↔
+    IsFirstFault r i why
 faults_alike r i why one range can few = (
   λ h.
       let e = respelled_of r.entries i h.entry h.is_entry in
-      record { entry = e.0; is_entry = e.1.0; before = before.0 (subst Linear (take-map respelled_entry i r.entries) h.before); breaks = (breaks e.0 e.1.0).0 (broken h.entry e.0 e.1.1 h.breaks) },
-  λ h. record { entry = respelled_entry h.entry; is_entry = at_respelled r.entries i h.entry h.is_entry; before = subst Linear (sym (take-map respelled_entry i r.entries)) (before.1 h.before); breaks = breaking h.entry ((breaks h.entry h.is_entry).1 h.breaks) },
+      record { entry = e.0; is_entry = e.1.0; before =
+          before.0 (subst Linear (take-map respelled_entry i r.entries) h.before); breaks =
+          (breaks e.0 e.1.0).0 (broken h.entry e.0 e.1.1 h.breaks) },
+  λ h. record { entry = respelled_entry h.entry; is_entry = at_respelled r.entries i h.entry h.is_entry; before =
+      subst Linear (sym (take-map respelled_entry i r.entries)) (before.1 h.before); breaks =
+      breaking h.entry ((breaks h.entry h.is_entry).1 h.breaks) },
 )
   where
     Linear : List Entry → Type 0
@@ -137,19 +181,31 @@ faults_alike r i why one range can few = (
     shorter : length (take i r.entries) ≤ 640000
     shorter = omega (arith, length-take i r.entries)
 
-    before : AreLinearized (widened r.limits) r.width (map respelled_entry (take i r.entries)) ↔ AreLinearized r.limits r.width (take i r.entries)
-    before = linearized_alike r.limits r.width (take i r.entries) one range (All-take (λ (x : Entry). CanRespell x.reply) i r.entries can) (omega (arith, shorter))
+    before : AreLinearized (widened r.limits) r.width (map respelled_entry (take i r.entries)) ↔
+        AreLinearized r.limits r.width (take i r.entries)
+    before = linearized_alike r.limits r.width (take i r.entries) one range
+        (All-take (λ (x : Entry). CanRespell x.reply) i r.entries can) (omega (arith, shorter))
 
-    breaks : (e : Entry) → slice_get r.entries i ≡ Some e → Breaks (widened r.limits) r.width (map respelled_entry (take i r.entries)) (respelled_entry e) why ↔ Breaks r.limits r.width (take i r.entries) e why
-    breaks e at = breaks_alike r.limits r.width (take i r.entries) e why one range (can_at r.entries i e can at) (omega (arith, shorter))
+    breaks : (e : Entry) → slice_get r.entries i ≡ Some e →
+        Breaks (widened r.limits) r.width (map respelled_entry (take i r.entries)) (respelled_entry e) why ↔
+        Breaks r.limits r.width (take i r.entries) e why
+    breaks e at = breaks_alike r.limits r.width (take i r.entries) e why one range (can_at r.entries i e can at)
+        (omega (arith, shorter))
 
-    broken : (x e : Entry) → respelled_entry e ≡ x → Breaks (widened r.limits) r.width (take i (map respelled_entry r.entries)) x why → Breaks (widened r.limits) r.width (map respelled_entry (take i r.entries)) (respelled_entry e) why
+    broken : (x e : Entry) → respelled_entry e ≡ x →
+        Breaks (widened r.limits) r.width (take i (map respelled_entry r.entries)) x why →
+        Breaks (widened r.limits) r.width (map respelled_entry (take i r.entries)) (respelled_entry e) why
     broken x e same h =
-        subst (λ (es : List Entry). Breaks (widened r.limits) r.width es (respelled_entry e) why) (take-map respelled_entry i r.entries)
-        (subst (λ (y : Entry). Breaks (widened r.limits) r.width (take i (map respelled_entry r.entries)) y why) (sym same) h)
+        subst (λ (es : List Entry). Breaks (widened r.limits) r.width es (respelled_entry e) why)
+            (take-map respelled_entry i r.entries)
+        (subst (λ (y : Entry). Breaks (widened r.limits) r.width (take i (map respelled_entry r.entries)) y why)
+            (sym same) h)
 
-    breaking : (e : Entry) → Breaks (widened r.limits) r.width (map respelled_entry (take i r.entries)) (respelled_entry e) why → Breaks (widened r.limits) r.width (take i (map respelled_entry r.entries)) (respelled_entry e) why
-    breaking e h = subst (λ (es : List Entry). Breaks (widened r.limits) r.width es (respelled_entry e) why) (sym (take-map respelled_entry i r.entries)) h
+    breaking : (e : Entry) → Breaks (widened r.limits) r.width (map respelled_entry (take i r.entries))
+        (respelled_entry e) why → Breaks (widened r.limits) r.width (take i (map respelled_entry r.entries))
+        (respelled_entry e) why
+    breaking e h = subst (λ (es : List Entry). Breaks (widened r.limits) r.width es (respelled_entry e) why)
+        (sym (take-map respelled_entry i r.entries)) h
 
 -- in either layout
 pub migration_keeps_linearized : MigrationKeepsLinearized
@@ -181,10 +237,16 @@ migration_keeps_verdicts r known range can (Err bad) = migration_keeps_faults r 
 layout_of : (r : Recorded) (limits : Bounds) → limits ≡ r.limits → limits.layout ≡ One → r.limits.layout ≡ One
 layout_of r limits same one = ap (λ (b : Bounds). b.layout) (sym same) ∙ one
 
-pub same_verdict : (r m : Recorded) (limits : Bounds) (entries : List Entry) → limits ≡ r.limits → limits.layout ≡ One → AreInRange limits → IsRecorded r → entries ≡ r.entries → AllCanRespell entries → m ≡ respelled_record r → HaveSameVerdict m r
+pub same_verdict : (r m : Recorded) (limits : Bounds) (entries : List Entry) → limits ≡ r.limits → limits.layout ≡
+    One → AreInRange limits → IsRecorded r → entries ≡ r.entries → AllCanRespell entries → m ≡ respelled_record r →
+    HaveSameVerdict m r
 same_verdict r m limits entries same one range known each can e =
     let is : migrated r ≡ m = ap (λ (l : Layout). migrated_from l r) (layout_of r limits same one) ∙ sym e in
-    subst (λ (x : Recorded). HaveSameVerdict x r) is (migration_keeps_verdicts r known (subst AreInRange same range) (λ _. subst AllCanRespell each can))
+    subst (λ (x : Recorded). HaveSameVerdict x r) is
+        (migration_keeps_verdicts r known (subst AreInRange same range) (λ _. subst AllCanRespell each can))
 
-pub cannot_migrate : (r : Recorded) (limits : Bounds) (entries : List Entry) (i : ℕ) → limits ≡ r.limits → limits.layout ≡ One → entries ≡ r.entries → IsFirstForeign entries i → (false ≡ true) ↔ CanMigrate r
-cannot_migrate r limits entries i same one each first = (λ h. cc, λ can. absurd (first.foreign (can_at entries i first.entry (subst AllCanRespell (sym each) (can (layout_of r limits same one))) first.is_entry)))
+pub cannot_migrate : (r : Recorded) (limits : Bounds) (entries : List Entry) (i : ℕ) → limits ≡ r.limits →
+    limits.layout ≡ One → entries ≡ r.entries → IsFirstForeign entries i → (false ≡ true) ↔ CanMigrate r
+cannot_migrate r limits entries i same one each first =
+    (λ h. cc, λ can. absurd (first.foreign (can_at entries i first.entry
+    (subst AllCanRespell (sym each) (can (layout_of r limits same one))) first.is_entry)))

@@ -1,5 +1,6 @@
 -- Which replies are respelled alike, and which the lock and the record give.
-use Rattle.std.proofs.Common.{zero, suc, ◌≡◌, ℕ, ◌<◌, ◌≤◌, List, refl, sym, ◌∙◌, ap, subst, inl, inr, arith, Bool, true, false, Option, Some, None}
+use Rattle.std.proofs.Common.{zero, suc, ◌≡◌, ℕ, ◌<◌, ◌≤◌, List, refl, sym, ◌∙◌, ap, subst, inl}
+use Rattle.std.proofs.Common.{inr, arith, Bool, true, false, Option, Some, None}
 use Rattle.std.specs.Prelude.{◌↔◌, ◌==◌, not, IsTrue, if◌then◌else◌}
 use Rattle.std.proofs.lemmas.Bool.Decides.{nat_tests}
 use Rattle.std.specs.Bool.{MatchBool}
@@ -19,7 +20,8 @@ use Rattle.stamp_core.specs.declared.reply.Reply.TheVariants.{Stamp, Yes, No, Do
 use Rattle.stamp_check.specs.Migration.{respelling, respelled_call, respelled_reply, widened, CanRespell}
 use Rattle.stamp_check.proofs.RespelledStamps.{Respells, IsForeign, respells}
 use Rattle.stamp_check.proofs.RespelledStamps.Respells.{writes, reads, foreign}
-use Rattle.stamp_check.proofs.RespelledRows.{write_can, read_can, optimistic_can, AreAlike, row_alike, respelled_transition, CanRespellReply}
+use Rattle.stamp_check.proofs.RespelledRows.{write_can, read_can, optimistic_can, AreAlike}
+use Rattle.stamp_check.proofs.RespelledRows.{row_alike, respelled_transition, CanRespellReply}
 
 -- a foreign number among those that can be respelled is the stamp of failure
 zero_of : (s t : ℕ) → IsForeign s t → CanRespell (Stamp s) → s ≡ 0
@@ -49,34 +51,42 @@ same_stamp s t n (writes k w) (writes j v) a b = omega (arith, w.narrow_is, w.wi
 same_stamp s t n (writes k w) (reads j d r) a b = absurd (omega (arith, w.wide_is, r.wide_is, r.few))
 same_stamp s t n (writes k w) (foreign f) a b = absurd (omega (arith, w.wide_is, f.zero))
 same_stamp s t n (reads k c r) (writes j w) a b = absurd (omega (arith, w.wide_is, r.wide_is, r.few))
-same_stamp s t n (reads k c r) (reads j d q) a b = omega (arith, r.narrow_is, r.wide_is, r.few, q.narrow_is, q.wide_is, q.few)
+same_stamp s t n (reads k c r) (reads j d q) a b =
+    omega (arith, r.narrow_is, r.wide_is, r.few, q.narrow_is, q.wide_is, q.few)
 same_stamp s t n (reads k c r) (foreign f) a b = absurd (omega (arith, r.wide_is, f.zero))
 same_stamp s t n (foreign f) (writes j w) a b = absurd (omega (arith, w.wide_is, f.zero))
 same_stamp s t n (foreign f) (reads j d r) a b = absurd (omega (arith, r.wide_is, f.zero))
 same_stamp s t n (foreign f) (foreign g) a b = zero_of s n f a ∙ sym (zero_of t n g b)
 
 respelled_once : (s t : ℕ) → respelling s ≡ respelling t → CanRespell (Stamp s) → CanRespell (Stamp t) → s ≡ t
-respelled_once s t e a b = same_stamp s t (respelling t) (subst (λ (n : ℕ). Respells s n) e (respells s)) (respells t) a b
+respelled_once s t e a b = same_stamp s t (respelling t) (subst (λ (n : ℕ). Respells s n) e (respells s))
+    (respells t) a b
 
 stamp_in_reply : (s t : ℕ) → Stamp s ≡ Stamp t → s ≡ t
 stamp_in_reply s t e = cc
 
 -- different replies are respelled to different ones
 same_reply : (a b : Reply) → CanRespell a → CanRespell b → respelled_reply a ≡ respelled_reply b → a ≡ b
-same_reply (Stamp s) (Stamp t) a b e = ap Stamp (respelled_once s t (stamp_in_reply (respelling s) (respelling t) e) a b)
+same_reply (Stamp s) (Stamp t) a b e = ap Stamp
+    (respelled_once s t (stamp_in_reply (respelling s) (respelling t) e) a b)
 same_reply (Stamp s) _ a b e = cc
 same_reply _ (Stamp t) a b e = cc
 same_reply x y a b e = e
 
-replied_alike : (t u : Option Transition) (reply : Reply) → AreAlike t u → CanRespell reply → Replies u (respelled_reply reply) ↔ Replies t reply
+replied_alike : (t u : Option Transition) (reply : Reply) → AreAlike t u → CanRespell reply →
+    Replies u (respelled_reply reply) ↔ Replies t reply
 replied_alike t u reply alike can = by t u alike.same alike.reply
   where
-    by : (t u : Option Transition) → u ≡ respelled_transition t → CanRespellReply t → Replies u (respelled_reply reply) ↔ Replies t reply
-    by None u e a = subst (λ (x : Option Transition). Replies x (respelled_reply reply) ↔ Replies None reply) (sym e) (λ h. h, λ h. h)
-    by (Some t) u e a = subst (λ (x : Option Transition). Replies x (respelled_reply reply) ↔ Replies (Some t) reply) (sym e) (λ h. same_reply t.reply reply a can h, λ h. ap respelled_reply h)
+    by : (t u : Option Transition) → u ≡ respelled_transition t → CanRespellReply t →
+        Replies u (respelled_reply reply) ↔ Replies t reply
+    by None u e a = subst (λ (x : Option Transition). Replies x (respelled_reply reply) ↔ Replies None reply)
+        (sym e) (λ h. h, λ h. h)
+    by (Some t) u e a = subst (λ (x : Option Transition). Replies x (respelled_reply reply) ↔
+        Replies (Some t) reply) (sym e) (λ h. same_reply t.reply reply a can h, λ h. ap respelled_reply h)
 
 -- the record answers no stamp
-other_reply : (reply given : Reply) → ((s : ℕ) → given ≡ Stamp s → ⊥) → (respelled_reply reply ≡ given) ↔ (reply ≡ given)
+other_reply : (reply given : Reply) → ((s : ℕ) → given ≡ Stamp s → ⊥) → (respelled_reply reply ≡ given) ↔
+    (reply ≡ given)
 other_reply (Stamp s) given other = (λ h. absurd (other (respelling s) (sym h)), λ h. absurd (other s (sym h)))
 other_reply reply given other = (λ h. h, λ h. h)
 
@@ -84,10 +94,12 @@ yes_or_no : (b : Bool) (s : ℕ) → (if b then Yes else No) ≡ Stamp s → ⊥
 yes_or_no true s e = cc
 yes_or_no false s e = cc
 
-record_alike : (content : List ℕ) (call : Call) (reply : Reply) → RecordReplies content (respelled_call call) (respelled_reply reply) ↔ RecordReplies content call reply
+record_alike : (content : List ℕ) (call : Call) (reply : Reply) →
+    RecordReplies content (respelled_call call) (respelled_reply reply) ↔ RecordReplies content call reply
 record_alike content Get reply = other_reply reply (Content content) (λ s e. cc)
 record_alike content (Put words) reply = other_reply reply Done (λ s e. cc)
-record_alike content (PutIf expected words) reply = other_reply reply (if same_words content expected then Yes else No) (yes_or_no (same_words content expected))
+record_alike content (PutIf expected words) reply =
+    other_reply reply (if same_words content expected then Yes else No) (yes_or_no (same_words content expected))
 record_alike content _ reply = (λ h. h, λ h. h)
 
 same_owner : (call : Call) → is_lock_call (respelled_call call) ≡ is_lock_call call
@@ -101,7 +113,8 @@ either false true e f g = cc
 either false false e f g = g
 
 -- what a call leaves in the record
-pub content_alike : (content : List ℕ) (call : Call) (reply : Reply) → content_next content (respelled_call call) (respelled_reply reply) ≡ content_next content call reply
+pub content_alike : (content : List ℕ) (call : Call) (reply : Reply) →
+    content_next content (respelled_call call) (respelled_reply reply) ≡ content_next content call reply
 content_alike content (PutIf expected words) (Stamp s) = refl
 content_alike content (PutIf expected words) _ = refl
 content_alike content _ reply = refl
@@ -110,9 +123,12 @@ few_readers : (limits : Bounds) → limits.layout ≡ One → AreInRange limits 
 unfolding units_of
 few_readers limits one range = subst (λ (l : Layout). limits.readers ≤ (units_of l).readers) one range.readers
 
-transition_alike : (limits : Bounds) (events : List LockEvent) (call : Call) → limits.layout ≡ One → AreInRange limits → write_count events < 70368744177662 → AreAlike (transition limits events call) (transition (widened limits) events (respelled_call call))
+transition_alike : (limits : Bounds) (events : List LockEvent) (call : Call) → limits.layout ≡ One →
+    AreInRange limits → write_count events < 70368744177662 →
+    AreAlike (transition limits events call) (transition (widened limits) events (respelled_call call))
 transition_alike limits events call one range room =
-    subst (λ (l : Layout). AreAlike (row (bounds l limits.readers limits.versions) (counts events) call) (row (widened limits) (counts events) (respelled_call call))) (sym one)
+    subst (λ (l : Layout). AreAlike (row (bounds l limits.readers limits.versions) (counts events) call)
+        (row (widened limits) (counts events) (respelled_call call))) (sym one)
     (row_alike limits.readers limits.versions (counts events) (few_readers limits one range) room call)
 
 same_appended : (t u : Option Transition) → u ≡ respelled_transition t → appended_by u ≡ appended_by t
@@ -121,22 +137,31 @@ same_appended (Some t) u e = ap appended_by e
 
 -- what a call is answered and appends, where layout 2 has the version
 pub record GoesAlike (limits : Bounds) (events : List LockEvent) (call : Call) : Type 0 where
-  pub appended : appended_by (transition (widened limits) events (respelled_call call)) ≡ appended_by (transition limits events call)
+  pub appended : appended_by (transition (widened limits) events (respelled_call call)) ≡
+      appended_by (transition limits events call)
   pub few : write_count (appended_by (transition limits events call)) ≤ 1
-  pub replies : (content : List ℕ) (reply : Reply) → CanRespell reply → IsReply (widened limits) events content (respelled_call call) (respelled_reply reply) ↔ IsReply limits events content call reply
+  pub replies : (content : List ℕ) (reply : Reply) → CanRespell reply →
+      IsReply (widened limits) events content (respelled_call call) (respelled_reply reply) ↔
+      IsReply limits events content call reply
 
-pub goes_alike : (limits : Bounds) (events : List LockEvent) (call : Call) → limits.layout ≡ One → AreInRange limits → write_count events < 70368744177662 → GoesAlike limits events call
+pub goes_alike : (limits : Bounds) (events : List LockEvent) (call : Call) → limits.layout ≡ One →
+    AreInRange limits → write_count events < 70368744177662 → GoesAlike limits events call
 goes_alike limits events call one range room =
     let alike = transition_alike limits events call one range room in
     record {
-      appended = same_appended (transition limits events call) (transition (widened limits) events (respelled_call call)) alike.same;
+      appended = same_appended (transition limits events call)
+          (transition (widened limits) events (respelled_call call)) alike.same;
       few = alike.few;
-      replies = λ content reply can. either (is_lock_call call) (is_lock_call (respelled_call call)) (same_owner call) (replied_alike (transition limits events call) (transition (widened limits) events (respelled_call call)) reply alike can) (record_alike content call reply);
+      replies = λ content reply can. either (is_lock_call call) (is_lock_call (respelled_call call))
+          (same_owner call) (replied_alike (transition limits events call)
+          (transition (widened limits) events (respelled_call call)) reply alike can)
+          (record_alike content call reply);
     }
 
 -- a stamp can be respelled where the number that it is respelled to is one
 pub told_by_number : (s t : ℕ) → (s ≡ 0 → ⊥) → t ≡ respelling s → IsTrue (not (t == 0)) ↔ CanRespell (Stamp s)
-told_by_number s t some e = (λ h. can_respell s (λ z. zero_fails t h (e ∙ z)), λ can. not_zero t (λ z. respelled_some s can some (sym e ∙ z)))
+told_by_number s t some e = (λ h. can_respell s (λ z. zero_fails t h (e ∙ z)),
+    λ can. not_zero t (λ z. respelled_some s can some (sym e ∙ z)))
   where
     zero_fails : (n : ℕ) → IsTrue (not (n == 0)) → n ≡ 0 → ⊥
     zero_fails n h z = grind (arith, nat_tests)

@@ -7,12 +7,14 @@ use Rattle.stamp_core.specs.declared.entry.Entry.{Entry}
 use Rattle.stamp_check.specs.declared.checking.Why.{Why}
 use Rattle.stamp_check.specs.declared.checking.Why.TheVariants.{Interval, Order, Overlap, Reply}
 
--- the first thing that an entry breaks after those before it: its interval, the order of points, the order of its thread's calls, or its reply
+-- the first thing that an entry breaks after those before it: its interval, the order of points,
+-- the order of its thread's calls, or its reply
 abbrev pub Breaks : Bounds → ℕ → List Entry → Entry → Why → Type 0
 Breaks limits width before e Interval = ¬ IsWithin e
 Breaks limits width before e Order = IsWithin e × ¬ RisesAbove before e
 Breaks limits width before e Overlap = IsWithin e × RisesAbove before e × ¬ FollowsItsThread before e
-Breaks limits width before e Reply = IsWithin e × RisesAbove before e × FollowsItsThread before e × ¬ IsAnswered limits width before e
+Breaks limits width before e Reply = IsWithin e × RisesAbove before e × FollowsItsThread before e ×
+    ¬ IsAnswered limits width before e
 
 -- the entries before entry i are linearized, and after them it breaks this first
 pub record IsFirstFault (r : Recorded) (i : ℕ) (why : Why) : Type 0 where

@@ -1,5 +1,6 @@
 -- Where the walk over a history is.
-use Rattle.std.specs.Prelude.{ℕ, ◌≡◌, ◌≤◌, ◌<◌, ◌-◌, List, ◌∷◌, [], ◌++◌, length, slice_index_or, Option, None, Some, MatchOption}
+use Rattle.std.specs.Prelude.{ℕ, ◌≡◌, ◌≤◌, ◌<◌, ◌-◌, List, ◌∷◌, [], ◌++◌, length, slice_index_or}
+use Rattle.std.specs.Prelude.{Option, None, Some, MatchOption}
 use Rattle.std.specs.List.{All}
 use Rattle.stamp_core.specs.Limits.{Bounds}
 use Rattle.stamp_core.specs.Word.{Represents, word_at}
@@ -18,14 +19,16 @@ IsAbove before n = MatchOption before (Unit {0}) (λ b. b < n)
 -- the last of these entries has this point
 abbrev pub IsLastPoint : List Entry → Option ℕ → Type 0
 IsLastPoint before None = length before ≡ 0
-IsLastPoint before (Some p) = (0 < length before) × ((d : Entry) → (slice_index_or before (length before - 1) d).point ≡ p)
+IsLastPoint before (Some p) = (0 < length before) ×
+    ((d : Entry) → (slice_index_or before (length before - 1) d).point ≡ p)
 
 -- where the thread was last: no entry of it ended later, and one ended there
 abbrev pub IsLastOf : List Entry → ℕ → Option ℕ → Type 0
 IsLastOf before thread None = All (λ (e : Entry). e.thread ≡ thread → ⊥) before
 IsLastOf before thread (Some n) =
     All (λ (e : Entry). e.thread ≡ thread → e.last ≤ n) before ×
-    ((k : ℕ) × (k < length before) × ((d : Entry) → ((slice_index_or before k d).thread ≡ thread) × ((slice_index_or before k d).last ≡ n)))
+    ((k : ℕ) × (k < length before) × ((d : Entry) → ((slice_index_or before k d).thread ≡ thread) ×
+        ((slice_index_or before k d).last ≡ n)))
 
 -- the walk is behind these entries, which are linearized
 pub record IsAfter (limits : Bounds) (width : ℕ) (before : List Entry) (walk : Walk) : Type 0 where
@@ -38,4 +41,5 @@ pub record IsAfter (limits : Bounds) (width : ℕ) (before : List Entry) (walk :
 
 -- behind one entry more, or what it breaks first
 pub record Advances (limits : Bounds) (e : Entry) (walk next : Walk) (found : Option Why) : Type 0 where
-  pub behind : (width : ℕ) (before : List Entry) → IsAfter limits width before walk → SuitsRecord width e → MatchOption found (IsAfter limits width (before ++ e ∷ []) next) (Breaks limits width before e)
+  pub behind : (width : ℕ) (before : List Entry) → IsAfter limits width before walk → SuitsRecord width e →
+      MatchOption found (IsAfter limits width (before ++ e ∷ []) next) (Breaks limits width before e)

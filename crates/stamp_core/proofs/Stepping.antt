@@ -7,12 +7,14 @@ use Rattle.stamp_core.specs.Decision.{Answers, Changes, HasNone, Steps}
 use Rattle.stamp_core.specs.declared.call.Call.{Call}
 use Rattle.stamp_core.specs.declared.reply.Reply.{Reply}
 
-pub answered : (limits : Bounds) (word : LockWord) (call : Call) (reply : Reply) → Answers limits word call reply → Steps limits word call (Some (word, reply))
+pub answered : (limits : Bounds) (word : LockWord) (call : Call) (reply : Reply) → Answers limits word call reply →
+    Steps limits word call (Some (word, reply))
 answered limits word call reply answers = record {
   after = λ events represented. rw (answers events represented, append-nil events) (represented, refl);
 }
 
-pub changed : (limits : Bounds) (word new : LockWord) (call : Call) (reply : Reply) → Changes limits word call new reply → Steps limits word call (Some (new, reply))
+pub changed : (limits : Bounds) (word new : LockWord) (call : Call) (reply : Reply) →
+    Changes limits word call new reply → Steps limits word call (Some (new, reply))
 changed limits word new call reply changes = record {
   after = λ events represented. let m = changes events represented in rw m.transition_is (m.represented, refl);
 }

@@ -11,7 +11,9 @@ use Rattle.stamp_core.proofs.TwoLayouts.{either_layout}
 use Rattle.stamp_core.proofs.WellFormedPush.{obeys_now}
 
 -- a word's number gives back what it was made of
-counts_at : (l : Layout) (w k wr r : ℕ) → r ≤ (units_of l).readers → (0 < wr → r ≡ 0) → wr ≤ 1 → w ≡ word_number (units_of l) (record { write_count = k; writers = wr; readers = r }) → counts_of (units_of l) w ≡ record { write_count = k; writers = wr; readers = r }
+counts_at : (l : Layout) (w k wr r : ℕ) → r ≤ (units_of l).readers → (0 < wr → r ≡ 0) → wr ≤ 1 → w ≡
+    word_number (units_of l) (record { write_count = k; writers = wr; readers = r }) → counts_of (units_of l) w ≡
+    record { write_count = k; writers = wr; readers = r }
 unfolding counts_of
 counts_at l w k zero r few apart one e =
     let u = either_layout l in
@@ -30,8 +32,10 @@ counts_at l w k (suc zero) r few apart one e =
 counts_at l w k (suc (suc wr)) r few apart one e = absurd (omega arith)
 
 -- a word stands for the counts of all events that it represents
-pub counts_in-represented : (limits : Bounds) (word : LockWord) (events : List LockEvent) → AreInRange limits → Represents limits word events → counts_in word ≡ counts events
+pub counts_in-represented : (limits : Bounds) (word : LockWord) (events : List LockEvent) → AreInRange limits →
+    Represents limits word events → counts_in word ≡ counts events
 counts_in-represented limits word events range represented =
     let now = obeys_now limits events represented.well_formed in
     rw represented.layout
-    (counts_at limits.layout word.bits (counts events).write_count (counts events).writers (counts events).readers (omega arith) now.within.apart now.within.one_writer represented.spelled)
+    (counts_at limits.layout word.bits (counts events).write_count (counts events).writers (counts events).readers
+        (omega arith) now.within.apart now.within.one_writer represented.spelled)

@@ -44,13 +44,15 @@ content_after width history = content_from (zeros width) history
 
 -- the reply of the lock, or of the record
 abbrev pub IsReply : Bounds → List LockEvent → List ℕ → Call → Reply → Type 0
-IsReply limits events content call reply = MatchBool (is_lock_call call) (Replies (transition limits events call) reply) (RecordReplies content call reply)
+IsReply limits events content call reply = MatchBool (is_lock_call call)
+    (Replies (transition limits events call) reply) (RecordReplies content call reply)
 
 -- each call has just this reply after those before it
 abbrev pub IsLegalFrom : Bounds → List LockEvent → List ℕ → History → Type 0
 IsLegalFrom limits events content [] = Unit {0}
 IsLegalFrom limits events content (e ∷ es) =
-    IsReply limits events content e.0 e.1 × IsLegalFrom limits (events ++ appended_by (transition limits events e.0)) (content_next content e.0 e.1) es
+    IsReply limits events content e.0 e.1 × IsLegalFrom limits
+        (events ++ appended_by (transition limits events e.0)) (content_next content e.0 e.1) es
 
 -- so it is from the opening on, with a record of so many words
 abbrev pub IsLegal : Bounds → ℕ → History → Type 0

@@ -1,7 +1,8 @@
 -- Which lists of lock events can happen under limits.
 -- StampedLock, class comment on writing and reading: write mode is exclusive.
 use Rattle.std.specs.Prelude.{ℕ, ◌≡◌, ◌<◌, ◌≤◌, List, take, count_by}
-use Rattle.stamp_core.specs.LockEvent.{LockEvent, Counts, counts, write_count, is_write_released, is_read_acquired, is_read_released}
+use Rattle.stamp_core.specs.LockEvent.{LockEvent, Counts, counts, write_count, is_write_released}
+use Rattle.stamp_core.specs.LockEvent.{is_read_acquired, is_read_released}
 use Rattle.stamp_core.specs.Limits.{Bounds}
 
 -- one writer or readers alone, and no more than the limits allow

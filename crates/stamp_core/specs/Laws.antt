@@ -21,22 +21,27 @@ use Rattle.stamp_core.specs.declared.reply.Reply.TheVariants.{Stamp}
 abbrev pub NoneAcquiresWrite : Bounds → List LockEvent → History → Type 0
 NoneAcquiresWrite limits events [] = Unit {0}
 NoneAcquiresWrite limits events (e ∷ es) =
-    (write_count (appended_by (transition limits events e.0)) ≡ 0) × NoneAcquiresWrite limits (events ++ appended_by (transition limits events e.0)) es
+    (write_count (appended_by (transition limits events e.0)) ≡ 0) ×
+        NoneAcquiresWrite limits (events ++ appended_by (transition limits events e.0)) es
 
--- In a legal history, after any calls that follow the issue of a stamp, it is valid exactly where none of them acquired write mode.
+-- In a legal history, after any calls that follow the issue of a stamp, it is valid exactly where
+-- none of them acquired write mode.
 abbrev pub StampValidity : Type 0
 StampValidity =
     (limits : Bounds) (width : ℕ) (before : History) (issue : Call × Reply) (after : History) (s : ℕ) →
     AreInRange limits → IsLegal limits width (before ++ issue ∷ after) → issue.1 ≡ Stamp s → s ≢ 0 →
-    IsValid limits (events_of limits (before ++ issue ∷ after)) s ↔ NoneAcquiresWrite limits (events_of limits (before ++ issue ∷ [])) after
+    IsValid limits (events_of limits (before ++ issue ∷ after)) s ↔
+        NoneAcquiresWrite limits (events_of limits (before ++ issue ∷ [])) after
 
 -- What is held is valid.
 abbrev pub HeldIsValid : Type 0
-HeldIsValid = (limits : Bounds) (events : List LockEvent) (s : ℕ) → IsWellFormed limits events → IsHeld limits events s → IsValid limits events s
+HeldIsValid = (limits : Bounds) (events : List LockEvent) (s : ℕ) → IsWellFormed limits events →
+    IsHeld limits events s → IsValid limits events s
 
 -- The events of a legal history are well-formed.
 abbrev pub LegalIsWellFormed : Type 0
-LegalIsWellFormed = (limits : Bounds) (width : ℕ) (history : History) → AreInRange limits → IsLegal limits width history → IsWellFormed limits (events_of limits history)
+LegalIsWellFormed = (limits : Bounds) (width : ℕ) (history : History) → AreInRange limits →
+    IsLegal limits width history → IsWellFormed limits (events_of limits history)
 
 -- The tests that the transitions go by say what is held and what is valid.
 abbrev pub TestsAreExact : Type 0
@@ -48,12 +53,14 @@ TestsAreExact =
 
 -- The decision on a number is the call's transition, for all events that the number represents.
 abbrev pub DecisionsAreTransitions : Type 0
-DecisionsAreTransitions = (limits : Bounds) (number : ℕ) (call : Call) → AreInRange limits → Decides limits (word_at limits number) call (decision limits number call)
+DecisionsAreTransitions = (limits : Bounds) (number : ℕ) (call : Call) → AreInRange limits →
+    Decides limits (word_at limits number) call (decision limits number call)
 
 -- Of the lock's calls only the two that wait for a mode can be without a transition.
 abbrev pub OnlyLockingWaits : Type 0
 OnlyLockingWaits =
-    (limits : Bounds) (events : List LockEvent) (call : Call) → IsTrue (is_lock_call call) → transition limits events call ≡ None →
+    (limits : Bounds) (events : List LockEvent) (call : Call) → IsTrue (is_lock_call call) →
+        transition limits events call ≡ None →
     (call ≡ WriteLock) ⊎ (call ≡ ReadLock)
 
 -- Entries are linearized exactly where those before the last are, and the last fits after them.

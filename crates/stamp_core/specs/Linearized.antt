@@ -19,7 +19,8 @@ pub record IsWithin (e : Entry) : Type 0 where
 abbrev pub KeepsThreadOrder : Entry → Entry → Type 0
 KeepsThreadOrder earlier later = earlier.thread ≡ later.thread → earlier.last < later.first
 
--- points lie in their intervals and rise, the entries of a thread do not overlap, and the history in this order is legal
+-- points lie in their intervals and rise, the entries of a thread do not overlap, and the history
+-- in this order is legal
 pub record AreLinearized (limits : Bounds) (width : ℕ) (entries : List Entry) : Type 0 where
   pub within : All IsWithin entries
   pub rising : AllAdjacentBelow (λ (e f : Entry). e.point < f.point) entries (length entries)
@@ -37,7 +38,8 @@ abbrev pub FollowsItsThread : List Entry → Entry → Type 0
 FollowsItsThread before e = All (λ (d : Entry). KeepsThreadOrder d e) before
 
 abbrev pub IsAnswered : Bounds → ℕ → List Entry → Entry → Type 0
-IsAnswered limits width before e = IsReply limits (events_of limits (history_of before)) (content_after width (history_of before)) e.call e.reply
+IsAnswered limits width before e = IsReply limits (events_of limits (history_of before))
+    (content_after width (history_of before)) e.call e.reply
 
 -- the entry may come after those before it
 pub record Fits (limits : Bounds) (width : ℕ) (before : List Entry) (e : Entry) : Type 0 where

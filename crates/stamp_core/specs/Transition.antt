@@ -1,6 +1,8 @@
 -- The sequential lock: what each call does after events, and what it is answered.
--- StampedLock, the methods tryWriteLock (TryWrite), tryReadLock, writeLock, readLock, tryOptimisticRead (Optimistic), validate, unlockWrite,
--- unlockRead, unlock, tryConvertToWriteLock (ToWrite), tryConvertToReadLock, tryConvertToOptimisticRead, tryUnlockWrite, tryUnlockRead,
+-- StampedLock, the methods tryWriteLock (TryWrite), tryReadLock, writeLock, readLock,
+-- tryOptimisticRead (Optimistic), validate, unlockWrite,
+-- unlockRead, unlock, tryConvertToWriteLock (ToWrite), tryConvertToReadLock,
+-- tryConvertToOptimisticRead, tryUnlockWrite, tryUnlockRead,
 -- isWriteLocked, isReadLocked and getReadLockCount (ReadCount).
 use Rattle.std.specs.Prelude.{◌+◌, ◌==◌, ◌&&◌, nat_lt, Bool, List, [], ◌∷◌, Option, Some, None, if◌then◌else◌}
 use Rattle.stamp_core.specs.LockEvent.{LockEvent, Counts, counts}
@@ -9,7 +11,13 @@ use Rattle.stamp_core.specs.Layout.{Units}
 use Rattle.stamp_core.specs.Limits.{Bounds, units}
 use Rattle.stamp_core.specs.Stamp.{write_stamp, optimistic_stamp, read_stamp, is_held_write, is_held_read, is_valid}
 use Rattle.stamp_core.specs.declared.call.Call.{Call}
-use Rattle.stamp_core.specs.declared.call.Call.TheVariants.{TryWrite, TryRead, WriteLock, ReadLock, Optimistic, Validate, UnlockWrite, UnlockRead, Unlock, ToWrite, ToRead, ToOptimistic, TryUnlockWrite, TryUnlockRead, IsWriteLocked, IsReadLocked, ReadCount, Get, Put, PutIf}
+use Rattle.stamp_core.specs.declared.call.Call.TheVariants.{TryWrite, TryRead, WriteLock, ReadLock}
+use Rattle.stamp_core.specs.declared.call.Call.TheVariants.{Optimistic, Validate, UnlockWrite}
+use Rattle.stamp_core.specs.declared.call.Call.TheVariants.{UnlockRead, Unlock, ToWrite, ToRead}
+use Rattle.stamp_core.specs.declared.call.Call.TheVariants.{ToOptimistic, TryUnlockWrite}
+use Rattle.stamp_core.specs.declared.call.Call.TheVariants.{TryUnlockRead, IsWriteLocked}
+use Rattle.stamp_core.specs.declared.call.Call.TheVariants.{IsReadLocked, ReadCount, Get, Put}
+use Rattle.stamp_core.specs.declared.call.Call.TheVariants.{PutIf}
 use Rattle.stamp_core.specs.declared.reply.Reply.{Reply}
 use Rattle.stamp_core.specs.declared.reply.Reply.TheVariants.{Stamp, Yes, No, Done, Mismatch, Count}
 
@@ -43,7 +51,8 @@ may_write limits c = (c.writers == 0) && (c.readers == 0) && nat_lt c.write_coun
 abbrev pub may_read : Bounds → Counts → Bool
 may_read limits c = (c.writers == 0) && nat_lt c.readers limits.readers
 
--- one row for each call, by the counts of the events before it. A call that waits has no transition, nor has a call of the record here
+-- one row for each call, by the counts of the events before it. A call that waits has no
+-- transition, nor has a call of the record here
 abbrev pub row : Bounds → Counts → Call → Option Transition
 row l c TryWrite =
     if may_write l c then change (WriteAcquired ∷ []) (next_write (units l) c) else answer (Stamp 0)
@@ -68,17 +77,22 @@ row l c (Unlock s) =
     else answer Mismatch
 row l c (ToWrite s) =
     if is_held_write (units l) c s then answer (Stamp s)
-    else if is_held_read (units l) c s && (c.readers == 1) && nat_lt c.write_count l.versions then change (ReadReleased ∷ WriteAcquired ∷ []) (next_write (units l) c)
-    else if (s == optimistic_stamp (units l) c.write_count) && may_write l c then change (WriteAcquired ∷ []) (next_write (units l) c)
+    else if is_held_read (units l) c s && (c.readers == 1) && nat_lt c.write_count l.versions then
+        change (ReadReleased ∷ WriteAcquired ∷ []) (next_write (units l) c)
+    else if (s == optimistic_stamp (units l) c.write_count) && may_write l c then
+        change (WriteAcquired ∷ []) (next_write (units l) c)
     else answer (Stamp 0)
 row l c (ToRead s) =
-    if is_held_write (units l) c s then change (WriteReleased ∷ ReadAcquired ∷ []) (Stamp (read_stamp (units l) c.write_count 1))
+    if is_held_write (units l) c s then change (WriteReleased ∷ ReadAcquired ∷ [])
+        (Stamp (read_stamp (units l) c.write_count 1))
     else if is_held_read (units l) c s then answer (Stamp s)
-    else if (s == optimistic_stamp (units l) c.write_count) && may_read l c then change (ReadAcquired ∷ []) (next_read (units l) c)
+    else if (s == optimistic_stamp (units l) c.write_count) && may_read l c then
+        change (ReadAcquired ∷ []) (next_read (units l) c)
     else answer (Stamp 0)
 row l c (ToOptimistic s) =
     if is_held_write (units l) c s then change (WriteReleased ∷ []) (Stamp (optimistic_stamp (units l) c.write_count))
-    else if is_held_read (units l) c s then change (ReadReleased ∷ []) (Stamp (optimistic_stamp (units l) c.write_count))
+    else if is_held_read (units l) c s then change (ReadReleased ∷ [])
+        (Stamp (optimistic_stamp (units l) c.write_count))
     else if (s == optimistic_stamp (units l) c.write_count) && (c.writers == 0) then answer (Stamp s)
     else answer (Stamp 0)
 row l c TryUnlockWrite =

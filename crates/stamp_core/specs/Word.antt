@@ -20,7 +20,8 @@ word_at limits number = word_in limits.layout number
 
 -- the number that stands for these counts
 abbrev pub word_number : Units → Counts → ℕ
-word_number u c = if c.writers == 0 then u.version * (c.write_count + 1) + c.readers else u.version * c.write_count + u.writer
+word_number u c = if c.writers == 0 then u.version * (c.write_count + 1) + c.readers else
+    u.version * c.write_count + u.writer
 
 -- the events can happen under the limits, and the word is the number of their counts
 pub record Represents (limits : Bounds) (word : LockWord) (events : List LockEvent) : Type 0 where
@@ -35,4 +36,5 @@ pub record IsAdmitted (limits : Bounds) (word : LockWord) : Type 0 where
 
 -- the fact holds of all events that the word represents, whatever the limits
 abbrev pub HoldsForEvents : LockWord → (List LockEvent → Type 0) → Type 0
-HoldsForEvents word P = (limits : Bounds) (events : List LockEvent) → AreInRange limits → Represents limits word events → P events
+HoldsForEvents word P = (limits : Bounds) (events : List LockEvent) → AreInRange limits →
+    Represents limits word events → P events

@@ -1,5 +1,6 @@
 -- Reading items one after the other, as a loop does.
-use Rattle.std.proofs.Common.{◌≡◌, ◌∙◌, ℕ, ◌+◌, List, [], ◌∷◌, ◌++◌, Option, Some, None, Result, Ok, Err, refl, ap, sym, subst, append_assoc}
+use Rattle.std.proofs.Common.{◌≡◌, ◌∙◌, ℕ, ◌+◌, List, [], ◌∷◌, ◌++◌, Option, Some, None, Result, Ok}
+use Rattle.std.proofs.Common.{Err, refl, ap, sym, subst, append_assoc}
 use Rattle.std.specs.List.{All}
 use Rattle.std.proofs.lemmas.List.Elements.{All-nil, All-cons, All-append}
 use Rattle.stamp_history.specs.declared.read_error.ReadError.{ReadError}
@@ -16,20 +17,28 @@ abbrev pub with_front : {A : Type 0} → List A → Result (List A) ReadError �
 with_front front reading = reading >>= λ later. Ok (front ++ later)
 
 -- one item more was read, and is no longer to read
-pub front_more : {A : Type 0} (one : ℕ → Data → Result A ReadError) (front next : List A) (i : ℕ) (d : Data) (ds : Items) (x : A) (whole : Result (List A) ReadError) → one i d ≡ Ok x → next ≡ front ++ x ∷ [] →
+pub front_more : {A : Type 0} (one : ℕ → Data → Result A ReadError) (front next : List A) (i : ℕ) (d : Data)
+    (ds : Items) (x : A) (whole : Result (List A) ReadError) → one i d ≡ Ok x → next ≡ front ++ x ∷ [] →
     with_front front (each one i (item d ds)) ≡ whole → with_front next (each one (i + 1) ds) ≡ whole
-front_more {A} one front next i d ds x whole read pushed before = subst (λ (ys : List A). with_front ys (each one (i + 1) ds) ≡ whole) (sym pushed) (moved (each one (i + 1) ds) ∙ sym (ap (λ (r : Result A ReadError). with_front front (r >>= λ y. each one (i + 1) ds >>= λ later. Ok (y ∷ later))) read) ∙ before)
+front_more {A} one front next i d ds x whole read pushed before =
+    subst (λ (ys : List A). with_front ys (each one (i + 1) ds) ≡ whole) (sym pushed)
+    (moved (each one (i + 1) ds) ∙ sym (ap (λ (r : Result A ReadError). with_front front
+    (r >>= λ y. each one (i + 1) ds >>= λ later. Ok (y ∷ later))) read) ∙ before)
   where
-    moved : (later : Result (List A) ReadError) → with_front (front ++ x ∷ []) later ≡ with_front front (later >>= λ ys. Ok (x ∷ ys))
+    moved : (later : Result (List A) ReadError) → with_front (front ++ x ∷ []) later ≡
+        with_front front (later >>= λ ys. Ok (x ∷ ys))
     moved (Ok ys) = ap Ok (append_assoc front (x ∷ []) ys)
     moved (Err e) = refl
 
 -- what holds of each, and of one more
-pub All-pushed : {A : Type 0} (P : A → Type 0) (xs : List A) (x : A) (ys : List A) → ys ≡ xs ++ x ∷ [] → All P xs → P x → All P ys
-All-pushed P xs x ys is before one = subst (All P) (sym is) (All-append P xs (x ∷ []) before (All-cons P x [] one (All-nil P)))
+pub All-pushed : {A : Type 0} (P : A → Type 0) (xs : List A) (x : A) (ys : List A) → ys ≡ xs ++ x ∷ [] → All P xs →
+    P x → All P ys
+All-pushed P xs x ys is before one = subst (All P) (sym is)
+    (All-append P xs (x ∷ []) before (All-cons P x [] one (All-nil P)))
 
 -- what two readings one after the other gave
-pub bind_ok : {A B : Type 0} (found : Result A ReadError) (f : A → Result B ReadError) (y : B) → (found >>= f) ≡ Ok y → (x : A) × (found ≡ Ok x) × (f x ≡ Ok y)
+pub bind_ok : {A B : Type 0} (found : Result A ReadError) (f : A → Result B ReadError) (y : B) → (found >>= f) ≡
+    Ok y → (x : A) × (found ≡ Ok x) × (f x ≡ Ok y)
 bind_ok (Ok x) f y e = (x, refl, e)
 bind_ok (Err z) f y e = cc
 

@@ -19,21 +19,28 @@ use Rattle.stamp_history.specs.ReplayText.{number_data}
 use Rattle.stamp_history.proofs.EntriesReadAgain.{entry_again, report_again}
 use Rattle.stamp_history.proofs.HistoryAgain.{history_found}
 use Rattle.stamp_history.proofs.HistoryParts.{made}
-use Rattle.stamp_history.proofs.ReadAgain.{ReadsAgain, ItemsReadAgain, number_again, no_items_again, item_again, array_again, no_members_again, member_again, object_again, text_read}
+use Rattle.stamp_history.proofs.ReadAgain.{ReadsAgain, ItemsReadAgain, number_again, no_items_again}
+use Rattle.stamp_history.proofs.ReadAgain.{item_again, array_again, no_members_again, member_again}
+use Rattle.stamp_history.proofs.ReadAgain.{object_again, text_read}
 
 small : (n m : ℕ) → n ≤ m → m < 2 ^ 64 → IsU64 n
 small n m le lt = omega arith
 
-items_again : (w : ℕ) (es : List Entry) → All (SuitsRecord w) es → All EntryIsU64 es → ItemsReadAgain 3 (items_of (map entry_data es))
+items_again : (w : ℕ) (es : List Entry) → All (SuitsRecord w) es → All EntryIsU64 es →
+    ItemsReadAgain 3 (items_of (map entry_data es))
 items_again w [] suit fit = no_items_again 3
 items_again w (e ∷ es) suit fit =
     let thread = small e.thread 64 (omega (arith, (All-head (SuitsRecord w) e es suit).thread)) (lit< tt) in
-    item_again 3 3 (entry_data e) (items_of (map entry_data es)) (omega arith) (entry_again e thread (All-head EntryIsU64 e es fit)) (items_again w es (All-tail (SuitsRecord w) e es suit) (All-tail EntryIsU64 e es fit))
+    item_again 3 3 (entry_data e) (items_of (map entry_data es)) (omega arith)
+        (entry_again e thread (All-head EntryIsU64 e es fit))
+        (items_again w es (All-tail (SuitsRecord w) e es suit) (All-tail EntryIsU64 e es fit))
 
 entries_again : (w : ℕ) (es : List Entry) → All (SuitsRecord w) es → All EntryIsU64 es → ReadsAgain 4 (entries_data es)
 entries_again w es suit fit = array_again 3 (items_of (map entry_data es)) (items_again w es suit fit)
 
-data_again : (l : Layout) (readers versions w : ℕ) (es : List Entry) (ps : List (ℕ × ℕ)) → IsU64 readers → IsU64 versions → IsU64 w → ReadsAgain 4 (entries_data es) → ReadsAgain 2 (report_data ps) → ReadsAgain 5 (history_data (made l readers versions w es ps))
+data_again : (l : Layout) (readers versions w : ℕ) (es : List Entry) (ps : List (ℕ × ℕ)) → IsU64 readers →
+    IsU64 versions → IsU64 w → ReadsAgain 4 (entries_data es) → ReadsAgain 2 (report_data ps) →
+    ReadsAgain 5 (history_data (made l readers versions w es ps))
 data_again One readers versions w es [] readers_fit versions_fit width_fits entries report =
     let format = number_again 1 (lit< tt) in
     let r = number_again readers readers_fit in
@@ -87,16 +94,23 @@ data_again Two readers versions w es (p ∷ ps) readers_fit versions_fit width_f
     (member_again 0 4 (codes "width") (number_data w) no_members (omega arith) refl width (no_members_again 4))))))))
     (rw (entries.same, format.same, r.same, report.same, v.same, width.same) refl)
 
-limits_fit : (l : Layout) (readers versions : ℕ) → AreInRange (bounds l readers versions) → IsU64 readers × IsU64 versions
+limits_fit : (l : Layout) (readers versions : ℕ) → AreInRange (bounds l readers versions) → IsU64 readers ×
+    IsU64 versions
 unfolding units_of
-limits_fit One readers versions range = (small readers 127 range.readers (lit< tt), small versions 36028797018963966 range.versions (lit< tt))
-limits_fit Two readers versions range = (small readers 65535 range.readers (lit< tt), small versions 70368744177662 range.versions (lit< tt))
+limits_fit One readers versions range = (small readers 127 range.readers (lit< tt),
+    small versions 36028797018963966 range.versions (lit< tt))
+limits_fit Two readers versions range = (small readers 65535 range.readers (lit< tt),
+    small versions 70368744177662 range.versions (lit< tt))
 
 pub reads_again : HistoriesReadAgain
 unfolding history_of history_text
 reads_again r range known fits numbers =
     let limits = limits_fit r.limits.layout r.limits.readers r.limits.versions range in
     let entries = entries_again r.width r.entries known.suit numbers.entries in
-    let again = data_again r.limits.layout r.limits.readers r.limits.versions r.width r.entries r.report limits.0 limits.1 (small r.width 16 known.width (lit< tt)) entries (report_again r.report numbers.report) in
-    let deep : ReadsAgain 127 (history_data r) = record { numbers = again.numbers; depth = omega (arith, again.depth); same = again.same; utf8 = again.utf8 } in
-    rw (is_utf8-from_IsUtf8 (compact_text (history_data r)) again.utf8, text_read (history_data r) deep, history_found r range known fits) refl
+    let again = data_again r.limits.layout r.limits.readers r.limits.versions r.width r.entries r.report limits.0
+        limits.1 (small r.width 16 known.width (lit< tt)) entries (report_again r.report numbers.report) in
+    let deep : ReadsAgain 127 (history_data r) =
+        record { numbers = again.numbers; depth = omega (arith, again.depth); same = again.same; utf8 = again.utf8 }
+        in
+    rw (is_utf8-from_IsUtf8 (compact_text (history_data r)) again.utf8, text_read (history_data r) deep,
+        history_found r range known fits) refl

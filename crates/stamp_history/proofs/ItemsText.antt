@@ -11,7 +11,9 @@ abbrev pub items_left : {T : Type 0} → (T → Data) → ℕ → List T → Lis
 items_left write i xs = items_text (nat_lt 0 i) (items_of (map write (drop i xs)))
 
 -- one item more was written, and is no longer to write
-pub item_written : {T : Type 0} (write : T → Data) (xs : List T) (i : ℕ) (x : T) (text mid next whole : List ℕ) → drop i xs ≡ x ∷ drop (i + 1) xs → mid ≡ text ++ comma_if (nat_lt 0 i) → next ≡ mid ++ compact_text (write x) → text ++ items_left write i xs ≡ whole → next ++ items_left write (i + 1) xs ≡ whole
+pub item_written : {T : Type 0} (write : T → Data) (xs : List T) (i : ℕ) (x : T) (text mid next whole : List ℕ) →
+    drop i xs ≡ x ∷ drop (i + 1) xs → mid ≡ text ++ comma_if (nat_lt 0 i) → next ≡ mid ++ compact_text (write x) →
+    text ++ items_left write i xs ≡ whole → next ++ items_left write (i + 1) xs ≡ whole
 item_written {T} write xs i x text mid next whole at comma piece before =
     let item = compact_text (write x) in
     let later = items_text true (items_of (map write (drop (i + 1) xs))) in

@@ -6,7 +6,8 @@ use Rattle.serde_json.specs.Read.{read}
 use Rattle.stamp_history.specs.declared.read_error.ReadError.TheVariants.{NotJson}
 use Rattle.stamp_history.specs.Reading.{json_of}
 
-refused_at : (b : Bool) (bytes : List ℕ) → is_utf8 bytes ≡ b → (IsUtf8 bytes → read bytes ≡ None) → json_of bytes ≡ Err NotJson
+refused_at : (b : Bool) (bytes : List ℕ) → is_utf8 bytes ≡ b → (IsUtf8 bytes → read bytes ≡ None) → json_of bytes ≡
+    Err NotJson
 refused_at true bytes e none = rw (e, none (IsUtf8-from_is_utf8 bytes e))
 refused_at false bytes e none = rw e
 

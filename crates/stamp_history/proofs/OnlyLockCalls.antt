@@ -1,5 +1,6 @@
 -- The calls of a replay are the lock's.
-use Rattle.std.proofs.Common.{◌≡◌, ℕ, ◌+◌, List, [], ◌∷◌, Bool, true, false, refl, subst, Option, Some, None, Ok, option_and_then}
+use Rattle.std.proofs.Common.{◌≡◌, ℕ, ◌+◌, List, [], ◌∷◌, Bool, true, false, refl, subst, Option}
+use Rattle.std.proofs.Common.{Some, None, Ok, option_and_then}
 use Rattle.std.specs.Prelude.{IsTrue, if◌then◌else◌, codes}
 use Rattle.std.specs.List.{All}
 use Rattle.std.specs.Str.{bytes_eq}
@@ -8,7 +9,12 @@ use Rattle.serde_json.specs.Data.{Data, Items, no_items, item}
 use Rattle.serde_json.specs.Find as find
 use Rattle.stamp_core.specs.Call.{is_lock_call}
 use Rattle.stamp_core.specs.declared.call.Call.{Call}
-use Rattle.stamp_core.specs.declared.call.Call.TheVariants.{TryWrite, TryRead, WriteLock, ReadLock, Optimistic, Validate, UnlockWrite, UnlockRead, Unlock, ToWrite, ToRead, ToOptimistic, TryUnlockWrite, TryUnlockRead, IsWriteLocked, IsReadLocked, ReadCount}
+use Rattle.stamp_core.specs.declared.call.Call.TheVariants.{TryWrite, TryRead, WriteLock, ReadLock}
+use Rattle.stamp_core.specs.declared.call.Call.TheVariants.{Optimistic, Validate, UnlockWrite}
+use Rattle.stamp_core.specs.declared.call.Call.TheVariants.{UnlockRead, Unlock, ToWrite, ToRead}
+use Rattle.stamp_core.specs.declared.call.Call.TheVariants.{ToOptimistic, TryUnlockWrite}
+use Rattle.stamp_core.specs.declared.call.Call.TheVariants.{TryUnlockRead, IsWriteLocked}
+use Rattle.stamp_core.specs.declared.call.Call.TheVariants.{IsReadLocked, ReadCount}
 use Rattle.stamp_history.specs.JsonValue.{whole}
 use Rattle.stamp_history.specs.LockCall.{plain_call, stamp_call, listed_call, lock_call}
 use Rattle.stamp_history.specs.Reading.{◌>>=◌, json_of, each}
@@ -22,7 +28,8 @@ pub record IsOfLock (found : Option Call) : Type 0 where
   pub is : (call : Call) → found ≡ Some call → IsTrue (is_lock_call call)
 
 one : (k : Call) → IsTrue (is_lock_call k) → IsOfLock (Some k)
-one k lock = record { is = λ call e. let same : k ≡ call = cc in subst (λ (c : Call). IsTrue (is_lock_call c)) same lock }
+one k lock = record { is = λ call e. let same : k ≡ call = cc in
+    subst (λ (c : Call). IsTrue (is_lock_call c)) same lock }
 
 -- a call whose test computes
 abbrev lock : IsTrue true
@@ -35,7 +42,8 @@ either : (b : Bool) {x y : Option Call} → IsOfLock x → IsOfLock y → IsOfLo
 either true f g = f
 either false f g = g
 
-and_then : {A : Type 0} (found : Option A) (f : A → Option Call) → ((x : A) → IsOfLock (f x)) → IsOfLock (option_and_then f found)
+and_then : {A : Type 0} (found : Option A) (f : A → Option Call) → ((x : A) → IsOfLock (f x)) →
+    IsOfLock (option_and_then f found)
 and_then None f h = nothing
 and_then (Some x) f h = h x
 
@@ -65,32 +73,44 @@ stamp_of_lock name stamp =
 listed_of_lock : (ds : Items) → IsOfLock (listed_call ds)
 listed_of_lock no_items = nothing
 listed_of_lock (item name no_items) = and_then (find.as_str name) plain_call plain_of_lock
-listed_of_lock (item name (item stamp no_items)) = and_then (find.as_str name) (λ text. option_and_then (stamp_call text) (whole stamp)) (λ text. and_then (whole stamp) (stamp_call text) (stamp_of_lock text))
+listed_of_lock (item name (item stamp no_items)) =
+    and_then (find.as_str name) (λ text. option_and_then (stamp_call text) (whole stamp))
+    (λ text. and_then (whole stamp) (stamp_call text) (stamp_of_lock text))
 listed_of_lock (item name (item stamp (item further rest))) = nothing
 
 lock_call_of_lock : (d : Data) → IsOfLock (lock_call d)
 lock_call_of_lock d = and_then (find.as_array d) listed_call listed_of_lock
 
-each_of_lock : (i : ℕ) (ds : Items) (found : List Call) → each call_at i ds ≡ Ok found → All (λ call. IsTrue (is_lock_call call)) found
-each_of_lock i no_items found e = let none : [] ≡ found = cc in subst (All (λ call. IsTrue (is_lock_call call))) none (All-nil (λ call. IsTrue (is_lock_call call)))
+each_of_lock : (i : ℕ) (ds : Items) (found : List Call) → each call_at i ds ≡ Ok found →
+    All (λ call. IsTrue (is_lock_call call)) found
+each_of_lock i no_items found e = let none : [] ≡ found = cc in
+    subst (All (λ call. IsTrue (is_lock_call call))) none (All-nil (λ call. IsTrue (is_lock_call call)))
 each_of_lock i (item d ds) found e =
     let first = bind_ok (call_at i d) (λ x. each call_at (i + 1) ds >>= λ later. Ok (x ∷ later)) found e in
     let rest = bind_ok (each call_at (i + 1) ds) (λ later. Ok (first.0 ∷ later)) found first.2 in
     let last : Ok (first.0 ∷ rest.0) ≡ Ok found = rest.2 in
     let all : first.0 ∷ rest.0 ≡ found = cc in
-    subst (All (λ call. IsTrue (is_lock_call call))) all (All-cons (λ call. IsTrue (is_lock_call call)) first.0 rest.0 ((lock_call_of_lock d).is first.0 (found_call i d first.0 first.1)) (each_of_lock (i + 1) ds rest.0 rest.1))
+    subst (All (λ call. IsTrue (is_lock_call call))) all
+        (All-cons (λ call. IsTrue (is_lock_call call)) first.0 rest.0
+        ((lock_call_of_lock d).is first.0 (found_call i d first.0 first.1)) (each_of_lock (i + 1) ds rest.0 rest.1))
 
 calls_of_lock : (d : Data) (found : List Call) → calls d ≡ Ok found → All (λ call. IsTrue (is_lock_call call)) found
 unfolding calls
-calls_of_lock d found e = let list = bind_ok (listed_calls d) (each call_at 0) found e in each_of_lock 0 list.0 found list.2
+calls_of_lock d found e = let list = bind_ok (listed_calls d) (each call_at 0) found e in
+    each_of_lock 0 list.0 found list.2
 
-pub replay_of_lock : (bytes : List ℕ) (replay : Replay) → replay_of bytes ≡ Ok replay → All (λ call. IsTrue (is_lock_call call)) replay.calls
+pub replay_of_lock : (bytes : List ℕ) (replay : Replay) → replay_of bytes ≡ Ok replay →
+    All (λ call. IsTrue (is_lock_call call)) replay.calls
 unfolding replay_of replay_in
 replay_of_lock bytes replay e =
     let value = bind_ok (json_of bytes) replay_in replay e in
-    let keys = bind_ok (top value.0) (λ _. limits value.0 >>= λ found_limits. calls value.0 >>= λ found_calls. Ok (record { limits = found_limits; calls = found_calls })) replay value.2 in
-    let bounds = bind_ok (limits value.0) (λ found_limits. calls value.0 >>= λ found_calls. Ok (record { limits = found_limits; calls = found_calls })) replay keys.2 in
-    let found = bind_ok (calls value.0) (λ found_calls. Ok (record { limits = bounds.0; calls = found_calls })) replay bounds.2 in
+    let keys = bind_ok (top value.0) (λ _. limits value.0 >>= λ found_limits. calls value.0 >>= λ found_calls. Ok
+        (record { limits = found_limits; calls = found_calls })) replay value.2 in
+    let bounds = bind_ok (limits value.0) (λ found_limits. calls value.0 >>= λ found_calls. Ok
+        (record { limits = found_limits; calls = found_calls })) replay keys.2 in
+    let found = bind_ok (calls value.0) (λ found_calls. Ok (record { limits = bounds.0; calls = found_calls }))
+        replay bounds.2 in
     let made : Ok (record { limits = bounds.0; calls = found.0 }) ≡ Ok replay = found.2 in
     let same : record { limits = bounds.0; calls = found.0 } ≡ replay = cc in
-    subst (λ (r : Replay). All (λ call. IsTrue (is_lock_call call)) r.calls) same (calls_of_lock value.0 found.0 found.1)
+    subst (λ (r : Replay). All (λ call. IsTrue (is_lock_call call)) r.calls) same
+        (calls_of_lock value.0 found.0 found.1)

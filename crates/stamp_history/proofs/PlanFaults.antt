@@ -1,17 +1,24 @@
 -- A fault that was found in the parts of a script is the first fault of its plan.
-use Rattle.std.proofs.Common.{◌≡◌, ℕ, ◌<◌, ◌≤◌, List, length, take, get_or, map, Vec, Bool, true, false, Some, None, refl, ap, arith, ◌⊎◌, inl, inr}
+use Rattle.std.proofs.Common.{◌≡◌, ℕ, ◌<◌, ◌≤◌, List, length, take, get_or, map, Vec, Bool, true}
+use Rattle.std.proofs.Common.{false, Some, None, refl, ap, arith, ◌⊎◌, inl, inr}
 use Rattle.std.specs.Prelude.{◌&&◌, nat_le, nat_lt, All, Decides}
 use Rattle.std.specs.List.{list_all, position_or_len}
 use Rattle.std.specs.Global.{Global}
-use Rattle.std.proofs.lemmas.Bool.Decides.{nat_tests, Decides-ltb, Decides-eqb, Decides-and, Decides-like, Decides-by_and}
+use Rattle.std.proofs.lemmas.Bool.Decides.{nat_tests, Decides-ltb, Decides-eqb, Decides-and}
+use Rattle.std.proofs.lemmas.Bool.Decides.{Decides-like, Decides-by_and}
 use Rattle.std.proofs.lemmas.List.{length-map, length-take, get_or-take}
 use Rattle.std.proofs.lemmas.List.Sums.{position_or_len_is}
 use Rattle.std.proofs.Math.Bool.{and-false}
 use Rattle.stamp_core.specs.Limits.{Bounds}
 use Rattle.stamp_core.specs.declared.script_error.ScriptError.{ScriptError}
-use Rattle.stamp_core.specs.declared.script_error.ScriptError.TheVariants.{TooManyThreads, TooManyCalls, TooManySteps, NoSuchThread, RecordWidth}
+use Rattle.stamp_core.specs.declared.script_error.ScriptError.TheVariants.{TooManyThreads}
+use Rattle.stamp_core.specs.declared.script_error.ScriptError.TheVariants.{TooManyCalls}
+use Rattle.stamp_core.specs.declared.script_error.ScriptError.TheVariants.{TooManySteps}
+use Rattle.stamp_core.specs.declared.script_error.ScriptError.TheVariants.{NoSuchThread}
+use Rattle.stamp_core.specs.declared.script_error.ScriptError.TheVariants.{RecordWidth}
 use Rattle.stamp_machines.specs.Script.{Scripted, Suits}
-use Rattle.stamp_machines.specs.ScriptFault.{calls_in, AreShort, AreSuited, AreNamed, IsFirstUnknown, IsFirstFault, IsGood}
+use Rattle.stamp_machines.specs.ScriptFault.{calls_in, AreShort, AreSuited, AreNamed}
+use Rattle.stamp_machines.specs.ScriptFault.{IsFirstUnknown, IsFirstFault, IsGood}
 use Rattle.stamp_machines.specs.declared.script.ScriptCall.{ScriptCall}
 use Rattle.stamp_machines.specs.declared.script.ScriptCall.TheVariants.{Get, Put, PutIf}
 use Rattle.stamp_history.specs.PlanFault.{suits, are_short, are_suited, first_unknown, plan_fault}
@@ -25,19 +32,29 @@ at_most : (n most : ℕ) → Decides (nat_le n most) (n ≤ most)
 at_most n most = (λ e. grind (arith, nat_tests), λ le. grind (arith, nat_tests))
 
 short : (threads : List (Vec ScriptCall Global)) → Decides (are_short (map calls_in threads)) (AreShort threads)
-short = Decides-by_and (λ (calls : Vec ScriptCall Global). nat_le (length calls.items) 10000) (λ (calls : Vec ScriptCall Global). length calls.items ≤ 10000) (λ threads. are_short (map calls_in threads)) (λ calls. at_most (length calls.items) 10000) refl (λ _ _. refl)
+short = Decides-by_and (λ (calls : Vec ScriptCall Global). nat_le (length calls.items) 10000)
+    (λ (calls : Vec ScriptCall Global). length calls.items ≤ 10000) (λ threads. are_short (map calls_in threads))
+    (λ calls. at_most (length calls.items) 10000) refl (λ _ _. refl)
 
 one_suits : (width : ℕ) (call : ScriptCall) → Decides (suits width call) (Suits width call)
 one_suits width Get = Decides-ltb 0 width
 one_suits width (Put a) = Decides-and _ _ (Decides-ltb 0 width) (Decides-eqb (length a) width)
-one_suits width (PutIf a b) = Decides-like _ (λ h. (h.0.0, h.0.1, h.1)) (λ h. ((h.0, h.1), h.2)) (Decides-and _ _ (Decides-and _ _ (Decides-ltb 0 width) (Decides-eqb (length a) width)) (Decides-eqb (length b) width))
+one_suits width (PutIf a b) = Decides-like _ (λ h. (h.0.0, h.0.1, h.1)) (λ h. ((h.0, h.1), h.2))
+    (Decides-and _ _ (Decides-and _ _ (Decides-ltb 0 width) (Decides-eqb (length a) width))
+    (Decides-eqb (length b) width))
 one_suits width _ = (λ _. tt, λ _. refl)
 
-suited : (width : ℕ) (threads : List (Vec ScriptCall Global)) → Decides (are_suited width (map calls_in threads)) (AreSuited width threads)
-suited width = Decides-by_and (λ (calls : Vec ScriptCall Global). list_all (suits width) calls.items) (λ (calls : Vec ScriptCall Global). All (Suits width) calls.items) (λ threads. are_suited width (map calls_in threads)) (λ calls. Decides-by_and (suits width) (Suits width) (list_all (suits width)) (one_suits width) refl (λ _ _. refl) calls.items) refl (λ _ _. refl)
+suited : (width : ℕ) (threads : List (Vec ScriptCall Global)) →
+    Decides (are_suited width (map calls_in threads)) (AreSuited width threads)
+suited width = Decides-by_and (λ (calls : Vec ScriptCall Global). list_all (suits width) calls.items)
+    (λ (calls : Vec ScriptCall Global). All (Suits width) calls.items)
+    (λ threads. are_suited width (map calls_in threads))
+    (λ calls. Decides-by_and (suits width) (Suits width) (list_all (suits width)) (one_suits width) refl
+    (λ _ _. refl) calls.items) refl (λ _ _. refl)
 
 -- no step before step i names none of the threads
-known_before : (threads i : ℕ) (steps : List ℕ) → AreNamed threads (take i steps) → i ≤ length steps → (k : ℕ) → k < i → nat_le threads (get_or steps k 0) ≡ false
+known_before : (threads i : ℕ) (steps : List ℕ) → AreNamed threads (take i steps) → i ≤ length steps → (k : ℕ) →
+    k < i → nat_le threads (get_or steps k 0) ≡ false
 known_before threads i steps named le k lt =
     let same : get_or (take i steps) k 0 ≡ get_or steps k 0 = get_or-take i steps k 0 lt in
     let within : k < length (take i steps) = omega (arith, length-take i steps) in
@@ -46,25 +63,34 @@ known_before threads i steps named le k lt =
 
 none_unknown : (threads : ℕ) (steps : List ℕ) → AreNamed threads steps → first_unknown threads steps ≡ None
 none_unknown threads steps named =
-    let at : position_or_len (nat_le threads) steps ≡ length steps = position_or_len_is (nat_le threads) steps (length steps) 0 (omega arith) (λ k lt. let below : get_or steps k 0 < threads = named k 0 lt in grind (arith, nat_tests)) (λ lt. absurd (omega arith)) in
+    let at : position_or_len (nat_le threads) steps ≡ length steps =
+        position_or_len_is (nat_le threads) steps (length steps) 0 (omega arith)
+        (λ k lt. let below : get_or steps k 0 < threads = named k 0 lt in grind (arith, nat_tests))
+        (λ lt. absurd (omega arith)) in
     let end : nat_lt (position_or_len (nat_le threads) steps) (length steps) ≡ false = grind (arith, nat_tests) in
     rw end refl
 
-unknown_at : (threads : ℕ) (steps : List ℕ) (i : ℕ) → IsFirstUnknown threads steps i → first_unknown threads steps ≡ Some i
+unknown_at : (threads : ℕ) (steps : List ℕ) (i : ℕ) → IsFirstUnknown threads steps i → first_unknown threads steps ≡
+    Some i
 unknown_at threads steps i first =
     let within : i < length steps = first.0 in
     let above : threads ≤ get_or steps i 0 = first.1 in
-    let at : position_or_len (nat_le threads) steps ≡ i = position_or_len_is (nat_le threads) steps i 0 (omega arith) (known_before threads i steps first.2 (omega arith)) (λ _. grind (arith, nat_tests)) in
+    let at : position_or_len (nat_le threads) steps ≡ i =
+        position_or_len_is (nat_le threads) steps i 0 (omega arith)
+        (known_before threads i steps first.2 (omega arith)) (λ _. grind (arith, nat_tests)) in
     let inside : nat_lt (position_or_len (nat_le threads) steps) (length steps) ≡ true = grind (arith, nat_tests) in
     rw inside (ap Some at)
 
-unsuited : (width : ℕ) (threads : List (Vec ScriptCall Global)) → (16 < width) ⊎ (AreSuited width threads → ⊥) → (nat_le width 16 && are_suited width (map calls_in threads)) ≡ false
+unsuited : (width : ℕ) (threads : List (Vec ScriptCall Global)) → (16 < width) ⊎ (AreSuited width threads → ⊥) →
+    (nat_le width 16 && are_suited width (map calls_in threads)) ≡ false
 unsuited width threads (inl wide) = let test : nat_le width 16 ≡ false = grind (arith, nat_tests) in rw test refl
-unsuited width threads (inr not_all) = rw (fails (are_suited width (map calls_in threads)) (suited width threads) not_all) (and-false (nat_le width 16))
+unsuited width threads (inr not_all) = rw (fails (are_suited width (map calls_in threads))
+    (suited width threads) not_all) (and-false (nat_le width 16))
 
 -- the plan of the parts of a script
 abbrev pub plan_of : Bounds → ℕ → List (Vec ScriptCall Global) → List ℕ → Scripted
-plan_of limits width threads steps = record { limits = limits; width = width; threads = map calls_in threads; steps = steps }
+plan_of limits width threads steps = record { limits = limits; width = width; threads = map calls_in threads;
+    steps = steps }
 
 below_most : (n most : ℕ) → n ≤ most → nat_lt most n ≡ false
 below_most n most le = grind (arith, nat_tests)
@@ -72,14 +98,30 @@ below_most n most le = grind (arith, nat_tests)
 above_most : (n most : ℕ) → most < n → nat_lt most n ≡ true
 above_most n most lt = grind (arith, nat_tests)
 
-pub no_fault : (limits : Bounds) (width : ℕ) (threads : List (Vec ScriptCall Global)) (steps : List ℕ) → IsGood width threads steps → plan_fault (plan_of limits width threads steps) ≡ None
+pub no_fault : (limits : Bounds) (width : ℕ) (threads : List (Vec ScriptCall Global)) (steps : List ℕ) →
+    IsGood width threads steps → plan_fault (plan_of limits width threads steps) ≡ None
 unfolding plan_fault
-no_fault limits width threads steps good = rw (length-map threads calls_in, below_most (length threads) 64 good.0, (short threads).1 good.1, below_most (length steps) 1000000 good.2, none_unknown (length threads) steps good.3, (at_most width 16).1 good.4, (suited width threads).1 good.5) refl
+no_fault limits width threads steps good = rw
+    (length-map threads calls_in, below_most (length threads) 64 good.0, (short threads).1 good.1,
+    below_most (length steps) 1000000 good.2, none_unknown (length threads) steps good.3,
+    (at_most width 16).1 good.4, (suited width threads).1 good.5) refl
 
-pub first_fault : (limits : Bounds) (width : ℕ) (threads : List (Vec ScriptCall Global)) (steps : List ℕ) (fault : ScriptError) → IsFirstFault width threads steps fault → plan_fault (plan_of limits width threads steps) ≡ Some fault
+pub first_fault : (limits : Bounds) (width : ℕ) (threads : List (Vec ScriptCall Global)) (steps : List ℕ)
+    (fault : ScriptError) → IsFirstFault width threads steps fault →
+    plan_fault (plan_of limits width threads steps) ≡ Some fault
 unfolding plan_fault
-first_fault limits width threads steps TooManyThreads first = rw (length-map threads calls_in, above_most (length threads) 64 first) refl
-first_fault limits width threads steps TooManyCalls first = rw (length-map threads calls_in, below_most (length threads) 64 first.0, fails (are_short (map calls_in threads)) (short threads) first.1) refl
-first_fault limits width threads steps TooManySteps first = rw (length-map threads calls_in, below_most (length threads) 64 first.0, (short threads).1 first.1, above_most (length steps) 1000000 first.2) refl
-first_fault limits width threads steps (NoSuchThread i) first = rw (length-map threads calls_in, below_most (length threads) 64 first.0, (short threads).1 first.1, below_most (length steps) 1000000 first.2, unknown_at (length threads) steps i first.3) refl
-first_fault limits width threads steps RecordWidth first = rw (length-map threads calls_in, below_most (length threads) 64 first.0, (short threads).1 first.1, below_most (length steps) 1000000 first.2, none_unknown (length threads) steps first.3, unsuited width threads first.4) refl
+first_fault limits width threads steps TooManyThreads first =
+    rw (length-map threads calls_in, above_most (length threads) 64 first) refl
+first_fault limits width threads steps TooManyCalls first =
+    rw (length-map threads calls_in, below_most (length threads) 64 first.0,
+    fails (are_short (map calls_in threads)) (short threads) first.1) refl
+first_fault limits width threads steps TooManySteps first =
+    rw (length-map threads calls_in, below_most (length threads) 64 first.0, (short threads).1 first.1,
+    above_most (length steps) 1000000 first.2) refl
+first_fault limits width threads steps (NoSuchThread i) first =
+    rw (length-map threads calls_in, below_most (length threads) 64 first.0, (short threads).1 first.1,
+    below_most (length steps) 1000000 first.2, unknown_at (length threads) steps i first.3) refl
+first_fault limits width threads steps RecordWidth first =
+    rw (length-map threads calls_in, below_most (length threads) 64 first.0, (short threads).1 first.1,
+    below_most (length steps) 1000000 first.2, none_unknown (length threads) steps first.3,
+    unsuited width threads first.4) refl

@@ -1,5 +1,7 @@
 -- Values whose text reads as the value.
-use Rattle.std.proofs.Common.{◌≡◌, ◌≤◌, ◌∙◌, ◌++◌, ℕ, ◌^◌, ◌<◌, suc, List, [], ◌∷◌, Bool, true, false, refl, ap, sym, arith, Some, option_and_then, decimal, append-nil}
+use Rattle.std.proofs.Common.{◌≡◌, ◌≤◌, ◌∙◌, ◌++◌, ℕ, ◌^◌, ◌<◌, suc, List, [], ◌∷◌, Bool, true}
+use Rattle.std.proofs.Common.{false, refl, ap, sym, arith, Some, option_and_then, decimal}
+use Rattle.std.proofs.Common.{append-nil}
 use Rattle.std.specs.Str.{IsUtf8}
 use Rattle.std.proofs.lemmas.Fmt.{IsAscii-decimal}
 use Rattle.std.proofs.lemmas.Str.{IsUtf8-append, IsUtf8-nil, IsUtf8-from_ascii}
@@ -13,7 +15,8 @@ use Rattle.json.proofs.Printed.Trees.{value-json_tokens, ArePrintable-json_token
 use Rattle.json.proofs.Printed.Utf8.{are_ascii, IsUtf8-are_ascii, IsUtf8-quoted}
 use Rattle.serde_json.specs.Data.{Data, string, array, object, Items, no_items, item, Members, no_members, member}
 use Rattle.serde_json.specs.Read.{read, of_json, of_items, of_members}
-use Rattle.serde_json.specs.Written.{outline, items_outline, members_outline, compact_text, items_text, members_text, comma_if}
+use Rattle.serde_json.specs.Written.{outline, items_outline, members_outline, compact_text}
+use Rattle.serde_json.specs.Written.{items_text, members_text, comma_if}
 use Rattle.serde_json.proofs.Numbers.{number_of-decimal}
 use Rattle.serde_json.proofs.Texts.{print-outline}
 use Rattle.stamp_history.specs.ReplayText.{number_data}
@@ -40,7 +43,8 @@ pub record MembersReadAgain (n : ℕ) (ms : Members) : Type 0 where
 pub text_read : (d : Data) → ReadsAgain 127 d → read (compact_text d) ≡ Some d
 text_read d again =
     let ts = tree.json_tokens (outline d) in
-    let lexed : tokens (compact_text d) ≡ ts ++ [] = ap tokens (sym (print-outline d)) ∙ tokens-print ts (ArePrintable-json_tokens (outline d) again.numbers) ∙ sym (append-nil ts) in
+    let lexed : tokens (compact_text d) ≡ ts ++ [] = ap tokens (sym (print-outline d)) ∙
+        tokens-print ts (ArePrintable-json_tokens (outline d) again.numbers) ∙ sym (append-nil ts) in
     let parsed = ap (json.value 127) lexed ∙ value-json_tokens (outline d) 127 [] again.depth in
     ap (λ found. option_and_then of_json (option_and_then (λ p. json.if_last p.0 p.1) found)) parsed ∙ again.same
 
@@ -72,12 +76,14 @@ no_items_again n = record {
   utf8 = λ later. IsUtf8-are_ascii (93 ∷ []) refl;
 }
 
-pub item_again : (m n : ℕ) (d : Data) (ds : Items) → m ≤ n → ReadsAgain m d → ItemsReadAgain n ds → ItemsReadAgain n (item d ds)
+pub item_again : (m n : ℕ) (d : Data) (ds : Items) → m ≤ n → ReadsAgain m d → ItemsReadAgain n ds →
+    ItemsReadAgain n (item d ds)
 item_again m n d ds le one more = record {
   numbers = (one.numbers, more.numbers);
   depth = omega (arith, one.depth, more.depth);
   same = rw (one.same, more.same) refl;
-  utf8 = λ later. IsUtf8-append (comma_if later) (compact_text d ++ items_text true ds) (comma later) (IsUtf8-append (compact_text d) (items_text true ds) one.utf8 (more.utf8 true));
+  utf8 = λ later. IsUtf8-append (comma_if later) (compact_text d ++ items_text true ds) (comma later)
+      (IsUtf8-append (compact_text d) (items_text true ds) one.utf8 (more.utf8 true));
 }
 
 pub array_again : (n : ℕ) (ds : Items) → ItemsReadAgain n ds → ReadsAgain (suc n) (array ds)
@@ -95,18 +101,22 @@ no_members_again n = record {
   utf8 = λ later. IsUtf8-are_ascii (125 ∷ []) refl;
 }
 
-pub member_again : (m n : ℕ) (key : List ℕ) (d : Data) (ms : Members) → m ≤ n → are_ascii key ≡ true → ReadsAgain m d → MembersReadAgain n ms → MembersReadAgain n (member key d ms)
+pub member_again : (m n : ℕ) (key : List ℕ) (d : Data) (ms : Members) → m ≤ n → are_ascii key ≡ true →
+    ReadsAgain m d → MembersReadAgain n ms → MembersReadAgain n (member key d ms)
 member_again m n key d ms le ascii one more = record {
   numbers = (one.numbers, more.numbers);
   depth = omega (arith, one.depth, more.depth);
   utf8 = λ later.
       let value = IsUtf8-append (compact_text d) (members_text true ms) one.utf8 (more.utf8 true) in
-      let colon = IsUtf8-append (58 ∷ []) (compact_text d ++ members_text true ms) (IsUtf8-are_ascii (58 ∷ []) refl) value in
-      let named = IsUtf8-append (quoted key) (58 ∷ (compact_text d ++ members_text true ms)) (IsUtf8-quoted key (IsUtf8-are_ascii key ascii)) colon in
+      let colon = IsUtf8-append (58 ∷ []) (compact_text d ++ members_text true ms)
+          (IsUtf8-are_ascii (58 ∷ []) refl) value in
+      let named = IsUtf8-append (quoted key) (58 ∷ (compact_text d ++ members_text true ms))
+          (IsUtf8-quoted key (IsUtf8-are_ascii key ascii)) colon in
       IsUtf8-append (comma_if later) (quoted key ++ 58 ∷ (compact_text d ++ members_text true ms)) (comma later) named;
 }
 
-pub object_again : (n : ℕ) (ms : Members) → MembersReadAgain n ms → of_members (members_outline ms) no_members ≡ Some ms → ReadsAgain (suc n) (object ms)
+pub object_again : (n : ℕ) (ms : Members) → MembersReadAgain n ms → of_members (members_outline ms) no_members ≡
+    Some ms → ReadsAgain (suc n) (object ms)
 object_again n ms again same = record {
   numbers = again.numbers;
   depth = omega (arith, again.depth);

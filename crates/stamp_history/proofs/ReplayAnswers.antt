@@ -15,7 +15,10 @@ use Rattle.stamp_history.specs.declared.answer_error.AnswerError.{AnswerError}
 use Rattle.stamp_history.specs.declared.answer_error.AnswerError.TheVariants.{Refused, Waits}
 
 -- the text of the replies
-pub answered : (bytes : List ℕ) (replay : Replay) → replay_of bytes ≡ Ok replay → (replies : List Reply) (word : LockWord) → IsReplayed replay.limits replay.calls replies word → (number : ℕ) → number ≡ word.bits → {text : List ℕ} → text ≡ compact_text (replayed_data replies number) → IsAnswer (replay_of bytes) (Ok text)
+pub answered : (bytes : List ℕ) (replay : Replay) → replay_of bytes ≡ Ok replay →
+    (replies : List Reply) (word : LockWord) → IsReplayed replay.limits replay.calls replies word → (number : ℕ) →
+    number ≡ word.bits → {text : List ℕ} → text ≡ compact_text (replayed_data replies number) →
+    IsAnswer (replay_of bytes) (Ok text)
 unfolding replayed_text
 answered bytes replay reading replies word replayed number bits {text} is =
     rw reading (record {
@@ -26,17 +29,22 @@ answered bytes replay reading replies word replayed number bits {text} is =
     })
 
 -- a refusal of the reading, handed on
-pub refused : (bytes : List ℕ) (r : Result (Vec ℕ Global) AnswerError) (e : ReadError) → IsErrAnd r (λ f. f ≡ Refused e) → (e ≢ Memory → replay_of bytes ≡ Err e) → Answers bytes r
+pub refused : (bytes : List ℕ) (r : Result (Vec ℕ Global) AnswerError) (e : ReadError) →
+    IsErrAnd r (λ f. f ≡ Refused e) → (e ≢ Memory → replay_of bytes ≡ Err e) → Answers bytes r
 refused bytes (Ok text) e handed reading = absurd handed
 refused bytes (Err f) e handed reading = λ other.
     let not_memory : e ≢ Memory = λ m. other (handed ∙ ap Refused m) in
     rw (reading not_memory) handed
 
 -- a call that waits, handed on
-pub waited : (bytes : List ℕ) (replay : Replay) (r : Result (Vec ℕ Global) AnswerError) (f : AnswerError) → replay_of bytes ≡ Ok replay → IsErrAnd r (λ g. g ≡ f) → RepliesTo replay.limits replay.calls (Err f) → Answers bytes r
+pub waited : (bytes : List ℕ) (replay : Replay) (r : Result (Vec ℕ Global) AnswerError) (f : AnswerError) →
+    replay_of bytes ≡ Ok replay → IsErrAnd r (λ g. g ≡ f) → RepliesTo replay.limits replay.calls (Err f) →
+    Answers bytes r
 waited bytes replay (Ok text) f reading handed replies = absurd handed
-waited bytes replay (Err g) f reading handed replies = subst (λ (h : AnswerError). Answers bytes (Err h)) (sym handed) (λ other. by f other replies)
+waited bytes replay (Err g) f reading handed replies =
+    subst (λ (h : AnswerError). Answers bytes (Err h)) (sym handed) (λ other. by f other replies)
   where
-    by : (h : AnswerError) → h ≢ Refused Memory → RepliesTo replay.limits replay.calls (Err h) → IsAnswer (replay_of bytes) (Err h)
+    by : (h : AnswerError) → h ≢ Refused Memory → RepliesTo replay.limits replay.calls (Err h) →
+        IsAnswer (replay_of bytes) (Err h)
     by (Waits i) other waits = rw reading waits
     by (Refused e) other memory = absurd (other (ap Refused memory))

@@ -10,11 +10,13 @@ pub record CallAt (xs : List StoredCall) (i : ℕ) (call : Call) : Type 0 where
   pub within : i < length (map call_of xs)
   pub at : call ≡ get_or (map call_of xs) i call
 
-pub call_at_index : (xs : List StoredCall) (i : ℕ) (d : StoredCall) (call : Call) → i < length xs → call ≡ call_of (get_or xs i d) → CallAt xs i call
+pub call_at_index : (xs : List StoredCall) (i : ℕ) (d : StoredCall) (call : Call) → i < length xs → call ≡
+    call_of (get_or xs i d) → CallAt xs i call
 call_at_index xs i d call lt is = record {
   within = omega (arith, length-map xs call_of);
   at = is ∙ sym (get_or-map call_of xs i d call lt);
 }
 
-pub map-pushed : (xs ys : List StoredCall) (x : StoredCall) → ys ≡ xs ++ x ∷ [] → map call_of ys ≡ map call_of xs ++ call_of x ∷ []
+pub map-pushed : (xs ys : List StoredCall) (x : StoredCall) → ys ≡ xs ++ x ∷ [] → map call_of ys ≡ map call_of xs ++
+    call_of x ∷ []
 map-pushed xs ys x is = ap (map call_of) is ∙ map-append call_of xs (x ∷ [])

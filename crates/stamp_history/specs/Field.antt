@@ -1,7 +1,10 @@
 -- The text of a field.
 use Rattle.std.specs.Prelude.{ℕ, List, ◌++◌, codes, decimal}
 use Rattle.stamp_history.specs.declared.field.Field.{Field}
-use Rattle.stamp_history.specs.declared.field.Field.TheVariants.{Top, Format, Layout, Readers, Versions, Width, Calls, Call, Threads, ThreadCall, Steps, Step, Entries, Entry, Report}
+use Rattle.stamp_history.specs.declared.field.Field.TheVariants.{Top, Format, Layout, Readers}
+use Rattle.stamp_history.specs.declared.field.Field.TheVariants.{Versions, Width, Calls, Call}
+use Rattle.stamp_history.specs.declared.field.Field.TheVariants.{Threads, ThreadCall, Steps, Step}
+use Rattle.stamp_history.specs.declared.field.Field.TheVariants.{Entries, Entry, Report}
 
 abbrev pub field_text : Field → List ℕ
 field_text Top = codes "top"

@@ -1,5 +1,7 @@
 -- The fields of a history over a JSON value, in their order: what each holds, or its fault.
-use Rattle.std.specs.Prelude.{ℕ, ◌==◌, ◌||◌, List, [], ◌∷◌, Bool, false, Option, Some, None, Result, Ok, Err, nat_le, nat_lt, option_and_then, option_map, if◌then◌else◌, codes, ⊤}
+use Rattle.std.specs.Prelude.{ℕ, ◌==◌, ◌||◌, List, [], ◌∷◌, Bool, false, Option, Some, None, Result}
+use Rattle.std.specs.Prelude.{Ok, Err, nat_le, nat_lt, option_and_then, option_map, if◌then◌else◌}
+use Rattle.std.specs.Prelude.{codes, ⊤}
 use Rattle.serde_json.specs.Data.{Data, Items, no_items, item}
 use Rattle.serde_json.specs.Events.{items_len}
 use Rattle.serde_json.specs.Find as find
@@ -19,16 +21,20 @@ abbrev pub keys : List (List ℕ)
 keys = codes "entries" ∷ codes "format" ∷ codes "readers" ∷ codes "versions" ∷ codes "width" ∷ []
 
 abbrev pub keys_with_report : List (List ℕ)
-keys_with_report = codes "entries" ∷ codes "format" ∷ codes "readers" ∷ codes "report" ∷ codes "versions" ∷ codes "width" ∷ []
+keys_with_report = codes "entries" ∷ codes "format" ∷ codes "readers" ∷ codes "report" ∷ codes "versions" ∷
+    codes "width" ∷ []
 
 abbrev pub keys_with_layout : List (List ℕ)
-keys_with_layout = codes "entries" ∷ codes "format" ∷ codes "layout" ∷ codes "readers" ∷ codes "versions" ∷ codes "width" ∷ []
+keys_with_layout = codes "entries" ∷ codes "format" ∷ codes "layout" ∷ codes "readers" ∷ codes "versions" ∷
+    codes "width" ∷ []
 
 abbrev pub keys_with_both : List (List ℕ)
-keys_with_both = codes "entries" ∷ codes "format" ∷ codes "layout" ∷ codes "readers" ∷ codes "report" ∷ codes "versions" ∷ codes "width" ∷ []
+keys_with_both = codes "entries" ∷ codes "format" ∷ codes "layout" ∷ codes "readers" ∷ codes "report" ∷
+    codes "versions" ∷ codes "width" ∷ []
 
 abbrev pub top : Data → Result ⊤ ReadError
-top d = if has_keys keys d || has_keys keys_with_report d || has_keys keys_with_layout d || has_keys keys_with_both d then Ok tt else Err (NotHistory part.Top)
+top d = if has_keys keys d || has_keys keys_with_report d || has_keys keys_with_layout d || has_keys keys_with_both
+    d then Ok tt else Err (NotHistory part.Top)
 
 abbrev pub is_number : ℕ → Option ℕ → Bool
 is_number n None = false
@@ -36,7 +42,8 @@ is_number n (Some m) = m == n
 
 -- an object with a layout is of format 2
 abbrev pub format : Data → Result ⊤ ReadError
-format d = if is_number (if has_key (codes "layout") d then 2 else 1) (whole_under (codes "format") d) then Ok tt else Err (NotHistory part.Format)
+format d = if is_number (if has_key (codes "layout") d then 2 else 1) (whole_under (codes "format") d) then
+    Ok tt else Err (NotHistory part.Format)
 
 -- a fault of the fields that a replay has too, as one of a history
 abbrev pub of_history : ReadError → ReadError
@@ -55,14 +62,16 @@ width d = ranged (NotHistory part.Width) (Limit part.Width) (λ n. nat_le n 16) 
 
 -- the items under `entries`, no more than 640,000
 abbrev pub listed_entries : Data → Result Items ReadError
-listed_entries d = ranged (NotHistory part.Entries) (Limit part.Entries) (λ ds. nat_le (items_len ds) 640000) (list_under (codes "entries") d)
+listed_entries d = ranged (NotHistory part.Entries) (Limit part.Entries) (λ ds. nat_le (items_len ds) 640000)
+    (list_under (codes "entries") d)
 
 -- an entry whose call suits the width
 abbrev pub suited : ℕ → Entry → Option Entry
 suited w e = if call_suits w e.call then Some e else None
 
 abbrev pub entry_at : ℕ → ℕ → Data → Result Entry ReadError
-entry_at w i d = ranged (NotHistory (part.Entry i)) (Limit (part.Entry i)) (λ e. nat_lt e.thread 64) (option_and_then (suited w) (value.entry d))
+entry_at w i d = ranged (NotHistory (part.Entry i)) (Limit (part.Entry i)) (λ e. nat_lt e.thread 64)
+    (option_and_then (suited w) (value.entry d))
 
 unfoldable pub entries : ℕ → Data → Result (List Entry) ReadError
 entries w d = do
@@ -73,7 +82,8 @@ entries w d = do
 abbrev pub listed_pair : Items → Option (ℕ × ℕ)
 listed_pair no_items = None
 listed_pair (item own no_items) = None
-listed_pair (item own (item changes no_items)) = option_and_then (λ n. option_map (λ m. (n, m)) (whole changes)) (whole own)
+listed_pair (item own (item changes no_items)) =
+    option_and_then (λ n. option_map (λ m. (n, m)) (whole changes)) (whole own)
 listed_pair (item own (item changes (item further rest))) = None
 
 abbrev pub pair_at : ℕ → Data → Result (ℕ × ℕ) ReadError

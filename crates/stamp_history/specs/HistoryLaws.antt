@@ -4,7 +4,9 @@ use Rattle.std.specs.List.{All}
 use Rattle.stamp_core.specs.Limits.{AreInRange}
 use Rattle.stamp_core.specs.Record.{Recorded, IsRecorded, RepliesFit}
 use Rattle.stamp_core.specs.declared.call.Call.{Call}
-use Rattle.stamp_core.specs.declared.call.Call.TheVariants.{Validate, UnlockWrite, UnlockRead, Unlock, ToWrite, ToRead, ToOptimistic, Put, PutIf}
+use Rattle.stamp_core.specs.declared.call.Call.TheVariants.{Validate, UnlockWrite, UnlockRead}
+use Rattle.stamp_core.specs.declared.call.Call.TheVariants.{Unlock, ToWrite, ToRead, ToOptimistic}
+use Rattle.stamp_core.specs.declared.call.Call.TheVariants.{Put, PutIf}
 use Rattle.stamp_core.specs.declared.entry.Entry.{Entry}
 use Rattle.stamp_core.specs.declared.reply.Reply.{Reply}
 use Rattle.stamp_core.specs.declared.reply.Reply.TheVariants.{Stamp, Count, Content}
@@ -49,4 +51,5 @@ pub record AreU64 (r : Recorded) : Type 0 where
   pub report : All PairIsU64 r.report
 
 abbrev pub HistoriesReadAgain : Type 0
-HistoriesReadAgain = (r : Recorded) → AreInRange r.limits → IsRecorded r → RepliesFit r.entries → AreU64 r → history_of (history_text r) ≡ Ok r
+HistoriesReadAgain = (r : Recorded) → AreInRange r.limits → IsRecorded r → RepliesFit r.entries → AreU64 r →
+    history_of (history_text r) ≡ Ok r

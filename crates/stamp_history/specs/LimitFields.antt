@@ -21,10 +21,12 @@ abbrev pub layout : Data → Result Layout ReadError
 layout d = if has_key (codes "layout") d then numbered_layout (whole_under (codes "layout") d) else Ok One
 
 abbrev pub readers : Layout → Data → Result ℕ ReadError
-readers l d = ranged (NotScript part.Readers) (Limit part.Readers) (λ n. nat_le 1 n && nat_le n (units_of l).readers) (whole_under (codes "readers") d)
+readers l d = ranged (NotScript part.Readers) (Limit part.Readers)
+    (λ n. nat_le 1 n && nat_le n (units_of l).readers) (whole_under (codes "readers") d)
 
 abbrev pub versions : Layout → Data → Result ℕ ReadError
-versions l d = ranged (NotScript part.Versions) (Limit part.Versions) (λ n. nat_le n (units_of l).versions) (whole_under (codes "versions") d)
+versions l d = ranged (NotScript part.Versions) (Limit part.Versions) (λ n. nat_le n (units_of l).versions)
+    (whole_under (codes "versions") d)
 
 unfoldable pub limits : Data → Result Bounds ReadError
 limits d = do

@@ -4,7 +4,12 @@ use Rattle.std.specs.Str.{bytes_eq}
 use Rattle.serde_json.specs.Data.{Data, Items, no_items, item}
 use Rattle.serde_json.specs.Find as find
 use Rattle.stamp_core.specs.declared.call.Call.{Call}
-use Rattle.stamp_core.specs.declared.call.Call.TheVariants.{TryWrite, TryRead, WriteLock, ReadLock, Optimistic, Validate, UnlockWrite, UnlockRead, Unlock, ToWrite, ToRead, ToOptimistic, TryUnlockWrite, TryUnlockRead, IsWriteLocked, IsReadLocked, ReadCount}
+use Rattle.stamp_core.specs.declared.call.Call.TheVariants.{TryWrite, TryRead, WriteLock, ReadLock}
+use Rattle.stamp_core.specs.declared.call.Call.TheVariants.{Optimistic, Validate, UnlockWrite}
+use Rattle.stamp_core.specs.declared.call.Call.TheVariants.{UnlockRead, Unlock, ToWrite, ToRead}
+use Rattle.stamp_core.specs.declared.call.Call.TheVariants.{ToOptimistic, TryUnlockWrite}
+use Rattle.stamp_core.specs.declared.call.Call.TheVariants.{TryUnlockRead, IsWriteLocked}
+use Rattle.stamp_core.specs.declared.call.Call.TheVariants.{IsReadLocked, ReadCount}
 use Rattle.stamp_history.specs.JsonValue.{whole}
 
 -- the call of this name that takes nothing
@@ -38,7 +43,8 @@ stamp_call name stamp =
 abbrev pub listed_call : Items → Option Call
 listed_call no_items = None
 listed_call (item name no_items) = option_and_then plain_call (find.as_str name)
-listed_call (item name (item stamp no_items)) = option_and_then (λ text. option_and_then (stamp_call text) (whole stamp)) (find.as_str name)
+listed_call (item name (item stamp no_items)) =
+    option_and_then (λ text. option_and_then (stamp_call text) (whole stamp)) (find.as_str name)
 listed_call (item name (item stamp (item further rest))) = None
 
 abbrev pub lock_call : Data → Option Call

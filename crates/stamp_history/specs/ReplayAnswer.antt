@@ -37,6 +37,7 @@ Answers bytes (Err fault) = fault ≢ Refused Memory → IsAnswer (replay_of byt
 
 -- to calls: values of the replies and the word, or the call that waits
 abbrev pub RepliesTo : Bounds → List Call → Result (Vec Value Global × LockWord) AnswerError → Type 0
-RepliesTo limits calls (Ok x) = (replies : List Reply) × (map view x.0.items ≡ map reply_data replies) × IsReplayed limits calls replies x.1
+RepliesTo limits calls (Ok x) = (replies : List Reply) × (map view x.0.items ≡ map reply_data replies) ×
+    IsReplayed limits calls replies x.1
 RepliesTo limits calls (Err (Waits i)) = WaitsAt limits calls i
 RepliesTo limits calls (Err (Refused e)) = e ≡ Memory

@@ -22,7 +22,8 @@ top d = if has_keys keys d || has_keys keys_with_layout d then Ok tt else Err (N
 
 -- the items under `calls`, no more than 640,000
 abbrev pub listed_calls : Data → Result Items ReadError
-listed_calls d = ranged (NotScript part.Calls) (Limit part.Calls) (λ ds. nat_le (items_len ds) 640000) (list_under (codes "calls") d)
+listed_calls d = ranged (NotScript part.Calls) (Limit part.Calls) (λ ds. nat_le (items_len ds) 640000)
+    (list_under (codes "calls") d)
 
 abbrev pub call_at : ℕ → Data → Result Call ReadError
 call_at i d = kind (NotScript (part.Call i)) (lock_call d)

@@ -7,7 +7,16 @@ use Rattle.serde_json.specs.Find as find
 use Rattle.stamp_machines.specs.declared.script.Arg.{Arg}
 use Rattle.stamp_machines.specs.declared.script.Arg.TheVariants.{Number, Of}
 use Rattle.stamp_machines.specs.declared.script.ScriptCall.{ScriptCall}
-use Rattle.stamp_machines.specs.declared.script.ScriptCall.TheVariants.{TryWrite, TryRead, WriteLock, ReadLock, Optimistic, Validate, UnlockWrite, UnlockRead, Unlock, ToWrite, ToRead, ToOptimistic, TryUnlockWrite, TryUnlockRead, IsWriteLocked, IsReadLocked, ReadCount, Get, Put, PutIf}
+use Rattle.stamp_machines.specs.declared.script.ScriptCall.TheVariants.{TryWrite, TryRead}
+use Rattle.stamp_machines.specs.declared.script.ScriptCall.TheVariants.{WriteLock, ReadLock}
+use Rattle.stamp_machines.specs.declared.script.ScriptCall.TheVariants.{Optimistic, Validate}
+use Rattle.stamp_machines.specs.declared.script.ScriptCall.TheVariants.{UnlockWrite, UnlockRead}
+use Rattle.stamp_machines.specs.declared.script.ScriptCall.TheVariants.{Unlock, ToWrite, ToRead}
+use Rattle.stamp_machines.specs.declared.script.ScriptCall.TheVariants.{ToOptimistic}
+use Rattle.stamp_machines.specs.declared.script.ScriptCall.TheVariants.{TryUnlockWrite}
+use Rattle.stamp_machines.specs.declared.script.ScriptCall.TheVariants.{TryUnlockRead}
+use Rattle.stamp_machines.specs.declared.script.ScriptCall.TheVariants.{IsWriteLocked, IsReadLocked}
+use Rattle.stamp_machines.specs.declared.script.ScriptCall.TheVariants.{ReadCount, Get, Put, PutIf}
 use Rattle.stamp_history.specs.JsonValue.{whole}
 use Rattle.stamp_history.specs.WordsValue.{words}
 
@@ -59,7 +68,8 @@ call_with name d =
 -- the call of this name and two arguments: the words to be found, and those to be written
 abbrev pub call_with_two : List ℕ → Data → Data → Option ScriptCall
 call_with_two name expected new =
-    if bytes_eq name (codes "put_if") then option_and_then (λ found. option_map (PutIf found) (words new)) (words expected)
+    if bytes_eq name (codes "put_if") then option_and_then (λ found. option_map (PutIf found) (words new))
+        (words expected)
     else None
 
 -- the call of the items of a list
@@ -67,7 +77,8 @@ abbrev pub listed_call : Items → Option ScriptCall
 listed_call no_items = None
 listed_call (item name no_items) = option_and_then plain_call (find.as_str name)
 listed_call (item name (item argument no_items)) = option_and_then (λ text. call_with text argument) (find.as_str name)
-listed_call (item name (item expected (item new no_items))) = option_and_then (λ text. call_with_two text expected new) (find.as_str name)
+listed_call (item name (item expected (item new no_items))) =
+    option_and_then (λ text. call_with_two text expected new) (find.as_str name)
 listed_call (item name (item expected (item new (item further rest)))) = None
 
 abbrev pub script_call : Data → Option ScriptCall

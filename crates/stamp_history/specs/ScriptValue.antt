@@ -1,5 +1,6 @@
 -- The fields of a script over a JSON value, in their order: what each holds, or its fault.
-use Rattle.std.specs.Prelude.{ℕ, ◌&&◌, ◌||◌, List, [], ◌∷◌, Bool, true, Option, Some, None, Result, Ok, Err, is_some, option_and_then, if◌then◌else◌, codes, ⊤}
+use Rattle.std.specs.Prelude.{ℕ, ◌&&◌, ◌||◌, List, [], ◌∷◌, Bool, true, Option, Some, None, Result}
+use Rattle.std.specs.Prelude.{Ok, Err, is_some, option_and_then, if◌then◌else◌, codes, ⊤}
 use Rattle.serde_json.specs.Data.{Data, Items, no_items, item}
 use Rattle.serde_json.specs.Find as find
 use Rattle.stamp_machines.specs.declared.script.ScriptCall.{ScriptCall}
@@ -15,7 +16,8 @@ abbrev pub keys : List (List ℕ)
 keys = codes "readers" ∷ codes "steps" ∷ codes "threads" ∷ codes "versions" ∷ codes "width" ∷ []
 
 abbrev pub keys_with_layout : List (List ℕ)
-keys_with_layout = codes "layout" ∷ codes "readers" ∷ codes "steps" ∷ codes "threads" ∷ codes "versions" ∷ codes "width" ∷ []
+keys_with_layout = codes "layout" ∷ codes "readers" ∷ codes "steps" ∷ codes "threads" ∷ codes "versions" ∷
+    codes "width" ∷ []
 
 abbrev pub top : Data → Result ⊤ ReadError
 top d = if has_keys keys d || has_keys keys_with_layout d then Ok tt else Err (NotScript part.Top)

@@ -4,7 +4,16 @@ use Rattle.std.specs.declared.alloc.Global.{Global}
 use Rattle.stamp_core.specs.declared.call.Call.{Call}
 use Rattle.stamp_core.specs.declared.call.Call.TheVariants as call
 use Rattle.stamp_history.specs.declared.stored_call.StoredCall.{StoredCall}
-use Rattle.stamp_history.specs.declared.stored_call.StoredCall.TheVariants.{TryWrite, TryRead, WriteLock, ReadLock, Optimistic, Validate, UnlockWrite, UnlockRead, Unlock, ToWrite, ToRead, ToOptimistic, TryUnlockWrite, TryUnlockRead, IsWriteLocked, IsReadLocked, ReadCount}
+use Rattle.stamp_history.specs.declared.stored_call.StoredCall.TheVariants.{TryWrite, TryRead}
+use Rattle.stamp_history.specs.declared.stored_call.StoredCall.TheVariants.{WriteLock, ReadLock}
+use Rattle.stamp_history.specs.declared.stored_call.StoredCall.TheVariants.{Optimistic, Validate}
+use Rattle.stamp_history.specs.declared.stored_call.StoredCall.TheVariants.{UnlockWrite, UnlockRead}
+use Rattle.stamp_history.specs.declared.stored_call.StoredCall.TheVariants.{Unlock, ToWrite, ToRead}
+use Rattle.stamp_history.specs.declared.stored_call.StoredCall.TheVariants.{ToOptimistic}
+use Rattle.stamp_history.specs.declared.stored_call.StoredCall.TheVariants.{TryUnlockWrite}
+use Rattle.stamp_history.specs.declared.stored_call.StoredCall.TheVariants.{TryUnlockRead}
+use Rattle.stamp_history.specs.declared.stored_call.StoredCall.TheVariants.{IsWriteLocked}
+use Rattle.stamp_history.specs.declared.stored_call.StoredCall.TheVariants.{IsReadLocked, ReadCount}
 
 abbrev pub call_of : StoredCall → Call
 call_of TryWrite = call.TryWrite

@@ -1,5 +1,6 @@
 -- A book with one call more.
-use Rattle.std.proofs.Common.{◌≡◌, ◌⊎◌, ℕ, ◌-◌, ◌<◌, ◌≤◌, List, [], ◌∷◌, ◌++◌, length, get_or, refl, sym, subst, inl, inr, arith, length-append, Some}
+use Rattle.std.proofs.Common.{◌≡◌, ◌⊎◌, ℕ, ◌-◌, ◌<◌, ◌≤◌, List, [], ◌∷◌, ◌++◌, length, get_or, refl}
+use Rattle.std.proofs.Common.{sym, subst, inl, inr, arith, length-append, Some}
 use Rattle.std.specs.Prelude.{IsTrue}
 use Rattle.std.proofs.lemmas.List.{get_or_append_left}
 use Rattle.std.proofs.lemmas.List.Elements.{All-push}
@@ -12,11 +13,18 @@ use Rattle.stamp_core.specs.History.{Replies}
 use Rattle.stamp_core.specs.Record.{SuitsRecord}
 use Rattle.stamp_core.specs.Linearized.{IsAnswered, Fits}
 use Rattle.stamp_core.specs.declared.call.Call.{Call}
-use Rattle.stamp_core.specs.declared.call.Call.TheVariants.{TryWrite, TryRead, WriteLock, ReadLock, Optimistic, Validate, UnlockWrite, UnlockRead, Unlock, ToWrite, ToRead, ToOptimistic, TryUnlockWrite, TryUnlockRead, IsWriteLocked, IsReadLocked, ReadCount, Get, Put, PutIf}
+use Rattle.stamp_core.specs.declared.call.Call.TheVariants.{TryWrite, TryRead, WriteLock, ReadLock}
+use Rattle.stamp_core.specs.declared.call.Call.TheVariants.{Optimistic, Validate, UnlockWrite}
+use Rattle.stamp_core.specs.declared.call.Call.TheVariants.{UnlockRead, Unlock, ToWrite, ToRead}
+use Rattle.stamp_core.specs.declared.call.Call.TheVariants.{ToOptimistic, TryUnlockWrite}
+use Rattle.stamp_core.specs.declared.call.Call.TheVariants.{TryUnlockRead, IsWriteLocked}
+use Rattle.stamp_core.specs.declared.call.Call.TheVariants.{IsReadLocked, ReadCount, Get, Put}
+use Rattle.stamp_core.specs.declared.call.Call.TheVariants.{PutIf}
 use Rattle.stamp_core.specs.declared.reply.Reply.{Reply}
 use Rattle.stamp_core.specs.declared.entry.Entry.{Entry}
 use Rattle.stamp_core.proofs.Linearizing.{events_push, linearized_more}
-use Rattle.stamp_threads.specs.Book.{Booked, past_of, transition_in, entry_at, with_call, StandsAt, AreInPlace, IsBook, IsKept}
+use Rattle.stamp_threads.specs.Book.{Booked, past_of, transition_in, entry_at, with_call, StandsAt}
+use Rattle.stamp_threads.specs.Book.{AreInPlace, IsBook, IsKept}
 
 pub admitted : (b : Booked) (word : LockWord) → IsKept b word → IsAdmitted b.limits word
 admitted b word kept = record { events = past_of b; represented = kept.represented }
@@ -51,17 +59,21 @@ placed_more xs e placed stands k d lt = by (either k (length xs))
     either n m = grind arith
 
     by : (k < length xs) ⊎ (length xs ≤ k) → StandsAt k (get_or (xs ++ e ∷ []) k d)
-    by (inl before) = subst (λ (x : Entry). StandsAt k x) (sym (get_or_append_left xs (e ∷ []) d k before)) (placed k d before)
+    by (inl before) = subst (λ (x : Entry). StandsAt k x) (sym (get_or_append_left xs (e ∷ []) d k before))
+        (placed k d before)
     by (inr end) =
         let here : length xs ≡ k = omega (arith, length-append xs (e ∷ [])) in
-        subst (λ (n : ℕ). StandsAt n (get_or (xs ++ e ∷ []) n d)) here (subst (λ (x : Entry). StandsAt (length xs) x) (sym (get_or-append_seam xs e [] d)) stands)
+        subst (λ (n : ℕ). StandsAt n (get_or (xs ++ e ∷ []) n d)) here
+            (subst (λ (x : Entry). StandsAt (length xs) x) (sym (get_or-append_seam xs e [] d)) stands)
 
 -- the book with one more call, and the word that it leaves
 module _ (b : Booked) (thread : ℕ) (call : Call) (is_book : IsBook b) (lock : IsTrue (is_lock_call call)) where
-  answered : (reply : Reply) → Replies (transition_in b call) reply → IsAnswered b.limits 0 b.entries (entry_at (length b.entries) thread call reply)
+  answered : (reply : Reply) → Replies (transition_in b call) reply →
+      IsAnswered b.limits 0 b.entries (entry_at (length b.entries) thread call reply)
   answered reply replies = rw lock replies
 
-  fits : (reply : Reply) → Replies (transition_in b call) reply → Fits b.limits 0 b.entries (entry_at (length b.entries) thread call reply)
+  fits : (reply : Reply) → Replies (transition_in b call) reply →
+      Fits b.limits 0 b.entries (entry_at (length b.entries) thread call reply)
   fits reply replies = record {
     within = record { begun = omega arith; ended = omega arith };
     rises = λ d some.
@@ -72,7 +84,9 @@ module _ (b : Booked) (thread : ℕ) (call : Call) (is_book : IsBook b) (lock : 
     answered = answered reply replies;
   }
 
-  pub kept_more : (word : LockWord) (found : LockWord × Reply) → thread < 64 → length b.entries < b.most → Represents b.limits word (past_of b) → Steps b.limits word call (Some found) → IsKept (with_call b thread call found.1) found.0
+  pub kept_more : (word : LockWord) (found : LockWord × Reply) → thread < 64 → length b.entries < b.most →
+      Represents b.limits word (past_of b) → Steps b.limits word call (Some found) →
+      IsKept (with_call b thread call found.1) found.0
   kept_more word found small room represented steps =
       let s = steps.after (past_of b) represented in
       let e : Entry = entry_at (length b.entries) thread call found.1 in
@@ -82,10 +96,13 @@ module _ (b : Booked) (thread : ℕ) (call : Call) (is_book : IsBook b) (lock : 
           most = is_book.most;
           room = omega (arith, length-append b.entries (e ∷ []));
           entries = record {
-            suit = All-push (SuitsRecord 0) b.entries e is_book.entries.suit (record { thread = small; call = lock_suits call lock });
-            placed = placed_more b.entries e is_book.entries.placed (record { first = refl; point = refl; last = refl });
+            suit = All-push (SuitsRecord 0) b.entries e is_book.entries.suit
+                (record { thread = small; call = lock_suits call lock });
+            placed = placed_more b.entries e is_book.entries.placed
+                (record { first = refl; point = refl; last = refl });
             linearized = linearized_more b.limits 0 b.entries e is_book.entries.linearized (fits found.1 s.1);
           };
         };
-        represented = subst (λ (es : List LockEvent). Represents b.limits found.0 es) (sym (events_push b.limits b.entries e)) s.0;
+        represented = subst (λ (es : List LockEvent). Represents b.limits found.0 es)
+            (sym (events_push b.limits b.entries e)) s.0;
       }

@@ -35,7 +35,8 @@ use Rattle.stamp_threads.proofs.RecordSteps.{others_mark, one_after, one_consist
 use Rattle.stamp_threads.proofs.RecordSteps.{only_consistent, observing_brings, same_knows}
 use Rattle.stamp_threads.proofs.RecordSteps.{idle_quiet, KeptBy}
 
-module _ {enterable : Bool} (P : List ℕ → Type 0) (shape : RecordShape) (s : State (Unit {0}) (List RecordPassView)) (r : IsKept enterable P shape s)
+module _ {enterable : Bool} (P : List ℕ → Type 0) (shape : RecordShape) (s : State (Unit {0}) (List RecordPassView))
+    (r : IsKept enterable P shape s)
     (id : ℕ) (v : RecordPassView) (here : get_elem? s.views id ≡ some (v ∷ [])) (version : ℕ)
     (xs : List ℕ) (reading : v.phase ≡ Reading version xs) where
   pub reading_quiet : IsWriting v.phase → ⊥
@@ -198,7 +199,8 @@ allows_open P shape slots id me is idle s r _ at _ =
     )
 
 -- a load of a word of the record
-pub allows_load_word : {enterable : Bool} (P : List ℕ → Type 0) (shape : RecordShape) (slots id : ℕ) (me : Seated) (version k : ℕ)
+pub allows_load_word : {enterable : Bool} (P : List ℕ → Type 0) (shape : RecordShape) (slots id : ℕ) (me : Seated)
+    (version k : ℕ)
     (xs : List ℕ) → me ≡ alone (first_of me.0) → (first_of me.0).phase ≡ Reading version xs →
     length xs ≡ k → k < shape.width →
     Allows (IsKept enterable P shape) slots id me (k + 1) (λ n. n)
@@ -263,7 +265,8 @@ confirm_at P shape s r id me version xs is here reading long false e =
       },
     )
 
-pub allows_confirm : {enterable : Bool} (P : List ℕ → Type 0) (shape : RecordShape) (slots id : ℕ) (me : Seated) (version : ℕ)
+pub allows_confirm : {enterable : Bool} (P : List ℕ → Type 0) (shape : RecordShape) (slots id : ℕ) (me : Seated)
+    (version : ℕ)
     (xs : List ℕ) → me ≡ alone (first_of me.0) → (first_of me.0).phase ≡ Reading version xs →
     length xs ≡ shape.width →
     Allows (IsKept enterable P shape) slots id me 0 (λ n. n)

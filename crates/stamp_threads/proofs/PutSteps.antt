@@ -39,7 +39,8 @@ use Rattle.stamp_threads.proofs.RecordSteps.{others_mark, one_after, one_consist
 use Rattle.stamp_threads.proofs.RecordSteps.{only_views, only_consistent, observing_brings}
 use Rattle.stamp_threads.proofs.RecordSteps.{locked_by, reader_knows, idle_quiet, KeptBy}
 
-module _ {enterable : Bool} (P : List ℕ → Type 0) (shape : RecordShape) (s : State (Unit {0}) (List RecordPassView)) (r : IsKept enterable P shape s)
+module _ {enterable : Bool} (P : List ℕ → Type 0) (shape : RecordShape) (s : State (Unit {0}) (List RecordPassView))
+    (r : IsKept enterable P shape s)
     (id : ℕ) (v : RecordPassView) (here : get_elem? s.views id ≡ some (v ∷ [])) where
   -- write mode is got
   acquires : (n held : ℕ) (xs : List ℕ) → v.phase ≡ Idle →
@@ -303,7 +304,8 @@ acquire_at P shape s r id me n old held xs is idle here free up room long good f
     let t = look_at P shape s r id me is idle here in
     (w ∷ [], keeps, tt, subst (KeptBy _ P shape s id w) (sym (set-get_or s.words 0 0)) t.0, t.1)
 
-pub allows_acquire : {enterable : Bool} (P : List ℕ → Type 0) (shape : RecordShape) (slots id : ℕ) (me : Seated) (n old held : ℕ)
+pub allows_acquire : {enterable : Bool} (P : List ℕ → Type 0) (shape : RecordShape) (slots id : ℕ) (me : Seated)
+    (n old held : ℕ)
     (xs : List ℕ) → me ≡ alone (first_of me.0) → (first_of me.0).phase ≡ Idle →
     old ≡ word_with shape.limits.layout n false →
     held ≡ old + writer_unit shape.limits.layout → n < shape.limits.versions →
@@ -315,7 +317,8 @@ allows_acquire P shape slots id me n old held xs is idle free up room long good 
     up room long good (eqb (get_or s.words 0 0) old) refl
 
 -- a store of a word of the record
-pub allows_store : {enterable : Bool} (P : List ℕ → Type 0) (shape : RecordShape) (slots id : ℕ) (me : Seated) (version stored x : ℕ)
+pub allows_store : {enterable : Bool} (P : List ℕ → Type 0) (shape : RecordShape) (slots id : ℕ) (me : Seated)
+    (version stored x : ℕ)
     (xs : List ℕ) → me ≡ alone (first_of me.0) →
     (first_of me.0).phase ≡ Writing version xs stored → stored < shape.width →
     x ≡ get_or xs stored 0 →
@@ -333,7 +336,8 @@ allows_store P shape slots id me version stored x xs is writing inside right s r
     )
 
 -- the exchange that releases
-pub allows_release : (enterable : Bool) (P : List ℕ → Type 0) (shape : RecordShape) (slots id : ℕ) (me : Seated) (version held free : ℕ)
+pub allows_release : (enterable : Bool) (P : List ℕ → Type 0) (shape : RecordShape) (slots id : ℕ) (me : Seated)
+    (version held free : ℕ)
     (xs : List ℕ) → me ≡ alone (first_of me.0) →
     (first_of me.0).phase ≡ Writing version xs shape.width →
     held ≡ word_with shape.limits.layout version true →

@@ -144,7 +144,8 @@ split_kept P shape s r id v here idle =
     (after_split v ∷ []) (split_off v ∷ []))
 
 -- a pass gives a new one
-pub splits_give : (enterable : Bool) (P : List ℕ → Type 0) (shape : RecordShape) (id : ℕ) (me : Seated) → me ≡ alone (first_of me.0) →
+pub splits_give : (enterable : Bool) (P : List ℕ → Type 0) (shape : RecordShape) (id : ℕ) (me : Seated) → me ≡
+    alone (first_of me.0) →
     (first_of me.0).phase ≡ Idle →
     Splits (IsKept enterable P shape) id me.0 (map after_split me.0) (map split_off me.0)
 splits_give enterable P shape id me is idle =
@@ -188,7 +189,8 @@ join_kept P shape id v other u idle still s r at away there =
     (writer_stays r.log s.views id (v ∷ []) at (one_idle v idle) (r.writer l) (v ∷ u ∷ [])) [])
 
 -- two passes go on one seat
-pub joins_share : (enterable : Bool) (P : List ℕ → Type 0) (shape : RecordShape) (id : ℕ) (me : Seated) (other : ℕ) (them : Seated) →
+pub joins_share : (enterable : Bool) (P : List ℕ → Type 0) (shape : RecordShape) (id : ℕ) (me : Seated) (other : ℕ)
+    (them : Seated) →
     me ≡ alone (first_of me.0) → them ≡ alone (first_of them.0) →
     (first_of me.0).phase ≡ Idle → (first_of them.0).phase ≡ Idle →
     Joins (IsKept enterable P shape) id me.0 other them.0 (me.0 ++ them.0) []
@@ -198,7 +200,8 @@ joins_share enterable P shape id me other them is their idle still =
     (λ i. (sym (ap (λ (m : Seated). m.0) is) i, sym (ap (λ (m : Seated). m.0) their) i))
     (join_kept P shape id (first_of me.0) other (first_of them.0) idle still)
 
-part_kept : {enterable : Bool} (P : List ℕ → Type 0) (shape : RecordShape) (id : ℕ) (v u : RecordPassView) → v.phase ≡ Idle →
+part_kept : {enterable : Bool} (P : List ℕ → Type 0) (shape : RecordShape) (id : ℕ) (v u : RecordPassView) →
+    v.phase ≡ Idle →
     u.phase ≡ Idle → Splits (IsKept enterable P shape) id (v ∷ u ∷ []) (v ∷ []) (u ∷ [])
 part_kept P shape id v u idle still s r at =
     with_views P shape s r r.roots r.closed (set s.views id (v ∷ []) ++ (u ∷ []) ∷ [])

@@ -41,7 +41,8 @@ OthersKnow P shape s log id cells' log' = (i k : ℕ) (u : RecordPassView) → i
     StandsAt s.views i k u → Knows P shape.width s.words log u.name u.phase →
     Knows P shape.width cells' log' u.name u.phase
 
-module _ {enterable : Bool} (P : List ℕ → Type 0) (shape : RecordShape) (s : State (Unit {0}) (List RecordPassView)) (r : IsKept enterable P shape s)
+module _ {enterable : Bool} (P : List ℕ → Type 0) (shape : RecordShape) (s : State (Unit {0}) (List RecordPassView))
+    (r : IsKept enterable P shape s)
     (id : ℕ) (vs ws : List RecordPassView) (at : get_elem? s.views id ≡ some vs)
     (same : Same vs ws) (cells' : List ℕ) (log' : RecordLog) (grows : Grows vs r.log log')
     (brings : (k : ℕ) (w : RecordPassView) → get_elem? ws k ≡ some w →
@@ -90,7 +91,8 @@ module _ {enterable : Bool} (P : List ℕ → Type 0) (shape : RecordShape) (s :
         given = subst (HasGivenAll w.name w.splits) (sym e) f.part.given;
       }
 
-module _ {enterable : Bool} (P : List ℕ → Type 0) (shape : RecordShape) (s : State (Unit {0}) (List RecordPassView)) (r : IsKept enterable P shape s)
+module _ {enterable : Bool} (P : List ℕ → Type 0) (shape : RecordShape) (s : State (Unit {0}) (List RecordPassView))
+    (r : IsKept enterable P shape s)
     (id : ℕ) (v : RecordPassView) (here : get_elem? s.views id ≡ some (v ∷ [])) where
   pub stands_here : StandsAt s.views id 0 v
   stands_here = (v ∷ [], here, refl)
@@ -260,7 +262,8 @@ pub idle_quiet : (phase : RecordPhase) → phase ≡ Idle → IsWriting phase �
 idle_quiet phase e w = subst IsWriting e w
 
 -- the rule after a step of this seat, whose pass is w then, on these words
-abbrev pub KeptBy : Bool → (List ℕ → Type 0) → RecordShape → State (Unit {0}) (List RecordPassView) → ℕ → RecordPassView →
+abbrev pub KeptBy : Bool → (List ℕ → Type 0) → RecordShape → State (Unit {0}) (List RecordPassView) → ℕ →
+    RecordPassView →
     List ℕ → Type 0
 KeptBy enterable P shape s id w words =
     IsKept enterable P shape record { words = words; homes = s.homes; views = set s.views id (w ∷ []) }

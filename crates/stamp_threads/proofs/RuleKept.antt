@@ -35,7 +35,8 @@ use Rattle.stamp_threads.proofs.SeatSteps.{Same, same_one, same_two, stands_on, 
 use Rattle.stamp_threads.proofs.SeatSteps.{other_part}
 use Rattle.stamp_threads.proofs.LockLogs.{legal_longer, represents_unchanged, represents_changed}
 
-module _ {enterable : Bool} (limits : Bounds) (s : State (Unit {0}) (List LockPass)) (r : IsKept enterable limits s) (id : ℕ)
+module _ {enterable : Bool} (limits : Bounds) (s : State (Unit {0}) (List LockPass)) (r : IsKept enterable limits s)
+    (id : ℕ)
     (vs ws : List LockPass) (log' : LockLog) (at : get_elem? s.views id ≡ some vs)
     (same : Same vs ws) (grows : Grows vs r.log log')
     (all : (k : ℕ) (w : LockPass) → get_elem? ws k ≡ some w →
@@ -84,7 +85,8 @@ Steps enterable limits s id word homes w = IsKept enterable limits
     record { words = set s.words 0 word; homes = homes; views = set s.views id (w ∷ []) } ×
     IsConsistentWith limits w
 
-module _ {enterable : Bool} (limits : Bounds) (s : State (Unit {0}) (List LockPass)) (r : IsKept enterable limits s) (id : ℕ)
+module _ {enterable : Bool} (limits : Bounds) (s : State (Unit {0}) (List LockPass)) (r : IsKept enterable limits s)
+    (id : ℕ)
     (v : LockPass) (homes : List (Option (Unit {0}))) (at : get_elem? s.views id ≡ some (v ∷ []))
   where
     part_now : IsPart every r.log v
@@ -197,7 +199,8 @@ abbrev TellsBy : Bool → Bounds → Call → LockPass → ℕ → Me (Unit {0})
 TellsBy b limits call v found n = (n ≡ alone (first_of n.0)) ×
     MatchBool b (Won limits call v found (first_of n.0)) (Loaded limits call v found (first_of n.0))
 
-exchange_at : {enterable : Bool} (limits : Bounds) (s : State (Unit {0}) (List LockPass)) (r : IsKept enterable limits s)
+exchange_at : {enterable : Bool} (limits : Bounds) (s : State (Unit {0}) (List LockPass))
+    (r : IsKept enterable limits s)
     (id : ℕ) (me : Me (Unit {0}) (List LockPass)) (call : Call) (old new : ℕ) (reply : Reply) →
     IsTrue (is_lock_call call) → me ≡ alone (first_of me.0) →
     get_elem? s.views id ≡ some (first_of me.0 ∷ [])

@@ -5,7 +5,8 @@ pub returns-in-Answer : goal.returns-in-Answer
 returns-in-Answer c = answered c.args.limits c.args.word c.args.call c.in-Answer.reply c.in-Answer.ensures.decides
 
 pub returns-in-Change : goal.returns-in-Change
-returns-in-Change c = changed c.args.limits c.args.word c.in-Change.next c.args.call c.in-Change.reply c.in-Change.ensures.decides
+returns-in-Change c = changed c.args.limits c.args.word c.in-Change.next c.args.call c.in-Change.reply
+    c.in-Change.ensures.decides
 
 pub returns-in-Wait : goal.returns-in-Wait
 returns-in-Wait c = waits c.args.limits c.args.word c.args.call c.in-Wait.ensures.decides

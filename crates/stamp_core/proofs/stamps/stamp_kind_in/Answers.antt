@@ -27,4 +27,5 @@ returns-else-reader_count-gt0 c =
     rw (c.version-else-reader_count-gt0.ensures, c.in-Some.ensures.bits) (k.2 w r)
 
 pub returns-in_default : goal.returns-in_default
-returns-in_default c = λ k stamp. let some = c.in_default.ensures.some.1 (stamp_is_state c.args.layout k c.args.stamp stamp) in cc
+returns-in_default c = λ k stamp. let some = c.in_default.ensures.some.1
+    (stamp_is_state c.args.layout k c.args.stamp stamp) in cc

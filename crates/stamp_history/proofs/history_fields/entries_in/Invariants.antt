@@ -6,4 +6,6 @@ use Rattle.stamp_history.proofs.EachItem.{with_front}
 use Rattle.stamp_history.proofs.history_fields.entries_in.Given as goal
 
 abbrev pub invariant-loop-index : goal.invariant-loop-index
-invariant-loop-index l = with_front l.entries.items (each (entry_at l.width) l.index (items_view (drop l.index l.list))) ≡ each (entry_at l.width) 0 (items_view l.list)
+invariant-loop-index l = with_front l.entries.items
+    (each (entry_at l.width) l.index (items_view (drop l.index l.list))) ≡
+    each (entry_at l.width) 0 (items_view l.list)

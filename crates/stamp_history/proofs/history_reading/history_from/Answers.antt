@@ -12,6 +12,8 @@ record_of-requires c =
     record {
       width = known_width d c.in_ok-width.width (sym c.in_ok-width.ensures);
       entries = es.0;
-      report = subst (λ (n : ℕ). (length c.in_ok-report.report.items ≡ 0) ⊎ (length c.in_ok-report.report.items ≡ n)) count (known_report c.len.result d c.in_ok-report.report.items c.in_ok-report.ensures);
+      report = subst (λ (n : ℕ). (length c.in_ok-report.report.items ≡ 0) ⊎
+          (length c.in_ok-report.report.items ≡ n)) count
+          (known_report c.len.result d c.in_ok-report.report.items c.in_ok-report.ensures);
       suit = es.1;
     }

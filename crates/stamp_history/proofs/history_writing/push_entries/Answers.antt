@@ -15,8 +15,10 @@ loop-index-preserved c =
     let x = c.index-entries-index.result in
     let is = c.index-entries-index.is in
     record {
-      text = item_written entry_data xs i x _ _ _ _ (next_left xs i x x c.loop-index-test.true is) c.in_ok-push_comma.ensures c.in_ok-push_entry.ensures.text c.loop-index.invariant.text;
-      fits = all_and_next EntryIsU64 xs i x x c.loop-index-test.true is c.loop-index.invariant.fits c.in_ok-push_entry.ensures.fits;
+      text = item_written entry_data xs i x _ _ _ _ (next_left xs i x x c.loop-index-test.true is)
+          c.in_ok-push_comma.ensures c.in_ok-push_entry.ensures.text c.loop-index.invariant.text;
+      fits = all_and_next EntryIsU64 xs i x x c.loop-index-test.true is c.loop-index.invariant.fits
+          c.in_ok-push_entry.ensures.fits;
     }
 
 pub returns-clause-fits : goal.returns-clause-fits

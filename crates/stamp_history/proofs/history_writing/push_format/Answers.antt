@@ -16,4 +16,5 @@ unfolding serde_json_on_literals
 returns-in_ok-push_numbered-in-Two-2 c = λ rest.
     let format = codes ",\"format\":" ++ compact_text (number_data 2) in
     let layout = codes ",\"layout\":" ++ compact_text (number_data 2) in
-    rw c.in-Two.is (before _ layout (members_text true rest) c.in_ok-push_numbered-in-Two-2.ensures.text ∙ before _ format (layout ++ members_text true rest) c.in_ok-push_numbered-in-Two.ensures.text)
+    rw c.in-Two.is (before _ layout (members_text true rest) c.in_ok-push_numbered-in-Two-2.ensures.text ∙
+        before _ format (layout ++ members_text true rest) c.in_ok-push_numbered-in-Two.ensures.text)

@@ -12,5 +12,6 @@ returns-clause-text c = λ rest.
     let some : 0 < length report = grind (arith, common_steps) in
     let key = codes ",\"report\":" in
     let pairs = compact_text (report_data report) in
-    before _ (key ++ pairs) (members_text true rest) (onto _ key pairs c.in_ok-push_text.ensures c.in_ok-push_pairs.ensures.text)
+    before _ (key ++ pairs) (members_text true rest)
+        (onto _ key pairs c.in_ok-push_text.ensures c.in_ok-push_pairs.ensures.text)
     ∙ ap (λ (text : List ℕ). c.args.text.now.items ++ text) (report_text report rest some)

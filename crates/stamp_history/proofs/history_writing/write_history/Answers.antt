@@ -7,9 +7,11 @@ use Rattle.stamp_history.proofs.history_writing.write_history.Goals as goal
 
 pub returns-clause-text : goal.returns-clause-text
 unfolding history_text
-returns-clause-text c = c.in_ok-push_history.ensures.text ∙ ap (λ (before : List ℕ). before ++ compact_text (history_data c.args.history.now)) c.in_ok-text.ensures.items
+returns-clause-text c = c.in_ok-push_history.ensures.text ∙
+    ap (λ (before : List ℕ). before ++ compact_text (history_data c.args.history.now)) c.in_ok-text.ensures.items
 
 pub returns-clause-again : goal.returns-clause-again
 returns-clause-again c =
     let written : c.push_history.new.text.items ≡ history_text c.args.history.now = returns-clause-text c in
-    ap history_of written ∙ reads_again c.args.history.now c.in_ok-push_history.ensures.range c.entries.ensures.known c.entries.ensures.replies c.in_ok-push_history.ensures.fits
+    ap history_of written ∙ reads_again c.args.history.now c.in_ok-push_history.ensures.range
+        c.entries.ensures.known c.entries.ensures.replies c.in_ok-push_history.ensures.fits

@@ -14,8 +14,10 @@ loop-index-preserved c =
     let i = c.loop-index.index in
     let x = get_or xs i 0 in
     record {
-      text = item_written number_data xs i x _ _ _ _ (next_left xs i 0 x c.loop-index-test.true refl) c.in_ok-push_comma.ensures c.in_ok-push_number.ensures.text c.loop-index.invariant.text;
-      fits = all_and_next IsU64 xs i 0 x c.loop-index-test.true refl c.loop-index.invariant.fits c.in_ok-push_number.ensures.fits;
+      text = item_written number_data xs i x _ _ _ _ (next_left xs i 0 x c.loop-index-test.true refl)
+          c.in_ok-push_comma.ensures c.in_ok-push_number.ensures.text c.loop-index.invariant.text;
+      fits = all_and_next IsU64 xs i 0 x c.loop-index-test.true refl c.loop-index.invariant.fits
+          c.in_ok-push_number.ensures.fits;
     }
 
 pub returns-clause-fits : goal.returns-clause-fits

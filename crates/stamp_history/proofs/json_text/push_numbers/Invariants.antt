@@ -8,6 +8,7 @@ use Rattle.stamp_history.proofs.json_text.push_numbers.Given as goal
 
 abbrev pub invariant-loop-index : goal.invariant-loop-index
 invariant-loop-index l = record {
-  text : l.text.items ++ items_left number_data l.index l.numbers ≡ l.fn.text.items ++ compact_text (words_data l.numbers);
+  text : l.text.items ++ items_left number_data l.index l.numbers ≡ l.fn.text.items ++
+      compact_text (words_data l.numbers);
   fits : All IsU64 (take l.index l.numbers);
 }

@@ -24,4 +24,5 @@ pub returns-in-Ok-clause-read : goal.returns-in-Ok-clause-read
 returns-in-Ok-clause-read c = rw (is_utf8-from_IsUtf8 c.args.bytes.now c.in-Ok.ensures.ok.0, c.in-Ok.ensures.ok.1)
 
 pub returns-in-Err-2-clause-read : goal.returns-in-Err-2-clause-read
-returns-in-Err-2-clause-read c = λ _. json_of-refused c.args.bytes.now (c.in-Err.ensures.err (iff_false c.is_memory.ensures c.if-is_memory.false))
+returns-in-Err-2-clause-read c = λ _. json_of-refused c.args.bytes.now
+    (c.in-Err.ensures.err (iff_false c.is_memory.ensures c.if-is_memory.false))

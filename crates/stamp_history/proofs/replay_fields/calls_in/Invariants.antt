@@ -7,4 +7,5 @@ use Rattle.stamp_history.proofs.EachItem.{with_front}
 use Rattle.stamp_history.proofs.replay_fields.calls_in.Given as goal
 
 abbrev pub invariant-loop-index : goal.invariant-loop-index
-invariant-loop-index l = with_front (stored_calls l.calls) (each call_at l.index (items_view (drop l.index l.list))) ≡ each call_at 0 (items_view l.list)
+invariant-loop-index l = with_front (stored_calls l.calls) (each call_at l.index (items_view (drop l.index l.list)))
+    ≡ each call_at 0 (items_view l.list)

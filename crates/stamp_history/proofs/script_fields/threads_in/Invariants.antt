@@ -8,4 +8,6 @@ use Rattle.stamp_history.proofs.EachItem.{with_front}
 use Rattle.stamp_history.proofs.script_fields.threads_in.Given as goal
 
 abbrev pub invariant-loop-value : goal.invariant-loop-value
-invariant-loop-value l = with_front (map calls_in l.threads.items) (each thread_at (vec_len l.threads) (items_view (into_iter_items l.value-iterator))) ≡ each thread_at 0 (items_view l.fn.list.items)
+invariant-loop-value l = with_front (map calls_in l.threads.items)
+    (each thread_at (vec_len l.threads) (items_view (into_iter_items l.value-iterator))) ≡
+    each thread_at 0 (items_view l.fn.list.items)

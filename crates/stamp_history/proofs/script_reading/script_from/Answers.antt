@@ -3,7 +3,9 @@ use Rattle.stamp_history.proofs.PlanFaults.{no_fault, first_fault}
 use Rattle.stamp_history.proofs.script_reading.script_from.Goals as goal
 
 pub returns-in-Ok : goal.returns-in-Ok
-returns-in-Ok c = rw (no_fault c.args.limits c.args.width c.args.threads.items c.args.steps.items c.in-Ok.ensures.good) (ap Ok (sym c.in-Ok.ensures.ok))
+returns-in-Ok c = rw (no_fault c.args.limits c.args.width c.args.threads.items c.args.steps.items
+    c.in-Ok.ensures.good) (ap Ok (sym c.in-Ok.ensures.ok))
 
 pub returns-in-Err : goal.returns-in-Err
-returns-in-Err c = rw (first_fault c.args.limits c.args.width c.args.threads.items c.args.steps.items c.in-Err.fault c.in-Err.ensures.fault) (λ _. refl)
+returns-in-Err c = rw (first_fault c.args.limits c.args.width c.args.threads.items c.args.steps.items c.in-Err.fault
+    c.in-Err.ensures.fault) (λ _. refl)

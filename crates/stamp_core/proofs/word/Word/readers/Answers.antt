@@ -4,4 +4,5 @@ use Rattle.stamp_core.proofs.WordCounts.{counts_in-represented}
 use Rattle.stamp_core.proofs.word.Word.readers.Goals as goal
 
 pub returns : goal.returns
-returns c = λ limits events range represented. c.reader_count.ensures ∙ ap (λ (n : Counts). n.readers) (counts_in-represented limits c.args.self.now events range represented)
+returns c = λ limits events range represented. c.reader_count.ensures ∙
+    ap (λ (n : Counts). n.readers) (counts_in-represented limits c.args.self.now events range represented)
