@@ -5,6 +5,8 @@ import sys
 
 PROGRAMS = ["lock_timing", "lock_c", "StampedLock"]
 NAMES = [("optimistic", 1), ("read", 1), ("write", 1)] + [("mostly", n) for n in range(1, 5)]
+# A pair by a handle, and its peer.
+BY_HANDLE = [("optimistic", "optimistic"), ("lent", "optimistic"), ("read", "read"), ("write", "write")]
 
 
 def rounds():
@@ -36,8 +38,22 @@ def main():
               + f"{ratio(times, name, threads, 'lock_c'):10.2f}"
               + f"{ratio(times, name, threads, 'StampedLock'):12.2f}")
     print()
+    by_handle(times)
+    print()
     print(f"{'growth to 4':16}" + "".join(f"{growth(times, program):14.2f}" for program in PROGRAMS)
           + f"{growth(times, 'lock_timing') / growth(times, 'lock_c'):10.2f}")
+
+
+def by_handle(times):
+    """The pairs by a handle, each beside its peers of the same turns."""
+    print(f"{'ns a pair':16}" + "".join(f"{title:>14}" for title in
+          ("LockHandle", "once", "C", "JDK", "of once", "of C", "of the JDK")))
+    for name, peer_name in BY_HANDLE:
+        ours = statistics.median(times["lock_timing", "handle_" + name, 1])
+        peers = [statistics.median(times[program, peer_name, 1])
+                 for program in PROGRAMS]
+        print(f"{name:16}{ours:14.2f}" + "".join(f"{peer:14.2f}" for peer in peers)
+              + "".join(f"{ours / peer:14.2f}" for peer in peers))
 
 
 def growth(times, program):

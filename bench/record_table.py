@@ -14,6 +14,13 @@ ALONE = [
     ("  handed on", "hand16", "load16"),
     ("put_once, 16 words", "put16", "store16"),
 ]
+# A get by a handle, and the title of its row.
+BY_HANDLE = [
+    ("2 words", "2"),
+    ("16 words", "16"),
+    ("2, handed on", "_hand2"),
+    ("16, handed on", "_hand16"),
+]
 
 
 def rounds():
@@ -47,6 +54,8 @@ def main():
         print(f"{title:20}{time:9.2f}{c:9.2f}{jdk:9.2f}{cells:9.2f}{time / c:8.2f}"
               f"{jdk / time:10.2f}")
     print()
+    by_handle(median)
+    print()
     print(f"{'million gets a s':20}{'record':>9}{'C':>9}{'JDK':>9}{'growth':>9}{'of C':>9}")
     for name in ("readers", "beside"):
         for threads in range(1, 5):
@@ -58,6 +67,20 @@ def main():
                   + f"{growths[0]:9.2f}{growths[1]:9.2f}")
     if left_out:
         print(f"\nrounds left out, since the writer was stopped in a put: {len(left_out)}")
+
+
+def by_handle(median):
+    """Gets by a handle, each beside its peers of the same turns."""
+    print(f"{'ns a get':20}{'handle':>9}{'get_once':>10}{'get_into':>10}{'C':>9}{'JDK':>9}"
+          f"{'of once':>9}{'of into':>9}{'of C':>8}")
+    for title, name in BY_HANDLE:
+        time = median("record_timing", "handle" + name)
+        once = median("record_timing", name[1:] if name[0] == "_" else "get" + name)
+        width = name.removeprefix("_hand")
+        into, c = median("record_timing", "into" + width), median("record_c", "into" + width)
+        jdk = median("StampedLock", "into" + width)
+        print(f"{title:20}{time:9.2f}{once:10.2f}{into:10.2f}{c:9.2f}{jdk:9.2f}"
+              f"{time / once:9.2f}{time / into:9.2f}{time / c:8.2f}")
 
 
 main()

@@ -1,4 +1,5 @@
-//! Times pairs of calls on a running lock, by one thread and by several that mostly validate.
+//! Times pairs of calls on a running lock, by one thread and by several that mostly validate; and the
+//! same pairs by a handle of `stamped_lock`.
 //!
 //! `lock_timing [PAIRS [ROUNDS]]` writes a line for each kind of pair and round to standard error:
 //! its name, how many threads, how many pairs each made, the nanoseconds from the first to the last,
@@ -7,6 +8,7 @@
 
 ghost use Rattle.std.specs.Prelude.{◌≡◌, IfOk};
 
+mod handles;
 mod pairs;
 mod side_by_side;
 
@@ -14,7 +16,9 @@ use pairs::{optimistic_pairs, read_pairs, write_pairs};
 use side_by_side::validated_by;
 use stamp_core::Limits;
 use stamp_threads::{Pass, RunningLock};
+use stamped_lock::StampedLock;
 use std::rt::Env;
+use std::sync::Wait;
 use std::thread::Threads;
 use std::time::{Clock, Instant};
 use std::{env, io};
@@ -68,6 +72,28 @@ fn alone<R: Eprint + Clock>(
     Ok(())
 }
 
+/// The same pairs by handles.
+fn by_handle<R: Eprint + Clock + Wait>(rt: &R, lock: &StampedLock, pairs: u64) -> io::Result<()> {
+    let start = Instant::now(rt)?;
+    let good = handles::optimistic_pairs(lock.enter(), pairs);
+    let nanoseconds = start.elapsed(rt)?.as_nanos();
+    eprintln!(rt; "handle_optimistic 1 {pairs} {nanoseconds} {good}")?;
+    let mut handle = lock.enter();
+    let start = Instant::now(rt)?;
+    let good = handles::lent_pairs(&mut handle, pairs);
+    let nanoseconds = start.elapsed(rt)?.as_nanos();
+    eprintln!(rt; "handle_lent 1 {pairs} {nanoseconds} {good}")?;
+    let start = Instant::now(rt)?;
+    let good = handles::read_pairs(rt, lock.enter(), pairs);
+    let nanoseconds = start.elapsed(rt)?.as_nanos();
+    eprintln!(rt; "handle_read 1 {pairs} {nanoseconds} {good}")?;
+    let start = Instant::now(rt)?;
+    let good = handles::write_pairs(rt, lock.enter(), pairs);
+    let nanoseconds = start.elapsed(rt)?.as_nanos();
+    eprintln!(rt; "handle_write 1 {pairs} {nanoseconds} {good}")?;
+    Ok(())
+}
+
 /// Threads that mostly validate, from one to four of them.
 fn together<R: Eprint + Clock + Threads + Sync>(
     rt: &R,
@@ -88,16 +114,18 @@ fn together<R: Eprint + Clock + Threads + Sync>(
     Ok(pass)
 }
 
-fn all_rounds<R: Eprint + Clock + Threads + Sync>(
+fn all_rounds<R: Eprint + Clock + Threads + Wait + Sync>(
     rt: &R,
     lock: &RunningLock,
     mut pass: Pass,
+    handled: &StampedLock,
     order: Order,
 ) -> io::Result<()>
     requires { pass.table ≡ lock.now.table }
 {
     for _ in 0..order.rounds {
         alone(rt, lock, &mut pass, order.pairs)?;
+        by_handle(rt, handled, order.pairs)?;
         pass = together(rt, lock, pass, order.pairs.wrapping_mul(MORE))?;
     }
     Ok(())
@@ -111,5 +139,8 @@ fn main(rt: HostRuntime) -> io::Result<()> {
     let Ok((lock, pass)) = RunningLock::new(rt.alloc(), limits) else {
         return Ok(());
     };
-    all_rounds(&rt, &lock, pass, order)
+    let Ok(handled) = StampedLock::with_limits(rt.alloc(), limits) else {
+        return Ok(());
+    };
+    all_rounds(&rt, &lock, pass, &handled, order)
 }

@@ -1,5 +1,6 @@
 //! Times gets and puts of a running record, by one thread, and gets by several, with and without a
-//! thread that puts each 10 microseconds; and loads and stores of a `SeqCell` of the same words.
+//! thread that puts each 10 microseconds; gets by a handle of `stamped_lock`; and loads and stores of a
+//! `SeqCell` of the same words.
 //!
 //! `record_timing [CALLS [ROUNDS]]` writes a line for each kind of call and round to standard
 //! error: its name, how many threads, how many calls each made, the nanoseconds from the first to
@@ -10,6 +11,7 @@ ghost use Rattle.std.specs.Prelude.{◌≡◌, ◌≤◌, IfOk, IfSome};
 
 mod calls;
 mod cells;
+mod handles;
 mod side_by_side;
 
 use calls::{gets, gets_handed, gets_into, puts};
@@ -18,6 +20,7 @@ use crossbeam_utils::atomic::SeqCell;
 use side_by_side::{beside_writer, read_by};
 use stamp_core::{Limits, Words};
 use stamp_threads::{RecordPass, RunningRecord};
+use stamped_lock::{AnyContent, RecordHandle, StampedRecord};
 use std::alloc::Global;
 use std::rt::Env;
 use std::sync::Wait;
@@ -129,8 +132,33 @@ fn sixteen_words<R: Eprint + Clock>(
     Ok(())
 }
 
+/// Gets by a handle of a record, whose name in the lines is given, and the same handed on.
+fn by_handle<const N: usize, R: Eprint + Clock>(
+    rt: &R,
+    names: (&str, &str),
+    mut handle: RecordHandle<'_, N, AnyContent>,
+    calls: u64,
+) -> io::Result<()>
+    requires { N ≤ 16 }
+{
+    let start = Instant::now(rt)?;
+    let good = handles::gets(&mut handle, calls);
+    tell(rt, names.0, 1, calls, &start, good)?;
+    let start = Instant::now(rt)?;
+    let good = handles::gets_handed(&mut handle, calls);
+    tell(rt, names.1, 1, calls, &start, good)
+}
+
+/// Gets by a handle of a record of two words, and of one of sixteen.
+fn both_handles<R: Eprint + Clock>(rt: &R, peers: &Peers, calls: u64) -> io::Result<()> {
+    let names = ("handle2", "handle_hand2");
+    by_handle(rt, names, peers.two_shared.enter(), calls)?;
+    let names = ("handle16", "handle_hand16");
+    by_handle(rt, names, peers.sixteen_shared.enter(), calls)
+}
+
 /// Loads and stores of a cell of two words, and of one of sixteen.
-fn both_cells<R: Eprint + Clock + Wait>(rt: &R, cells: &BothCells, calls: u64) -> io::Result<()> {
+fn both_cells<R: Eprint + Clock + Wait>(rt: &R, cells: &Peers, calls: u64) -> io::Result<()> {
     let start = Instant::now(rt)?;
     let good = loads(rt, &cells.two, calls);
     tell(rt, "load2", 1, calls, &start, good)?;
@@ -167,17 +195,31 @@ fn together<R: Eprint + Clock + Threads + Sync>(
     Ok(pass)
 }
 
-/// What is timed.
+/// What is timed beside the running records: cells, and records of `stamped_lock`.
 #[derive(Drop)]
-struct BothCells {
+struct Peers {
     two: SeqCell<[u64; 2], 2>,
     sixteen: SeqCell<[u64; 16], 16>,
+    two_shared: StampedRecord<2, AnyContent>,
+    sixteen_shared: StampedRecord<16, AnyContent>,
+}
+
+impl Peers {
+    /// All of them, if there is memory for them.
+    fn new(alloc: Global) -> Option<Peers> {
+        Some(Peers {
+            two: SeqCell::new(alloc, [0; 2]).ok()?,
+            sixteen: SeqCell::new(alloc, [0; 16]).ok()?,
+            two_shared: StampedRecord::new(alloc, [0; 2]).ok()?,
+            sixteen_shared: StampedRecord::new(alloc, [0; 16]).ok()?,
+        })
+    }
 }
 
 /// One round after the other, of a record of two words and one of sixteen.
 fn all_rounds<R: Eprint + Clock + Threads + Wait + Sync>(
     rt: &R,
-    cells: &BothCells,
+    peers: &Peers,
     two: &RunningRecord,
     mut pass: RecordPass,
     sixteen: &RunningRecord,
@@ -190,7 +232,8 @@ fn all_rounds<R: Eprint + Clock + Threads + Wait + Sync>(
     for _ in 0..order.rounds {
         two_words(rt, two, &mut pass, order.calls)?;
         sixteen_words(rt, sixteen, &mut other, order.calls)?;
-        both_cells(rt, cells, order.calls)?;
+        both_handles(rt, peers, order.calls)?;
+        both_cells(rt, peers, order.calls)?;
         pass = together(rt, two, pass, order.calls.wrapping_mul(MORE))?;
     }
     Ok(())
@@ -202,12 +245,8 @@ fn main(rt: HostRuntime) -> io::Result<()> {
     else {
         return Ok(());
     };
-    let (Ok(two), Ok(sixteen)) = (
-        SeqCell::new(rt.alloc(), [0; 2]),
-        SeqCell::new(rt.alloc(), [0; 16]),
-    ) else {
+    let Some(peers) = Peers::new(rt.alloc()) else {
         return Ok(());
     };
-    let cells = BothCells { two, sixteen };
-    all_rounds(&rt, &cells, &narrow, pass, &wide, other, order)
+    all_rounds(&rt, &peers, &narrow, pass, &wide, other, order)
 }

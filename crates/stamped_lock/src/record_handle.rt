@@ -62,6 +62,7 @@ impl<'a, const N: usize, P: ContentRule> RecordHandle<'a, N, P> {
 
     /// Gets the words if nobody is putting. It waits for nobody: it fails as `Busy` where the first
     /// look found somebody putting, and as `Lost` where the lock word changed after it.
+    #[inline(always)]
     pub fn get_once(&mut self) -> Result<[u64; N], GetFault>
         ensures rule { IfOk result (λ row. P.holds row) }
         ensures ok { let h = self.old in let w = self.new in

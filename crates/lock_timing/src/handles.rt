@@ -1,0 +1,60 @@
+//! The pairs by a handle, as a caller of `stamped_lock` writes them. Each function gives how many pairs
+//! succeeded.
+use stamped_lock::LockHandle;
+use std::sync::Wait;
+
+/// Asks for an optimistic stamp, and validates it, by a handle of its own, as a thread has one.
+#[inline(never)]
+pub fn optimistic_pairs(mut handle: LockHandle<'_>, pairs: u64) -> u64 {
+    let mut good = 0u64;
+    for _ in 0..pairs {
+        if let Some(stamp) = handle.try_optimistic_read() {
+            if handle.validate(stamp) {
+                good = good.wrapping_add(1);
+            }
+        }
+    }
+    good
+}
+
+/// The same by a handle that is another's, so that where its lock stands is loaded for each call.
+#[inline(never)]
+pub fn lent_pairs(handle: &mut LockHandle<'_>, pairs: u64) -> u64 {
+    let mut good = 0u64;
+    for _ in 0..pairs {
+        if let Some(stamp) = handle.try_optimistic_read() {
+            if handle.validate(stamp) {
+                good = good.wrapping_add(1);
+            }
+        }
+    }
+    good
+}
+
+/// Acquires read mode, and releases it.
+#[inline(never)]
+pub fn read_pairs<R: Wait>(rt: &R, mut handle: LockHandle<'_>, pairs: u64) -> u64 {
+    let mut good = 0u64;
+    for _ in 0..pairs {
+        if let Some(stamp) = handle.try_read(rt) {
+            if handle.unlock_read(rt, stamp).is_ok() {
+                good = good.wrapping_add(1);
+            }
+        }
+    }
+    good
+}
+
+/// Acquires write mode, and releases it.
+#[inline(never)]
+pub fn write_pairs<R: Wait>(rt: &R, mut handle: LockHandle<'_>, pairs: u64) -> u64 {
+    let mut good = 0u64;
+    for _ in 0..pairs {
+        if let Some(stamp) = handle.try_write(rt) {
+            if handle.unlock_write(stamp).is_ok() {
+                good = good.wrapping_add(1);
+            }
+        }
+    }
+    good
+}
