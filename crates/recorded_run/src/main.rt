@@ -18,7 +18,7 @@ use std::{env, io};
 use threads::work;
 
 /// More calls than the threads make.
-const MOST: u64 = 10_000;
+const MOST: u64 = 20_000;
 
 /// The history of three threads that work at the same time.
 fn recorded<R: Threads + Wait + Sync + AllocGlobal>(rt: &R) -> Result<Record> {

@@ -4,25 +4,28 @@ ghost use Rattle.std.specs.Prelude.{◌<◌};
 use stamp_core::{Call, Reply};
 use stamp_threads::{BookError, Shared};
 use std::sync::Wait;
+use std::thread;
 
 /// How often each thread writes, reads and looks.
-const ROUNDS: u64 = 100;
+const ROUNDS: u64 = 1_000;
 
-/// Acquires write mode, and releases it.
+/// Acquires write mode, lets other threads run, and releases it.
 fn write<R: Wait>(rt: &R, shared: &Shared, thread: u64) -> Result<(), BookError>
     requires { thread < 64 }
 {
     if let Reply::Stamp(stamp) = shared.call(rt, thread, Call::WriteLock)? {
+        thread::yield_now();
         shared.call(rt, thread, Call::UnlockWrite(stamp))?;
     }
     Ok(())
 }
 
-/// Acquires read mode, and releases it.
+/// Acquires read mode, lets other threads run, and releases it.
 fn read<R: Wait>(rt: &R, shared: &Shared, thread: u64) -> Result<(), BookError>
     requires { thread < 64 }
 {
     if let Reply::Stamp(stamp) = shared.call(rt, thread, Call::ReadLock)? {
+        thread::yield_now();
         shared.call(rt, thread, Call::UnlockRead(stamp))?;
     }
     Ok(())
