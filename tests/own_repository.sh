@@ -41,16 +41,16 @@ fi
 
 block "From a repository of your own" sh > "$room/lines"
 [ "$(wc -l < "$room/lines")" = 5 ] || fail "the page has no block of five lines"
-[ "$(tail -n 1 "$room/lines")" = "cd crates/coins && rt run" ] || fail "the last line runs something else"
+[ "$(tail -n 1 "$room/lines")" = "cd crates/counter && rt run" ] || fail "the last line runs something else"
 head -n 4 "$room/lines" > "$room/first"
 bash -eu "$room/first"
 
-block "A program" rust > crates/coins/src/main.rt
-cmp crates/coins/src/main.rt "$top/crates/coins/src/main.rt" || fail "the page's program is not that of crates/coins"
+block "A program" rust > crates/counter/src/main.rt
+cmp crates/counter/src/main.rt "$top/crates/counter/src/main.rt" || fail "the page's program is not that of crates/counter"
 block "A program" text > "$room/wanted"
-cmp "$room/wanted" "$top/crates/coins/stdout" || fail "the page's output is not that of crates/coins"
+cmp "$room/wanted" "$top/crates/counter/stdout" || fail "the page's output is not that of crates/counter"
 
-cd crates/coins
+cd crates/counter
 rt "$mode" > "$room/printed" 2> "$room/told" || { cat "$room/told" >&2; fail "rt $mode failed"; }
 cmp "$room/printed" "$room/wanted" || { cat "$room/printed" "$room/told" >&2; fail "it printed something else"; }
 echo "own_repository.sh: rt $mode printed what docs/USING.md says"
