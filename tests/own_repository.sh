@@ -32,10 +32,10 @@ cd "$room/own"
 
 export STAMPED=$top
 if [ "$mode" = try ]; then
-    # As a fresh clone is.
+    # As a fresh clone is. The folders above are not read, since the gate may be changing them.
     STAMPED=$room/stamped
     mkdir "$STAMPED"
-    tar -C "$top" -c --anchored --no-wildcards-match-slash --exclude='crates/*/out' crates crates.txt HANDLES |
+    (cd "$top" && find crates -mindepth 2 -maxdepth 2 ! -name out -print0 | tar -c --null -T - crates.txt HANDLES) |
         tar -C "$STAMPED" -x
 fi
 
