@@ -1,5 +1,5 @@
 -- The results of a call's reads or writes. A source keeps those of all its reads, and a sink of its writes.
-use Rattle.std.specs.Prelude.{ℕ, ◌+◌, ◌-◌, ◌≡◌, ◌↔◌, ◌≤◌, ◌++◌, List, [], ◌∷◌, length, take, drop, sum_by, All}
+use Rattle.std.specs.Prelude.{ℕ, ◌+◌, ◌-◌, ◌≡◌, ◌↔◌, ◌⊎◌, ◌≤◌, ◌++◌, List, [], ◌∷◌, length, take, drop, sum_by, All}
 use Rattle.std.specs.Prelude.{Bool, true, false, not, Result, Ok, Err, IfOk, is_err}
 use Rattle.std.specs.List.{list_any}
 use Rattle.std.specs.declared.io.Error.{Error}
@@ -39,6 +39,18 @@ pub record MakesAtMost (old new : Results) (most bytes : ℕ) : Type 0 where
 -- whether one that was made since passes the test
 abbrev pub any_since : (Result ℕ Error → Bool) → Results → Results → Bool
 any_since test old new = list_any test (drop (length old) new)
+
+-- how many bytes those that were made since took together
+abbrev pub taken_since : Results → Results → ℕ
+taken_since old new = sum_by bytes_of (drop (length old) new)
+
+-- the last one that was made since took no byte, and did not fail
+abbrev pub LastTakesNone : Results → Results → Type 0
+LastTakesNone old new = (earlier : Results) × (drop (length old) new ≡ earlier ++ Ok 0 ∷ [])
+
+-- those that were made since went to the end: the last one took no byte, or together they took the most that they may
+abbrev pub ReadsToTheEnd : Results → Results → ℕ → Type 0
+ReadsToTheEnd old new most = LastTakesNone old new ⊎ (taken_since old new ≡ most)
 
 -- one read was made; an input, whose length is told, has room for what it took, and grew by it
 pub record ReadsOnce (old new : Results) (room before after : ℕ) (more : Result Bool ServeFault) : Type 0 where

@@ -1,8 +1,9 @@
 //! The line that answers an order.
 
-ghost use Rattle.std.specs.Prelude.{◌≡◌, ◌≢◌, ◌↔◌, ◌⊎◌, ◌+◌, ◌<◌, ◌≤◌, length, true, false, IfOk, IfErr, Ok, Err, is_err};
+ghost use Rattle.std.specs.Prelude.{◌≡◌, ◌≢◌, ◌↔◌, ◌⊎◌, ◌+◌, ◌<◌, ◌≤◌, length, true, false};
+ghost use Rattle.std.specs.Prelude.{IfOk, IfErr, OnOk, Ok, Err, is_err};
 ghost use Rattle.stamp_cli.specs.Refusal.{is_of_end};
-ghost use Rattle.stamp_cli.specs.Results.{MakesAtMost, any_since};
+ghost use Rattle.stamp_cli.specs.Results.{MakesAtMost, ReadsToTheEnd, any_since, taken_since};
 ghost use Rattle.stamp_cli.specs.Source.{TakesAtMost, most_bytes};
 ghost use Rattle.stamp_cli.specs.Answer.{Answers, AnswersCheck, AnswersMigrate, AnswersReplay, AnswersReportedRun, AnswersRun};
 ghost use Rattle.stamp_cli.specs.Answer.{IsAnswer, IsInputAnswer, IsRead, LineUnlessMemory, UnlessMemory, line_in, most_reads_of, most_taken_of};
@@ -127,6 +128,8 @@ fn input_of<S: Source>(alloc: Global, order: Order, source: &mut S) -> Result<Ve
     ensures reads { MakesAtMost (S.reads source.old) (S.reads source.new) (most_reads_of order) (most_taken_of order) }
     ensures took { TakesAtMost (S.left source.old) (S.left source.new) (most_taken_of order) }
     ensures read { IfOk result (λ input. IsRead order (S.left source.old) (S.left source.new) input.items) }
+    ensures whole { IfOk result (λ input. length input.items ≡ taken_since (S.reads source.old) (S.reads source.new)) }
+    ensures ends { OnOk result (ReadsToTheEnd (S.reads source.old) (S.reads source.new) (most_taken_of order)) }
     ensures failed { (result ≡ Err ServeFault.ReadFault)
         ↔ (any_since is_err (S.reads source.old) (S.reads source.new) ≡ true) }
     ensures only { IfErr result (λ e. (e ≡ ServeFault.ReadFault) ⊎ (e ≡ ServeFault.Memory)) }
@@ -163,9 +166,13 @@ pub(crate) fn line_of<S: Source>(
 ) -> Result<Line, ServeFault>
     ensures reads { MakesAtMost (S.reads source.old) (S.reads source.new) (most_reads_of order) (most_taken_of order) }
     ensures took { TakesAtMost (S.left source.old) (S.left source.new) (most_taken_of order) }
-    ensures ok { IfOk result (λ line. Answers order (S.left source.old) (S.left source.new) (Ok (line_in line))) }
+    ensures ok { IfOk result (λ line. Answers order (S.left source.old) (S.left source.new)
+        (taken_since (S.reads source.old) (S.reads source.new)) (Ok (line_in line))) }
     ensures err { IfErr result (λ e. e ≢ ServeFault.ReadFault → e ≢ ServeFault.Memory
-        → Answers order (S.left source.old) (S.left source.new) (Err e)) }
+        → Answers order (S.left source.old) (S.left source.new)
+        (taken_since (S.reads source.old) (S.reads source.new)) (Err e)) }
+    ensures ends { result ≢ Err ServeFault.ReadFault → result ≢ Err ServeFault.Memory
+        → ReadsToTheEnd (S.reads source.old) (S.reads source.new) (most_taken_of order) }
     ensures failed { (result ≡ Err ServeFault.ReadFault)
         ↔ (any_since is_err (S.reads source.old) (S.reads source.new) ≡ true) }
     ensures not_written { result ≢ Err ServeFault.WriteFault }

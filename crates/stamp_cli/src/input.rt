@@ -1,7 +1,8 @@
 //! The input of a command, read to its end.
 
-ghost use Rattle.std.specs.Prelude.{◌≡◌, ◌↔◌, ◌⊎◌, ◌-◌, ◌<◌, ◌≤◌, length, vec_len, true, IfOk, IfErr, Err, is_err};
-ghost use Rattle.stamp_cli.specs.Results.{MakesAtMost, ReadsOnce, any_since};
+ghost use Rattle.std.specs.Prelude.{◌≡◌, ◌↔◌, ◌⊎◌, ◌-◌, ◌<◌, ◌≤◌, length, vec_len, true};
+ghost use Rattle.std.specs.Prelude.{IfOk, IfErr, OnOk, Err, is_err};
+ghost use Rattle.stamp_cli.specs.Results.{MakesAtMost, ReadsOnce, ReadsToTheEnd, any_since, taken_since};
 ghost use Rattle.stamp_cli.specs.Source.{most_bytes, most_reads, most_taken, Reads, ReadsMore, TakesAtMost};
 
 use crate::faults::ServeFault;
@@ -48,6 +49,8 @@ pub(crate) fn read_input<S: Source>(alloc: Global, source: &mut S) -> Result<Vec
     ensures reads { MakesAtMost (S.reads source.old) (S.reads source.new) most_reads most_taken }
     ensures took { TakesAtMost (S.left source.old) (S.left source.new) most_taken }
     ensures read { IfOk result (λ input. Reads (S.left source.old) (S.left source.new) input.items) }
+    ensures whole { IfOk result (λ input. length input.items ≡ taken_since (S.reads source.old) (S.reads source.new)) }
+    ensures ends { OnOk result (ReadsToTheEnd (S.reads source.old) (S.reads source.new) most_taken) }
     ensures failed { (result ≡ Err ServeFault.ReadFault)
         ↔ (any_since is_err (S.reads source.old) (S.reads source.new) ≡ true) }
     ensures only { IfErr result (λ e. (e ≡ ServeFault.ReadFault) ⊎ (e ≡ ServeFault.Memory)) }

@@ -3,7 +3,7 @@
 ghost use Rattle.std.specs.Prelude.{◌≡◌, ◌≢◌, ◌↔◌, ◌++◌, ◌∷◌, ◌+◌, [], true, length, IfOk, IfErr, Ok, Err, is_err};
 ghost use Rattle.std.specs.Io.KnownBytes.{Appends, Keeps};
 ghost use Rattle.stamp_cli.specs.Sink.{AppendsFront};
-ghost use Rattle.stamp_cli.specs.Results.{Makes, MakesAtMost, any_since};
+ghost use Rattle.stamp_cli.specs.Results.{Makes, MakesAtMost, ReadsToTheEnd, any_since, taken_since};
 ghost use Rattle.stamp_cli.specs.Source.{TakesAtMost};
 ghost use Rattle.stamp_cli.specs.TakesNone.{takes_none};
 ghost use Rattle.stamp_cli.specs.Answer.{Answered, Answers, most_reads_of, most_taken_of};
@@ -33,15 +33,21 @@ pub fn serve<S: Source, K: Sink>(
         (most_reads_of order) (most_taken_of order) }
     ensures took { TakesAtMost (S.left source.old) (S.left source.new) (most_taken_of order) }
 
-    // The answer to what was read is written with a line feed, and nothing else; the verdict is its.
+    // Where what was read is answered or refused, it was read to the end.
+    ensures ends { result ≢ Err ServeFault.ReadFault → result ≢ Err ServeFault.Memory
+        → ReadsToTheEnd (S.reads source.old) (S.reads source.new) (most_taken_of order) }
+
+    // The answer to all that was read is written with a line feed, and nothing else; the verdict is its.
     ensures ok { IfOk result (λ verdict. (line : Answered)
-        × Answers order (S.left source.old) (S.left source.new) (Ok line) × (verdict ≡ line.verdict)
+        × Answers order (S.left source.old) (S.left source.new)
+        (taken_since (S.reads source.old) (S.reads source.new)) (Ok line) × (verdict ≡ line.verdict)
         × Appends (K.sent sink.old) (K.sent sink.new) (line.text ++ 10 ∷ [])
         × Makes (K.writes sink.old) (K.writes sink.new) (length line.text + 1)) }
 
-    // What was read is refused so.
+    // All that was read is refused so.
     ensures refused { IfErr result (λ e. e ≢ ServeFault.ReadFault → e ≢ ServeFault.WriteFault
-        → e ≢ ServeFault.Memory → Answers order (S.left source.old) (S.left source.new) (Err e)) }
+        → e ≢ ServeFault.Memory → Answers order (S.left source.old) (S.left source.new)
+        (taken_since (S.reads source.old) (S.reads source.new)) (Err e)) }
     ensures read_fault { (result ≡ Err ServeFault.ReadFault)
         ↔ (any_since is_err (S.reads source.old) (S.reads source.new) ≡ true) }
 
@@ -49,7 +55,8 @@ pub fn serve<S: Source, K: Sink>(
     ensures write_fault { (result ≡ Err ServeFault.WriteFault)
         ↔ (any_since takes_none (K.writes sink.old) (K.writes sink.new) ≡ true) }
     ensures front { result ≡ Err ServeFault.WriteFault → ((line : Answered)
-        × Answers order (S.left source.old) (S.left source.new) (Ok line)
+        × Answers order (S.left source.old) (S.left source.new)
+        (taken_since (S.reads source.old) (S.reads source.new)) (Ok line)
         × AppendsFront (K.sent sink.old) (K.sent sink.new) (line.text ++ 10 ∷ [])
         × MakesAtMost (K.writes sink.old) (K.writes sink.new) (length line.text + 1) (length line.text + 1)) }
     ensures silent { IfErr result (λ e. e ≢ ServeFault.WriteFault

@@ -1,4 +1,4 @@
-use Rattle.std.proofs.Common.{◌++◌, ◌≡◌, arith, length-append, rules, ◌∙◌, ap, not, false}
+use Rattle.std.proofs.Common.{◌++◌, ◌≡◌, arith, length-append, rules, ◌∙◌, ap, sym, inr, not, true, false, is_err}
 use Rattle.std.proofs.lemmas.Grind.{common_steps}
 use Rattle.std.proofs.KnownBytes.{Consumes-trans}
 use Rattle.stamp_cli.specs.TakesNone.{takes_none}
@@ -23,6 +23,19 @@ returns-then-not-branch-clause-failed g c =
     let same = so_far.last_tells _ _ _ _ _ once.result so_far.fails_of_none c.loop-source.invariant.reads once.added in
     search rules
 
+pub returns-then-not-branch-clause-whole : goal.returns-then-not-branch-clause-whole
+returns-then-not-branch-clause-whole g c =
+    let once = c.in_ok-read_more.ensures.once in
+    let taken = so_far.taken_with_last _ _ _ _ once.result c.loop-source.invariant.reads once.added in
+    omega (arith, once.grown.0, taken)
+
+pub returns-then-not-branch-clause-ends : goal.returns-then-not-branch-clause-ends
+returns-then-not-branch-clause-ends g c =
+    let once = c.in_ok-read_more.ensures.once in
+    let takes : takes_none once.result ≡ true = once.grown.1 ∙ ap not c.if-not-branch.true in
+    let fine : is_err once.result ≡ false = search rules in
+    so_far.to_the_end _ _ _ _ _ once.result c.loop-source.invariant.reads once.added takes fine
+
 pub loop-source-preserved : goal.loop-source-preserved
 loop-source-preserved g c =
     let handed = c.in_ok-read_more.ensures in
@@ -35,6 +48,14 @@ loop-source-preserved g c =
       reads = so_far.more _ _ _ _ _ once.result c.loop-source.invariant.reads once.added takes (omega (arith, once.grown.0));
       took = rw more.grown (Consumes-trans _ _ _ c.loop-source.input.items more.taken c.loop-source.invariant.took more.took);
     }
+
+pub returns-clause-whole : goal.returns-clause-whole
+returns-clause-whole g c = sym (so_far.all_taken _ _ _ c.loop-source.invariant.reads)
+
+pub returns-clause-ends : goal.returns-clause-ends
+returns-clause-ends g c =
+    let taken = so_far.all_taken _ _ _ c.loop-source.invariant.reads in
+    inr (omega (arith, taken, c.loop-source.invariant.within))
 
 pub returns-clause-failed : goal.returns-clause-failed
 returns-clause-failed g c =
