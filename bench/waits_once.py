@@ -5,12 +5,17 @@ import subprocess
 import sys
 
 
+def busy():
+    """The processor time of the processes that were waited for, also before this program began."""
+    used = resource.getrusage(resource.RUSAGE_CHILDREN)
+    return used.ru_utime + used.ru_stime
+
+
 def main():
     name, program, *words = sys.argv[1:]
+    before = busy()
     ran = subprocess.run([program, *words], stderr=subprocess.PIPE, text=True, check=True)
-    used = resource.getrusage(resource.RUSAGE_CHILDREN)
-    busy = round((used.ru_utime + used.ru_stime) * 1e9)
-    print(name, ran.stderr.strip(), busy)
+    print(name, ran.stderr.strip(), round((busy() - before) * 1e9))
 
 
 main()

@@ -3,9 +3,9 @@
 use stamped_lock::LockHandle;
 use std::sync::Wait;
 
-/// Asks for an optimistic stamp, and validates it, by a handle of its own, as a thread has one.
-#[inline(never)]
-pub fn optimistic_pairs(mut handle: LockHandle<'_>, pairs: u64) -> u64 {
+/// Asks for an optimistic stamp, and validates it.
+#[inline(always)]
+fn validated(handle: &mut LockHandle<'_>, pairs: u64) -> u64 {
     let mut good = 0u64;
     for _ in 0..pairs {
         if let Some(stamp) = handle.try_optimistic_read() {
@@ -15,25 +15,23 @@ pub fn optimistic_pairs(mut handle: LockHandle<'_>, pairs: u64) -> u64 {
         }
     }
     good
+}
+
+/// Optimistic pairs by a handle of the function's own, as a thread has one.
+#[inline(never)]
+pub fn optimistic_pairs(mut handle: LockHandle<'_>, pairs: u64) -> u64 {
+    validated(&mut handle, pairs)
 }
 
 /// The same by a handle that is another's, so that where its lock stands is loaded for each call.
 #[inline(never)]
 pub fn lent_pairs(handle: &mut LockHandle<'_>, pairs: u64) -> u64 {
-    let mut good = 0u64;
-    for _ in 0..pairs {
-        if let Some(stamp) = handle.try_optimistic_read() {
-            if handle.validate(stamp) {
-                good = good.wrapping_add(1);
-            }
-        }
-    }
-    good
+    validated(handle, pairs)
 }
 
 /// Acquires read mode, and releases it.
 #[inline(never)]
-pub fn read_pairs<R: Wait>(rt: &R, mut handle: LockHandle<'_>, pairs: u64) -> u64 {
+pub fn read_pairs<R: Wait>(rt: &R, handle: &mut LockHandle<'_>, pairs: u64) -> u64 {
     let mut good = 0u64;
     for _ in 0..pairs {
         if let Some(stamp) = handle.try_read(rt) {
@@ -47,7 +45,7 @@ pub fn read_pairs<R: Wait>(rt: &R, mut handle: LockHandle<'_>, pairs: u64) -> u6
 
 /// Acquires write mode, and releases it.
 #[inline(never)]
-pub fn write_pairs<R: Wait>(rt: &R, mut handle: LockHandle<'_>, pairs: u64) -> u64 {
+pub fn write_pairs<R: Wait>(rt: &R, handle: &mut LockHandle<'_>, pairs: u64) -> u64 {
     let mut good = 0u64;
     for _ in 0..pairs {
         if let Some(stamp) = handle.try_write(rt) {

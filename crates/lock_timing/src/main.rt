@@ -84,11 +84,11 @@ fn by_handle<R: Eprint + Clock + Wait>(rt: &R, lock: &StampedLock, pairs: u64) -
     let nanoseconds = start.elapsed(rt)?.as_nanos();
     eprintln!(rt; "handle_lent 1 {pairs} {nanoseconds} {good}")?;
     let start = Instant::now(rt)?;
-    let good = handles::read_pairs(rt, lock.enter(), pairs);
+    let good = handles::read_pairs(rt, &mut handle, pairs);
     let nanoseconds = start.elapsed(rt)?.as_nanos();
     eprintln!(rt; "handle_read 1 {pairs} {nanoseconds} {good}")?;
     let start = Instant::now(rt)?;
-    let good = handles::write_pairs(rt, lock.enter(), pairs);
+    let good = handles::write_pairs(rt, &mut handle, pairs);
     let nanoseconds = start.elapsed(rt)?.as_nanos();
     eprintln!(rt; "handle_write 1 {pairs} {nanoseconds} {good}")?;
     Ok(())

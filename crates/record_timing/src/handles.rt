@@ -1,4 +1,4 @@
-//! Gets by a handle, as a caller of `stamped_lock` writes them. Each function gives how many gave words
+//! Gets by a handle of the function's own, as a thread has one. Each function gives how many gave words
 //! that are alike, so that the words are used.
 ghost use Rattle.std.specs.Prelude.{◌≤◌};
 
@@ -17,9 +17,25 @@ fn ends_alike(row: &[u64]) -> bool {
     row.first() == row.last()
 }
 
+/// Gets the words, and uses the first two.
+#[inline(always)]
+fn used<const N: usize>(handle: &mut RecordHandle<'_, N, AnyContent>, calls: u64) -> u64
+    requires { N ≤ 16 }
+{
+    let mut good = 0u64;
+    for _ in 0..calls {
+        if let Ok(row) = handle.get_once() {
+            if begins_alike(&row) {
+                good = good.wrapping_add(1);
+            }
+        }
+    }
+    good
+}
+
 /// Gets the words, and hands them to a function.
-#[inline(never)]
-pub fn gets_handed<const N: usize>(handle: &mut RecordHandle<'_, N, AnyContent>, calls: u64) -> u64
+#[inline(always)]
+fn handed<const N: usize>(handle: &mut RecordHandle<'_, N, AnyContent>, calls: u64) -> u64
     requires { N ≤ 16 }
 {
     let mut good = 0u64;
@@ -33,18 +49,18 @@ pub fn gets_handed<const N: usize>(handle: &mut RecordHandle<'_, N, AnyContent>,
     good
 }
 
-/// Gets the words, and uses the first two.
+/// Gets whose first two words are used.
 #[inline(never)]
-pub fn gets<const N: usize>(handle: &mut RecordHandle<'_, N, AnyContent>, calls: u64) -> u64
+pub fn gets<const N: usize>(mut handle: RecordHandle<'_, N, AnyContent>, calls: u64) -> u64
     requires { N ≤ 16 }
 {
-    let mut good = 0u64;
-    for _ in 0..calls {
-        if let Ok(row) = handle.get_once() {
-            if begins_alike(&row) {
-                good = good.wrapping_add(1);
-            }
-        }
-    }
-    good
+    used(&mut handle, calls)
+}
+
+/// Gets whose words are handed on.
+#[inline(never)]
+pub fn gets_handed<const N: usize>(mut handle: RecordHandle<'_, N, AnyContent>, calls: u64) -> u64
+    requires { N ≤ 16 }
+{
+    handed(&mut handle, calls)
 }

@@ -20,7 +20,7 @@ use crossbeam_utils::atomic::SeqCell;
 use side_by_side::{beside_writer, read_by};
 use stamp_core::{Limits, Words};
 use stamp_threads::{RecordPass, RunningRecord};
-use stamped_lock::{AnyContent, RecordHandle, StampedRecord};
+use stamped_lock::{AnyContent, StampedRecord};
 use std::alloc::Global;
 use std::rt::Env;
 use std::sync::Wait;
@@ -132,29 +132,29 @@ fn sixteen_words<R: Eprint + Clock>(
     Ok(())
 }
 
-/// Gets by a handle of a record, whose name in the lines is given, and the same handed on.
+/// Gets by handles of a record, under the name that is given, and the same handed on.
 fn by_handle<const N: usize, R: Eprint + Clock>(
     rt: &R,
     names: (&str, &str),
-    mut handle: RecordHandle<'_, N, AnyContent>,
+    record: &StampedRecord<N, AnyContent>,
     calls: u64,
 ) -> io::Result<()>
     requires { N ≤ 16 }
 {
     let start = Instant::now(rt)?;
-    let good = handles::gets(&mut handle, calls);
+    let good = handles::gets(record.enter(), calls);
     tell(rt, names.0, 1, calls, &start, good)?;
     let start = Instant::now(rt)?;
-    let good = handles::gets_handed(&mut handle, calls);
+    let good = handles::gets_handed(record.enter(), calls);
     tell(rt, names.1, 1, calls, &start, good)
 }
 
 /// Gets by a handle of a record of two words, and of one of sixteen.
 fn both_handles<R: Eprint + Clock>(rt: &R, peers: &Peers, calls: u64) -> io::Result<()> {
     let names = ("handle2", "handle_hand2");
-    by_handle(rt, names, peers.two_shared.enter(), calls)?;
+    by_handle(rt, names, &peers.two_shared, calls)?;
     let names = ("handle16", "handle_hand16");
-    by_handle(rt, names, peers.sixteen_shared.enter(), calls)
+    by_handle(rt, names, &peers.sixteen_shared, calls)
 }
 
 /// Loads and stores of a cell of two words, and of one of sixteen.
