@@ -1,5 +1,6 @@
 -- An order and what was read of an input have one answer.
-use Rattle.std.proofs.Common.{◌≡◌, ◌≤◌, ◌<◌, ◌⊎◌, ℕ, List, length, ◌∙◌, refl, sym, ap, inl, inr, Bool, true, false, Result, Ok, Err, nat_lt}
+use Rattle.std.proofs.Common.{◌≡◌, ◌≤◌, ◌<◌, ◌⊎◌, ℕ, List, length, ◌∙◌, refl, sym, ap, inl, inr}
+use Rattle.std.proofs.Common.{Bool, true, false, Result, Ok, Err, nat_lt}
 use Rattle.std.proofs.lemmas.Bool.{ltb-true, ltb-false}
 use Rattle.stamp_core.specs.declared.layout.Layout.{Layout}
 use Rattle.stamp_core.specs.declared.layout.Layout.TheVariants.{One}
@@ -31,19 +32,25 @@ abbrev pub AreOfLockIn : Result Replay ReadError → Type 0
 AreOfLockIn (Ok replay) = AreOfLock replay.calls
 AreOfLockIn (Err e) = Unit {0}
 
-one_line : (replay : Replay) (a b : List ℕ) → AreOfLock replay.calls → IsReplayedText replay a → IsReplayedText replay b → a ≡ b
+one_line : (replay : Replay) (a b : List ℕ) → AreOfLock replay.calls → IsReplayedText replay a →
+    IsReplayedText replay b → a ≡ b
 one_line replay a b lock x y =
     let same = one_replayed replay.limits replay.calls x.replies y.replies x.word y.word lock x.replayed y.replayed in
-    x.is ∙ ap (λ (rs : List Reply). replayed_text rs x.word.bits) same.0 ∙ ap (replayed_text y.replies) same.1 ∙ sym y.is
+    x.is ∙ ap (λ (rs : List Reply). replayed_text rs x.word.bits) same.0 ∙ ap (replayed_text y.replies) same.1 ∙
+        sym y.is
 
-line_or_wait : (replay : Replay) (a : List ℕ) (e : ServeFault) → AreOfLock replay.calls → IsReplayedText replay a → IsWaitFault replay e → ⊥
-line_or_wait replay a e lock x y = waits_or_replayed replay.limits replay.calls y.call x.replies x.word lock y.waits x.replayed
+line_or_wait : (replay : Replay) (a : List ℕ) (e : ServeFault) → AreOfLock replay.calls → IsReplayedText replay a →
+    IsWaitFault replay e → ⊥
+line_or_wait replay a e lock x y = waits_or_replayed replay.limits replay.calls y.call x.replies x.word lock y.waits
+    x.replayed
 
-one_reading : (r : Result Replay ReadError) (a b : Result (List ℕ) ServeFault) → AreOfLockIn r → IsReplayAnswer r a → IsReplayAnswer r b → a ≡ b
+one_reading : (r : Result Replay ReadError) (a b : Result (List ℕ) ServeFault) → AreOfLockIn r →
+    IsReplayAnswer r a → IsReplayAnswer r b → a ≡ b
 one_reading (Ok replay) (Ok a) (Ok b) lock x y = ap Ok (one_line replay a b lock x y)
 one_reading (Ok replay) (Ok a) (Err e) lock x y = absurd (line_or_wait replay a e lock x y)
 one_reading (Ok replay) (Err e) (Ok b) lock x y = absurd (line_or_wait replay b e lock y x)
-one_reading (Ok replay) (Err d) (Err e) lock x y = ap Err (x.named ∙ ap Waits (one_wait replay.limits replay.calls x.call y.call lock x.waits y.waits) ∙ sym y.named)
+one_reading (Ok replay) (Err d) (Err e) lock x y =
+    ap Err (x.named ∙ ap Waits (one_wait replay.limits replay.calls x.call y.call lock x.waits y.waits) ∙ sym y.named)
 one_reading (Err e) a b lock x y = x ∙ sym y
 
 of_lock_in : (input : List ℕ) → AreOfLockIn (replay_of input)
@@ -70,7 +77,8 @@ ok_not_err : {A : Type 0} {a : A} {e : ServeFault} → Path (Result A ServeFault
 ok_not_err e = cc
 
 same_line : (a b : Answered) → a.text ≡ b.text → a.verdict ≡ b.verdict → a ≡ b
-same_line a b t v = let parts : record { text = a.text; verdict = a.verdict } ≡ record { text = b.text; verdict = b.verdict } = cc in parts
+same_line a b t v = let parts : record { text = a.text; verdict = a.verdict } ≡
+    record { text = b.text; verdict = b.verdict } = cc in parts
 
 -- there is one answer of this kind to an input
 abbrev pub IsOnce : {A : Type 0} → (List ℕ → Result A ServeFault → Type 0) → Type 0
@@ -84,8 +92,11 @@ one_to_input IsSo once input a b x y = by (long_or_not most_bytes (length input)
     by (inr fits) = once input a b (x.read fits) (y.read fits)
 
 -- a text or a refusal, as a line that is accepted
-one_accepted : (IsSo : Result (List ℕ) ServeFault → Type 0) → ((a b : Result (List ℕ) ServeFault) → IsSo a → IsSo b → a ≡ b) → (a b : Result Answered ServeFault) → IsAccepted IsSo a → IsAccepted IsSo b → a ≡ b
-one_accepted IsSo once (Ok a) (Ok b) x y = ap Ok (same_line a b (ok_inj (once (Ok a.text) (Ok b.text) x.0 y.0)) (x.1 ∙ sym y.1))
+one_accepted : (IsSo : Result (List ℕ) ServeFault → Type 0) →
+    ((a b : Result (List ℕ) ServeFault) → IsSo a → IsSo b → a ≡ b) → (a b : Result Answered ServeFault) →
+    IsAccepted IsSo a → IsAccepted IsSo b → a ≡ b
+one_accepted IsSo once (Ok a) (Ok b) x y = ap Ok
+    (same_line a b (ok_inj (once (Ok a.text) (Ok b.text) x.0 y.0)) (x.1 ∙ sym y.1))
 one_accepted IsSo once (Ok a) (Err e) x y = absurd (ok_not_err (once (Ok a.text) (Err e) x.0 y))
 one_accepted IsSo once (Err d) (Ok b) x y = absurd (ok_not_err (once (Ok b.text) (Err d) y.0 x))
 one_accepted IsSo once (Err d) (Err e) x y = ap Err (err_inj (once (Err d) (Err e) x y))
@@ -99,12 +110,14 @@ one_to_run input a b x y = x ∙ sym y
 one_to_reported_run : IsOnce AnswersReportedRun
 one_to_reported_run input a b x y = x ∙ sym y
 
-one_to_stamp : (layout : Layout) (n : ℕ) (a b : Result (List ℕ) ServeFault) → IsStampAnswer layout n a → IsStampAnswer layout n b → a ≡ b
+one_to_stamp : (layout : Layout) (n : ℕ) (a b : Result (List ℕ) ServeFault) → IsStampAnswer layout n a →
+    IsStampAnswer layout n b → a ≡ b
 one_to_stamp layout n a b x y =
     let same = one_kind layout n x.text.kind y.text.kind x.text.has y.text.has in
     x.is ∙ ap Ok (x.text.says ∙ ap kind_text same ∙ sym y.text.says) ∙ sym y.is
 
-one_check : (r : Result Recorded ReadError) (a b : Result Answered ServeFault) → IsCheckAnswer r a → IsCheckAnswer r b → a ≡ b
+one_check : (r : Result Recorded ReadError) (a b : Result Answered ServeFault) → IsCheckAnswer r a →
+    IsCheckAnswer r b → a ≡ b
 one_check (Ok h) (Ok a) (Ok b) x y =
     let same = one_verdict h x.found y.found x.is y.is in
     ap Ok (same_line a b (x.says ∙ ap verdict_text same ∙ sym y.says) (x.verdict ∙ ap verdict_of same ∙ sym y.verdict))
@@ -115,25 +128,31 @@ one_check (Err e) a b x y = x ∙ sym y
 one_to_check : IsOnce AnswersCheck
 one_to_check input a b x y = one_check (history_of input) a b x y
 
-one_migration : (r : Result Recorded ReadError) (a b : Result (List ℕ) ServeFault) → IsMigrateAnswer r a → IsMigrateAnswer r b → a ≡ b
+one_migration : (r : Result Recorded ReadError) (a b : Result (List ℕ) ServeFault) → IsMigrateAnswer r a →
+    IsMigrateAnswer r b → a ≡ b
 one_migration (Ok h) (Ok a) (Ok b) x y = ap Ok (x.1 ∙ sym y.1)
 one_migration (Ok h) (Ok a) (Err e) x y = absurd (migrates_or_not h y.entry x.0 y.foreign)
 one_migration (Ok h) (Err e) (Ok b) x y = absurd (migrates_or_not h x.entry y.0 x.foreign)
-one_migration (Ok h) (Err d) (Err e) x y = ap Err (x.named ∙ ap BadReply (one_bad_reply h x.entry y.entry x.foreign y.foreign) ∙ sym y.named)
+one_migration (Ok h) (Err d) (Err e) x y = ap Err
+    (x.named ∙ ap BadReply (one_bad_reply h x.entry y.entry x.foreign y.foreign) ∙ sym y.named)
 one_migration (Err e) a b x y = x ∙ sym y
 
 one_to_migrate : IsOnce AnswersMigrate
 one_to_migrate input a b x y = one_migration (history_of input) a b x y
 
 -- of an input's accepted text
-one_text : (IsSo : List ℕ → Result (List ℕ) ServeFault → Type 0) → IsOnce IsSo → (input : List ℕ) (a b : Result Answered ServeFault) → IsAccepted (IsInputAnswer IsSo input) a → IsAccepted (IsInputAnswer IsSo input) b → a ≡ b
+one_text : (IsSo : List ℕ → Result (List ℕ) ServeFault → Type 0) → IsOnce IsSo →
+    (input : List ℕ) (a b : Result Answered ServeFault) → IsAccepted (IsInputAnswer IsSo input) a →
+    IsAccepted (IsInputAnswer IsSo input) b → a ≡ b
 one_text IsSo once input a b x y = one_accepted (IsInputAnswer IsSo input) (one_to_input IsSo once input) a b x y
 
-pub one_answer : (o : Order) (input : List ℕ) (a b : Result Answered ServeFault) → IsAnswer o input a → IsAnswer o input b → a ≡ b
+pub one_answer : (o : Order) (input : List ℕ) (a b : Result Answered ServeFault) → IsAnswer o input a →
+    IsAnswer o input b → a ≡ b
 one_answer order.Replay input a b x y = one_text AnswersReplay one_to_replay input a b x y
 one_answer order.Run input a b x y = one_text AnswersRun one_to_run input a b x y
 one_answer order.RunReported input a b x y = one_text AnswersReportedRun one_to_reported_run input a b x y
 one_answer order.Check input a b x y = one_to_input AnswersCheck one_to_check input a b x y
 one_answer order.Migrate input a b x y = one_text AnswersMigrate one_to_migrate input a b x y
 one_answer (order.Stamp n) input a b x y = one_accepted (IsStampAnswer One n) (one_to_stamp One n) a b x y
-one_answer (order.StampIn layout n) input a b x y = one_accepted (IsStampAnswer layout n) (one_to_stamp layout n) a b x y
+one_answer (order.StampIn layout n) input a b x y =
+    one_accepted (IsStampAnswer layout n) (one_to_stamp layout n) a b x y

@@ -3,7 +3,9 @@ use Rattle.std.proofs.Common.{◌≡◌, false, refl}
 use Rattle.stamp_history.specs.declared.answer_error.AnswerError.{AnswerError}
 use Rattle.stamp_history.specs.declared.answer_error.AnswerError.TheVariants as answer
 use Rattle.stamp_history.specs.declared.read_error.ReadError.{ReadError}
-use Rattle.stamp_history.specs.declared.read_error.ReadError.TheVariants.{NotJson, NotHistory, Limit, Memory, NotScript, BadScript}
+use Rattle.stamp_history.specs.declared.read_error.ReadError.TheVariants.{NotJson, NotHistory}
+use Rattle.stamp_history.specs.declared.read_error.ReadError.TheVariants.{Limit, Memory, NotScript}
+use Rattle.stamp_history.specs.declared.read_error.ReadError.TheVariants.{BadScript}
 use Rattle.stamp_cli.specs.Refusal.{refusal, unanswered, is_of_end}
 
 pub is_of_end-refusal : (e : ReadError) → is_of_end (refusal e) ≡ false

@@ -79,7 +79,8 @@ IsMigrateAnswer (Ok history) (Err fault) = IsBadReplyFault history fault
 IsMigrateAnswer (Err e) answer = answer ≡ Err (refusal e)
 
 -- the answer to an input: it is too long, or it is answered so
-pub record IsInputAnswer {A : Type 0} (IsSo : List ℕ → Result A ServeFault → Type 0) (input : List ℕ) (answer : Result A ServeFault) : Type 0 where
+pub record IsInputAnswer {A : Type 0} (IsSo : List ℕ → Result A ServeFault → Type 0) (input : List ℕ)
+    (answer : Result A ServeFault) : Type 0 where
   pub too_long : most_bytes < length input → answer ≡ Err TooLong
   pub read : length input ≤ most_bytes → IsSo input answer
 

@@ -1,12 +1,18 @@
 -- The line on standard error for each fault.
 use Rattle.std.specs.Prelude.{ℕ, List, ◌++◌, codes, decimal}
 use Rattle.stamp_core.specs.declared.script_error.ScriptError.{ScriptError}
-use Rattle.stamp_core.specs.declared.script_error.ScriptError.TheVariants.{TooManyThreads, TooManyCalls, TooManySteps, NoSuchThread, RecordWidth}
+use Rattle.stamp_core.specs.declared.script_error.ScriptError.TheVariants.{TooManyThreads}
+use Rattle.stamp_core.specs.declared.script_error.ScriptError.TheVariants.{TooManyCalls}
+use Rattle.stamp_core.specs.declared.script_error.ScriptError.TheVariants.{TooManySteps}
+use Rattle.stamp_core.specs.declared.script_error.ScriptError.TheVariants.{NoSuchThread}
+use Rattle.stamp_core.specs.declared.script_error.ScriptError.TheVariants.{RecordWidth}
 use Rattle.stamp_history.specs.Field.{field_text}
 use Rattle.stamp_history.specs.declared.read_error.ReadError.{ReadError}
 use Rattle.stamp_history.specs.declared.read_error.ReadError.TheVariants as read
 use Rattle.stamp_cli.specs.declared.faults.ServeFault.{ServeFault}
-use Rattle.stamp_cli.specs.declared.faults.ServeFault.TheVariants.{ReadFault, TooLong, Refused, Waits, Memory, WriteFault, BadReply}
+use Rattle.stamp_cli.specs.declared.faults.ServeFault.TheVariants.{ReadFault, TooLong, Refused}
+use Rattle.stamp_cli.specs.declared.faults.ServeFault.TheVariants.{Waits, Memory, WriteFault}
+use Rattle.stamp_cli.specs.declared.faults.ServeFault.TheVariants.{BadReply}
 
 abbrev pub script_error_text : ScriptError → List ℕ
 script_error_text TooManyThreads = codes "too many threads"

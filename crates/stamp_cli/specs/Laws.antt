@@ -6,4 +6,5 @@ use Rattle.stamp_cli.specs.Answer.{Answered, IsAnswer}
 
 -- an order and an input have one answer: one line, or one refusal
 abbrev pub OneAnswer : Type 0
-OneAnswer = (order : Order) (input : List ℕ) (a b : Result Answered ServeFault) → IsAnswer order input a → IsAnswer order input b → a ≡ b
+OneAnswer = (order : Order) (input : List ℕ) (a b : Result Answered ServeFault) → IsAnswer order input a →
+    IsAnswer order input b → a ≡ b

@@ -1,5 +1,6 @@
 -- The command line.
-use Rattle.std.specs.Prelude.{ℕ, ◌^◌, ◌&&◌, List, [], ◌∷◌, length, Option, Some, None, Result, Ok, Err, option_map, option_and_then, nat_lt, codes, if◌then◌else◌}
+use Rattle.std.specs.Prelude.{ℕ, ◌^◌, ◌&&◌, List, [], ◌∷◌, length, Option, Some, None, Result, Ok}
+use Rattle.std.specs.Prelude.{Err, option_map, option_and_then, nat_lt, codes, if◌then◌else◌}
 use Rattle.std.specs.Option.{option_map_or}
 use Rattle.std.specs.Str.{bytes_eq}
 use Rattle.std.specs.Char.{is_ascii_digit}
@@ -14,7 +15,8 @@ use Rattle.stamp_cli.specs.declared.orders.CommandFault.TheVariants.{Bad}
 
 -- decimal digits alone, at least one, of a value below 2^64
 abbrev pub number_in : List ℕ → Option ℕ
-number_in text = if list_all is_ascii_digit text && nat_lt 0 (length text) && nat_lt (digits_value 10 text) (2 ^ 64) then Some (digits_value 10 text) else None
+number_in text = if list_all is_ascii_digit text && nat_lt 0 (length text) &&
+    nat_lt (digits_value 10 text) (2 ^ 64) then Some (digits_value 10 text) else None
 
 abbrev pub layout_in : List ℕ → Option Layout
 layout_in text = if bytes_eq text (codes "1") then Some One else if bytes_eq text (codes "2") then Some Two else None

@@ -5,7 +5,9 @@ use Rattle.stamp_history.specs.declared.answer_error.AnswerError.TheVariants as 
 use Rattle.stamp_history.specs.declared.read_error.ReadError.{ReadError}
 use Rattle.stamp_history.specs.declared.read_error.ReadError.TheVariants as read
 use Rattle.stamp_cli.specs.declared.faults.ServeFault.{ServeFault}
-use Rattle.stamp_cli.specs.declared.faults.ServeFault.TheVariants.{ReadFault, TooLong, Refused, Waits, Memory, WriteFault, BadReply}
+use Rattle.stamp_cli.specs.declared.faults.ServeFault.TheVariants.{ReadFault, TooLong, Refused}
+use Rattle.stamp_cli.specs.declared.faults.ServeFault.TheVariants.{Waits, Memory, WriteFault}
+use Rattle.stamp_cli.specs.declared.faults.ServeFault.TheVariants.{BadReply}
 
 -- want of memory is one fault, wherever it came
 abbrev pub refusal : ReadError → ServeFault

@@ -9,7 +9,8 @@ use Rattle.stamp_cli.proofs.input.read_input.Goals as goal
 pub returns-in_err-read_more-clause-took : goal.returns-in_err-read_more-clause-took
 returns-in_err-read_more-clause-took g c =
     let more = c.read_more.ensures.took in
-    (c.loop-source.input.items ++ more.0, Consumes-trans _ _ _ c.loop-source.input.items more.0 c.loop-source.invariant.took more.1, omega (arith, length-append c.loop-source.input.items more.0))
+    (c.loop-source.input.items ++ more.0, Consumes-trans _ _ _ c.loop-source.input.items more.0
+        c.loop-source.invariant.took more.1, omega (arith, length-append c.loop-source.input.items more.0))
 
 pub returns-in_err-read_more-clause-failed : goal.returns-in_err-read_more-clause-failed
 returns-in_err-read_more-clause-failed g c =
@@ -45,8 +46,10 @@ loop-source-preserved g c =
     record {
       room = grind (arith, common_steps);
       within = more.within;
-      reads = so_far.more _ _ _ _ _ once.result c.loop-source.invariant.reads once.added takes (omega (arith, once.grown.0));
-      took = rw more.grown (Consumes-trans _ _ _ c.loop-source.input.items more.taken c.loop-source.invariant.took more.took);
+      reads = so_far.more _ _ _ _ _ once.result c.loop-source.invariant.reads once.added takes
+          (omega (arith, once.grown.0));
+      took = rw more.grown (Consumes-trans _ _ _ c.loop-source.input.items more.taken c.loop-source.invariant.took
+          more.took);
     }
 
 pub returns-clause-whole : goal.returns-clause-whole

@@ -8,8 +8,10 @@ loop-sent-preserved g c =
     let once = c.in_ok-sent.ensures.once in
     record {
       within = omega (arith, c.in_ok-sent.ensures.taken.1, length-take {A = ℕ}, length-drop {A = ℕ});
-      writes = so_far.more _ _ _ _ _ once.result c.loop-sent.invariant.writes once.added once.fault (omega (arith, once.bytes));
-      front = Appends-more _ _ _ c.args.line.now c.loop-sent.sent c.in_ok-sent.field-0 c.loop-sent.invariant.front c.in_ok-sent.ensures.taken.2;
+      writes = so_far.more _ _ _ _ _ once.result c.loop-sent.invariant.writes once.added once.fault
+          (omega (arith, once.bytes));
+      front = Appends-more _ _ _ c.args.line.now c.loop-sent.sent c.in_ok-sent.field-0 c.loop-sent.invariant.front
+          c.in_ok-sent.ensures.taken.2;
     }
 
 pub returns-clause-failed : goal.returns-clause-failed
