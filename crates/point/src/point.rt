@@ -94,8 +94,8 @@ impl<'a> PointHandle<'a> {
         Ok(is_moved)
     }
 
-    /// Goes on in write mode: at once where this is the only reader. Else it waits without read mode,
-    /// and other writers may come before it.
+    /// Goes on in write mode: at once where this is the only reader. Else it waits without read
+    /// mode, and other writers may come before it.
     fn upgraded<R: Wait>(&mut self, rt: &R, stamp: Stamp) -> Result<Stamp> {
         if let Some(stamp) = self.lock.try_convert_to_write(rt, stamp) {
             return Ok(stamp);

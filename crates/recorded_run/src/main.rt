@@ -1,7 +1,7 @@
 //! Three threads share a lock whose calls are recorded, and the history is judged at the end.
 //!
-//! `recorded_run` prints the verdict in the words of `stamped check`. `recorded_run history` prints the
-//! history itself, which `stamped check` reads.
+//! `recorded_run` prints the verdict in the words of `stamped check`. `recorded_run history` prints
+//! the history itself, which `stamped check` reads.
 #![tactic(auto)]
 
 mod threads;

@@ -4,7 +4,7 @@ ghost use Rattle.std.specs.Prelude.{◌<◌};
 use stamp_core::{Call, Reply};
 use stamp_threads::{BookError, Shared};
 use std::sync::Wait;
-use std::thread;
+use std::thread::yield_now;
 
 /// How often each thread writes, reads and looks.
 const ROUNDS: u64 = 1_000;
@@ -14,7 +14,7 @@ fn write<R: Wait>(rt: &R, shared: &Shared, thread: u64) -> Result<(), BookError>
     requires { thread < 64 }
 {
     if let Reply::Stamp(stamp) = shared.call(rt, thread, Call::WriteLock)? {
-        thread::yield_now();
+        yield_now();
         shared.call(rt, thread, Call::UnlockWrite(stamp))?;
     }
     Ok(())
@@ -25,7 +25,7 @@ fn read<R: Wait>(rt: &R, shared: &Shared, thread: u64) -> Result<(), BookError>
     requires { thread < 64 }
 {
     if let Reply::Stamp(stamp) = shared.call(rt, thread, Call::ReadLock)? {
-        thread::yield_now();
+        yield_now();
         shared.call(rt, thread, Call::UnlockRead(stamp))?;
     }
     Ok(())
