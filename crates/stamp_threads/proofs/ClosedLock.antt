@@ -1,13 +1,12 @@
 -- The last state of a lock's table.
-use Rattle.std.proofs.Common.{◌≡◌, ℕ, Bool, List, [], ◌∷◌, get_or, refl, ap, sym, ◌∙◌, subst}
+use Rattle.std.proofs.Common.{◌≡◌, ℕ, List, [], ◌∷◌, get_or, refl, ap, sym, ◌∙◌, subst}
 use mathlib.Core.Option.{some, some-injective, some-ne-none}
 use lib.ListN.{get_elem?}
 use Rattle.atomic_table.specs.Table.{Me, Final, Seen}
-use Rattle.stamp_core.specs.Limits.{Bounds}
 use Rattle.stamp_machines.specs.LockNumber.{RepresentsAt}
 use Rattle.stamp_threads.specs.Seats.{alone}
 use Rattle.stamp_threads.specs.LockLog.{events_after}
-use Rattle.stamp_threads.specs.LockPass.{LockPass}
+use Rattle.stamp_threads.specs.LockPass.{LockPass, LockView}
 use Rattle.stamp_threads.specs.LockRule.{IsKept}
 use Rattle.stamp_threads.specs.Closes.{Closes}
 
@@ -15,11 +14,11 @@ word_there : (words : List ℕ) (n : ℕ) → get_elem? words 0 ≡ some n → g
 word_there [] n e = absurd (some-ne-none n (sym e))
 word_there (x ∷ words) n e = some-injective x n e
 
-pub closes : {enterable : Bool} (limits : Bounds) (id : ℕ) (v : LockPass) (me : Me (Unit {0}) (List LockPass))
+pub closes : (lock : LockView) (id : ℕ) (v : LockPass) (me : Me (Unit {0}) (List LockPass))
     (words : List ℕ) (slots : List (Unit {0})) (word : ℕ) → me ≡ alone v →
-    Final (Seen (IsKept enterable limits) id me.0) words slots → get_elem? words 0 ≡ some word →
-    Closes limits v word
-closes limits id v me words slots word is end at =
+    Final (Seen (IsKept lock.enterable lock.limits) id me.0) words slots → get_elem? words 0 ≡ some word →
+    Closes lock v word
+closes lock id v me words slots word is end at =
     let s = end.0 in
     let r = end.1.0 in
     let here : get_elem? s.views id ≡ some (v ∷ []) =
@@ -33,8 +32,11 @@ closes limits id v me words slots word is end at =
         begins = part.observed;
         legal = r.legal;
         represents =
-            subst (λ (n : ℕ). RepresentsAt limits n (events_after limits r.log)) last r.represents;
+            subst (λ (n : ℕ). RepresentsAt lock.limits n (events_after lock.limits r.log)) last r.represents;
       };
       own = part.own;
       given = part.given;
+      roots = r.roots;
+      rooted = r.passes.entries;
+      closed = r.closed;
     }

@@ -246,7 +246,7 @@ impl RunningLock {
     /// Ends the lock, and gives its word. Other passes may still be there; they are of no use then.
     pub fn close(self, pass: Pass) -> u64
         requires { pass.table ≡ self.table }
-        ensures { Closes self.limits pass.view result }
+        ensures { Closes self pass.view result }
     {
         let RunningLock { table, limits: _ } = self;
         let Pass { seat } = pass;

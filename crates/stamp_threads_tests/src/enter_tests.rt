@@ -41,6 +41,24 @@ fn a_pass_that_enters_finds_what_was_acquired(rt: HostRuntime) -> Result<(), Fai
 }
 
 #[test]
+fn entering_releases_nothing(rt: HostRuntime) -> Result<(), Fail> {
+    let (lock, mut first) = enterable_lock(rt.alloc())?;
+    assert_eq!(rt;
+        lock.once(&mut first, Call::TryWrite),
+        Ok(Reply::Stamp(384))
+    );
+    let mut second = lock.enter();
+    assert_eq!(rt; lock.once(&mut second, Call::IsWriteLocked), Ok(Reply::Yes));
+    assert_eq!(rt;
+        lock.once(&mut first, Call::ToRead(384)),
+        Ok(Reply::Stamp(513))
+    );
+    let third = lock.enter();
+    assert_eq!(rt; lock.close(third), 513);
+    Ok(())
+}
+
+#[test]
 fn threads_enter_by_a_shared_reference(rt: HostRuntime) -> Result<(), Fail> {
     let (lock, first) = enterable_lock(rt.alloc())?;
     let (a, b) = join(

@@ -75,16 +75,31 @@ fn acquire_once<R: Wait>(rt: &R, shared: &Shared, thread: u64, call: Call, told:
     }
 }
 
+/// What a writer is answered who leaves by this call, and the stamp of the reader who waits for it.
+fn leave_by<R: Threads + Wait + Clock + Copy + Send + 'static>(
+    rt: &R,
+    alloc: Global,
+    call: Call,
+) -> Result<(Option<Reply>, u64), Fail>
+    requires { IsTrue (is_lock_call call) }
+{
+    let shared = shared_book(alloc)?;
+    let _ = shared.call(rt, 0, Call::WriteLock);
+    let reader = Waiter::start(rt, alloc, &shared, 1, Call::ReadLock)?;
+    let reply = shared.call(rt, 0, call).ok();
+    Ok((reply, reader.stamp(rt)))
+}
+
 #[test]
 fn a_writer_who_leaves_wakes_a_reader(rt: HostRuntime) -> Result<(), Fail> {
-    let shared = shared_book(rt.alloc())?;
-    assert_eq!(rt; shared.call(&rt, 0, Call::WriteLock), Ok(Reply::Stamp(384)));
-    let reader = Waiter::start(&rt, rt.alloc(), &shared, 1, Call::ReadLock)?;
-    assert_eq!(rt;
-        shared.call(&rt, 0, Call::UnlockWrite(384)),
-        Ok(Reply::Done)
-    );
-    assert_eq!(rt; reader.stamp(&rt), 513);
+    let by_stamp = leave_by(&rt, rt.alloc(), Call::UnlockWrite(384))?;
+    assert_eq!(rt; by_stamp, (Some(Reply::Done), 513));
+    let by_any = leave_by(&rt, rt.alloc(), Call::Unlock(384))?;
+    assert_eq!(rt; by_any, (Some(Reply::Done), 513));
+    let without_stamp = leave_by(&rt, rt.alloc(), Call::TryUnlockWrite)?;
+    assert_eq!(rt; without_stamp, (Some(Reply::Yes), 513));
+    let for_optimistic = leave_by(&rt, rt.alloc(), Call::ToOptimistic(384))?;
+    assert_eq!(rt; for_optimistic, (Some(Reply::Stamp(512)), 513));
     Ok(())
 }
 

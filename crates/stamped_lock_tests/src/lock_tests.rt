@@ -140,3 +140,20 @@ fn what_one_handle_acquired_the_other_meets(rt: HostRuntime) -> Result<(), Fail>
     assert!(rt; !first.is_write_locked());
     Ok(())
 }
+
+#[test]
+fn entering_changes_nothing(rt: HostRuntime) -> Result<(), Fail> {
+    let lock = made(rt.alloc())?;
+    let mut first = lock.enter();
+    let written = first.try_write(&rt).ok_or("not acquired")?;
+    assert_eq!(rt; written.number(), 384);
+    let mut second = lock.enter();
+    assert!(rt; second.is_write_locked());
+    assert_eq!(rt; first.unlock_write(written), Ok(()));
+    let read = second.try_read(&rt).ok_or("not acquired")?;
+    assert_eq!(rt; read.number(), 513);
+    let mut third = lock.enter();
+    assert_eq!(rt; third.read_count(), 1);
+    assert_eq!(rt; third.unlock_read(&rt, read), Ok(()));
+    Ok(())
+}

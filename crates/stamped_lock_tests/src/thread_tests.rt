@@ -4,7 +4,9 @@ use stamped_lock::{LockHandle, Lost, Mismatch, Stamp};
 use std::sync::atomic::{AtomicBool, AtomicU64, Ordering};
 use std::sync::{Barrier, Wait};
 use std::test::Fail;
+use std::thread;
 use std::thread::join;
+use std::time::{Clock, Duration};
 
 /// Adds one so often, each time by a load and a store that no other writer may come between.
 fn add_often<R: Wait>(rt: &R, mut lock: LockHandle<'_>, sum: &AtomicU64) {
@@ -96,5 +98,43 @@ fn an_exchange_is_lost_where_threads_meet(rt: HostRuntime) -> Result<(), Fail> {
         return Err(Fail::from("no exchange was lost"));
     };
     assert!(rt; lost.loaded != lost.found);
+    Ok(())
+}
+
+/// Releases after a while; answers how often the reader had run by then.
+fn release_late<R: Wait + Clock>(
+    rt: &R,
+    mut lock: LockHandle<'_>,
+    stamp: Stamp,
+    runs: &AtomicU64,
+) -> u64 {
+    thread::sleep(rt, Duration::from_millis(20));
+    let before = runs.load(Ordering::SeqCst);
+    let _ = lock.unlock_write(stamp);
+    before
+}
+
+fn count_runs<R: Wait>(
+    rt: &R,
+    mut lock: LockHandle<'_>,
+    runs: &AtomicU64,
+) -> Result<u64, Mismatch> {
+    lock.read_optimistically(rt, |_| runs.fetch_add(1, Ordering::SeqCst))
+}
+
+#[test]
+fn a_read_that_gets_no_stamp_waits_and_runs_once(rt: HostRuntime) -> Result<(), Fail> {
+    let lock = made(rt.alloc())?;
+    let (mut writer, reader) = (lock.enter(), lock.enter());
+    let stamp = writer.try_write(&rt).ok_or("not acquired")?;
+    let runs = AtomicU64::new(0);
+    let (read, before) = join(
+        &rt,
+        || count_runs(&rt, reader, &runs),
+        || release_late(&rt, writer, stamp, &runs),
+    );
+    assert_eq!(rt; read, Ok(0));
+    assert_eq!(rt; before, 0);
+    assert_eq!(rt; runs.load(Ordering::SeqCst), 1);
     Ok(())
 }
