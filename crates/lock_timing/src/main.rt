@@ -16,7 +16,7 @@ use pairs::{optimistic_pairs, read_pairs, write_pairs};
 use side_by_side::validated_by;
 use stamp_core::Limits;
 use stamp_threads::{Pass, RunningLock};
-use stamped_lock::StampedLock;
+use stamped_lock::{LockHandle, StampedLock};
 use std::rt::Env;
 use std::sync::Wait;
 use std::thread::Threads;
@@ -73,22 +73,25 @@ fn alone<R: Eprint + Clock>(
 }
 
 /// The same pairs by handles.
-fn by_handle<R: Eprint + Clock + Wait>(rt: &R, lock: &StampedLock, pairs: u64) -> io::Result<()> {
+fn by_handle<R: Eprint + Clock + Wait>(
+    rt: &R,
+    handle: &mut LockHandle<'_>,
+    pairs: u64,
+) -> io::Result<()> {
     let start = Instant::now(rt)?;
-    let good = handles::optimistic_pairs(lock.enter(), pairs);
+    let good = handles::optimistic_pairs(handle.split(), pairs);
     let nanoseconds = start.elapsed(rt)?.as_nanos();
     eprintln!(rt; "handle_optimistic 1 {pairs} {nanoseconds} {good}")?;
-    let mut handle = lock.enter();
     let start = Instant::now(rt)?;
-    let good = handles::lent_pairs(&mut handle, pairs);
+    let good = handles::lent_pairs(handle, pairs);
     let nanoseconds = start.elapsed(rt)?.as_nanos();
     eprintln!(rt; "handle_lent 1 {pairs} {nanoseconds} {good}")?;
     let start = Instant::now(rt)?;
-    let good = handles::read_pairs(rt, &mut handle, pairs);
+    let good = handles::read_pairs(rt, handle, pairs);
     let nanoseconds = start.elapsed(rt)?.as_nanos();
     eprintln!(rt; "handle_read 1 {pairs} {nanoseconds} {good}")?;
     let start = Instant::now(rt)?;
-    let good = handles::write_pairs(rt, &mut handle, pairs);
+    let good = handles::write_pairs(rt, handle, pairs);
     let nanoseconds = start.elapsed(rt)?.as_nanos();
     eprintln!(rt; "handle_write 1 {pairs} {nanoseconds} {good}")?;
     Ok(())
@@ -118,14 +121,14 @@ fn all_rounds<R: Eprint + Clock + Threads + Wait + Sync>(
     rt: &R,
     lock: &RunningLock,
     mut pass: Pass,
-    handled: &StampedLock,
+    mut handle: LockHandle<'_>,
     order: Order,
 ) -> io::Result<()>
     requires { pass.table ≡ lock.now.table }
 {
     for _ in 0..order.rounds {
         alone(rt, lock, &mut pass, order.pairs)?;
-        by_handle(rt, handled, order.pairs)?;
+        by_handle(rt, &mut handle, order.pairs)?;
         pass = together(rt, lock, pass, order.pairs.wrapping_mul(MORE))?;
     }
     Ok(())
@@ -142,5 +145,5 @@ fn main(rt: HostRuntime) -> io::Result<()> {
     let Ok(handled) = StampedLock::with_limits(rt.alloc(), limits) else {
         return Ok(());
     };
-    all_rounds(&rt, &lock, pass, &handled, order)
+    all_rounds(&rt, &lock, pass, handled.enter(), order)
 }
