@@ -59,9 +59,9 @@ pub more : (limits : Bounds) (i : ℕ) (run : Run) (word : LockWord) (call : Cal
 more limits i run word call made so_far turn at by_number decides =
     let next : Run → Run = λ r. next_run limits r (slice_get (cycle r.stamp) (i % TURNS)) in
     let decided : made ≡ decision limits run.number call = by_number ∙
-        ap (λ (w : LockWord). decision limits w.bits call) at in
+    ap (λ (w : LockWord). decision limits w.bits call) at in
     let made_next : taken run made ≡ next run = ap (λ (d : Decision). taken run d) decided ∙
-        sym (ap (λ (o : Option Call). next_run limits run o) turn) in
+    sym (ap (λ (o : Option Call). next_run limits run o) turn) in
     record {
       is = made_next ∙ ap next so_far.is ∙ sym (run_after-suc limits i) ∙
           sym (ap (λ (n : ℕ). run_after limits n) (add-one i));

@@ -15,7 +15,7 @@ pub entry_suits : (r : Recorded) (entries : List Entry) (i : ℕ) (e : Entry) �
     i < length entries → e ≡ get_or entries i e → IsRecorded r → SuitsRecord r.width e
 entry_suits r entries i e same lt at known =
     let all : All (SuitsRecord r.width) entries =
-        subst (λ (xs : List Entry). All (SuitsRecord r.width) xs) (sym same) known.suit in
+    subst (λ (xs : List Entry). All (SuitsRecord r.width) xs) (sym same) known.suit in
     subst (λ (x : Entry). SuitsRecord r.width x) (sym at) (all i e lt)
 
 of_record : (P : Bounds → ℕ → List Entry → Type 0) (r : Recorded) (limits : Bounds) (width : ℕ)

@@ -22,10 +22,11 @@ rises_above before e (Some p) last rises = subst (λ (n : ℕ). n < e.point) (la
 
 pub last_point_push : (before : List Entry) (e : Entry) → IsLastPoint (before ++ e ∷ []) (Some e.point)
 last_point_push before e =
-    let n : length (before ++ e ∷ []) - 1 ≡ length before = omega (arith, length-append before (e ∷ [])) in
-    (omega (arith, length-append before (e ∷ [])),
-        λ d. ap (λ (x : Entry). x.point) (ap (λ (i : ℕ). get_or (before ++ e ∷ []) i d) n ∙
-        get_or-append_seam before e [] d))
+    let n : length (before ++ e ∷ []) - 1 ≡ length before = omega (arith, length-append before (e ∷ [])) in (
+      omega (arith, length-append before (e ∷ [])),
+      λ d. ap (λ (x : Entry). x.point) (ap (λ (i : ℕ). get_or (before ++ e ∷ []) i d) n ∙
+          get_or-append_seam before e [] d),
+    )
 
 -- positions of a thread
 pub above_follows : (before : List Entry) (e : Entry) (n : Option ℕ) → IsLastOf before e.thread n →
@@ -46,10 +47,13 @@ last_of_other before e thread None other last = All-push (λ (x : Entry). x.thre
 last_of_other before e thread (Some n) other last =
     let some = last.1 in
     let at : (d : Entry) → get_or (before ++ e ∷ []) some.0 d ≡ get_or before some.0 d =
-        λ d. get_or_append_left before (e ∷ []) d some.0 some.1 in (
+    λ d. get_or_append_left before (e ∷ []) d some.0 some.1 in (
       All-push (λ (x : Entry). x.thread ≡ thread → x.last ≤ n) before e last.0 (λ same. absurd (other same)),
-      (some.0, omega (arith, some.1, length-append before (e ∷ [])),
-          λ d. subst (λ (x : Entry). (x.thread ≡ thread) × (x.last ≡ n)) (sym (at d)) (some.2 d)),
+      (
+        some.0,
+        omega (arith, some.1, length-append before (e ∷ [])),
+        λ d. subst (λ (x : Entry). (x.thread ≡ thread) × (x.last ≡ n)) (sym (at d)) (some.2 d),
+      ),
     )
 
 last_of_same : (before : List Entry) (e : Entry) → FollowsItsThread before e → IsWithin e →
@@ -58,16 +62,19 @@ last_of_same before e follows within = (
   All-push (λ (x : Entry). x.thread ≡ e.thread → x.last ≤ e.last) before e
       (λ k d lt same. let f = follows k d lt same in let b = within.begun in let l = within.ended in omega arith)
       (λ _. omega arith),
-  (length before, omega (arith, length-append before (e ∷ [])),
-      λ d. subst (λ (x : Entry). (x.thread ≡ e.thread) × (x.last ≡ e.last)) (sym (get_or-append_seam before e [] d))
-      (refl, refl)),
+  (
+    length before,
+    omega (arith, length-append before (e ∷ [])),
+    λ d. subst (λ (x : Entry). (x.thread ≡ e.thread) × (x.last ≡ e.last)) (sym (get_or-append_seam before e [] d))
+        (refl, refl),
+  ),
 )
 
 pub lasts_push : (before : List Entry) (e : Entry) (lasts : List (Option ℕ)) → length lasts ≡ 64 → e.thread < 64 →
     FollowsItsThread before e → IsWithin e →
     ((thread : ℕ) (d : Option ℕ) → thread < 64 → IsLastOf before thread (get_or lasts thread d)) →
     (thread : ℕ) (d : Option ℕ) → thread < 64 →
-        IsLastOf (before ++ e ∷ []) thread (get_or (set lasts e.thread (Some e.last)) thread d)
+    IsLastOf (before ++ e ∷ []) thread (get_or (set lasts e.thread (Some e.last)) thread d)
 lasts_push before e lasts size small follows within all thread d few = by (same_or_not e.thread thread)
   where
     same_or_not : (n m : ℕ) → (n ≡ m) ⊎ (n ≢ m)
@@ -79,9 +86,9 @@ lasts_push before e lasts size small follows within all thread d few = by (same_
         let in_lasts : e.thread < length lasts = omega arith in
         subst (λ (t : ℕ). IsLastOf (before ++ e ∷ []) t (get_or (set lasts e.thread (Some e.last)) t d)) same
         (subst (λ (n : Option ℕ). IsLastOf (before ++ e ∷ []) e.thread n)
-            (sym (get_or-set_same lasts e.thread (Some e.last) d in_lasts)) (last_of_same before e follows within))
+        (sym (get_or-set_same lasts e.thread (Some e.last) d in_lasts)) (last_of_same before e follows within))
     by (inr other) =
         let ne : thread ≢ e.thread = λ h. other (sym h) in
         subst (λ (n : Option ℕ). IsLastOf (before ++ e ∷ []) thread n)
-            (sym (get_or-set_other lasts e.thread thread (Some e.last) d ne))
-            (last_of_other before e thread (get_or lasts thread d) other (all thread d few))
+        (sym (get_or-set_other lasts e.thread thread (Some e.last) d ne))
+        (last_of_other before e thread (get_or lasts thread d) other (all thread d few))

@@ -77,7 +77,7 @@ change_has_no_words limits word new call reply admitted changes =
 pub changed_goes_on : (limits : Bounds) (bits after : ℕ) (word new : LockWord) (call : Call) (answer reply : Reply)
     (found : Option ℕ) → word ≡ word_at limits bits → Changes limits word call new answer → after ≡ new.bits →
     MatchOption found (¬ (answer ≡ reply)) (λ next. (answer ≡ reply) × (next ≡ after)) →
-        LockGoesOn limits bits call reply found
+    LockGoesOn limits bits call reply found
 changed_goes_on limits bits after word new call answer reply None is changes number not = record {
   after = λ events represented.
       let moves = changes events (subst (λ (w : LockWord). Represents limits w events) (sym is) represented) in
@@ -86,6 +86,13 @@ changed_goes_on limits bits after word new call answer reply None is changes num
 changed_goes_on limits bits after word new call answer reply (Some next) is changes number same = record {
   after = λ events represented.
       let moves = changes events (subst (λ (w : LockWord). Represents limits w events) (sym is) represented) in
-      rw moves.transition_is (same.0, record { well_formed = moves.represented.well_formed; layout = refl; spelled =
-          same.1 ∙ number ∙ moves.represented.spelled });
+      rw moves.transition_is (
+        same.0,
+        record {
+          well_formed = moves.represented.well_formed;
+          layout = refl;
+          spelled =
+              same.1 ∙ number ∙ moves.represented.spelled;
+        },
+      );
 }

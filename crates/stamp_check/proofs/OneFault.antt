@@ -55,10 +55,10 @@ not_with r i why fault all =
     let is : get_or r.entries i e ≡ e = get_or_from_slice_get r.entries i e e fault.is_entry in
     let lt : i < length r.entries = slice_get_within r.entries i e fault.is_entry in
     let more : take (i + 1) r.entries ≡ take i r.entries ++ e ∷ [] = take_more r.entries i e lt ∙
-        ap (λ (x : Entry). take i r.entries ++ x ∷ []) is in
+    ap (λ (x : Entry). take i r.entries ++ x ∷ []) is in
     unfit r.limits r.width (take i r.entries) e why fault.breaks
     (linearized_fits r.limits r.width (take i r.entries) [] e
-        (subst (λ (xs : List Entry). AreLinearized r.limits r.width xs) more all))
+    (subst (λ (xs : List Entry). AreLinearized r.limits r.width xs) more all))
 
 pub faults_are_exact : FaultsAreExact
 faults_are_exact r i why fault all = not_with r i why fault (linearized_take r.limits r.width r.entries (i + 1) all)
@@ -68,7 +68,7 @@ not_before r i j a b x y lt =
     let shorter : i + 1 ≤ j = omega arith in
     let all = linearized_take r.limits r.width (take j r.entries) (i + 1) y.before in
     not_with r i a x (subst (λ (xs : List Entry). AreLinearized r.limits r.width xs)
-        (take-take (i + 1) j r.entries shorter) all)
+    (take-take (i + 1) j r.entries shorter) all)
 
 same_entry : (entries : List Entry) (i j : ℕ) (d e : Entry) → i ≡ j → slice_get entries i ≡ Some d →
     slice_get entries j ≡ Some e → d ≡ e
@@ -78,10 +78,10 @@ same_place : (r : Recorded) (i j : ℕ) (a b : Why) → IsFirstFault r i a → I
 same_place r i j a b x y same =
     let before = take i r.entries in
     let breaks : Breaks r.limits r.width before y.entry b =
-        subst (λ (k : ℕ). Breaks r.limits r.width (take k r.entries) y.entry b) (sym same) y.breaks in
+    subst (λ (k : ℕ). Breaks r.limits r.width (take k r.entries) y.entry b) (sym same) y.breaks in
     let entry : y.entry ≡ x.entry = sym (same_entry r.entries i j x.entry y.entry same x.is_entry y.is_entry) in
     same_why r.limits r.width before x.entry a b x.breaks
-        (subst (λ (e : Entry). Breaks r.limits r.width before e b) entry breaks)
+    (subst (λ (e : Entry). Breaks r.limits r.width before e b) entry breaks)
 
 one_fault : (r : Recorded) (a b : Bad) → IsFirstFault r a.entry a.why → IsFirstFault r b.entry b.why → a ≡ b
 one_fault r a b x y = by (order a.entry b.entry)

@@ -34,8 +34,8 @@ events_alike limits events (e ∷ es) one range room =
     let few = alike.few in
     let more = writes-append events (appended_by (transition limits events e.call)) in
     ap (λ (appended : List LockEvent). events_from (widened limits) (events ++ appended)
-        (history_of (map respelled_entry es))) alike.appended ∙
-        events_alike limits (events ++ appended_by (transition limits events e.call)) es one range (omega arith)
+    (history_of (map respelled_entry es))) alike.appended ∙
+    events_alike limits (events ++ appended_by (transition limits events e.call)) es one range (omega arith)
 
 contents_alike : (content : List ℕ) (es : List Entry) → content_from content (history_of (map respelled_entry es)) ≡
     content_from content (history_of es)
@@ -47,14 +47,15 @@ contents_alike content (e ∷ es) = ap (λ (next : List ℕ). content_from next 
 next_alike : (limits : Bounds) (events : List LockEvent) (content : List ℕ) (e : Entry) (es : List Entry) →
     GoesAlike limits events e.call → CanRespell e.reply →
     IsLegalFrom (widened limits) (events ++ appended_by (transition limits events e.call))
-        (content_next content e.call e.reply) (history_of (map respelled_entry es)) ↔
-        IsLegalFrom limits (events ++ appended_by (transition limits events e.call))
-        (content_next content e.call e.reply) (history_of es) →
+    (content_next content e.call e.reply) (history_of (map respelled_entry es)) ↔
+    IsLegalFrom limits (events ++ appended_by (transition limits events e.call))
+    (content_next content e.call e.reply) (history_of es) →
     IsLegalFrom (widened limits) events content (history_of (map respelled_entry (e ∷ es))) ↔
-        IsLegalFrom limits events content (history_of (e ∷ es))
-next_alike limits events content e es alike can rest =
-    (λ h. (answer.0 h.0, rest.0 (carried From alike.appended (content_alike content e.call e.reply) h.1)),
-    λ h. (answer.1 h.0, carried From (sym alike.appended) (sym (content_alike content e.call e.reply)) (rest.1 h.1)))
+    IsLegalFrom limits events content (history_of (e ∷ es))
+next_alike limits events content e es alike can rest = (
+  λ h. (answer.0 h.0, rest.0 (carried From alike.appended (content_alike content e.call e.reply) h.1)),
+  λ h. (answer.1 h.0, carried From (sym alike.appended) (sym (content_alike content e.call e.reply)) (rest.1 h.1)),
+)
   where
     answer : IsReply (widened limits) events content (respelled_call e.call) (respelled_reply e.reply) ↔
         IsReply limits events content e.call e.reply
@@ -74,8 +75,8 @@ legal_alike limits events content (e ∷ es) one range can room =
     let more = writes-append events (appended_by (transition limits events e.call)) in
     next_alike limits events content e es alike (All-head (λ (x : Entry). CanRespell x.reply) e es can)
     (legal_alike limits (events ++ appended_by (transition limits events e.call))
-        (content_next content e.call e.reply) es one range (All-tail (λ (x : Entry). CanRespell x.reply) e es can)
-        (omega arith))
+    (content_next content e.call e.reply) es one range (All-tail (λ (x : Entry). CanRespell x.reply) e es can)
+    (omega arith))
 
 -- each call acquires write mode once at most
 writes_few : (limits : Bounds) (events : List LockEvent) (es : List Entry) → limits.layout ≡ One →
@@ -86,8 +87,11 @@ writes_few limits events (e ∷ es) one range room =
     let alike = goes_alike limits events e.call one range (omega arith) in
     let few = alike.few in
     let more = writes-append events (appended_by (transition limits events e.call)) in
-    omega (arith, writes_few limits (events ++ appended_by (transition limits events e.call)) es one range
-        (omega arith))
+    omega (
+      arith,
+      writes_few limits (events ++ appended_by (transition limits events e.call)) es one range
+          (omega arith),
+    )
 
 -- after those before it an entry is answered alike
 pub answered_alike : (limits : Bounds) (width : ℕ) (before : List Entry) (e : Entry) → limits.layout ≡ One →

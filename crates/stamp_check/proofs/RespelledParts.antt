@@ -56,5 +56,5 @@ pub respelled_by : (r : Recorded) (limits wider : Bounds) (width : ℕ) (entries
     map respelled_entry entries → IsRecorded r → IsRecorded (recorded wider width respelled report)
 respelled_by r limits wider width entries respelled report parts e f known =
     let same : recorded wider width respelled report ≡
-        recorded (widened limits) width (map respelled_entry entries) report = cc in
+    recorded (widened limits) width (map respelled_entry entries) report = cc in
     subst IsRecorded (ap respelled_record parts ∙ sym same) (respelled_recorded r known)

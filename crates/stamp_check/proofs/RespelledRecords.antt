@@ -40,7 +40,7 @@ related_alike : (R : Entry → Entry → Type 0) (es : List Entry) (i j : ℕ) (
     R (get_or (map respelled_entry es) i d) (get_or (map respelled_entry es) j d) ↔ R (get_or es i d) (get_or es j d)
 related_alike R es i j d same lt within =
     rw (get_or-map respelled_entry es i d d lt, get_or-map respelled_entry es j d d within)
-        (same (get_or es i d) (get_or es j d))
+    (same (get_or es i d) (get_or es j d))
 
 adjacent_alike : (R : Entry → Entry → Type 0) (es : List Entry) →
     ((a b : Entry) → R (respelled_entry a) (respelled_entry b) ↔ R a b) →
@@ -90,10 +90,20 @@ linearized_alike : (limits : Bounds) (width : ℕ) (es : List Entry) → limits.
     AllCanRespell es → length es ≤ 70368744177662 → AreLinearized (widened limits) width (map respelled_entry es) ↔
     AreLinearized limits width es
 linearized_alike limits width es one range can room = (
-  λ h. record { within = within.0 h.within; rising = rising.0 h.rising; apart = apart.0 h.apart; legal =
-      legal.0 h.legal },
-  λ h. record { within = within.1 h.within; rising = rising.1 h.rising; apart = apart.1 h.apart; legal =
-      legal.1 h.legal },
+  λ h. record {
+    within = within.0 h.within;
+    rising = rising.0 h.rising;
+    apart = apart.0 h.apart;
+    legal =
+        legal.0 h.legal;
+  },
+  λ h. record {
+    within = within.1 h.within;
+    rising = rising.1 h.rising;
+    apart = apart.1 h.apart;
+    legal =
+        legal.1 h.legal;
+  },
 )
   where
     within : All IsWithin (map respelled_entry es) ↔ All IsWithin es
@@ -167,12 +177,22 @@ faults_alike : (r : Recorded) (i : ℕ) (why : Why) → r.limits.layout ≡ One 
 faults_alike r i why one range can few = (
   λ h.
       let e = respelled_of r.entries i h.entry h.is_entry in
-      record { entry = e.0; is_entry = e.1.0; before =
-          before.0 (subst Linear (take-map respelled_entry i r.entries) h.before); breaks =
-          (breaks e.0 e.1.0).0 (broken h.entry e.0 e.1.1 h.breaks) },
-  λ h. record { entry = respelled_entry h.entry; is_entry = at_respelled r.entries i h.entry h.is_entry; before =
-      subst Linear (sym (take-map respelled_entry i r.entries)) (before.1 h.before); breaks =
-      breaking h.entry ((breaks h.entry h.is_entry).1 h.breaks) },
+      record {
+        entry = e.0;
+        is_entry = e.1.0;
+        before =
+            before.0 (subst Linear (take-map respelled_entry i r.entries) h.before);
+        breaks =
+            (breaks e.0 e.1.0).0 (broken h.entry e.0 e.1.1 h.breaks);
+      },
+  λ h. record {
+    entry = respelled_entry h.entry;
+    is_entry = at_respelled r.entries i h.entry h.is_entry;
+    before =
+        subst Linear (sym (take-map respelled_entry i r.entries)) (before.1 h.before);
+    breaks =
+        breaking h.entry ((breaks h.entry h.is_entry).1 h.breaks);
+  },
 )
   where
     Linear : List Entry → Type 0
@@ -197,9 +217,9 @@ faults_alike r i why one range can few = (
         Breaks (widened r.limits) r.width (map respelled_entry (take i r.entries)) (respelled_entry e) why
     broken x e same h =
         subst (λ (es : List Entry). Breaks (widened r.limits) r.width es (respelled_entry e) why)
-            (take-map respelled_entry i r.entries)
+        (take-map respelled_entry i r.entries)
         (subst (λ (y : Entry). Breaks (widened r.limits) r.width (take i (map respelled_entry r.entries)) y why)
-            (sym same) h)
+        (sym same) h)
 
     breaking : (e : Entry) → Breaks (widened r.limits) r.width (map respelled_entry (take i r.entries))
         (respelled_entry e) why → Breaks (widened r.limits) r.width (take i (map respelled_entry r.entries))
@@ -243,10 +263,12 @@ pub same_verdict : (r m : Recorded) (limits : Bounds) (entries : List Entry) →
 same_verdict r m limits entries same one range known each can e =
     let is : migrated r ≡ m = ap (λ (l : Layout). migrated_from l r) (layout_of r limits same one) ∙ sym e in
     subst (λ (x : Recorded). HaveSameVerdict x r) is
-        (migration_keeps_verdicts r known (subst AreInRange same range) (λ _. subst AllCanRespell each can))
+    (migration_keeps_verdicts r known (subst AreInRange same range) (λ _. subst AllCanRespell each can))
 
 pub cannot_migrate : (r : Recorded) (limits : Bounds) (entries : List Entry) (i : ℕ) → limits ≡ r.limits →
     limits.layout ≡ One → entries ≡ r.entries → IsFirstForeign entries i → (false ≡ true) ↔ CanMigrate r
-cannot_migrate r limits entries i same one each first =
-    (λ h. cc, λ can. absurd (first.foreign (can_at entries i first.entry
-    (subst AllCanRespell (sym each) (can (layout_of r limits same one))) first.is_entry)))
+cannot_migrate r limits entries i same one each first = (
+  λ h. cc,
+  λ can. absurd (first.foreign (can_at entries i first.entry
+      (subst AllCanRespell (sym each) (can (layout_of r limits same one))) first.is_entry)),
+)

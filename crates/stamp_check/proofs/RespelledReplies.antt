@@ -128,7 +128,7 @@ transition_alike : (limits : Bounds) (events : List LockEvent) (call : Call) →
     AreAlike (transition limits events call) (transition (widened limits) events (respelled_call call))
 transition_alike limits events call one range room =
     subst (λ (l : Layout). AreAlike (row (bounds l limits.readers limits.versions) (counts events) call)
-        (row (widened limits) (counts events) (respelled_call call))) (sym one)
+    (row (widened limits) (counts events) (respelled_call call))) (sym one)
     (row_alike limits.readers limits.versions (counts events) (few_readers limits one range) room call)
 
 same_appended : (t u : Option Transition) → u ≡ respelled_transition t → appended_by u ≡ appended_by t
@@ -160,8 +160,10 @@ goes_alike limits events call one range room =
 
 -- a stamp can be respelled where the number that it is respelled to is one
 pub told_by_number : (s t : ℕ) → (s ≡ 0 → ⊥) → t ≡ respelling s → IsTrue (not (t == 0)) ↔ CanRespell (Stamp s)
-told_by_number s t some e = (λ h. can_respell s (λ z. zero_fails t h (e ∙ z)),
-    λ can. not_zero t (λ z. respelled_some s can some (sym e ∙ z)))
+told_by_number s t some e = (
+  λ h. can_respell s (λ z. zero_fails t h (e ∙ z)),
+  λ can. not_zero t (λ z. respelled_some s can some (sym e ∙ z)),
+)
   where
     zero_fails : (n : ℕ) → IsTrue (not (n == 0)) → n ≡ 0 → ⊥
     zero_fails n h z = grind (arith, nat_tests)

@@ -56,8 +56,11 @@ plain appended reply e can few = record { same = ap (λ (r : Reply). change appe
 
 stamped : (appended : List LockEvent) (s t : ℕ) → respelling s ≡ t → CanRespell (Stamp s) →
     write_count appended ≤ 1 → AreAlike (change appended (Stamp s)) (change appended (Stamp t))
-stamped appended s t e can few = record { same = ap (λ (n : ℕ). change appended (Stamp n)) (sym e); reply = can;
-    few = few }
+stamped appended s t e can few = record {
+  same = ap (λ (n : ℕ). change appended (Stamp n)) (sym e);
+  reply = can;
+  few = few;
+}
 
 zero_stamp : AreAlike (answer (Stamp 0)) (answer (Stamp 0))
 zero_stamp = stamped [] 0 0 respelled_zero (inl refl) (omega arith)
@@ -73,8 +76,13 @@ pub write_can : (k s : ℕ) → 1 ≤ k → k ≤ 70368744177662 → s ≡ 256 *
 write_can k s some most e = inr (k, (most, inl (record { some = some; most = omega arith; number = e })))
 
 pub read_can : (k c s : ℕ) → 1 ≤ c → c ≤ 127 → k ≤ 70368744177662 → s ≡ 256 * (k + 1) + c → CanRespell (Stamp s)
-read_can k c s some few most e = inr (k, (most,
-    inr (inl (record { nth = c; some = some; most = few; version = omega arith; number = e }))))
+read_can k c s some few most e = inr (
+  k,
+  (
+    most,
+    inr (inl (record { nth = c; some = some; most = few; version = omega arith; number = e })),
+  ),
+)
 
 pub optimistic_can : (k s : ℕ) → k ≤ 70368744177662 → s ≡ 256 * (k + 1) → CanRespell (Stamp s)
 optimistic_can k s most e = inr (k, (most, inr (inr (record { version = omega arith; number = e }))))
@@ -84,23 +92,23 @@ got_write : (appended : List LockEvent) (k : ℕ) → k < 70368744177662 → wri
     (change appended (Stamp (write_stamp wide (k + 1))))
 got_write appended k room few =
     stamped appended (write_stamp narrow (k + 1)) (write_stamp wide (k + 1))
-        (respelled_write (write_stamp narrow (k + 1)) (k + 1) (omega arith) (omega arith) refl)
-        (write_can (k + 1) (write_stamp narrow (k + 1)) (omega arith) (omega arith) refl) few
+    (respelled_write (write_stamp narrow (k + 1)) (k + 1) (omega arith) (omega arith) refl)
+    (write_can (k + 1) (write_stamp narrow (k + 1)) (omega arith) (omega arith) refl) few
 
 got_read : (appended : List LockEvent) (k c : ℕ) → 1 ≤ c → c ≤ 127 → k < 70368744177662 → write_count appended ≤ 1 →
     AreAlike (change appended (Stamp (read_stamp narrow k c))) (change appended (Stamp (read_stamp wide k c)))
 got_read appended k c some few room small =
     stamped appended (read_stamp narrow k c) (read_stamp wide k c)
-        (respelled_read (read_stamp narrow k c) k c few (omega arith) refl)
-        (read_can k c (read_stamp narrow k c) some few (omega arith) refl) small
+    (respelled_read (read_stamp narrow k c) k c few (omega arith) refl)
+    (read_can k c (read_stamp narrow k c) some few (omega arith) refl) small
 
 got_optimistic : (appended : List LockEvent) (k : ℕ) → k < 70368744177662 → write_count appended ≤ 1 →
     AreAlike (change appended (Stamp (optimistic_stamp narrow k))) (change appended (Stamp (optimistic_stamp wide k)))
 got_optimistic appended k room small =
     let e : respelling (optimistic_stamp narrow k) ≡ 131072 * (k + 1) + 0 =
-        respelled_read (optimistic_stamp narrow k) k 0 (omega arith) (omega arith) (omega arith) in
+    respelled_read (optimistic_stamp narrow k) k 0 (omega arith) (omega arith) (omega arith) in
     stamped appended (optimistic_stamp narrow k) (optimistic_stamp wide k) (omega arith)
-        (optimistic_can k (optimistic_stamp narrow k) (omega arith) refl) small
+    (optimistic_can k (optimistic_stamp narrow k) (omega arith) refl) small
 
 -- a stamp that passes a test is handed back
 kept_write : (c : Counts) (s : ℕ) → c.write_count < 70368744177662 → is_held_write narrow c s ≡ true →
@@ -149,8 +157,8 @@ unfolding valid_by
 valid_alike c s t agree =
     let k = c.write_count in
     ap (λ (b : Bool). valid_by c b (is_read_stamp wide k t) (t == optimistic_stamp wide k)) agree.write ∙
-        ap (λ (b : Bool). valid_by c (is_write_stamp narrow k s) b (t == optimistic_stamp wide k)) agree.read ∙
-        ap (valid_by c (is_write_stamp narrow k s) (is_read_stamp narrow k s)) agree.optimistic
+    ap (λ (b : Bool). valid_by c (is_write_stamp narrow k s) b (t == optimistic_stamp wide k)) agree.read ∙
+    ap (valid_by c (is_write_stamp narrow k s) (is_read_stamp narrow k s)) agree.optimistic
 
 and_alike : (a b c d : Bool) → a ≡ b → c ≡ d → (a && c) ≡ (b && d)
 and_alike a b c d e f = cc
@@ -182,7 +190,7 @@ row_alike rs vs c few room TryRead = alike_if (may_read (bounds One rs vs) c) _ 
 row_alike rs vs c few room WriteLock =
     alike_if _ _ (spent c.write_count vs room) (λ _. zero_stamp)
     (λ _. alike_if _ _ (may_write_alike rs vs c room)
-        (λ _. got_write (WriteAcquired ∷ []) c.write_count room (omega arith)) (λ _. none))
+    (λ _. got_write (WriteAcquired ∷ []) c.write_count room (omega arith)) (λ _. none))
 row_alike rs vs c few room ReadLock = alike_if (may_read (bounds One rs vs) c) _ refl
     (λ h. let lt = few_readers (bounds One rs vs) c h in
     got_read (ReadAcquired ∷ []) c.write_count (c.readers + 1) (omega arith) (omega arith) room (omega arith))
@@ -193,46 +201,46 @@ row_alike rs vs c few room (Validate s) = yes_or_no _ _
 row_alike rs vs c few room (UnlockWrite s) =
     let agree = tests_agree c.write_count s (omega arith) in
     alike_if _ _ (held_write_alike c s (respelling s) agree)
-        (λ _. plain (WriteReleased ∷ []) Done refl tt (omega arith)) (λ _. plain [] Mismatch refl tt (omega arith))
+    (λ _. plain (WriteReleased ∷ []) Done refl tt (omega arith)) (λ _. plain [] Mismatch refl tt (omega arith))
 row_alike rs vs c few room (UnlockRead s) =
     let agree = tests_agree c.write_count s (omega arith) in
     alike_if _ _ (held_read_alike c s (respelling s) agree)
-        (λ _. plain (ReadReleased ∷ []) Done refl tt (omega arith)) (λ _. plain [] Mismatch refl tt (omega arith))
+    (λ _. plain (ReadReleased ∷ []) Done refl tt (omega arith)) (λ _. plain [] Mismatch refl tt (omega arith))
 row_alike rs vs c few room (Unlock s) =
     let agree = tests_agree c.write_count s (omega arith) in
     alike_if _ _ (held_write_alike c s (respelling s) agree)
-        (λ _. plain (WriteReleased ∷ []) Done refl tt (omega arith))
+    (λ _. plain (WriteReleased ∷ []) Done refl tt (omega arith))
     (λ _. alike_if _ _ (held_read_alike c s (respelling s) agree)
-        (λ _. plain (ReadReleased ∷ []) Done refl tt (omega arith)) (λ _. plain [] Mismatch refl tt (omega arith)))
+    (λ _. plain (ReadReleased ∷ []) Done refl tt (omega arith)) (λ _. plain [] Mismatch refl tt (omega arith)))
 row_alike rs vs c few room (ToWrite s) =
     let agree = tests_agree c.write_count s (omega arith) in
     alike_if _ _ (held_write_alike c s (respelling s) agree)
-        (λ h. stamped [] s (respelling s) refl (kept_write c s room h) (omega arith))
+    (λ h. stamped [] s (respelling s) refl (kept_write c s room h) (omega arith))
     (λ _. alike_if _ _ (and_alike _ _ _ _ (ap (λ (b : Bool). b && (c.readers == 1))
-        (held_read_alike c s (respelling s) agree)) (room_for c.write_count vs room))
-        (λ _. got_write (ReadReleased ∷ WriteAcquired ∷ []) c.write_count room (omega arith))
+    (held_read_alike c s (respelling s) agree)) (room_for c.write_count vs room))
+    (λ _. got_write (ReadReleased ∷ WriteAcquired ∷ []) c.write_count room (omega arith))
     (λ _. alike_if _ _ (and_alike _ _ _ _ agree.optimistic (may_write_alike rs vs c room))
-        (λ _. got_write (WriteAcquired ∷ []) c.write_count room (omega arith)) (λ _. zero_stamp)))
+    (λ _. got_write (WriteAcquired ∷ []) c.write_count room (omega arith)) (λ _. zero_stamp)))
 row_alike rs vs c few room (ToRead s) =
     let agree = tests_agree c.write_count s (omega arith) in
     alike_if _ _ (held_write_alike c s (respelling s) agree)
-        (λ h. got_read (WriteReleased ∷ ReadAcquired ∷ []) c.write_count 1 (omega arith) (omega arith) room
-        (omega arith))
+    (λ h. got_read (WriteReleased ∷ ReadAcquired ∷ []) c.write_count 1 (omega arith) (omega arith) room
+    (omega arith))
     (λ _. alike_if _ _ (held_read_alike c s (respelling s) agree)
-        (λ h. stamped [] s (respelling s) refl (kept_read c s room h) (omega arith))
+    (λ h. stamped [] s (respelling s) refl (kept_read c s room h) (omega arith))
     (λ _. alike_if _ _ (ap (λ (b : Bool). b && may_read (bounds One rs vs) c) agree.optimistic)
-        (λ h. let lt = few_readers (bounds One rs vs) c
-        (second_holds (s == optimistic_stamp narrow c.write_count) (may_read (bounds One rs vs) c) h) in
-        got_read (ReadAcquired ∷ []) c.write_count (c.readers + 1) (omega arith) (omega arith) room (omega arith))
-        (λ _. zero_stamp)))
+    (λ h. let lt = few_readers (bounds One rs vs) c
+    (second_holds (s == optimistic_stamp narrow c.write_count) (may_read (bounds One rs vs) c) h) in
+    got_read (ReadAcquired ∷ []) c.write_count (c.readers + 1) (omega arith) (omega arith) room (omega arith))
+    (λ _. zero_stamp)))
 row_alike rs vs c few room (ToOptimistic s) =
     let agree = tests_agree c.write_count s (omega arith) in
     alike_if _ _ (held_write_alike c s (respelling s) agree)
-        (λ _. got_optimistic (WriteReleased ∷ []) c.write_count room (omega arith))
+    (λ _. got_optimistic (WriteReleased ∷ []) c.write_count room (omega arith))
     (λ _. alike_if _ _ (held_read_alike c s (respelling s) agree)
-        (λ _. got_optimistic (ReadReleased ∷ []) c.write_count room (omega arith))
+    (λ _. got_optimistic (ReadReleased ∷ []) c.write_count room (omega arith))
     (λ _. alike_if _ _ (ap (λ (b : Bool). b && (c.writers == 0)) agree.optimistic)
-        (λ h. stamped [] s (respelling s) refl (kept_optimistic c s room h) (omega arith)) (λ _. zero_stamp)))
+    (λ h. stamped [] s (respelling s) refl (kept_optimistic c s room h) (omega arith)) (λ _. zero_stamp)))
 row_alike rs vs c few room TryUnlockWrite = alike_if (c.writers == 1) _ refl
     (λ _. plain (WriteReleased ∷ []) Yes refl tt (omega arith)) (λ _. plain [] No refl tt (omega arith))
 row_alike rs vs c few room TryUnlockRead = alike_if (nat_lt 0 c.readers) _ refl

@@ -40,14 +40,24 @@ pub data Respells (s t : ℕ) : Type 0 where
 
 write_parts : (s : ℕ) → fits_layout_two s ≡ true → (s % 256 == 128) ≡ true → AreWrites (s / 256) s (respelling s)
 unfolding respelling counts_of
-write_parts s h e = record { some = grind (arith, nat_tests); most = grind (arith, nat_tests); narrow_is =
-    grind (arith, nat_tests); wide_is = grind (arith, nat_tests) }
+write_parts s h e = record {
+  some = grind (arith, nat_tests);
+  most = grind (arith, nat_tests);
+  narrow_is =
+      grind (arith, nat_tests);
+  wide_is = grind (arith, nat_tests);
+}
 
 read_parts : (s : ℕ) → fits_layout_two s ≡ true → (s % 256 == 128) ≡ false →
     AreReads (s / 256 - 1) (s % 256) s (respelling s)
 unfolding respelling counts_of
-read_parts s h e = record { few = grind (arith, nat_tests); most = grind (arith, nat_tests); narrow_is =
-    grind (arith, nat_tests); wide_is = grind (arith, nat_tests) }
+read_parts s h e = record {
+  few = grind (arith, nat_tests);
+  most = grind (arith, nat_tests);
+  narrow_is =
+      grind (arith, nat_tests);
+  wide_is = grind (arith, nat_tests);
+}
 
 no_write : (s k : ℕ) → fits_layout_two s ≡ false → k ≤ 70368744177662 → IsWriteStamp narrow k s → ⊥
 unfolding counts_of
@@ -89,8 +99,14 @@ respelled_read s k c few most e = by (respelling s) (respells s)
   where
     a_stamp : (d : ℕ) → c ≡ d → IsStamp narrow k s
     a_stamp zero same = inr (inr (record { version = omega arith; number = omega arith }))
-    a_stamp (suc d) same = inr (inl (record { nth = c; some = omega arith; most = omega arith; version =
-        omega arith; number = e }))
+    a_stamp (suc d) same = inr (inl (record {
+      nth = c;
+      some = omega arith;
+      most = omega arith;
+      version =
+          omega arith;
+      number = e;
+    }))
 
     by : (t : ℕ) → Respells s t → t ≡ 131072 * (k + 1) + c
     by t (writes j w) = absurd (omega (arith, w.narrow_is))
@@ -109,8 +125,14 @@ respelled_foreign s none = by (respelling s) (respells s)
         at zero same = absurd (none k r.most (inr
             (inr (record { version = omega (arith, r.most); number = omega (arith, r.narrow_is) }))))
         at (suc d) same = absurd (none k r.most
-            (inr (inl (record { nth = c; some = omega arith; most = r.few; version = omega (arith, r.most); number =
-            r.narrow_is }))))
+            (inr (inl (record {
+              nth = c;
+              some = omega arith;
+              most = r.few;
+              version = omega (arith, r.most);
+              number =
+                  r.narrow_is;
+            }))))
     by t (foreign f) = f.zero
 
 pub respelled_zero : respelling 0 ≡ 0
@@ -153,8 +175,12 @@ respelling_is_of_stamps s Neither none = respelled_foreign s (λ k most stamp. n
 -- each number is of some kind
 write_number : (s : ℕ) → (nat_le 256 s && nat_lt s 9223372036854775680) ≡ true → (s % 256 == 128) ≡ true →
     HasKind narrow s (Write (s / 256))
-write_number s h e = record { some = grind (arith, nat_tests); most = grind (arith, nat_tests); number =
-    grind (arith, nat_tests) }
+write_number s h e = record {
+  some = grind (arith, nat_tests);
+  most = grind (arith, nat_tests);
+  number =
+      grind (arith, nat_tests);
+}
 
 optimistic_number : (s : ℕ) → (nat_le 256 s && nat_lt s 9223372036854775680) ≡ true → s % 256 ≡ 0 →
     HasKind narrow s (Optimistic (s / 256 - 1))
@@ -211,12 +237,19 @@ pub record TestsAgree (k s t : ℕ) : Type 0 where
   pub optimistic : (t == optimistic_stamp wide k) ≡ (s == optimistic_stamp narrow k)
 
 writes_agree : (k j s t : ℕ) → s ≡ 256 * j + 128 → t ≡ 131072 * j + 65536 → TestsAgree k s t
-writes_agree k j s t e f = record { write = grind (arith, nat_tests); read = grind (arith, nat_tests); optimistic =
-    grind (arith, nat_tests) }
+writes_agree k j s t e f = record {
+  write = grind (arith, nat_tests);
+  read = grind (arith, nat_tests);
+  optimistic =
+      grind (arith, nat_tests);
+}
 
 reads_agree : (k j c s t : ℕ) → c ≤ 127 → s ≡ 256 * (j + 1) + c → t ≡ 131072 * (j + 1) + c → TestsAgree k s t
-reads_agree k j c s t few e f = record { write = grind (arith, nat_tests); read = grind (arith, nat_tests);
-    optimistic = grind (arith, nat_tests) }
+reads_agree k j c s t few e f = record {
+  write = grind (arith, nat_tests);
+  read = grind (arith, nat_tests);
+  optimistic = grind (arith, nat_tests);
+}
 
 foreign_agrees : (k s t : ℕ) → k ≤ 70368744177662 → IsForeign s t → TestsAgree k s t
 foreign_agrees k s t most f =
@@ -228,8 +261,13 @@ foreign_agrees k s t most f =
           { some = grind (arith, nat_tests); most = omega arith; number = grind (arith, nat_tests) }))));
       read = same_test (is_read_stamp wide k t) (is_read_stamp narrow k s) (λ h. absurd (grind (arith, nat_tests)))
           (λ h. absurd (f.none k most (inr (inl
-              (record { nth = s - 256 * (k + 1); some = grind (arith, nat_tests); most = grind (arith, nat_tests);
-              version = omega arith; number = grind (arith, nat_tests) })))));
+          (record {
+            nth = s - 256 * (k + 1);
+            some = grind (arith, nat_tests);
+            most = grind (arith, nat_tests);
+            version = omega arith;
+            number = grind (arith, nat_tests);
+          })))));
       optimistic = same_test (t == optimistic_stamp wide k) (s == optimistic_stamp narrow k)
           (λ h. absurd (grind (arith, nat_tests)))
           (λ h. absurd (f.none k most (inr (inr

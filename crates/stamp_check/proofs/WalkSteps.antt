@@ -31,18 +31,23 @@ breaks_interval limits e walk next not = record { behind = λ width before after
 
 pub breaks_order : (limits : Bounds) (e : Entry) (walk next : Walk) → IsWithin e → ¬ IsAbove walk.point e.point →
     Advances limits e walk next (Some Order)
-breaks_order limits e walk next within not = record
-    { behind = λ width before after suits. (within,
-    λ rises. not (rises_above before e walk.point after.point rises)) }
+breaks_order limits e walk next within not = record {
+  behind = λ width before after suits. (
+    within,
+    λ rises. not (rises_above before e walk.point after.point rises),
+  );
+}
 
 pub breaks_overlap : (limits : Bounds) (e : Entry) (walk next : Walk) (d : Option ℕ) → e.thread < 64 → IsWithin e →
     IsAbove walk.point e.point → ¬ IsAbove (get_or walk.lasts e.thread d) e.first →
     Advances limits e walk next (Some Overlap)
 breaks_overlap limits e walk next d small within above not = record {
-  behind = λ width before after suits.
-      (within, above_rises before e walk.point after.point above,
-          λ follows. not (follows_above before e (get_or walk.lasts e.thread d)
-          (after.lasts e.thread d small) follows));
+  behind = λ width before after suits. (
+    within,
+    above_rises before e walk.point after.point above,
+    λ follows. not (follows_above before e (get_or walk.lasts e.thread d)
+        (after.lasts e.thread d small) follows),
+  );
 }
 
 -- what was tested before the reply is
@@ -69,32 +74,37 @@ pub breaks_lock_reply : (limits : Bounds) (e : Entry) (walk next : Walk) (d : Op
     Advances limits e walk next (Some why.Reply)
 breaks_lock_reply limits e walk next d f lock goes =
     breaks_reply limits e walk next d f (λ width before after suits answered. goes.after
-        (events_of limits (history_of before)) after.word (lock_answered limits width before e lock answered))
+    (events_of limits (history_of before)) after.word (lock_answered limits width before e lock answered))
 
 pub breaks_record_reply : (limits : Bounds) (e : Entry) (walk next : Walk) (d : Option ℕ) → Follows e walk d →
     is_lock_call e.call ≡ false → RecordGoesOn walk.content e.call e.reply None →
     Advances limits e walk next (Some why.Reply)
 breaks_record_reply limits e walk next d f lock goes =
     breaks_reply limits e walk next d f (λ width before after suits answered. goes
-        (subst (λ (content : List ℕ). RecordReplies content e.call e.reply)
-        (sym (after.content (has_record width e.call lock suits.call)))
-        (record_answered limits width before e lock answered)))
+    (subst (λ (content : List ℕ). RecordReplies content e.call e.reply)
+    (sym (after.content (has_record width e.call lock suits.call)))
+    (record_answered limits width before e lock answered)))
 
 -- one entry more
 goes_on : (limits : Bounds) (width : ℕ) (before : List Entry) (e : Entry) (walk : Walk) (bits : ℕ)
     (content : List ℕ) (d : Option ℕ) → IsAfter limits width before walk → Follows e walk d →
     IsAnswered limits width before e → Represents limits (word_at limits bits)
-        (events_of limits (history_of before) ++
-        appended_by (transition limits (events_of limits (history_of before)) e.call)) →
-        (0 < width → content ≡ content_next (content_after width (history_of before)) e.call e.reply) →
+    (events_of limits (history_of before) ++
+    appended_by (transition limits (events_of limits (history_of before)) e.call)) →
+    (0 < width → content ≡ content_next (content_after width (history_of before)) e.call e.reply) →
     IsAfter limits width (before ++ e ∷ []) (record
-        { bits = bits; content = content; point = Some e.point; lasts = set walk.lasts e.thread (Some e.last) })
+    { bits = bits; content = content; point = Some e.point; lasts = set walk.lasts e.thread (Some e.last) })
 goes_on limits width before e walk bits content d after f answered represented held =
     let follows = above_follows before e (get_or walk.lasts e.thread d) (after.lasts e.thread d f.thread) f.free in
     record {
       linearized = linearized_more limits width before e after.linearized
-          (record { within = f.within; rises = above_rises before e walk.point after.point f.above; follows =
-          follows; answered = answered });
+          (record {
+            within = f.within;
+            rises = above_rises before e walk.point after.point f.above;
+            follows =
+                follows;
+            answered = answered;
+          });
       word = subst (λ (events : List LockEvent). Represents limits (word_at limits bits) events)
           (sym (events_push limits before e)) represented;
       content = λ some. held some ∙ sym (content_push width before e);
@@ -105,29 +115,39 @@ goes_on limits width before e walk bits content d after f answered represented h
 
 pub lock_goes_on : (limits : Bounds) (e : Entry) (walk : Walk) (bits : ℕ) (d : Option ℕ) → Follows e walk d →
     is_lock_call e.call ≡ true → LockGoesOn limits walk.bits e.call e.reply (Some bits) →
-    Advances limits e walk (record { bits = bits; content = walk.content; point = Some e.point; lasts =
-        set walk.lasts e.thread (Some e.last) }) None
+    Advances limits e walk (record {
+      bits = bits;
+      content = walk.content;
+      point = Some e.point;
+      lasts =
+          set walk.lasts e.thread (Some e.last);
+    }) None
 lock_goes_on limits e walk bits d f lock goes = record {
   behind = λ width before after suits.
       let now = goes.after (events_of limits (history_of before)) after.word in
       goes_on limits width before e walk bits walk.content d after f
-          (lock_answer limits width before e lock now.0) now.1
+      (lock_answer limits width before e lock now.0) now.1
       (λ some. after.content some ∙ sym (lock_keeps (content_after width (history_of before)) e.call e.reply lock));
 }
 
 pub record_goes_on : (limits : Bounds) (e : Entry) (walk : Walk) (content : List ℕ) (d : Option ℕ) →
     Follows e walk d → is_lock_call e.call ≡ false → RecordGoesOn walk.content e.call e.reply (Some content) →
-    Advances limits e walk (record { bits = walk.bits; content = content; point = Some e.point; lasts =
-        set walk.lasts e.thread (Some e.last) }) None
+    Advances limits e walk (record {
+      bits = walk.bits;
+      content = content;
+      point = Some e.point;
+      lasts =
+          set walk.lasts e.thread (Some e.last);
+    }) None
 record_goes_on limits e walk content d f lock goes = record {
   behind = λ width before after suits.
       let same = after.content (has_record width e.call lock suits.call) in
       let events = events_of limits (history_of before) in
       goes_on limits width before e walk walk.bits content d after f
       (record_answer limits width before e lock
-          (subst (λ (held : List ℕ). RecordReplies held e.call e.reply) same goes.0))
+      (subst (λ (held : List ℕ). RecordReplies held e.call e.reply) same goes.0))
       (subst (λ (xs : List LockEvent). Represents limits (word_at limits walk.bits) xs)
-          (sym (record_keeps limits events e.call lock)) after.word)
+      (sym (record_keeps limits events e.call lock)) after.word)
       (λ _. goes.1 ∙ ap (λ (held : List ℕ). content_next held e.call e.reply) same);
 }
 

@@ -16,13 +16,13 @@ pub record LockGoesOn (limits : Bounds) (bits : ℕ) (call : Call) (reply : Repl
   pub after : (events : List LockEvent) → Represents limits (word_at limits bits) events →
       MatchOption found (¬ Replies (transition limits events call) reply)
       (λ next. Replies (transition limits events call) reply ×
-          Represents limits (word_at limits next) (events ++ appended_by (transition limits events call)))
+      Represents limits (word_at limits next) (events ++ appended_by (transition limits events call)))
 
 -- the content that a call of the record leaves, where the record replies so
 abbrev pub RecordGoesOn : List ℕ → Call → Reply → Option (List ℕ) → Type 0
 RecordGoesOn content call reply found =
     MatchOption found (¬ RecordReplies content call reply)
-        (λ next. RecordReplies content call reply × (next ≡ content_next content call reply))
+    (λ next. RecordReplies content call reply × (next ≡ content_next content call reply))
 
 -- a reply without the words of a record
 abbrev pub HasNoWords : Reply → Type 0

@@ -28,7 +28,7 @@ IsLastOf before thread None = All (λ (e : Entry). e.thread ≡ thread → ⊥) 
 IsLastOf before thread (Some n) =
     All (λ (e : Entry). e.thread ≡ thread → e.last ≤ n) before ×
     ((k : ℕ) × (k < length before) × ((d : Entry) → ((slice_index_or before k d).thread ≡ thread) ×
-        ((slice_index_or before k d).last ≡ n)))
+    ((slice_index_or before k d).last ≡ n)))
 
 -- the walk is behind these entries, which are linearized
 pub record IsAfter (limits : Bounds) (width : ℕ) (before : List Entry) (walk : Walk) : Type 0 where

@@ -21,8 +21,12 @@ refused_at false b n v e f h = refl
 number_at : {E : Type 0} (text : List ℕ) (r : Result ℕ E) →
     OkIff r ((0 < length text) × (digits_value 10 text < 2 ^ 64)) (digits_value 10 text) →
     list_all is_ascii_digit text ≡ true → result_ok r ≡ number_in text
-number_at text (Ok x) h digits = rw (digits, lt-ltb 0 (length text) h.0.0,
-    lt-ltb (digits_value 10 text) (2 ^ 64) h.0.1, h.1)
+number_at text (Ok x) h digits = rw (
+  digits,
+  lt-ltb 0 (length text) h.0.0,
+  lt-ltb (digits_value 10 text) (2 ^ 64) h.0.1,
+  h.1,
+)
 number_at text (Err e) h digits = rw (digits, refused_at _ _ (length text) (digits_value 10 text) refl refl h)
 
 pub number_parsed : {E : Type 0} (text : List ℕ) (r : Result ℕ E) → ParsesUnsigned 64 10 text r →

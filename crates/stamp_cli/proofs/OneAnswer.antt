@@ -37,7 +37,7 @@ one_line : (replay : Replay) (a b : List ℕ) → AreOfLock replay.calls → IsR
 one_line replay a b lock x y =
     let same = one_replayed replay.limits replay.calls x.replies y.replies x.word y.word lock x.replayed y.replayed in
     x.is ∙ ap (λ (rs : List Reply). replayed_text rs x.word.bits) same.0 ∙ ap (replayed_text y.replies) same.1 ∙
-        sym y.is
+    sym y.is
 
 line_or_wait : (replay : Replay) (a : List ℕ) (e : ServeFault) → AreOfLock replay.calls → IsReplayedText replay a →
     IsWaitFault replay e → ⊥

@@ -67,7 +67,7 @@ one_replies limits events content (k ∷ ks) (a ∷ xs) (b ∷ ys) lock m n x y 
     let m' : length xs ≡ length ks = omega arith in
     let n' : length ys ≡ length ks = omega arith in
     let rest : xs ≡ ys = one_replies limits later (content_next content k a) ks xs ys lock.1 m' n' x.1
-        (legal_after limits later content k a b ks ys same y.1) in
+    (legal_after limits later content k a b ks ys same y.1) in
     ap (λ (r : Reply). r ∷ xs) same ∙ ap (λ (rs : List Reply). b ∷ rs) rest
 
 -- where a call waits after replies, no replies to all the calls are legal
@@ -81,13 +81,13 @@ waits_excludes limits events content (k ∷ ks) before [] call lock is n x waits
 waits_excludes limits events content (k ∷ ks) [] (r ∷ rs) call lock is n x waits y =
     let same : k ≡ call = cc in
     none_of_transition (transition limits events k) r (ap (λ (c : Call). transition limits events c) same ∙ waits)
-        (of_lock (is_lock_call k) _ _ lock.0 y.0)
+    (of_lock (is_lock_call k) _ _ lock.0 y.0)
 waits_excludes limits events content (k ∷ ks) (b ∷ ys) (r ∷ rs) call lock is n x waits y =
     let later = events ++ appended_by (transition limits events k) in
     let same : b ≡ r = one_reply limits events content k b r lock.0 x.0 y.0 in
     let n' : length rs ≡ length ks = omega arith in
     waits_excludes limits later (content_next content k b) ks ys rs call lock.1 is n' x.1 waits
-        (legal_after limits later content k b r ks rs same y.1)
+    (legal_after limits later content k b r ks rs same y.1)
 
 front_of_lock : (n : ℕ) (calls : List Call) → AreOfLock calls → AreOfLock (take n calls)
 front_of_lock zero calls lock = tt
@@ -119,9 +119,9 @@ excluded limits calls i n replies lock below w same legal =
     let front = take n calls in
     let is : slice_get front (length w.replies) ≡ Some w.call = rw (w.each, call_of_front i n calls below) w.is_call in
     let x : IsLegal limits 0 (zip (take (length w.replies) front) w.replies) =
-        rw (w.each, front_of_front i n calls below) w.legal in
+    rw (w.each, front_of_front i n calls below) w.legal in
     let none : transition limits (events_of limits (zip (take (length w.replies) front) w.replies)) w.call ≡ None =
-        rw (w.each, front_of_front i n calls below) w.waits in
+    rw (w.each, front_of_front i n calls below) w.waits in
     waits_excludes limits [] (zeros 0) front w.replies replies w.call (front_of_lock n calls lock) is same x none legal
 
 earlier : (limits : Bounds) (calls : List Call) (i j : ℕ) → AreOfLock calls → WaitsAt limits calls i →
@@ -143,11 +143,13 @@ waits_or_replayed limits calls i replies word lock w done =
     let within = is_within i calls w.call w.is_call in
     let whole : take (length calls) calls ≡ calls = take_all (length calls) calls (omega arith) in
     excluded limits calls i (length calls) replies lock within w (done.each ∙ sym (ap length whole))
-        (rw whole done.legal)
+    (rw whole done.legal)
 
 pub one_replayed : (limits : Bounds) (calls : List Call) (xs ys : List Reply) (w v : LockWord) → AreOfLock calls →
     IsReplayed limits calls xs w → IsReplayed limits calls ys v → (xs ≡ ys) × (w.bits ≡ v.bits)
 one_replayed limits calls xs ys w v lock x y =
-    let same = one_replies limits [] (zeros 0) calls xs ys lock x.each y.each x.legal y.legal in
-    (same, x.represented.spelled ∙ ap (λ (rs : List Reply). word_number (units limits)
-        (counts (events_of limits (zip calls rs)))) same ∙ sym y.represented.spelled)
+    let same = one_replies limits [] (zeros 0) calls xs ys lock x.each y.each x.legal y.legal in (
+      same,
+      x.represented.spelled ∙ ap (λ (rs : List Reply). word_number (units limits)
+          (counts (events_of limits (zip calls rs)))) same ∙ sym y.represented.spelled,
+    )

@@ -30,4 +30,4 @@ pub handed_on : (input : List ℕ) (r : Result (Vec ℕ Global) ServeFault) (f :
 handed_on input (Ok line) f handed is = absurd handed
 handed_on input (Err e) f handed is = λ other.
     subst (λ (g : ServeFault). IsReplayAnswer (replay_of input) (Err g)) (sym handed)
-        (of_fault (replay_of input) f (is (λ m. other (handed ∙ ap unanswered m))))
+    (of_fault (replay_of input) f (is (λ m. other (handed ∙ ap unanswered m))))

@@ -44,20 +44,24 @@ decided_by limits word call range (event ∷ appended) reply is = λ events repr
     let same : counts_in word ≡ counts events = counts_in-represented limits word events range represented in
     let now = obeys_now limits events represented.well_formed in
     let transition_is : transition limits events call ≡
-        Some (record { appended = event ∷ appended; reply = reply }) =
-        ap (λ (c : Counts). row limits c call) (sym same) ∙ is in
+    Some (record { appended = event ∷ appended; reply = reply }) =
+    ap (λ (c : Counts). row limits c call) (sym same) ∙ is in
     let allowed = subst (KeepsBy limits (counts events)) transition_is
-        (row_keeps limits (counts events) range.some_reader now.within call).kept in
+    (row_keeps limits (counts events) range.some_reader now.within call).kept in
     let after = push_all limits (event ∷ appended) events represented.well_formed allowed.0 in
     let number : word_number (units limits) (after_events (counts_in word) (event ∷ appended)) ≡
-        word_number (units limits) (after_events (counts events) (event ∷ appended)) =
-        ap (λ (c : Counts). word_number (units limits) (after_events c (event ∷ appended))) same in
+    word_number (units limits) (after_events (counts events) (event ∷ appended)) =
+    ap (λ (c : Counts). word_number (units limits) (after_events c (event ∷ appended))) same in
     record {
       appended = event ∷ appended;
       some = λ none. cc;
       transition_is = transition_is;
-      represented = record { well_formed = after.0; layout = refl; spelled = number ∙
-          ap (λ (c : Counts). word_number (units limits) c) (sym after.1) };
+      represented = record {
+        well_formed = after.0;
+        layout = refl;
+        spelled = number ∙
+            ap (λ (c : Counts). word_number (units limits) c) (sym after.1);
+      };
       other = λ same_word. allowed.1 (sym number ∙ ap (λ (w : LockWord). w.bits) same_word ∙ represented.spelled);
     }
 
@@ -111,11 +115,11 @@ pub decision_fits : (limits : Bounds) (word : LockWord) (call : Call) → AreInR
     FitsInStamp (decision_of limits word call)
 decision_fits limits word call range admitted =
     let same : counts_in word ≡ counts admitted.events =
-        counts_in-represented limits word admitted.events range admitted.represented in
+    counts_in-represented limits word admitted.events range admitted.represented in
     let within : Within limits (counts_in word) =
-        rw same (obeys_now limits admitted.events admitted.represented.well_formed).within in
+    rw same (obeys_now limits admitted.events admitted.represented.well_formed).within in
     transition_fits limits (counts_in word) (row limits (counts_in word) call)
-        (row_issues limits (counts_in word) range within call).issued
+    (row_issues limits (counts_in word) range within call).issued
 
 pub admitted_state : (limits : Bounds) (n : ℕ) → AreInRange limits → IsAdmitted limits (word_at limits n) →
     Rattle.stamp_core.specs.Decoded.IsNumber (units limits) n

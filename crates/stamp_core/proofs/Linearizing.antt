@@ -28,9 +28,11 @@ pub legal_more : (limits : Bounds) (events : List LockEvent) (content : List ℕ
     IsLegalFrom limits events content xs → IsReply limits (events_from limits events xs)
     (content_from content xs) e.0 e.1 → IsLegalFrom limits events content (xs ++ e ∷ [])
 legal_more limits events content [] e legal answered = (answered, tt)
-legal_more limits events content (x ∷ xs) e legal answered =
-    (legal.0, legal_more limits (events ++ appended_by (transition limits events x.0))
-        (content_next content x.0 x.1) xs e legal.1 answered)
+legal_more limits events content (x ∷ xs) e legal answered = (
+  legal.0,
+  legal_more limits (events ++ appended_by (transition limits events x.0))
+      (content_next content x.0 x.1) xs e legal.1 answered,
+)
 
 -- lists that are joined
 longer : {X : Type 0} (xs ys : List X) (k : ℕ) → k < length xs → k < length (xs ++ ys)
@@ -47,13 +49,13 @@ adjacent_first : {X : Type 0} (R : X → X → Type 0) (xs ys : List X) →
 adjacent_first R xs ys all k d lt =
     let before : k < length xs = omega arith in
     related R _ _ _ _ (get_or_append_left xs ys d k before) (get_or_append_left xs ys d (k + 1) lt)
-        (all k d (longer xs ys (k + 1) lt))
+    (all k d (longer xs ys (k + 1) lt))
 
 pairs_first : {X : Type 0} (R : X → X → Type 0) (xs ys : List X) → AllPairs R (xs ++ ys) → AllPairs R xs
 pairs_first R xs ys all i j d lt within =
     let before : i < length xs = omega arith in
     related R _ _ _ _ (get_or_append_left xs ys d i before) (get_or_append_left xs ys d j within)
-        (all i j d lt (longer xs ys j within))
+    (all i j d lt (longer xs ys j within))
 
 adjacent_push : {X : Type 0} (R : X → X → Type 0) (xs : List X) (y : X) → AllAdjacentBelow R xs (length xs) →
     ((d : X) → 0 < length xs → R (get_or xs (length xs - 1) d) y) →
@@ -67,15 +69,15 @@ adjacent_push {X} R xs y all last k d lt = by (either (k + 1) (length xs))
     by (inl more) =
         let before : k < length xs = omega arith in
         related R _ _ _ _ (sym (get_or_append_left xs (y ∷ []) d k before))
-            (sym (get_or_append_left xs (y ∷ []) d (k + 1) more)) (all k d more)
+        (sym (get_or_append_left xs (y ∷ []) d (k + 1) more)) (all k d more)
     by (inr end) =
         let n : k + 1 ≡ length xs = omega (arith, length-append xs (y ∷ [])) in
         let before : k < length xs = omega arith in
         let m : length xs - 1 ≡ k = omega arith in
         let a : get_or xs (length xs - 1) d ≡ get_or (xs ++ y ∷ []) k d = ap (λ (i : ℕ). get_or xs i d) m ∙
-            sym (get_or_append_left xs (y ∷ []) d k before) in
+        sym (get_or_append_left xs (y ∷ []) d k before) in
         let b : y ≡ get_or (xs ++ y ∷ []) (k + 1) d = sym (get_or-append_seam xs y [] d) ∙
-            ap (λ (i : ℕ). get_or (xs ++ y ∷ []) i d) (sym n) in
+        ap (λ (i : ℕ). get_or (xs ++ y ∷ []) i d) (sym n) in
         related R _ _ _ _ a b (last d (omega arith))
 
 -- the histories
@@ -116,9 +118,9 @@ linearized_fits limits width before after e all =
           let lt : length before - 1 + 1 < length whole = omega arith in
           let in_before : length before - 1 < length before = omega arith in
           related (λ (x y : Entry). x.point < y.point) _ _ _ _
-              (get_or_append_left before (e ∷ after) d (length before - 1) in_before)
-              (ap (λ (i : ℕ). get_or whole i d) n ∙ get_or-append_seam before e after d)
-              (all.rising (length before - 1) d lt);
+          (get_or_append_left before (e ∷ after) d (length before - 1) in_before)
+          (ap (λ (i : ℕ). get_or whole i d) n ∙ get_or-append_seam before e after d)
+          (all.rising (length before - 1) d lt);
       follows = λ k d lt. related KeepsThreadOrder _ _ _ _ (get_or_append_left before (e ∷ after) d k lt)
           (get_or-append_seam before e after d) (all.apart k (length before) d lt size);
       answered = (legal_rest limits [] (zeros width) (history_of before) (history_of (e ∷ after))

@@ -57,15 +57,15 @@ more limits calls i word next replies call reply so_far within at lock steps =
     let same : length (take i calls) ≡ length replies = take_length calls i within ∙ sym so_far.each in
     let s = steps.after (events_of limits before) so_far.represented in
     let calls_more : take (i + 1) calls ≡ take i calls ++ call ∷ [] = take_more calls i call within ∙
-        ap (λ (c : Call). take i calls ++ c ∷ []) (sym at) in
+    ap (λ (c : Call). take i calls ++ c ∷ []) (sym at) in
     let zipped : zip (take (i + 1) calls) (replies ++ reply ∷ []) ≡ before ++ (call, reply) ∷ [] =
-        ap (λ (cs : List Call). zip cs (replies ++ reply ∷ [])) calls_more ∙
-        zip-push (take i calls) replies call reply same in
+    ap (λ (cs : List Call). zip cs (replies ++ reply ∷ [])) calls_more ∙
+    zip-push (take i calls) replies call reply same in
     let reply_is : IsReply limits (events_of limits before) (content_from (zeros 0) before) call reply =
-        lock_reply (is_lock_call call) _ _ lock s.1 in
+    lock_reply (is_lock_call call) _ _ lock s.1 in
     let events : events_of limits (before ++ (call, reply) ∷ []) ≡ events_of limits before ++
-        appended_by (transition limits (events_of limits before) call) =
-        events_from-append limits [] before ((call, reply) ∷ []) in
+    appended_by (transition limits (events_of limits before) call) =
+    events_from-append limits [] before ((call, reply) ∷ []) in
     record {
       each = length-append replies (reply ∷ []) ∙ ap (λ (n : ℕ). n + 1) so_far.each;
       legal = subst (λ (h : History). IsLegal limits 0 h) (sym zipped)

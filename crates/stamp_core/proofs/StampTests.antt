@@ -19,8 +19,14 @@ of_write : (u : Units) (k s : ℕ) → IsWriteStamp u k s → is_write_stamp u k
 of_write u k s w = let some = w.some in let e = w.number in grind (arith, nat_tests)
 
 read_of : (u : Units) (k s : ℕ) → k ≤ u.versions → is_read_stamp u k s ≡ true → IsReadStamp u k s
-read_of u k s most h = record { nth = s - optimistic_stamp u k; some = grind (arith, nat_tests); most =
-    grind (arith, nat_tests); version = most; number = grind (arith, nat_tests) }
+read_of u k s most h = record {
+  nth = s - optimistic_stamp u k;
+  some = grind (arith, nat_tests);
+  most =
+      grind (arith, nat_tests);
+  version = most;
+  number = grind (arith, nat_tests);
+}
 
 of_read : (u : Units) (k s : ℕ) → IsReadStamp u k s → is_read_stamp u k s ≡ true
 of_read u k s r = let some = r.some in let few = r.most in let e = r.number in grind (arith, nat_tests)
@@ -95,10 +101,11 @@ tests_are_exact limits events s range well_formed =
 
     valid_of : is_valid (units limits) (counts events) s ≡ true → IsValid limits events s
     valid_of h = let parts = and_split (is_stamp (units limits) (counts events).write_count s)
-        (((counts events).writers == 0) || is_write_stamp (units limits) (counts events).write_count s) h in
-        (stamp_of (units limits) (counts events).write_count s most parts.0,
-        free_or (or_cases ((counts events).writers == 0)
-        (is_write_stamp (units limits) (counts events).write_count s) parts.1))
+        (((counts events).writers == 0) || is_write_stamp (units limits) (counts events).write_count s) h in (
+          stamp_of (units limits) (counts events).write_count s most parts.0,
+          free_or (or_cases ((counts events).writers == 0)
+              (is_write_stamp (units limits) (counts events).write_count s) parts.1),
+        )
 
     or_free : ((counts events).writers ≡ 0) ⊎ IsWriteStamp (units limits) (counts events).write_count s →
         (((counts events).writers == 0) || is_write_stamp (units limits) (counts events).write_count s) ≡ true

@@ -49,8 +49,11 @@ as_write u k wr s some most e = let w : IsWriteStamp u k s = record { some = som
 
 as_read : (u : Units) (k wr s c : ℕ) → wr ≡ 0 → 1 ≤ c → c ≤ u.readers → k ≤ u.versions → s ≡ read_stamp u k c →
     ValidAt u k wr s
-as_read u k wr s c free some few most e = (inr
-    (inl (record { nth = c; some = some; most = few; version = most; number = e })), inl free)
+as_read u k wr s c free some few most e = (
+  inr
+      (inl (record { nth = c; some = some; most = few; version = most; number = e })),
+  inl free,
+)
 
 as_observed : (u : Units) (k wr s : ℕ) → wr ≡ 0 → k ≤ u.versions → s ≡ optimistic_stamp u k → ValidAt u k wr s
 as_observed u k wr s free most e = (inr (inr (record { version = most; number = e })), inl free)
@@ -75,9 +78,11 @@ nothing = record { issued = tt }
 issues : {u : Units} {c : Counts} {appended : List LockEvent} {n : ℕ} →
     (n ≢ 0 → ValidAt u (after_events c appended).write_count (after_events c appended).writers n) →
     Issues u c (change appended (Stamp n))
-issues {u} {c} {appended} {n} f = record { issued = λ s e ne. let same : n ≡ s = cc in
-    subst (λ (m : ℕ). ValidAt u (after_events c appended).write_count (after_events c appended).writers m) same
-    (f (λ z. ne (sym same ∙ z))) }
+issues {u} {c} {appended} {n} f = record {
+  issued = λ s e ne. let same : n ≡ s = cc in
+      subst (λ (m : ℕ). ValidAt u (after_events c appended).write_count (after_events c appended).writers m) same
+      (f (λ z. ne (sym same ∙ z)));
+}
 
 zero_stamp : {u : Units} {c : Counts} → Issues u c (answer (Stamp 0))
 zero_stamp = record { issued = λ s e ne. let same : 0 ≡ s = cc in absurd (ne (sym same)) }
@@ -113,7 +118,7 @@ gets_read l c range within may =
     let free : c.writers ≡ 0 = grind (arith, nat_tests) in
     let room : c.readers < l.readers = grind (arith, nat_tests) in
     issues (λ _. as_read (units l) c.write_count c.writers (read_stamp (units l) c.write_count (c.readers + 1))
-        (c.readers + 1) free (omega arith) (omega arith) (omega arith) refl)
+    (c.readers + 1) free (omega arith) (omega arith) (omega arith) refl)
 
 held_write_of : (u : Units) (c : Counts) (s : ℕ) → is_held_write u c s ≡ true → (1 ≤ c.write_count) ×
     (s ≡ write_stamp u c.write_count)
@@ -163,35 +168,35 @@ row_issues l c range within (Unlock s) =
     (λ _. issues_if (units l) c (is_held_read (units l) c s) (λ _. done) (λ _. mismatch))
 row_issues l c range within (ToWrite s) =
     issues_if (units l) c (is_held_write (units l) c s)
-        (λ h. let w = held_write_of (units l) c s h in
-        issues (λ _. as_write (units l) c.write_count c.writers s w.0 (omega arith) w.1))
+    (λ h. let w = held_write_of (units l) c s h in
+    issues (λ _. as_write (units l) c.write_count c.writers s w.0 (omega arith) w.1))
     (λ _. issues_if (units l) c (is_held_read (units l) c s && (c.readers == 1) && nat_lt c.write_count l.versions)
-        (λ h. let r = sole_reader l c s h in issues
-        (λ _. as_write (units l) (c.write_count + 1) 1 (write_stamp (units l) (c.write_count + 1)) (omega arith)
-        (omega arith) refl))
+    (λ h. let r = sole_reader l c s h in issues
+    (λ _. as_write (units l) (c.write_count + 1) 1 (write_stamp (units l) (c.write_count + 1)) (omega arith)
+    (omega arith) refl))
     (λ _. issues_if (units l) c ((s == optimistic_stamp (units l) c.write_count) && may_write l c)
-        (λ h. gets_write l c range (and_right _ _ h)) (λ _. zero_stamp)))
+    (λ h. gets_write l c range (and_right _ _ h)) (λ _. zero_stamp)))
 row_issues l c range within (ToRead s) =
     issues_if (units l) c (is_held_write (units l) c s)
-        (λ h. issues (λ _. as_read (units l) c.write_count 0 (read_stamp (units l) c.write_count 1) 1 refl
-        (omega arith) (omega arith) (omega arith) refl))
+    (λ h. issues (λ _. as_read (units l) c.write_count 0 (read_stamp (units l) c.write_count 1) 1 refl
+    (omega arith) (omega arith) (omega arith) refl))
     (λ _. issues_if (units l) c (is_held_read (units l) c s)
-        (λ h. let r = held_read_of (units l) c s h in let some = reader_of l c s h in
-        issues (λ _. as_read (units l) c.write_count c.writers s (s - optimistic_stamp (units l) c.write_count)
-        (no_writer l c within some) (omega arith) (omega arith) (omega arith) (omega arith)))
+    (λ h. let r = held_read_of (units l) c s h in let some = reader_of l c s h in
+    issues (λ _. as_read (units l) c.write_count c.writers s (s - optimistic_stamp (units l) c.write_count)
+    (no_writer l c within some) (omega arith) (omega arith) (omega arith) (omega arith)))
     (λ _. issues_if (units l) c ((s == optimistic_stamp (units l) c.write_count) && may_read l c)
-        (λ h. gets_read l c range within (and_right _ _ h)) (λ _. zero_stamp)))
+    (λ h. gets_read l c range within (and_right _ _ h)) (λ _. zero_stamp)))
 row_issues l c range within (ToOptimistic s) =
     issues_if (units l) c (is_held_write (units l) c s)
-        (λ h. issues (λ _. as_observed (units l) c.write_count 0 (optimistic_stamp (units l) c.write_count) refl
-        (omega arith) refl))
+    (λ h. issues (λ _. as_observed (units l) c.write_count 0 (optimistic_stamp (units l) c.write_count) refl
+    (omega arith) refl))
     (λ _. issues_if (units l) c (is_held_read (units l) c s)
-        (λ h. let some = reader_of l c s h in
-        issues (λ _. as_observed (units l) c.write_count c.writers (optimistic_stamp (units l) c.write_count)
-        (no_writer l c within some) (omega arith) refl))
+    (λ h. let some = reader_of l c s h in
+    issues (λ _. as_observed (units l) c.write_count c.writers (optimistic_stamp (units l) c.write_count)
+    (no_writer l c within some) (omega arith) refl))
     (λ _. issues_if (units l) c ((s == optimistic_stamp (units l) c.write_count) && (c.writers == 0))
-        (λ h. let o = observed_of (units l) c s h in
-        issues (λ _. as_observed (units l) c.write_count c.writers s o.1 (omega arith) o.0)) (λ _. zero_stamp)))
+    (λ h. let o = observed_of (units l) c s h in
+    issues (λ _. as_observed (units l) c.write_count c.writers s o.1 (omega arith) o.0)) (λ _. zero_stamp)))
 row_issues l c range within TryUnlockWrite = issues_if (units l) c (c.writers == 1) (λ _. yes) (λ _. no)
 row_issues l c range within TryUnlockRead = issues_if (units l) c (nat_lt 0 c.readers) (λ _. yes) (λ _. no)
 row_issues l c range within IsWriteLocked = yes_or_no (units l) c _
@@ -229,7 +234,7 @@ pub well_formed_from : (limits : Bounds) (events : List LockEvent) (content : Li
 well_formed_from limits events content [] range well_formed legal = well_formed
 well_formed_from limits events content (e ∷ es) range well_formed legal =
     well_formed_from limits (events ++ appended_by (transition limits events e.0))
-        (content_next content e.0 e.1) es range (transition_counts limits events e.0 range well_formed).0 legal.1
+    (content_next content e.0 e.1) es range (transition_counts limits events e.0 range well_formed).0 legal.1
 
 pub events_from-append : (limits : Bounds) (events : List LockEvent) (xs ys : History) →
     events_from limits events (xs ++ ys) ≡ events_from limits (events_from limits events xs) ys
@@ -240,9 +245,11 @@ events_from-append limits events (x ∷ xs) ys =
 pub legal_first : (limits : Bounds) (events : List LockEvent) (content : List ℕ) (xs ys : History) →
     IsLegalFrom limits events content (xs ++ ys) → IsLegalFrom limits events content xs
 legal_first limits events content [] ys legal = tt
-legal_first limits events content (x ∷ xs) ys legal =
-    (legal.0, legal_first limits (events ++ appended_by (transition limits events x.0))
-    (content_next content x.0 x.1) xs ys legal.1)
+legal_first limits events content (x ∷ xs) ys legal = (
+  legal.0,
+  legal_first limits (events ++ appended_by (transition limits events x.0))
+      (content_next content x.0 x.1) xs ys legal.1,
+)
 
 pub legal_rest : (limits : Bounds) (events : List LockEvent) (content : List ℕ) (xs ys : History) →
     IsLegalFrom limits events content (xs ++ ys) →
@@ -258,13 +265,13 @@ issued_at : (limits : Bounds) (events : List LockEvent) (call : Call) (s : ℕ) 
     IsValid limits (events ++ appended_by (transition limits events call)) s
 issued_at limits events call s range well_formed replies ne =
     let at : (c : Counts) → counts (events ++ appended_by (transition limits events call)) ≡ c →
-        ValidAt (units limits) c.write_count c.writers s →
-        IsValid limits (events ++ appended_by (transition limits events call)) s =
-        λ c e v. subst (λ (d : Counts). ValidAt (units limits) d.write_count d.writers s) (sym e) v in
+    ValidAt (units limits) c.write_count c.writers s →
+    IsValid limits (events ++ appended_by (transition limits events call)) s =
+    λ c e v. subst (λ (d : Counts). ValidAt (units limits) d.write_count d.writers s) (sym e) v in
     at (after_events (counts events) (appended_by (transition limits events call)))
-        (transition_counts limits events call range well_formed).1
+    (transition_counts limits events call range well_formed).1
     (by (transition limits events call) (row_issues limits (counts events) range
-        (obeys_now limits events well_formed).within call).issued replies)
+    (obeys_now limits events well_formed).within call).issued replies)
   where
     by : (t : Option Transition) → IssuesBy (units limits) (counts events) t → Replies t (Stamp s) →
         ValidAt (units limits) (after_events (counts events) (appended_by t)).write_count
@@ -304,8 +311,11 @@ writes_grow : (limits : Bounds) (events : List LockEvent) (entries : History) �
     write_count events ≤ write_count (events_from limits events entries)
 writes_grow limits events [] = omega arith
 writes_grow limits events (e ∷ es) =
-    omega (arith, writes_grow limits (events ++ appended_by (transition limits events e.0)) es,
-        writes-append events (appended_by (transition limits events e.0)))
+    omega (
+      arith,
+      writes_grow limits (events ++ appended_by (transition limits events e.0)) es,
+      writes-append events (appended_by (transition limits events e.0)),
+    )
 
 -- where none gets write mode there are as many write acquisitions, and no writer where there was none
 kept : (limits : Bounds) (events : List LockEvent) (entries : History) → NoneAcquiresWrite limits events entries →
@@ -340,11 +350,14 @@ stays_valid : (limits : Bounds) (events later : List LockEvent) (s : ℕ) → wr
     (writers events ≡ 0 → writers later ≡ 0) → IsValid limits events s → IsValid limits later s
 stays_valid limits events later s same free valid =
     let at : (k : ℕ) → write_count events ≡ k → IsStamp (units limits) k s =
-        λ k e. subst (λ (n : ℕ). IsStamp (units limits) n s) e valid.0 in
+    λ k e. subst (λ (n : ℕ). IsStamp (units limits) n s) e valid.0 in
     let held : (k : ℕ) → write_count events ≡ k → (writers events ≡ 0) ⊎
-        IsWriteStamp (units limits) (write_count events) s → (writers later ≡ 0) ⊎ IsWriteStamp (units limits) k s =
-        λ k e h. elim h [ inl z ↦ inl (free z) | inr w ↦ inr
-        (subst (λ (n : ℕ). IsWriteStamp (units limits) n s) e w) ] in
+    IsWriteStamp (units limits) (write_count events) s → (writers later ≡ 0) ⊎ IsWriteStamp (units limits) k s =
+    λ k e h. elim h [
+      | inl z ↦ inl (free z)
+      | inr w ↦ inr
+          (subst (λ (n : ℕ). IsWriteStamp (units limits) n s) e w)
+    ] in
     (at (write_count later) (sym same), held (write_count later) (sym same) valid.1)
 
 pub stamp_validity : StampValidity
@@ -352,19 +365,21 @@ stamp_validity limits width before issue after s range legal replied ne =
     let events = events_of limits before in
     let now = events ++ appended_by (transition limits events issue.0) in
     let well_formed = well_formed_from limits [] (zeros width) before range well_formed_none
-        (legal_first limits [] (zeros width) before (issue ∷ after) legal) in
+    (legal_first limits [] (zeros width) before (issue ∷ after) legal) in
     let rest = legal_rest limits [] (zeros width) before (issue ∷ after) legal in
     let valid : IsValid limits now s = issued_at limits events issue.0 s range well_formed
-        (stamp_reply limits events (content_from (zeros width) before) issue.0 s
-        (subst (λ (r : Reply). IsReply limits events (content_from (zeros width) before) issue.0 r) replied rest.0))
-        ne in
+    (stamp_reply limits events (content_from (zeros width) before) issue.0 s
+    (subst (λ (r : Reply). IsReply limits events (content_from (zeros width) before) issue.0 r) replied rest.0))
+    ne in
     let whole : events_of limits (before ++ issue ∷ after) ≡ events_from limits now after =
-        events_from-append limits [] before (issue ∷ after) in
+    events_from-append limits [] before (issue ∷ after) in
     let here : events_of limits (before ++ issue ∷ []) ≡ now = events_from-append limits [] before (issue ∷ []) in
     rw (whole, here) (
-      λ v. none_acquires limits now after (omega
-          (arith, one_version limits.layout (write_count now) s valid.0,
-          one_version limits.layout (write_count (events_from limits now after)) s v.0)),
+      λ v. none_acquires limits now after (omega (
+        arith,
+        one_version limits.layout (write_count now) s valid.0,
+        one_version limits.layout (write_count (events_from limits now after)) s v.0,
+      )),
       λ none. let k = kept limits now after none in
           stays_valid limits now (events_from limits now after) s k.0 k.1 valid,
     )

@@ -7,4 +7,4 @@ pub each_more : (P : Entry → Type 0) (xs : List Entry) (i : ℕ) (x : Entry) �
     ((k : ℕ) (d : Entry) → k < i → P (get_or xs k d)) → P x → (k : ℕ) (d : Entry) → k < i + 1 → P (get_or xs k d)
 each_more P xs i x lt at before holds k d below =
     below_more (λ (j : ℕ). (e : Entry) → P (get_or xs j e)) i (λ j h e. before j e h)
-        (λ e. subst P (at ∙ get_or_default xs i x e lt) holds) k below d
+    (λ e. subst P (at ∙ get_or_default xs i x e lt) holds) k below d

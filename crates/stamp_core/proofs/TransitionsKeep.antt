@@ -114,14 +114,14 @@ row_keeps l c some within (Unlock s) =
 row_keeps l c some within (ToWrite s) =
     keeps_if l c (is_held_write (units l) c s) (λ _. stays)
     (λ _. keeps_if l c (is_held_read (units l) c s && (c.readers == 1) && nat_lt c.write_count l.versions)
-        (λ h. moves (read_to_write l c within (sole_reader l c s h).0 (sole_reader l c s h).1))
+    (λ h. moves (read_to_write l c within (sole_reader l c s h).0 (sole_reader l c s h).1))
     (λ _. keeps_if l c ((s == optimistic_stamp (units l) c.write_count) && may_write l c)
-        (λ h. moves (got_write l c (and_right _ _ h))) (λ _. stays)))
+    (λ h. moves (got_write l c (and_right _ _ h))) (λ _. stays)))
 row_keeps l c some within (ToRead s) =
     keeps_if l c (is_held_write (units l) c s) (λ h. moves (write_to_read l c within some (writer_of l c s h)))
     (λ _. keeps_if l c (is_held_read (units l) c s) (λ _. stays)
     (λ _. keeps_if l c ((s == optimistic_stamp (units l) c.write_count) && may_read l c)
-        (λ h. moves (got_read l c (and_right _ _ h))) (λ _. stays)))
+    (λ h. moves (got_read l c (and_right _ _ h))) (λ _. stays)))
 row_keeps l c some within (ToOptimistic s) =
     keeps_if l c (is_held_write (units l) c s) (λ h. moves (end_write l c within (writer_of l c s h)))
     (λ _. keeps_if l c (is_held_read (units l) c s) (λ h. moves (end_read l c within (reader_of l c s h)))

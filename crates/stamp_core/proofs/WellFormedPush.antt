@@ -50,7 +50,7 @@ same_counts : (c : Counts) (k w r : ℕ) → c.write_count ≡ k → c.writers �
     record { write_count = k; writers = w; readers = r }
 same_counts c k w r e f g =
     let parts : record { write_count = c.write_count; writers = c.writers; readers = c.readers } ≡
-        record { write_count = k; writers = w; readers = r } = cc in parts
+    record { write_count = k; writers = w; readers = r } = cc in parts
 
 -- counts that are known, and within the limits
 settle : (limits : Bounds) (events : List LockEvent) (c : Counts) →
@@ -59,9 +59,15 @@ settle : (limits : Bounds) (events : List LockEvent) (c : Counts) →
     writers events ≡ c.writers → readers events ≡ c.readers → Within limits c → Obeys limits events ×
     (counts events ≡ c)
 settle limits events c ended read_ended k w r within =
-    let same : counts events ≡ c = same_counts (counts events) c.write_count c.writers c.readers k w r in
-    (record { write_acquired = ended; read_acquired = read_ended; within =
-        subst (λ (d : Counts). Within limits d) (sym same) within }, same)
+    let same : counts events ≡ c = same_counts (counts events) c.write_count c.writers c.readers k w r in (
+      record {
+        write_acquired = ended;
+        read_acquired = read_ended;
+        within =
+            subst (λ (d : Counts). Within limits d) (sym same) within;
+      },
+      same,
+    )
 
 pub push : (limits : Bounds) (events : List LockEvent) (event : LockEvent) → IsWellFormed limits events →
     Allows limits (counts events) event → Obeys limits (events ++ event ∷ []) ×
@@ -73,8 +79,8 @@ push limits events WriteAcquired well_formed may =
     let c = count_push is_read_acquired events WriteAcquired in
     let d = count_push is_read_released events WriteAcquired in
     settle limits (events ++ WriteAcquired ∷ []) (after_event (counts events) WriteAcquired) (omega arith)
-        (omega arith) (omega arith) (omega arith) (omega arith)
-        (record { one_writer = omega arith; readers = omega arith; apart = λ h. omega arith; versions = omega arith })
+    (omega arith) (omega arith) (omega arith) (omega arith)
+    (record { one_writer = omega arith; readers = omega arith; apart = λ h. omega arith; versions = omega arith })
 push limits events WriteReleased well_formed may =
     let now = obeys_now limits events well_formed in
     let a = count_push is_write_acquired events WriteReleased in
@@ -82,8 +88,8 @@ push limits events WriteReleased well_formed may =
     let c = count_push is_read_acquired events WriteReleased in
     let d = count_push is_read_released events WriteReleased in
     settle limits (events ++ WriteReleased ∷ []) (after_event (counts events) WriteReleased) (omega arith)
-        (omega arith) (omega arith) (omega arith) (omega arith)
-        (record { one_writer = omega arith; readers = omega arith; apart = λ h. omega arith; versions = omega arith })
+    (omega arith) (omega arith) (omega arith) (omega arith)
+    (record { one_writer = omega arith; readers = omega arith; apart = λ h. omega arith; versions = omega arith })
 push limits events ReadAcquired well_formed may =
     let now = obeys_now limits events well_formed in
     let a = count_push is_write_acquired events ReadAcquired in
@@ -91,8 +97,8 @@ push limits events ReadAcquired well_formed may =
     let c = count_push is_read_acquired events ReadAcquired in
     let d = count_push is_read_released events ReadAcquired in
     settle limits (events ++ ReadAcquired ∷ []) (after_event (counts events) ReadAcquired) (omega arith)
-        (omega arith) (omega arith) (omega arith) (omega arith)
-        (record { one_writer = omega arith; readers = omega arith; apart = λ h. omega arith; versions = omega arith })
+    (omega arith) (omega arith) (omega arith) (omega arith)
+    (record { one_writer = omega arith; readers = omega arith; apart = λ h. omega arith; versions = omega arith })
 push limits events ReadReleased well_formed may =
     let now = obeys_now limits events well_formed in
     let a = count_push is_write_acquired events ReadReleased in
@@ -100,8 +106,8 @@ push limits events ReadReleased well_formed may =
     let c = count_push is_read_acquired events ReadReleased in
     let d = count_push is_read_released events ReadReleased in
     settle limits (events ++ ReadReleased ∷ []) (after_event (counts events) ReadReleased) (omega arith)
-        (omega arith) (omega arith) (omega arith) (omega arith)
-        (record { one_writer = omega arith; readers = omega arith; apart = λ h. omega arith; versions = omega arith })
+    (omega arith) (omega arith) (omega arith) (omega arith)
+    (record { one_writer = omega arith; readers = omega arith; apart = λ h. omega arith; versions = omega arith })
 
 -- the same, of several events
 pub push_all : (limits : Bounds) (appended events : List LockEvent) → IsWellFormed limits events →
@@ -111,14 +117,14 @@ push_all limits [] events well_formed may = rw (append-nil events) (well_formed,
 push_all limits (event ∷ appended) events well_formed may =
     let next = push limits events event well_formed may.0 in
     let rest = push_all limits appended (events ++ event ∷ [])
-        (well_formed_push limits events event well_formed next.0)
-        (subst (λ (c : Counts). AllowsAll limits c appended) (sym next.1) may.1) in
+    (well_formed_push limits events event well_formed next.0)
+    (subst (λ (c : Counts). AllowsAll limits c appended) (sym next.1) may.1) in
     let whole : (events ++ event ∷ []) ++ appended ≡ events ++ event ∷ appended =
-        append_assoc events (event ∷ []) appended in
+    append_assoc events (event ∷ []) appended in
     let well_formed_after : IsWellFormed limits (events ++ event ∷ appended) =
-        subst (λ (p : List LockEvent). IsWellFormed limits p) whole rest.0 in
+    subst (λ (p : List LockEvent). IsWellFormed limits p) whole rest.0 in
     let counted : counts (events ++ event ∷ appended) ≡ after_events (counts events) (event ∷ appended) =
-        ap counts (sym whole) ∙ rest.1 ∙ ap (λ (c : Counts). after_events c appended) next.1 in
+    ap counts (sym whole) ∙ rest.1 ∙ ap (λ (c : Counts). after_events c appended) next.1 in
     (well_formed_after, counted)
 
 -- nothing has happened yet
@@ -126,8 +132,12 @@ pub well_formed_none : {limits : Bounds} → IsWellFormed limits []
 well_formed_none {limits} = record { always = empty }
   where
     nothing : Obeys limits []
-    nothing = record { write_acquired = omega arith; read_acquired = omega arith; within =
-        record { one_writer = omega arith; readers = omega arith; apart = λ h. omega arith; versions = omega arith } }
+    nothing = record {
+      write_acquired = omega arith;
+      read_acquired = omega arith;
+      within =
+          record { one_writer = omega arith; readers = omega arith; apart = λ h. omega arith; versions = omega arith };
+    }
 
     empty : (n : ℕ) → Obeys limits (take n [])
     empty zero = nothing

@@ -38,4 +38,4 @@ counts_in-represented limits word events range represented =
     let now = obeys_now limits events represented.well_formed in
     rw represented.layout
     (counts_at limits.layout word.bits (counts events).write_count (counts events).writers (counts events).readers
-        (omega arith) now.within.apart now.within.one_writer represented.spelled)
+    (omega arith) now.within.apart now.within.one_writer represented.spelled)

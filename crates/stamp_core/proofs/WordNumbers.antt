@@ -28,9 +28,13 @@ reach : (limits : Bounds) (c : Counts) (appended : List LockEvent) (d : Counts) 
     AllowsAll limits c appended → after_events c appended ≡ d → Reached limits d
 reach limits c appended d from may e =
     let next = push_all limits appended from.events from.well_formed
-        (subst (λ (x : Counts). AllowsAll limits x appended) (sym from.counted) may) in
-    record { events = from.events ++ appended; well_formed = next.0; counted = next.1 ∙
-        ap (λ (x : Counts). after_events x appended) from.counted ∙ e }
+    (subst (λ (x : Counts). AllowsAll limits x appended) (sym from.counted) may) in
+    record {
+      events = from.events ++ appended;
+      well_formed = next.0;
+      counted = next.1 ∙
+          ap (λ (x : Counts). after_events x appended) from.counted ∙ e;
+    }
 
 rounds : (limits : Bounds) (k : ℕ) → k ≤ limits.versions →
     Reached limits (record { write_count = k; writers = 0; readers = 0 })
@@ -38,9 +42,9 @@ rounds limits zero room = record { events = []; well_formed = well_formed_none; 
 rounds limits (suc k) room =
     let up : k + 1 ≡ suc k = omega arith in
     reach limits (record { write_count = k; writers = 0; readers = 0 }) (WriteAcquired ∷ WriteReleased ∷ [])
-        (record { write_count = suc k; writers = 0; readers = 0 })
+    (record { write_count = suc k; writers = 0; readers = 0 })
     (rounds limits k (omega arith)) ((refl, refl, omega arith), ((refl, refl), tt))
-        (ap (λ (n : ℕ). record { write_count = n; writers = 0; readers = 0 }) up)
+    (ap (λ (n : ℕ). record { write_count = n; writers = 0; readers = 0 }) up)
 
 read_by : (limits : Bounds) (k r : ℕ) → k ≤ limits.versions → r ≤ limits.readers →
     Reached limits (record { write_count = k; writers = 0; readers = r })
@@ -48,9 +52,9 @@ read_by limits k zero room few = rounds limits k room
 read_by limits k (suc r) room few =
     let up : r + 1 ≡ suc r = omega arith in
     reach limits (record { write_count = k; writers = 0; readers = r }) (ReadAcquired ∷ [])
-        (record { write_count = k; writers = 0; readers = suc r })
+    (record { write_count = k; writers = 0; readers = suc r })
     (read_by limits k r room (omega arith)) ((refl, omega arith), tt)
-        (ap (λ (n : ℕ). record { write_count = k; writers = 0; readers = n }) up)
+    (ap (λ (n : ℕ). record { write_count = k; writers = 0; readers = n }) up)
 
 written_by : (limits : Bounds) (k : ℕ) → 1 ≤ k → k ≤ limits.versions →
     Reached limits (record { write_count = k; writers = 1; readers = 0 })
@@ -58,16 +62,23 @@ written_by limits zero some room = absurd (omega arith)
 written_by limits (suc k) some room =
     let up : k + 1 ≡ suc k = omega arith in
     reach limits (record { write_count = k; writers = 0; readers = 0 }) (WriteAcquired ∷ [])
-        (record { write_count = suc k; writers = 1; readers = 0 })
+    (record { write_count = suc k; writers = 1; readers = 0 })
     (rounds limits k (omega arith)) ((refl, refl, omega arith), tt)
-        (ap (λ (n : ℕ). record { write_count = n; writers = 1; readers = 0 }) up)
+    (ap (λ (n : ℕ). record { write_count = n; writers = 1; readers = 0 }) up)
 
 -- the number of a state whose counts are reached is admitted
 represented_by : (limits : Bounds) (n : ℕ) (c : Counts) → n ≡ word_number (units limits) c → Reached limits c →
     IsAdmitted limits (record { layout = limits.layout; bits = n })
-represented_by limits n c e by = record { events = by.events; represented =
-    record { layout = refl; well_formed = by.well_formed; spelled = e ∙
-    ap (λ (x : Counts). word_number (units limits) x) (sym by.counted) } }
+represented_by limits n c e by = record {
+  events = by.events;
+  represented =
+      record {
+        layout = refl;
+        well_formed = by.well_formed;
+        spelled = e ∙
+            ap (λ (x : Counts). word_number (units limits) x) (sym by.counted);
+      };
+}
 
 -- a number is the word of the counts that it stands for
 pub word_of-state : (l : Layout) (n : ℕ) → IsNumber (units_of l) n → n ≡
@@ -87,8 +98,14 @@ pub stands : (l : Layout) (n : ℕ) → IsNumber (units_of l) n → Stands (unit
 unfolding counts_of
 stands l n state =
     let e = either_layout l in
-    record { one_writer = grind (arith, nat_tests); apart = λ h. grind (arith, nat_tests); written =
-        λ h. grind (arith, nat_tests); readers = grind (arith, nat_tests); versions = grind (arith, nat_tests) }
+    record {
+      one_writer = grind (arith, nat_tests);
+      apart = λ h. grind (arith, nat_tests);
+      written =
+          λ h. grind (arith, nat_tests);
+      readers = grind (arith, nat_tests);
+      versions = grind (arith, nat_tests);
+    }
 
 admitted_at : (limits : Bounds) (n k wr r : ℕ) →
     Stands (units limits) (record { write_count = k; writers = wr; readers = r }) → n ≡
@@ -109,7 +126,7 @@ pub admitted : (limits : Bounds) (n : ℕ) → IsNumber (units limits) n →
 admitted limits n state few room =
     let c = counts_of (units limits) n in
     admitted_at limits n c.write_count c.writers c.readers (stands limits.layout n state)
-        (word_of-state limits.layout n state) few room
+    (word_of-state limits.layout n state) few room
 
 -- the same of a word in the limits' layout
 pub admitted_word : (limits : Bounds) (w : LockWord) → w.layout ≡ limits.layout →
@@ -117,8 +134,8 @@ pub admitted_word : (limits : Bounds) (w : LockWord) → w.layout ≡ limits.lay
     (counts_in w).write_count ≤ limits.versions → IsAdmitted limits w
 admitted_word limits w same =
     subst (λ (l : Layout). IsNumber (units_of l) w.bits → (counts_of (units_of l) w.bits).readers ≤ limits.readers →
-        (counts_of (units_of l) w.bits).write_count ≤ limits.versions →
-        IsAdmitted limits (record { layout = l; bits = w.bits })) (sym same) (admitted limits w.bits)
+    (counts_of (units_of l) w.bits).write_count ≤ limits.versions →
+    IsAdmitted limits (record { layout = l; bits = w.bits })) (sym same) (admitted limits w.bits)
 
 number_of_counts : (l : Layout) (n k wr r : ℕ) →
     Stands (units_of l) (record { write_count = k; writers = wr; readers = r }) → n ≡
@@ -135,9 +152,15 @@ pub is_state : (limits : Bounds) (w : LockWord) → AreInRange limits → IsAdmi
 is_state limits w range a =
     let now = obeys_now limits a.events a.represented.well_formed in
     number_of_counts limits.layout w.bits (counts a.events).write_count (counts a.events).writers
-        (counts a.events).readers
-    (record { one_writer = now.within.one_writer; apart = now.within.apart; written = λ h. omega arith; readers =
-        omega arith; versions = omega arith }) a.represented.spelled
+    (counts a.events).readers
+    (record {
+      one_writer = now.within.one_writer;
+      apart = now.within.apart;
+      written = λ h. omega arith;
+      readers =
+          omega arith;
+      versions = omega arith;
+    }) a.represented.spelled
 
 pub is_within : (limits : Bounds) (w : LockWord) → AreInRange limits → IsAdmitted limits w →
     ((counts_in w).readers ≤ limits.readers) × ((counts_in w).write_count ≤ limits.versions)

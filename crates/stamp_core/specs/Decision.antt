@@ -51,8 +51,8 @@ Decides limits word call Wait = HasNone limits word call
 pub record Steps (limits : Bounds) (word : LockWord) (call : Call) (found : Option (LockWord × Reply)) : Type 0 where
   pub after : (events : List LockEvent) → Represents limits word events →
       MatchOption found (transition limits events call ≡ None)
-          (λ x. Represents limits x.0 (events ++ appended_by (transition limits events call)) ×
-          Replies (transition limits events call) x.1)
+      (λ x. Represents limits x.0 (events ++ appended_by (transition limits events call)) ×
+      Replies (transition limits events call) x.1)
 
 -- the stamp in a reply, and 0 where there is none
 abbrev pub stamp_in : Reply → ℕ

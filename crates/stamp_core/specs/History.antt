@@ -52,7 +52,7 @@ abbrev pub IsLegalFrom : Bounds → List LockEvent → List ℕ → History → 
 IsLegalFrom limits events content [] = Unit {0}
 IsLegalFrom limits events content (e ∷ es) =
     IsReply limits events content e.0 e.1 × IsLegalFrom limits
-        (events ++ appended_by (transition limits events e.0)) (content_next content e.0 e.1) es
+    (events ++ appended_by (transition limits events e.0)) (content_next content e.0 e.1) es
 
 -- so it is from the opening on, with a record of so many words
 abbrev pub IsLegal : Bounds → ℕ → History → Type 0

@@ -22,7 +22,7 @@ abbrev pub NoneAcquiresWrite : Bounds → List LockEvent → History → Type 0
 NoneAcquiresWrite limits events [] = Unit {0}
 NoneAcquiresWrite limits events (e ∷ es) =
     (write_count (appended_by (transition limits events e.0)) ≡ 0) ×
-        NoneAcquiresWrite limits (events ++ appended_by (transition limits events e.0)) es
+    NoneAcquiresWrite limits (events ++ appended_by (transition limits events e.0)) es
 
 -- In a legal history, after any calls that follow the issue of a stamp, it is valid exactly where
 -- none of them acquired write mode.
@@ -31,7 +31,7 @@ StampValidity =
     (limits : Bounds) (width : ℕ) (before : History) (issue : Call × Reply) (after : History) (s : ℕ) →
     AreInRange limits → IsLegal limits width (before ++ issue ∷ after) → issue.1 ≡ Stamp s → s ≢ 0 →
     IsValid limits (events_of limits (before ++ issue ∷ after)) s ↔
-        NoneAcquiresWrite limits (events_of limits (before ++ issue ∷ [])) after
+    NoneAcquiresWrite limits (events_of limits (before ++ issue ∷ [])) after
 
 -- What is held is valid.
 abbrev pub HeldIsValid : Type 0
@@ -60,7 +60,7 @@ DecisionsAreTransitions = (limits : Bounds) (number : ℕ) (call : Call) → Are
 abbrev pub OnlyLockingWaits : Type 0
 OnlyLockingWaits =
     (limits : Bounds) (events : List LockEvent) (call : Call) → IsTrue (is_lock_call call) →
-        transition limits events call ≡ None →
+    transition limits events call ≡ None →
     (call ≡ WriteLock) ⊎ (call ≡ ReadLock)
 
 -- Entries are linearized exactly where those before the last are, and the last fits after them.

@@ -78,21 +78,21 @@ row l c (Unlock s) =
 row l c (ToWrite s) =
     if is_held_write (units l) c s then answer (Stamp s)
     else if is_held_read (units l) c s && (c.readers == 1) && nat_lt c.write_count l.versions then
-        change (ReadReleased ∷ WriteAcquired ∷ []) (next_write (units l) c)
+    change (ReadReleased ∷ WriteAcquired ∷ []) (next_write (units l) c)
     else if (s == optimistic_stamp (units l) c.write_count) && may_write l c then
-        change (WriteAcquired ∷ []) (next_write (units l) c)
+    change (WriteAcquired ∷ []) (next_write (units l) c)
     else answer (Stamp 0)
 row l c (ToRead s) =
     if is_held_write (units l) c s then change (WriteReleased ∷ ReadAcquired ∷ [])
-        (Stamp (read_stamp (units l) c.write_count 1))
+    (Stamp (read_stamp (units l) c.write_count 1))
     else if is_held_read (units l) c s then answer (Stamp s)
     else if (s == optimistic_stamp (units l) c.write_count) && may_read l c then
-        change (ReadAcquired ∷ []) (next_read (units l) c)
+    change (ReadAcquired ∷ []) (next_read (units l) c)
     else answer (Stamp 0)
 row l c (ToOptimistic s) =
     if is_held_write (units l) c s then change (WriteReleased ∷ []) (Stamp (optimistic_stamp (units l) c.write_count))
     else if is_held_read (units l) c s then change (ReadReleased ∷ [])
-        (Stamp (optimistic_stamp (units l) c.write_count))
+    (Stamp (optimistic_stamp (units l) c.write_count))
     else if (s == optimistic_stamp (units l) c.write_count) && (c.writers == 0) then answer (Stamp s)
     else answer (Stamp 0)
 row l c TryUnlockWrite =

@@ -42,5 +42,5 @@ pub call_text : (c : Call) → codes "[\"" ++ (call_name c ++ (codes "\"" ++ ite
     compact_text (call_data c)
 call_text c =
     ap (λ (rest : List ℕ). codes "[\"" ++ rest)
-        (sym (append_assoc (call_name c) (codes "\"") (items_text true (arguments c))))
+    (sym (append_assoc (call_name c) (codes "\"") (items_text true (arguments c))))
     ∙ ap (λ (name : List ℕ). codes "[" ++ (name ++ items_text true (arguments c))) (sym (name_text c))

@@ -91,8 +91,8 @@ count_again : (n : ℕ) → IsU64 n → ReadsAgain 2 (reply_data (Count n))
 count_again n fits =
     let number = number_again n fits in
     object_again 1 (member (codes "count") (number_data n) no_members)
-        (member_again 0 1 (codes "count") (number_data n) no_members (omega arith) refl number (no_members_again 1))
-        (rw number.same refl)
+    (member_again 0 1 (codes "count") (number_data n) no_members (omega arith) refl number (no_members_again 1))
+    (rw number.same refl)
 
 content_again : (ws : List ℕ) → All IsU64 ws → ReadsAgain 2 (words_data ws)
 content_again ws fit =
@@ -128,7 +128,7 @@ entry_again e thread_fits fits =
     (member_again 0 2 (codes "point") (number_data e.point) _ (omega arith) refl point
     (member_again 2 2 (codes "reply") (reply_data e.reply) _ (omega arith) refl reply
     (member_again 0 2 (codes "thread") (number_data e.thread) no_members (omega arith) refl thread
-        (no_members_again 2)))))))
+    (no_members_again 2)))))))
     (rw (call.same, first.same, last.same, point.same, reply.same, thread.same) refl)
 
 pair_again : (p : ℕ × ℕ) → IsU64 p.0 → IsU64 p.1 → ReadsAgain 1 (pair_data p)
@@ -141,7 +141,7 @@ pairs_again [] fit = no_items_again 1
 pairs_again (p ∷ ps) fit =
     let head = All-head PairIsU64 p ps fit in
     item_again 1 1 (pair_data p) (items_of (map pair_data ps)) (omega arith) (pair_again p head.0 head.1)
-        (pairs_again ps (All-tail PairIsU64 p ps fit))
+    (pairs_again ps (All-tail PairIsU64 p ps fit))
 
 pub report_again : (ps : List (ℕ × ℕ)) → All PairIsU64 ps → ReadsAgain 2 (report_data ps)
 report_again ps fit = array_again 1 (items_of (map pair_data ps)) (pairs_again ps fit)

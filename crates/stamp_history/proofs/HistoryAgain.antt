@@ -43,8 +43,12 @@ of_width w ws most t = (grind (arith, nat_tests), grind (arith, nat_tests))
 
 of_width_both : (w : ℕ) (es ws : List ℕ) → w ≤ 16 → (nat_lt 0 w && (length es == w) && (length ws == w)) ≡ true →
     (1 ≤ length es) × (length es ≤ 16) × (1 ≤ length ws) × (length ws ≤ 16)
-of_width_both w es ws most t = (grind (arith, nat_tests), grind (arith, nat_tests), grind (arith, nat_tests),
-    grind (arith, nat_tests))
+of_width_both w es ws most t = (
+  grind (arith, nat_tests),
+  grind (arith, nat_tests),
+  grind (arith, nat_tests),
+  grind (arith, nat_tests),
+)
 
 call_found : (w : ℕ) (c : Call) → w ≤ 16 → call_suits w c ≡ true → history_call (call_data c) ≡ Some c
 call_found w (Put ws) most suits = let n = of_width w ws most suits in rw (words_found ws n.0 n.1) refl
@@ -66,9 +70,13 @@ entries_found w i [] most suit fit = refl
 entries_found w i (e ∷ es) most suit fit =
     let s = All-head (SuitsRecord w) e es suit in
     let t = s.call in
-    rw (entry_found w e most s (All-head (λ (x : Entry). ReplyFits x.reply) e es fit), t,
-        lt-ltb e.thread 64 s.thread, entries_found w (i + 1) es most (All-tail (SuitsRecord w) e es suit)
-        (All-tail (λ (x : Entry). ReplyFits x.reply) e es fit)) refl
+    rw (
+      entry_found w e most s (All-head (λ (x : Entry). ReplyFits x.reply) e es fit),
+      t,
+      lt-ltb e.thread 64 s.thread,
+      entries_found w (i + 1) es most (All-tail (SuitsRecord w) e es suit)
+          (All-tail (λ (x : Entry). ReplyFits x.reply) e es fit),
+    ) refl
 
 pairs_found : (i : ℕ) (ps : List (ℕ × ℕ)) → each pair_at i (items_of (map pair_data ps)) ≡ Ok ps
 pairs_found i [] = refl
@@ -87,25 +95,53 @@ parts_found : (l : Layout) (readers versions w : ℕ) (es : List Entry) (ps : Li
     history_in (history_data (made l readers versions w es ps)) ≡ Ok (made l readers versions w es ps)
 unfolding history_in limit.limits entries reported units_of
 parts_found One readers versions w es [] range known fits =
-    rw (le-leb 1 readers range.some_reader, le-leb readers 127 range.readers,
-        le-leb versions 36028797018963966 range.versions, le-leb w 16 known.width, entries_len es,
-        le-leb (length es) 640000 known.entries, entries_found w 0 es known.width known.suit fits) refl
+    rw (
+      le-leb 1 readers range.some_reader,
+      le-leb readers 127 range.readers,
+      le-leb versions 36028797018963966 range.versions,
+      le-leb w 16 known.width,
+      entries_len es,
+      le-leb (length es) 640000 known.entries,
+      entries_found w 0 es known.width known.suit fits,
+    ) refl
 parts_found Two readers versions w es [] range known fits =
-    rw (le-leb 1 readers range.some_reader, le-leb readers 65535 range.readers,
-        le-leb versions 70368744177662 range.versions, le-leb w 16 known.width, entries_len es,
-        le-leb (length es) 640000 known.entries, entries_found w 0 es known.width known.suit fits) refl
+    rw (
+      le-leb 1 readers range.some_reader,
+      le-leb readers 65535 range.readers,
+      le-leb versions 70368744177662 range.versions,
+      le-leb w 16 known.width,
+      entries_len es,
+      le-leb (length es) 640000 known.entries,
+      entries_found w 0 es known.width known.suit fits,
+    ) refl
 parts_found One readers versions w es (p ∷ ps) range known fits =
     let n : suc (length ps) ≡ length es = elim known.report [ inl none ↦ absurd (omega arith) | inr same ↦ same ] in
-    rw (le-leb 1 readers range.some_reader, le-leb readers 127 range.readers,
-        le-leb versions 36028797018963966 range.versions, le-leb w 16 known.width, entries_len es,
-        le-leb (length es) 640000 known.entries, entries_found w 0 es known.width known.suit fits, pairs_len ps,
-        eq-eqb (suc (length ps)) (length es) n, pairs_found 1 ps) refl
+    rw (
+      le-leb 1 readers range.some_reader,
+      le-leb readers 127 range.readers,
+      le-leb versions 36028797018963966 range.versions,
+      le-leb w 16 known.width,
+      entries_len es,
+      le-leb (length es) 640000 known.entries,
+      entries_found w 0 es known.width known.suit fits,
+      pairs_len ps,
+      eq-eqb (suc (length ps)) (length es) n,
+      pairs_found 1 ps,
+    ) refl
 parts_found Two readers versions w es (p ∷ ps) range known fits =
     let n : suc (length ps) ≡ length es = elim known.report [ inl none ↦ absurd (omega arith) | inr same ↦ same ] in
-    rw (le-leb 1 readers range.some_reader, le-leb readers 65535 range.readers,
-        le-leb versions 70368744177662 range.versions, le-leb w 16 known.width, entries_len es,
-        le-leb (length es) 640000 known.entries, entries_found w 0 es known.width known.suit fits, pairs_len ps,
-        eq-eqb (suc (length ps)) (length es) n, pairs_found 1 ps) refl
+    rw (
+      le-leb 1 readers range.some_reader,
+      le-leb readers 65535 range.readers,
+      le-leb versions 70368744177662 range.versions,
+      le-leb w 16 known.width,
+      entries_len es,
+      le-leb (length es) 640000 known.entries,
+      entries_found w 0 es known.width known.suit fits,
+      pairs_len ps,
+      eq-eqb (suc (length ps)) (length es) n,
+      pairs_found 1 ps,
+    ) refl
 
 pub history_found : (r : Recorded) → AreInRange r.limits → IsRecorded r → RepliesFit r.entries →
     history_in (history_data r) ≡ Ok r

@@ -32,8 +32,8 @@ items_again w [] suit fit = no_items_again 3
 items_again w (e ∷ es) suit fit =
     let thread = small e.thread 64 (omega (arith, (All-head (SuitsRecord w) e es suit).thread)) (lit< tt) in
     item_again 3 3 (entry_data e) (items_of (map entry_data es)) (omega arith)
-        (entry_again e thread (All-head EntryIsU64 e es fit))
-        (items_again w es (All-tail (SuitsRecord w) e es suit) (All-tail EntryIsU64 e es fit))
+    (entry_again e thread (All-head EntryIsU64 e es fit))
+    (items_again w es (All-tail (SuitsRecord w) e es suit) (All-tail EntryIsU64 e es fit))
 
 entries_again : (w : ℕ) (es : List Entry) → All (SuitsRecord w) es → All EntryIsU64 es → ReadsAgain 4 (entries_data es)
 entries_again w es suit fit = array_again 3 (items_of (map entry_data es)) (items_again w es suit fit)
@@ -97,10 +97,14 @@ data_again Two readers versions w es (p ∷ ps) readers_fit versions_fit width_f
 limits_fit : (l : Layout) (readers versions : ℕ) → AreInRange (bounds l readers versions) → IsU64 readers ×
     IsU64 versions
 unfolding units_of
-limits_fit One readers versions range = (small readers 127 range.readers (lit< tt),
-    small versions 36028797018963966 range.versions (lit< tt))
-limits_fit Two readers versions range = (small readers 65535 range.readers (lit< tt),
-    small versions 70368744177662 range.versions (lit< tt))
+limits_fit One readers versions range = (
+  small readers 127 range.readers (lit< tt),
+  small versions 36028797018963966 range.versions (lit< tt),
+)
+limits_fit Two readers versions range = (
+  small readers 65535 range.readers (lit< tt),
+  small versions 70368744177662 range.versions (lit< tt),
+)
 
 pub reads_again : HistoriesReadAgain
 unfolding history_of history_text
@@ -108,9 +112,12 @@ reads_again r range known fits numbers =
     let limits = limits_fit r.limits.layout r.limits.readers r.limits.versions range in
     let entries = entries_again r.width r.entries known.suit numbers.entries in
     let again = data_again r.limits.layout r.limits.readers r.limits.versions r.width r.entries r.report limits.0
-        limits.1 (small r.width 16 known.width (lit< tt)) entries (report_again r.report numbers.report) in
+    limits.1 (small r.width 16 known.width (lit< tt)) entries (report_again r.report numbers.report) in
     let deep : ReadsAgain 127 (history_data r) =
-        record { numbers = again.numbers; depth = omega (arith, again.depth); same = again.same; utf8 = again.utf8 }
-        in
-    rw (is_utf8-from_IsUtf8 (compact_text (history_data r)) again.utf8, text_read (history_data r) deep,
-        history_found r range known fits) refl
+    record { numbers = again.numbers; depth = omega (arith, again.depth); same = again.same; utf8 = again.utf8 }
+    in
+    rw (
+      is_utf8-from_IsUtf8 (compact_text (history_data r)) again.utf8,
+      text_read (history_data r) deep,
+      history_found r range known fits,
+    ) refl

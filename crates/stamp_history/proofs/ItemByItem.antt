@@ -14,4 +14,4 @@ pub all_and_next : {T : Type 0} (P : T → Type 0) (xs : List T) (i : ℕ) (d x 
     get_or xs i d → All P (take i xs) → P x → All P (take (i + 1) xs)
 all_and_next {T} P xs i d x lt here so_far next =
     subst (All P) (sym (take_more xs i d lt ∙ ap (λ (y : T). take i xs ++ y ∷ []) (sym here)))
-        (All-push P (take i xs) x so_far next)
+    (All-push P (take i xs) x so_far next)

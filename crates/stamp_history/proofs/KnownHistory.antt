@@ -52,7 +52,7 @@ each_all P one holds i (item d ds) xs e =
     let last : Ok (first.0 ∷ rest.0) ≡ Ok xs = rest.2 in
     let all : first.0 ∷ rest.0 ≡ xs = cc in
     subst (All P) all (All-cons P first.0 rest.0 (holds i d first.0 first.1)
-        (each_all P one holds (i + 1) ds rest.0 rest.1))
+    (each_all P one holds (i + 1) ds rest.0 rest.1))
 
 suited_ok : (w : ℕ) (found : Option Entry) (e : Entry) → option_and_then (suited w) found ≡ Some e →
     call_suits w e.call ≡ true
@@ -66,7 +66,7 @@ suited_ok w (Some x) e h = by (call_suits w x.call) refl h
 entry_suits : (w i : ℕ) (d : Data) (e : Entry) → entry_at w i d ≡ Ok e → SuitsRecord w e
 entry_suits w i d e h =
     let in_range = ranged_ok (NotHistory (part.Entry i)) (Limit (part.Entry i)) (λ (x : Entry). nat_lt x.thread 64)
-        (option_and_then (suited w) (value.entry d)) e h in
+    (option_and_then (suited w) (value.entry d)) e h in
     record { thread = below e.thread in_range.1; call = suited_ok w (value.entry d) e in_range.0 }
   where
     below : (n : ℕ) → nat_lt n 64 ≡ true → n < 64
@@ -85,7 +85,7 @@ unfolding entries
 known_entries w d es h =
     let listed = bind_ok (listed_entries d) (each (entry_at w) 0) es h in
     let in_range = ranged_ok (NotHistory part.Entries) (Limit part.Entries) (λ ds. nat_le (items_len ds) 640000)
-        (list_under (codes "entries") d) listed.0 listed.1 in
+    (list_under (codes "entries") d) listed.0 listed.1 in
     let most = at_most (items_len listed.0) 640000 in_range.1 in
     let n = each_len (entry_at w) 0 listed.0 es listed.2 in
     (omega arith, each_all (SuitsRecord w) (entry_at w) (λ j x e r. entry_suits w j x e r) 0 listed.0 es listed.2)

@@ -50,7 +50,7 @@ more vs i held v n lt at is before =
     ap (λ (front : List ℕ). with_numbers front (numbers (items_view (drop (i + 1) vs)))) (take_more_set held i n lt)
     ∙ one_more (take i held) n (numbers (items_view (drop (i + 1) vs)))
     ∙ ap (λ (w : Option ℕ). with_numbers (take i held)
-        (option_and_then (λ m. option_map (λ ms. m ∷ ms) (numbers (items_view (drop (i + 1) vs)))) w)) (sym is)
+    (option_and_then (λ m. option_map (λ ms. m ∷ ms) (numbers (items_view (drop (i + 1) vs)))) w)) (sym is)
     ∙ ap (λ (us : List Value). with_numbers (take i held) (numbers (items_view us))) (sym at)
     ∙ before
 
@@ -60,8 +60,8 @@ pub none : (vs : List Value) (i : ℕ) (held : List ℕ) (v : Value) → drop i 
     numbers (items_view vs) → None ≡ listed_words (items_view vs)
 none vs i held v at is before =
     ap (λ (w : Option ℕ). option_and_then as_words
-        (with_numbers (take i held) (option_and_then
-        (λ m. option_map (λ ms. m ∷ ms) (numbers (items_view (drop (i + 1) vs)))) w))) (sym is)
+    (with_numbers (take i held) (option_and_then
+    (λ m. option_map (λ ms. m ∷ ms) (numbers (items_view (drop (i + 1) vs)))) w))) (sym is)
     ∙ ap (λ (us : List Value). option_and_then as_words (with_numbers (take i held) (numbers (items_view us)))) (sym at)
     ∙ ap (λ (found : Option (List ℕ)). option_and_then as_words found) before
 
@@ -83,5 +83,5 @@ all vs i held ns made end is some same before =
     made_of made ns (nat_le 1 (length ns) && nat_le (length ns) 16) refl some same
     ∙ ap as_words (is ∙ sym (append-nil (take i held)))
     ∙ ap (λ (us : List Value). option_and_then as_words (with_numbers (take i held) (numbers (items_view us))))
-        (sym end)
+    (sym end)
     ∙ ap (λ (found : Option (List ℕ)). option_and_then as_words found) before

@@ -28,8 +28,10 @@ pub record IsOfLock (found : Option Call) : Type 0 where
   pub is : (call : Call) → found ≡ Some call → IsTrue (is_lock_call call)
 
 one : (k : Call) → IsTrue (is_lock_call k) → IsOfLock (Some k)
-one k lock = record { is = λ call e. let same : k ≡ call = cc in
-    subst (λ (c : Call). IsTrue (is_lock_call c)) same lock }
+one k lock = record {
+  is = λ call e. let same : k ≡ call = cc in
+      subst (λ (c : Call). IsTrue (is_lock_call c)) same lock;
+}
 
 -- a call whose test computes
 abbrev lock : IsTrue true
@@ -91,8 +93,8 @@ each_of_lock i (item d ds) found e =
     let last : Ok (first.0 ∷ rest.0) ≡ Ok found = rest.2 in
     let all : first.0 ∷ rest.0 ≡ found = cc in
     subst (All (λ call. IsTrue (is_lock_call call))) all
-        (All-cons (λ call. IsTrue (is_lock_call call)) first.0 rest.0
-        ((lock_call_of_lock d).is first.0 (found_call i d first.0 first.1)) (each_of_lock (i + 1) ds rest.0 rest.1))
+    (All-cons (λ call. IsTrue (is_lock_call call)) first.0 rest.0
+    ((lock_call_of_lock d).is first.0 (found_call i d first.0 first.1)) (each_of_lock (i + 1) ds rest.0 rest.1))
 
 calls_of_lock : (d : Data) (found : List Call) → calls d ≡ Ok found → All (λ call. IsTrue (is_lock_call call)) found
 unfolding calls
@@ -105,12 +107,12 @@ unfolding replay_of replay_in
 replay_of_lock bytes replay e =
     let value = bind_ok (json_of bytes) replay_in replay e in
     let keys = bind_ok (top value.0) (λ _. limits value.0 >>= λ found_limits. calls value.0 >>= λ found_calls. Ok
-        (record { limits = found_limits; calls = found_calls })) replay value.2 in
+    (record { limits = found_limits; calls = found_calls })) replay value.2 in
     let bounds = bind_ok (limits value.0) (λ found_limits. calls value.0 >>= λ found_calls. Ok
-        (record { limits = found_limits; calls = found_calls })) replay keys.2 in
+    (record { limits = found_limits; calls = found_calls })) replay keys.2 in
     let found = bind_ok (calls value.0) (λ found_calls. Ok (record { limits = bounds.0; calls = found_calls }))
-        replay bounds.2 in
+    replay bounds.2 in
     let made : Ok (record { limits = bounds.0; calls = found.0 }) ≡ Ok replay = found.2 in
     let same : record { limits = bounds.0; calls = found.0 } ≡ replay = cc in
     subst (λ (r : Replay). All (λ call. IsTrue (is_lock_call call)) r.calls) same
-        (calls_of_lock value.0 found.0 found.1)
+    (calls_of_lock value.0 found.0 found.1)

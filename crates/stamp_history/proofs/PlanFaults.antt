@@ -64,9 +64,9 @@ known_before threads i steps named le k lt =
 none_unknown : (threads : ℕ) (steps : List ℕ) → AreNamed threads steps → first_unknown threads steps ≡ None
 none_unknown threads steps named =
     let at : position_or_len (nat_le threads) steps ≡ length steps =
-        position_or_len_is (nat_le threads) steps (length steps) 0 (omega arith)
-        (λ k lt. let below : get_or steps k 0 < threads = named k 0 lt in grind (arith, nat_tests))
-        (λ lt. absurd (omega arith)) in
+    position_or_len_is (nat_le threads) steps (length steps) 0 (omega arith)
+    (λ k lt. let below : get_or steps k 0 < threads = named k 0 lt in grind (arith, nat_tests))
+    (λ lt. absurd (omega arith)) in
     let end : nat_lt (position_or_len (nat_le threads) steps) (length steps) ≡ false = grind (arith, nat_tests) in
     rw end refl
 
@@ -76,8 +76,8 @@ unknown_at threads steps i first =
     let within : i < length steps = first.0 in
     let above : threads ≤ get_or steps i 0 = first.1 in
     let at : position_or_len (nat_le threads) steps ≡ i =
-        position_or_len_is (nat_le threads) steps i 0 (omega arith)
-        (known_before threads i steps first.2 (omega arith)) (λ _. grind (arith, nat_tests)) in
+    position_or_len_is (nat_le threads) steps i 0 (omega arith)
+    (known_before threads i steps first.2 (omega arith)) (λ _. grind (arith, nat_tests)) in
     let inside : nat_lt (position_or_len (nat_le threads) steps) (length steps) ≡ true = grind (arith, nat_tests) in
     rw inside (ap Some at)
 
@@ -89,8 +89,12 @@ unsuited width threads (inr not_all) = rw (fails (are_suited width (map calls_in
 
 -- the plan of the parts of a script
 abbrev pub plan_of : Bounds → ℕ → List (Vec ScriptCall Global) → List ℕ → Scripted
-plan_of limits width threads steps = record { limits = limits; width = width; threads = map calls_in threads;
-    steps = steps }
+plan_of limits width threads steps = record {
+  limits = limits;
+  width = width;
+  threads = map calls_in threads;
+  steps = steps;
+}
 
 below_most : (n most : ℕ) → n ≤ most → nat_lt most n ≡ false
 below_most n most le = grind (arith, nat_tests)
@@ -101,10 +105,15 @@ above_most n most lt = grind (arith, nat_tests)
 pub no_fault : (limits : Bounds) (width : ℕ) (threads : List (Vec ScriptCall Global)) (steps : List ℕ) →
     IsGood width threads steps → plan_fault (plan_of limits width threads steps) ≡ None
 unfolding plan_fault
-no_fault limits width threads steps good = rw
-    (length-map threads calls_in, below_most (length threads) 64 good.0, (short threads).1 good.1,
-    below_most (length steps) 1000000 good.2, none_unknown (length threads) steps good.3,
-    (at_most width 16).1 good.4, (suited width threads).1 good.5) refl
+no_fault limits width threads steps good = rw (
+  length-map threads calls_in,
+  below_most (length threads) 64 good.0,
+  (short threads).1 good.1,
+  below_most (length steps) 1000000 good.2,
+  none_unknown (length threads) steps good.3,
+  (at_most width 16).1 good.4,
+  (suited width threads).1 good.5,
+) refl
 
 pub first_fault : (limits : Bounds) (width : ℕ) (threads : List (Vec ScriptCall Global)) (steps : List ℕ)
     (fault : ScriptError) → IsFirstFault width threads steps fault →
@@ -113,15 +122,32 @@ unfolding plan_fault
 first_fault limits width threads steps TooManyThreads first =
     rw (length-map threads calls_in, above_most (length threads) 64 first) refl
 first_fault limits width threads steps TooManyCalls first =
-    rw (length-map threads calls_in, below_most (length threads) 64 first.0,
-    fails (are_short (map calls_in threads)) (short threads) first.1) refl
+    rw (
+      length-map threads calls_in,
+      below_most (length threads) 64 first.0,
+      fails (are_short (map calls_in threads)) (short threads) first.1,
+    ) refl
 first_fault limits width threads steps TooManySteps first =
-    rw (length-map threads calls_in, below_most (length threads) 64 first.0, (short threads).1 first.1,
-    above_most (length steps) 1000000 first.2) refl
+    rw (
+      length-map threads calls_in,
+      below_most (length threads) 64 first.0,
+      (short threads).1 first.1,
+      above_most (length steps) 1000000 first.2,
+    ) refl
 first_fault limits width threads steps (NoSuchThread i) first =
-    rw (length-map threads calls_in, below_most (length threads) 64 first.0, (short threads).1 first.1,
-    below_most (length steps) 1000000 first.2, unknown_at (length threads) steps i first.3) refl
+    rw (
+      length-map threads calls_in,
+      below_most (length threads) 64 first.0,
+      (short threads).1 first.1,
+      below_most (length steps) 1000000 first.2,
+      unknown_at (length threads) steps i first.3,
+    ) refl
 first_fault limits width threads steps RecordWidth first =
-    rw (length-map threads calls_in, below_most (length threads) 64 first.0, (short threads).1 first.1,
-    below_most (length steps) 1000000 first.2, none_unknown (length threads) steps first.3,
-    unsuited width threads first.4) refl
+    rw (
+      length-map threads calls_in,
+      below_most (length threads) 64 first.0,
+      (short threads).1 first.1,
+      below_most (length steps) 1000000 first.2,
+      none_unknown (length threads) steps first.3,
+      unsuited width threads first.4,
+    ) refl

@@ -44,7 +44,7 @@ pub text_read : (d : Data) → ReadsAgain 127 d → read (compact_text d) ≡ So
 text_read d again =
     let ts = tree.json_tokens (outline d) in
     let lexed : tokens (compact_text d) ≡ ts ++ [] = ap tokens (sym (print-outline d)) ∙
-        tokens-print ts (ArePrintable-json_tokens (outline d) again.numbers) ∙ sym (append-nil ts) in
+    tokens-print ts (ArePrintable-json_tokens (outline d) again.numbers) ∙ sym (append-nil ts) in
     let parsed = ap (json.value 127) lexed ∙ value-json_tokens (outline d) 127 [] again.depth in
     ap (λ found. option_and_then of_json (option_and_then (λ p. json.if_last p.0 p.1) found)) parsed ∙ again.same
 
@@ -109,9 +109,9 @@ member_again m n key d ms le ascii one more = record {
   utf8 = λ later.
       let value = IsUtf8-append (compact_text d) (members_text true ms) one.utf8 (more.utf8 true) in
       let colon = IsUtf8-append (58 ∷ []) (compact_text d ++ members_text true ms)
-          (IsUtf8-are_ascii (58 ∷ []) refl) value in
+      (IsUtf8-are_ascii (58 ∷ []) refl) value in
       let named = IsUtf8-append (quoted key) (58 ∷ (compact_text d ++ members_text true ms))
-          (IsUtf8-quoted key (IsUtf8-are_ascii key ascii)) colon in
+      (IsUtf8-quoted key (IsUtf8-are_ascii key ascii)) colon in
       IsUtf8-append (comma_if later) (quoted key ++ 58 ∷ (compact_text d ++ members_text true ms)) (comma later) named;
 }
 

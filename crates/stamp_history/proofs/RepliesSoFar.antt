@@ -56,6 +56,9 @@ pub ends : (limits : Bounds) (xs : List StoredCall) (i : ℕ) (word : LockWord) 
     RepliesSoFar limits (map call_of xs) i word values → (replies : List Reply) ×
     (values ≡ map reply_data replies) × IsReplayed limits (map call_of xs) replies word
 ends limits xs i word values end so_far =
-    let n : i ≡ length (map call_of xs) = end ∙ sym (length-map xs call_of) in
-    (so_far.replies, so_far.values_are, all limits (map call_of xs) i word so_far.replies so_far.replaying
-        (ap (λ (k : ℕ). take k (map call_of xs)) n ∙ take-length (map call_of xs)) n)
+    let n : i ≡ length (map call_of xs) = end ∙ sym (length-map xs call_of) in (
+      so_far.replies,
+      so_far.values_are,
+      all limits (map call_of xs) i word so_far.replies so_far.replaying
+          (ap (λ (k : ℕ). take k (map call_of xs)) n ∙ take-length (map call_of xs)) n,
+    )

@@ -24,5 +24,11 @@ entry d = do
   replied ← find.get (codes "reply") d
   answer ← reply replied
   thread ← whole_under (codes "thread") d
-  if has_members 6 d then Some (record { thread = thread; call = call; reply = answer; first = first; point = point;
-      last = last }) else None
+  if has_members 6 d then Some (record {
+    thread = thread;
+    call = call;
+    reply = answer;
+    first = first;
+    point = point;
+    last = last;
+  }) else None

@@ -69,7 +69,7 @@ call_with name d =
 abbrev pub call_with_two : List ℕ → Data → Data → Option ScriptCall
 call_with_two name expected new =
     if bytes_eq name (codes "put_if") then option_and_then (λ found. option_map (PutIf found) (words new))
-        (words expected)
+    (words expected)
     else None
 
 -- the call of the items of a list

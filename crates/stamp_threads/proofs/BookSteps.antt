@@ -64,7 +64,7 @@ placed_more xs e placed stands k d lt = by (either k (length xs))
     by (inr end) =
         let here : length xs ≡ k = omega (arith, length-append xs (e ∷ [])) in
         subst (λ (n : ℕ). StandsAt n (get_or (xs ++ e ∷ []) n d)) here
-            (subst (λ (x : Entry). StandsAt (length xs) x) (sym (get_or-append_seam xs e [] d)) stands)
+        (subst (λ (x : Entry). StandsAt (length xs) x) (sym (get_or-append_seam xs e [] d)) stands)
 
 -- the book with one more call, and the word that it leaves
 module _ (b : Booked) (thread : ℕ) (call : Call) (is_book : IsBook b) (lock : IsTrue (is_lock_call call)) where

@@ -15,7 +15,7 @@ use Rattle.stamp_threads.proofs.NewComers.{comes, new_part}
 
 with_views : {enterable : Bool} (limits : Bounds) (s : State (Unit {0}) (List LockPass)) (r : IsKept enterable limits s)
     (roots : ℕ) (closed : enterable ≡ false → roots ≡ 1) (views : List (List LockPass)) →
-        AreSeated (IsPart every r.log) roots r.log views →
+    AreSeated (IsPart every r.log) roots r.log views →
     IsKept enterable limits record { words = s.words; homes = s.homes; views = views }
 with_views limits s r roots closed views passes = record {
   log = r.log;

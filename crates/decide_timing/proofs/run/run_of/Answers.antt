@@ -12,5 +12,5 @@ pub loop-i-preserved : goal.loop-i-preserved
 loop-i-preserved c =
     subst (λ (run : Run). Running c.args.limits (c.loop-i.i + 1) run) (sym c.taken-run.ensures)
     (more c.args.limits c.loop-i.i c.loop-i.run c.word-word.result c.call_at-call.result c.decide.result
-        c.loop-i.invariant
+    c.loop-i.invariant
     c.call_at-call.ensures.call c.word-word.ensures c.decide.ensures.number c.decide.ensures.decides)

@@ -5,10 +5,10 @@ use Rattle.stamp_check.proofs.migration.migrate.Goals as goal
 pub returns-in-None-clause-verdict : goal.returns-in-None-clause-verdict
 returns-in-None-clause-verdict c =
     same_verdict c.args.history c.in_layout_two.result c.limits.result c.entries.result.now c.limits.ensures
-        (sym c.layout.ensures.layout ∙ c.in-One.is) c.layout.ensures.in_range c.entries.ensures.known
-        c.entries.ensures.entries c.in-None.ensures c.in_layout_two.ensures
+    (sym c.layout.ensures.layout ∙ c.in-One.is) c.layout.ensures.in_range c.entries.ensures.known
+    c.entries.ensures.entries c.in-None.ensures c.in_layout_two.ensures
 
 pub returns-in-Some-clause-ok : goal.returns-in-Some-clause-ok
 returns-in-Some-clause-ok c =
     cannot_migrate c.args.history c.limits.result c.entries.result.now c.in-Some.entry c.limits.ensures
-        (sym c.layout.ensures.layout ∙ c.in-One.is) c.entries.ensures.entries c.in-Some.ensures
+    (sym c.layout.ensures.layout ∙ c.in-One.is) c.entries.ensures.entries c.in-Some.ensures

@@ -9,7 +9,7 @@ pub loop-entry-preserved : goal.loop-entry-preserved
 loop-entry-preserved c =
     let is = c.respelled_entry.ensures ∙ ap respelled_entry (sym c.entry-item.is) in
     let within : c.loop-entry.entry-index < length c.args.entries.items =
-        omega (arith, ap length c.deref_mut-entry-items.ensures.value) in
+    omega (arith, ap length c.deref_mut-entry-items.ensures.value) in
     ap (λ (e : Entry). slice_set c.loop-entry.entry-items c.loop-entry.entry-index e) is ∙
-        map_over_more respelled_entry c.args.entries.items c.loop-entry.entry-items c.loop-entry.entry-index
-        c.entry-item.result within c.loop-entry.invariant c.entry-item.is
+    map_over_more respelled_entry c.args.entries.items c.loop-entry.entry-items c.loop-entry.entry-index
+    c.entry-item.result within c.loop-entry.invariant c.entry-item.is

@@ -2,6 +2,9 @@ use Rattle.stamp_core.proofs.WordNumbers.{observed_kind}
 use Rattle.stamp_core.proofs.stamps.is_optimistic_stamp_in.Goals as goal
 
 pub returns-in_default : goal.returns-in_default
-returns-in_default c = (λ h. cc, λ s. let p =
-    observed_kind c.args.layout c.args.stamp s.0 c.stamp_kind_in.result c.stamp_kind_in.ensures s.1 in
-    absurd (c.in_default.not-Optimistic p.0 p.1))
+returns-in_default c = (
+  λ h. cc,
+  λ s. let p =
+      observed_kind c.args.layout c.args.stamp s.0 c.stamp_kind_in.result c.stamp_kind_in.ensures s.1 in
+      absurd (c.in_default.not-Optimistic p.0 p.1),
+)

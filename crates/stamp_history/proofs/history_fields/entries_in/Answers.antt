@@ -15,4 +15,4 @@ loop-index-preserved c =
     let left = next_left list i value value c.loop-index-test.true c.index-list-index.is in
     front_more one _ _ i _ _ c.in_ok-entry.entry _ (sym c.in_ok-entry.ensures) c.in_ok-push.ensures.items
     (subst (λ vs. with_front c.loop-index.entries.items (each one i (items_view vs)) ≡ each one 0 (items_view list))
-        left c.loop-index.invariant)
+    left c.loop-index.invariant)

@@ -24,9 +24,9 @@ returns-clause-text c =
     let versions_text = codes ",\"versions\":" ++ compact_text (number_data l.versions) in
     let width_text = codes ",\"width\":" ++ compact_text (number_data c.args.width) in
     onto _ versions_text (members_text true width) c.in_ok-push_numbered-2.ensures.text
-        (onto _ width_text (codes "}") c.in_ok-push_numbered-3.ensures.text c.in_ok-push_text.ensures)
+    (onto _ width_text (codes "}") c.in_ok-push_numbered-3.ensures.text c.in_ok-push_text.ensures)
     ∙ c.in_ok-push_report.ensures.text versions
     ∙ before _ readers_text (members_text true reported) c.in_ok-push_numbered.ensures.text
     ∙ c.in_ok-push_format.ensures readers
     ∙ ap (λ (limits : Bounds). c.args.text.now.items ++
-        members_text true (after_entries limits c.args.width report)) same
+    members_text true (after_entries limits c.args.width report)) same

@@ -9,7 +9,7 @@ pub returns-clause-text : goal.returns-clause-text
 returns-clause-text c =
     let call = c.args.call.now in
     let name = c.in_ok-push_text-2.ensures ∙ ap (λ (name : List ℕ). c.push_text.new.text.items ++ name)
-        c.call_name.ensures in
+    c.call_name.ensures in
     let taken = items_text true (arguments call) in
     onto _ (codes "[\"") (call_name call ++ (codes "\"" ++ taken)) c.in_ok-push_text.ensures
     (onto _ (call_name call) (codes "\"" ++ taken) name

@@ -17,4 +17,4 @@ returns-in_ok-push_numbered-in-Two-2 c = λ rest.
     let format = codes ",\"format\":" ++ compact_text (number_data 2) in
     let layout = codes ",\"layout\":" ++ compact_text (number_data 2) in
     rw c.in-Two.is (before _ layout (members_text true rest) c.in_ok-push_numbered-in-Two-2.ensures.text ∙
-        before _ format (layout ++ members_text true rest) c.in_ok-push_numbered-in-Two.ensures.text)
+    before _ format (layout ++ members_text true rest) c.in_ok-push_numbered-in-Two.ensures.text)

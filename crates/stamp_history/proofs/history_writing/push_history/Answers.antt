@@ -14,14 +14,18 @@ use Rattle.stamp_history.proofs.history_writing.push_history.Goals as goal
 pub returns-clause-text : goal.returns-clause-text
 unfolding serde_json_on_literals
 returns-clause-text c =
-    let r : Recorded = record { limits = c.limits.result; width = c.width.result; entries = c.entries.result.now;
-        report = c.report.result.now } in
+    let r : Recorded = record {
+      limits = c.limits.result;
+      width = c.width.result;
+      entries = c.entries.result.now;
+      report = c.report.result.now;
+    } in
     let same : r ≡ c.args.history.now = same_record c.args.history.now _ _ _ _ c.limits.ensures c.width.ensures
-        c.entries.ensures.entries c.report.ensures in
+    c.entries.ensures.entries c.report.ensures in
     let entries = compact_text (entries_data r.entries) in
     let rest = members_text true (after_entries r.limits r.width r.report) in
     onto _ (codes "{\"entries\":") (entries ++ rest) c.in_ok-push_text.ensures
-        (onto _ entries rest c.in_ok-push_entries.ensures.text c.in_ok-push_after_entries.ensures.text)
+    (onto _ entries rest c.in_ok-push_entries.ensures.text c.in_ok-push_after_entries.ensures.text)
     ∙ ap (λ (h : Recorded). c.args.text.now.items ++ compact_text (history_data h)) same
 
 pub returns-clause-fits : goal.returns-clause-fits

@@ -13,5 +13,5 @@ returns-clause-text c = λ rest.
     let key = codes ",\"report\":" in
     let pairs = compact_text (report_data report) in
     before _ (key ++ pairs) (members_text true rest)
-        (onto _ key pairs c.in_ok-push_text.ensures c.in_ok-push_pairs.ensures.text)
+    (onto _ key pairs c.in_ok-push_text.ensures c.in_ok-push_pairs.ensures.text)
     ∙ ap (λ (text : List ℕ). c.args.text.now.items ++ text) (report_text report rest some)

@@ -14,10 +14,10 @@ returns-clause-answers c =
     let stored : c.deref.result.now ≡ c.in_ok-limits.calls.items = c.deref.ensures.value in
     let done = c.in_ok-replies.ensures in
     let replayed = subst (λ (xs : List StoredCall). IsReplayed c.in_ok-limits.limits
-        (map call_of xs) done.0 c.in_ok-replies.word) stored done.2 in
+    (map call_of xs) done.0 c.in_ok-replies.word) stored done.2 in
     let shown : view c.in_ok-answer.answer ≡ replayed_data done.0 c.bits.result =
-        c.in_ok-answer.ensures done.0 done.1 in
+    c.in_ok-answer.ensures done.0 done.1 in
     let written : c.in_ok-to_vec.field-0.items ≡ compact_text (view c.in_ok-answer.answer) =
-        c.in_ok-to_vec.ensures.text (ap has_float shown ∙ replayed_without done.0 c.bits.result) in
+    c.in_ok-to_vec.ensures.text (ap has_float shown ∙ replayed_without done.0 c.bits.result) in
     answered c.args.bytes.now _ c.in_ok-limits.ensures.replay done.0 c.in_ok-replies.word replayed c.bits.result
-        c.bits.ensures.bits (written ∙ ap compact_text shown)
+    c.bits.ensures.bits (written ∙ ap compact_text shown)

@@ -8,5 +8,5 @@ pub returns-clause-text : goal.returns-clause-text
 unfolding replayed_text
 returns-clause-text c =
     c.in_ok-to_vec.ensures.text (ap has_float c.in_ok-value.ensures ∙
-        replayed_without c.args.done.now.replies.items c.args.done.now.word.bits)
+    replayed_without c.args.done.now.replies.items c.args.done.now.word.bits)
     ∙ ap compact_text c.in_ok-value.ensures

@@ -16,7 +16,7 @@ returns-then-is_seen-clause-leads c = λ at.
     (Change c.in-Change.new (reply_as c.in-Change.reply)) =
     rw c.word.ensures at c.in-Change.ensures.decides in
     rw c.as_reply-then-is_seen.ensures (won p c.args.found c.in-Change.new (reply_as c.in-Change.reply)
-        (c.is_seen.ensures.0 c.if-is_seen.true)
+    (c.is_seen.ensures.0 c.if-is_seen.true)
     says)
 
 pub returns-else-is_seen-clause-leads : goal.returns-else-is_seen-clause-leads

@@ -14,34 +14,54 @@ refuted b f not p = let is : b ≡ true = f p in cc
 pub returns-then-not-is_above-2 : goal.returns-then-not-is_above-2
 returns-then-not-is_above-2 c =
     breaks_overlap c.args.limits c.args.entry.now c.args.self.now c.args.self.now None c.requires.thread
-        (c.is_within.ensures.0 c.if-not-is_within.false) (c.is_above.ensures.0 c.if-not-is_above.false)
+    (c.is_within.ensures.0 c.if-not-is_within.false) (c.is_above.ensures.0 c.if-not-is_above.false)
     (refuted _ c.is_above-2.ensures.1 c.if-not-is_above-2.true)
 
 pub returns-in_default : goal.returns-in_default
 returns-in_default c =
     let follows : Follows c.args.entry.now c.args.self.now None =
-        record { thread = c.requires.thread; within = c.is_within.ensures.0 c.if-not-is_within.false; above =
-        c.is_above.ensures.0 c.if-not-is_above.false; free = c.is_above-2.ensures.0 c.if-not-is_above-2.false } in
+    record {
+      thread = c.requires.thread;
+      within = c.is_within.ensures.0 c.if-not-is_within.false;
+      above =
+          c.is_above.ensures.0 c.if-not-is_above.false;
+      free = c.is_above-2.ensures.0 c.if-not-is_above-2.false;
+    } in
     breaks_lock_reply c.args.limits c.args.entry.now c.args.self.now c.args.self.now None follows
-        (sym c.is_lock_call.ensures ∙ c.if-is_lock_call.true) c.in_default.ensures
+    (sym c.is_lock_call.ensures ∙ c.if-is_lock_call.true) c.in_default.ensures
 
 pub returns-in_default-record_goes_on : goal.returns-in_default-record_goes_on
 returns-in_default-record_goes_on c =
     let follows : Follows c.args.entry.now c.args.self.now None =
-        record { thread = c.requires.thread; within = c.is_within.ensures.0 c.if-not-is_within.false; above =
-        c.is_above.ensures.0 c.if-not-is_above.false; free = c.is_above-2.ensures.0 c.if-not-is_above-2.false } in
+    record {
+      thread = c.requires.thread;
+      within = c.is_within.ensures.0 c.if-not-is_within.false;
+      above =
+          c.is_above.ensures.0 c.if-not-is_above.false;
+      free = c.is_above-2.ensures.0 c.if-not-is_above-2.false;
+    } in
     breaks_record_reply c.args.limits c.args.entry.now c.args.self.now c.args.self.now None follows
-        (sym c.is_lock_call.ensures ∙ c.if-is_lock_call.false) c.in_default-record_goes_on.ensures
+    (sym c.is_lock_call.ensures ∙ c.if-is_lock_call.false) c.in_default-record_goes_on.ensures
 
 pub returns : goal.returns
 returns c =
     let e = c.args.entry.now in
     let follows : Follows e c.args.self.now None =
-        record { thread = c.requires.thread; within = c.is_within.ensures.0 c.if-not-is_within.false; above =
-        c.is_above.ensures.0 c.if-not-is_above.false; free = c.is_above-2.ensures.0 c.if-not-is_above-2.false } in
+    record {
+      thread = c.requires.thread;
+      within = c.is_within.ensures.0 c.if-not-is_within.false;
+      above =
+          c.is_above.ensures.0 c.if-not-is_above.false;
+      free = c.is_above-2.ensures.0 c.if-not-is_above-2.false;
+    } in
     let next = λ (self : Walk). Advances c.args.limits e c.args.self.now
-        (record { bits = self.bits; content = self.content; point = Some e.point; lasts =
-        slice_set self.lasts e.thread (Some e.last) }) None in
+    (record {
+      bits = self.bits;
+      content = self.content;
+      point = Some e.point;
+      lasts =
+          slice_set self.lasts e.thread (Some e.last);
+    }) None in
     elim c.if-is_lock_call.branch [
       | then-is_lock_call+in-Some w ↦ subst next (sym w.self-is)
           (lock_goes_on c.args.limits e c.args.self.now _ None follows

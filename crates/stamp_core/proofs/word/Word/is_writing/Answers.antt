@@ -8,5 +8,5 @@ use Rattle.stamp_core.proofs.word.Word.is_writing.Goals as goal
 pub returns : goal.returns
 returns c = λ limits events range represented.
     let same : (counts_in c.args.self.now).writers ≡ writers events =
-        ap (λ (n : Counts). n.writers) (counts_in-represented limits c.args.self.now events range represented) in
+    ap (λ (n : Counts). n.writers) (counts_in-represented limits c.args.self.now events range represented) in
     grind (arith, nat_tests, c.has_writer.ensures)

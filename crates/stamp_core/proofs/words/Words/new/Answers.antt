@@ -14,6 +14,9 @@ loop-i-preserved c = record {
 pub invariant_of-result : goal.invariant_of-result
 invariant_of-result c =
     let e : c.loop-i.i ≡ length c.args.words.now = omega arith in
-    let some : 1 ≤ length c.args.words.now = grind (arith, common_steps) in
-    (some, omega arith, c.loop-i.invariant.size,
-        subst (λ (n : ℕ). drop n c.loop-i.held ≡ replicate (16 - n) 0) e c.loop-i.invariant.rest)
+    let some : 1 ≤ length c.args.words.now = grind (arith, common_steps) in (
+      some,
+      omega arith,
+      c.loop-i.invariant.size,
+      subst (λ (n : ℕ). drop n c.loop-i.held ≡ replicate (16 - n) 0) e c.loop-i.invariant.rest,
+    )
