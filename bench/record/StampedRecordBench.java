@@ -1,0 +1,141 @@
+// Times gets and puts of words under the JDK's StampedLock, as `timings record` (crates/timings) does: a get
+// reads optimistically and validates, a put holds the write lock.
+// `java StampedRecordBench.java [CALLS [ROUNDS]]` writes its lines to standard error, in
+// timings' form, after rounds that warm the compiler.
+import java.util.concurrent.locks.StampedLock;
+
+public final class StampedRecordBench {
+    static final int MORE = 32;
+    static final int BETWEEN = 10_000;
+
+    final StampedLock lock = new StampedLock();
+    final long[] words;
+    volatile boolean isOver;
+
+    StampedRecordBench(int width) {
+        words = new long[width];
+    }
+
+    boolean get(long[] into) {
+        long stamp = lock.tryOptimisticRead();
+        if (stamp == 0) {
+            return false;
+        }
+        for (int i = 0; i < words.length; i++) {
+            into[i] = words[i];
+        }
+        return lock.validate(stamp);
+    }
+
+    boolean put(long[] from) {
+        long stamp = lock.tryWriteLock();
+        if (stamp == 0) {
+            return false;
+        }
+        for (int i = 0; i < words.length; i++) {
+            words[i] = from[i];
+        }
+        lock.unlockWrite(stamp);
+        return true;
+    }
+
+    long gets(long calls) {
+        long[] row = new long[words.length];
+        long good = 0;
+        for (long i = 0; i < calls; i++) {
+            if (get(row)) {
+                good++;
+            }
+        }
+        return good;
+    }
+
+    long puts(long calls) {
+        long[] row = new long[words.length];
+        long good = 0;
+        for (long i = 0; i < calls; i++) {
+            if (put(row)) {
+                good++;
+            }
+        }
+        return good;
+    }
+
+    void putUntilOver() {
+        long start = System.nanoTime();
+        long due = BETWEEN;
+        long[] row = new long[words.length];
+        for (long i = 0; !isOver; i++) {
+            long taken = System.nanoTime() - start;
+            if (taken >= due) {
+                due = taken + BETWEEN;
+                row[0] = i;
+                put(row);
+            }
+        }
+    }
+
+    long readBy(int threads, long calls) throws InterruptedException {
+        long[] good = new long[threads];
+        Thread[] others = new Thread[threads];
+        for (int i = 1; i < threads; i++) {
+            int at = i;
+            others[i] = new Thread(() -> good[at] = gets(calls));
+            others[i].start();
+        }
+        good[0] = gets(calls);
+        long sum = good[0];
+        for (int i = 1; i < threads; i++) {
+            others[i].join();
+            sum += good[i];
+        }
+        return sum;
+    }
+
+    long besideWriter(int threads, long calls) throws InterruptedException {
+        isOver = false;
+        Thread writer = new Thread(this::putUntilOver);
+        writer.start();
+        long good = readBy(threads, calls);
+        isOver = true;
+        writer.join();
+        return good;
+    }
+
+    static void tell(boolean warm, String name, int threads, long calls, long start, long good) {
+        long taken = System.nanoTime() - start;
+        if (warm) {
+            System.err.println(name + " " + threads + " " + calls + " " + taken + " " + good);
+        }
+    }
+
+    void alone(boolean warm, long calls) {
+        long start = System.nanoTime();
+        tell(warm, "into" + words.length, 1, calls, start, gets(calls));
+        start = System.nanoTime();
+        tell(warm, "put" + words.length, 1, calls, start, puts(calls));
+    }
+
+    void together(boolean warm, long calls) throws InterruptedException {
+        for (int threads = 1; threads <= 4; threads++) {
+            long start = System.nanoTime();
+            tell(warm, "readers", threads, calls, start, readBy(threads, calls));
+            start = System.nanoTime();
+            tell(warm, "beside", threads, calls, start, besideWriter(threads, calls));
+        }
+    }
+
+    public static void main(String[] given) throws InterruptedException {
+        long calls = given.length > 0 ? Long.parseLong(given[0]) : 1000;
+        long rounds = given.length > 1 ? Long.parseLong(given[1]) : 1;
+        StampedRecordBench two = new StampedRecordBench(2);
+        StampedRecordBench sixteen = new StampedRecordBench(16);
+        for (long i = -5; i < rounds; i++) {
+            boolean warm = i >= 0;
+            long count = warm ? calls : 100_000;
+            two.alone(warm, count);
+            sixteen.alone(warm, count);
+            two.together(warm, warm ? MORE * count : count);
+        }
+    }
+}

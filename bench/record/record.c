@@ -1,0 +1,164 @@
+// Times the accesses of the calls of `timings record` (crates/timings) in C11, each sequentially consistent: the same
+// loads, stores and exchanges on a lock word and the words beside it, with the same tests. Layout
+// 1.
+// `record [CALLS [ROUNDS]]` writes its lines to standard error, in the form of timings.
+#include <inttypes.h>
+#include <pthread.h>
+#include <stdatomic.h>
+#include <stdint.h>
+#include <stdio.h>
+#include <stdlib.h>
+#include <time.h>
+
+enum { VERSION = 256, WRITER = 128, WORDS = 16, MOST = 4, MORE = 32, BETWEEN = 10000 };
+
+static const uint64_t VERSIONS = (uint64_t)1 << 50;
+
+struct record {
+    _Alignas(64) _Atomic uint64_t words[1 + WORDS]; // the lock word first
+    size_t width;
+};
+
+static int is_held(uint64_t word) { return word % VERSION == WRITER; }
+
+// One load, a load a word, and one load.
+static int get(struct record *record, uint64_t *into) {
+    uint64_t word = atomic_load(&record->words[0]);
+    if (is_held(word)) return 0;
+    for (size_t i = 0; i < record->width; i++) into[i] = atomic_load(&record->words[i + 1]);
+    return atomic_load(&record->words[0]) == word;
+}
+
+// One load, one exchange, a store a word, and one exchange that releases.
+static int put(struct record *record, const uint64_t *from) {
+    uint64_t word = atomic_load(&record->words[0]);
+    if (is_held(word) || word / VERSION > VERSIONS) return 0;
+    if (!atomic_compare_exchange_strong(&record->words[0], &word, word + WRITER)) return 0;
+    for (size_t i = 0; i < record->width; i++) atomic_store(&record->words[i + 1], from[i]);
+    uint64_t held = word + WRITER;
+    atomic_compare_exchange_strong(&record->words[0], &held, held + WRITER);
+    return 1;
+}
+
+static uint64_t gets(struct record *record, uint64_t calls) {
+    uint64_t row[WORDS] = {0}, good = 0;
+    for (uint64_t i = 0; i < calls; i++) {
+        int is_good = get(record, row);
+        __asm__ volatile("" : : "r"(row) : "memory"); // the words are used
+        good += is_good;
+    }
+    return good;
+}
+
+static uint64_t puts_in_turn(struct record *record, uint64_t calls) {
+    uint64_t row[WORDS] = {0}, good = 0;
+    for (uint64_t i = 0; i < calls; i++) good += put(record, row);
+    return good;
+}
+
+static uint64_t now(void) {
+    struct timespec at;
+    clock_gettime(CLOCK_MONOTONIC, &at);
+    return (uint64_t)at.tv_sec * 1000000000 + (uint64_t)at.tv_nsec;
+}
+
+static void tell(const char *name, int threads, uint64_t calls, uint64_t start, uint64_t good) {
+    uint64_t taken = now() - start;
+    fprintf(stderr, "%s %d %" PRIu64 " %" PRIu64 " %" PRIu64 "\n",
+            name, threads, calls, taken, good);
+}
+
+struct job {
+    struct record *record;
+    uint64_t calls, good;
+};
+
+static void *read_alone(void *of) {
+    struct job *job = of;
+    job->good = gets(job->record, job->calls);
+    return NULL;
+}
+
+struct writer {
+    struct record *record;
+    _Atomic int is_over;
+};
+
+static void *put_until(void *of) {
+    struct writer *writer = of;
+    uint64_t start = now(), due = BETWEEN;
+    for (uint64_t i = 0; !atomic_load(&writer->is_over); i++) {
+        uint64_t taken = now() - start;
+        if (taken >= due) {
+            uint64_t row[WORDS] = {i, i};
+            due = taken + BETWEEN;
+            put(writer->record, row);
+        }
+    }
+    return NULL;
+}
+
+static uint64_t read_by(struct record *record, int threads, uint64_t calls) {
+    pthread_t handles[MOST];
+    struct job jobs[MOST];
+    for (int i = 0; i < threads; i++) {
+        jobs[i] = (struct job){record, calls, 0};
+        if (i > 0 && pthread_create(&handles[i], NULL, read_alone, &jobs[i])) abort();
+    }
+    read_alone(&jobs[0]);
+    uint64_t good = jobs[0].good;
+    for (int i = 1; i < threads; i++) {
+        pthread_join(handles[i], NULL);
+        good += jobs[i].good;
+    }
+    return good;
+}
+
+static uint64_t beside_writer(struct record *record, int threads, uint64_t calls) {
+    pthread_t handle;
+    struct writer writer = {record, 0};
+    if (pthread_create(&handle, NULL, put_until, &writer)) abort();
+    uint64_t good = read_by(record, threads, calls);
+    atomic_store(&writer.is_over, 1);
+    pthread_join(handle, NULL);
+    return good;
+}
+
+static void alone(struct record *record, const char *get_name, const char *put_name,
+                  uint64_t calls) {
+    uint64_t start = now();
+    uint64_t good = gets(record, calls);
+    tell(get_name, 1, calls, start, good);
+    start = now();
+    good = puts_in_turn(record, calls);
+    tell(put_name, 1, calls, start, good);
+}
+
+static struct record *made(size_t width) {
+    struct record *record = aligned_alloc(64, sizeof *record);
+    if (!record) abort();
+    for (size_t i = 0; i <= WORDS; i++) atomic_init(&record->words[i], 0);
+    atomic_init(&record->words[0], VERSION);
+    record->width = width;
+    return record;
+}
+
+int main(int count, char **words) {
+    uint64_t calls = count > 1 ? strtoull(words[1], NULL, 10) : 1000;
+    uint64_t rounds = count > 2 ? strtoull(words[2], NULL, 10) : 1;
+    struct record *two = made(2), *sixteen = made(WORDS);
+    for (uint64_t round = 0; round < rounds; round++) {
+        alone(two, "into2", "put2", calls);
+        alone(sixteen, "into16", "put16", calls);
+        for (int threads = 1; threads <= MOST; threads++) {
+            uint64_t start = now(), good = read_by(two, threads, MORE * calls);
+            tell("readers", threads, MORE * calls, start, good);
+            start = now();
+            good = beside_writer(two, threads, MORE * calls);
+            tell("beside", threads, MORE * calls, start, good);
+        }
+    }
+    free(two);
+    free(sixteen);
+    return 0;
+}

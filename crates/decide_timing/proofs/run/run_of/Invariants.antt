@@ -1,5 +1,0 @@
-use Rattle.decide_timing.proofs.Running.{Running}
-use Rattle.decide_timing.proofs.run.run_of.Given as goal
-
-abbrev pub invariant-loop-i : goal.invariant-loop-i
-invariant-loop-i l = Running l.limits l.i l.run

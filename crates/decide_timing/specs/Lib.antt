@@ -1,2 +1,0 @@
-pub mod Cycle
-pub mod Run

@@ -1,0 +1,39 @@
+//! The calls that are timed.
+ghost use Rattle.std.specs.Prelude.{◌≡◌, ◌<◌, IsTrue, slice_get};
+ghost use Rattle.stamp_core.specs.Call.{is_lock_call};
+ghost use Rattle.timings.specs.Cycle.{cycle};
+
+use stamp_core::Call;
+
+/// How many calls there are before they come again.
+pub const TURNS: u64 = 20;
+
+/// The call whose turn it is. Those that take a stamp are given this one.
+pub fn call_at(turn: u64, stamp: u64) -> Call
+    requires { turn < TURNS }
+    ensures call { slice_get (cycle stamp) turn ≡ Some result }
+    ensures lock { IsTrue (is_lock_call result) }
+{
+    match turn {
+        0 => Call::Optimistic,
+        1 => Call::Validate(stamp),
+        2 => Call::TryRead,
+        3 => Call::ReadLock,
+        4 => Call::IsReadLocked,
+        5 => Call::UnlockRead(stamp),
+        6 => Call::ReadCount,
+        7 => Call::ToWrite(stamp),
+        8 => Call::IsWriteLocked,
+        9 => Call::ToRead(stamp),
+        10 => Call::ToOptimistic(stamp),
+        11 => Call::WriteLock,
+        12 => Call::Validate(stamp),
+        13 => Call::UnlockWrite(stamp),
+        14 => Call::TryWrite,
+        15 => Call::Unlock(stamp),
+        16 => Call::TryRead,
+        17 => Call::TryUnlockRead,
+        18 => Call::TryUnlockWrite,
+        _ => Call::UnlockWrite(stamp),
+    }
+}
