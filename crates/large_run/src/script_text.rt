@@ -10,7 +10,7 @@ const CALLS: u64 = 10_000;
 
 const STEPS: u64 = 1_000_000;
 
-/// A thread makes so many steps before the next one has its turn.
+/// A thread makes this many steps before the next one has its turn.
 const TURN: u64 = 100;
 
 const WIDTH: u64 = 16;
@@ -39,7 +39,7 @@ fn push_words(text: &mut Vec<u8>, word: u64) -> Result<(), AllocError> {
     push(text, "]")
 }
 
-/// A call that is given the stamp of the thread's call so many calls before.
+/// A call that is given the stamp of the thread's call this many calls before.
 fn push_stamped(
     text: &mut Vec<u8>,
     name: &str,

@@ -16,7 +16,7 @@ pub fn quote<R: Wait>(rt: &R, mut board: BoardHandle<'_>) -> Result<(), Spent> {
     Ok(())
 }
 
-/// Reads so many quotes. It fails where a spread is none that was written.
+/// Reads this many quotes. It fails where a spread is none that was written.
 fn watch<R: Wait>(rt: &R, mut board: BoardHandle<'_>) -> Result<()> {
     for _ in 0..TURNS {
         let spread = spread(rt, &mut board);

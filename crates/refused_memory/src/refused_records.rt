@@ -40,7 +40,7 @@ fn limits() -> Result<Limits, Outcome> {
     Limits::new(1, 1).map_err(|_| Outcome::Wrong)
 }
 
-/// Whether there is a record of two entries, with a report of so many pairs.
+/// Whether there is a record of two entries, with a report of this many pairs.
 fn is_made(alloc: Global, case: Case, pairs: usize) -> Result<bool, Outcome> {
     let (width, thread, call) = case;
     let entries = entries(alloc, thread, call)?;

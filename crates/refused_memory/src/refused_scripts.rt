@@ -6,8 +6,8 @@ use stamp_core::{Limits, Words};
 use stamp_machines::{MOST_STEPS, Run, RunError, Script, ScriptCall, ScriptError};
 use std::alloc::{AllocError, Global};
 
-/// What a script is made of: so many threads of so many calls each, and so many steps, which all name
-/// the same thread.
+/// What a script is made of: how many threads, how many calls each of them has, and how many steps,
+/// which all name the same thread.
 #[derive(Clone, Copy)]
 struct Shape {
     threads: usize,

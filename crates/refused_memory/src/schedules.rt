@@ -90,7 +90,7 @@ fn step_again(run: &mut Run, name: u64) -> Result<Stepped, RunError>
     }
 }
 
-/// What a step told is what the run has.
+/// What a step reported is what the run has.
 fn is_told(run: &Run, stepped: &Stepped) -> bool {
     match stepped {
         Stepped::Ended(entry) => run.finished().last() == Some(entry),
@@ -126,7 +126,7 @@ fn advance_again(completions: &mut Completions) -> Result<(), RunError>
     }
 }
 
-/// The finished calls are handed on, each once; none is lost where memory was refused.
+/// The finished calls are passed on, each once; none is lost where memory was refused.
 fn are_handed_on(alloc: Global, script: &Script, entries: &[Entry]) -> Result<bool, RunError> {
     let mut completions = Completions::start(alloc, script)?;
     for entry in entries {

@@ -1,4 +1,4 @@
--- A fault that was handed on as it came.
+-- A fault that was passed on as it came.
 use Rattle.std.proofs.Common.{◌≡◌, Result, Ok, Err, IsErrAnd, IfErr, sym, subst}
 
 pub same_fault : {T E : Type 0} (r : Result T E) (came : E) (P : E → Type 0) → IsErrAnd r (λ e. e ≡ came) → P came →

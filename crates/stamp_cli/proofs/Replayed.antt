@@ -23,7 +23,7 @@ of_fault (Ok replay) (Waits i) is = record { call = i; waits = is; named = refl 
 of_fault (Ok replay) (Refused e) is = absurd is
 of_fault (Err e) f is = ap (λ (g : AnswerError). Err (unanswered g)) is
 
--- a fault that was handed on
+-- a fault that was passed on
 pub handed_on : (input : List ℕ) (r : Result (Vec ℕ Global) ServeFault) (f : AnswerError) →
     IsErrAnd r (λ e. e ≡ unanswered f) → (f ≢ Refused read.Memory → text.IsAnswer (replay_of input) (Err f)) →
     UnlessMemory (AnswersReplay input) r

@@ -151,7 +151,7 @@ most_taken_of order.Migrate = most_taken
 most_taken_of (order.Stamp n) = 0
 most_taken_of (order.StampIn layout n) = 0
 
--- a source was read as far as the order asks, by reads that took so many bytes, and this is the answer to all of them
+-- a source was read as far as the order asks, by reads that took this many bytes, and this is the answer to all of them
 pub record Answers (order : Order) (old new : Option (List ℕ)) (taken : ℕ) (answer : Result Answered ServeFault) :
     Type 0 where
   pub input : List ℕ

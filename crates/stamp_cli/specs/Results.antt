@@ -20,7 +20,7 @@ bytes_of (Err e) = 0
 abbrev pub EachTakes : Results → Type 0
 EachTakes results = All (λ result. takes_none result ≡ false) results
 
--- each one that was made took a byte, and together they took so many
+-- each one that was made took a byte, and together they took this many
 pub record Makes (old new : Results) (bytes : ℕ) : Type 0 where
   pub made : Results
   pub added : new ≡ old ++ made
@@ -52,7 +52,7 @@ LastTakesNone old new = (earlier : Results) × (drop (length old) new ≡ earlie
 abbrev pub ReadsToTheEnd : Results → Results → ℕ → Type 0
 ReadsToTheEnd old new most = LastTakesNone old new ⊎ (taken_since old new ≡ most)
 
--- one read was made; an input, whose length is told, has room for what it took, and grew by it
+-- one read was made; an input, whose length is given, has room for what it took, and grew by it
 pub record ReadsOnce (old new : Results) (room before after : ℕ) (more : Result Bool ServeFault) : Type 0 where
   pub result : Result ℕ Error
   pub added : new ≡ old ++ result ∷ []
@@ -60,7 +60,7 @@ pub record ReadsOnce (old new : Results) (room before after : ℕ) (more : Resul
   pub fault : (more ≡ Err ReadFault) ↔ (is_err result ≡ true)
   pub grown : IfOk more (λ m. (after ≡ before + bytes_of result) × (takes_none result ≡ not m))
 
--- one write was made, and this is what is told of it
+-- one write was made, and this is what is said of it
 pub record WritesOnce (old new : Results) (told : Result ℕ ServeFault) : Type 0 where
   pub result : Result ℕ Error
   pub added : new ≡ old ++ result ∷ []

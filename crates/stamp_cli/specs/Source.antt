@@ -14,7 +14,7 @@ most_reads = 16777217
 abbrev pub most_taken : ℕ
 most_taken = most_bytes + 1
 
--- no more than so many bytes were taken
+-- no more than this many bytes were taken
 abbrev pub TakesAtMost : Option (List ℕ) → Option (List ℕ) → ℕ → Type 0
 TakesAtMost old new most = (taken : List ℕ) × Consumes old new taken × (length taken ≤ most)
 

@@ -9,7 +9,7 @@ use stamp_core::Layout;
 use std::error::Error;
 use std::fmt;
 
-/// What the program is told to do.
+/// What the program is asked to do.
 #[derive(Clone, Copy, Debug, PartialEq, Eq)]
 pub enum Order {
     /// Reads a replay and answers what its calls are replied.

@@ -43,7 +43,7 @@ fn ran(alloc: Global, order: Order, script: &str) -> Result<String, Fail> {
     answered(alloc, order, script.as_bytes())
 }
 
-/// What a script is run to is judged to be ok, with so many entries.
+/// What a script is run to is judged to be ok, with this many entries.
 fn assert_ok(rt: &(impl Abort + AllocGlobal), history: &str, count: usize) -> Result<(), Fail> {
     let line = answered(rt.alloc(), Order::Check, history.as_bytes())?;
     let want = format!(in rt.alloc(); "ok {count}\n")?;

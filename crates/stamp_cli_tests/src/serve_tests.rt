@@ -14,7 +14,7 @@ pub(crate) const INPUT: &[u8] =
 
 pub(crate) const LINE: &[u8] = b"{\"replies\":[256,\"yes\"],\"word\":256}\n";
 
-/// Gives a byte at each read, and fails once so many reads are made.
+/// Gives a byte at each read, and fails once this many reads are made.
 #[derive(Drop)]
 struct Drip<'a> {
     bytes: &'a [u8],
@@ -39,7 +39,7 @@ impl Read for Drip<'_> {
     }
 }
 
-/// Gives so many spaces.
+/// Gives this many spaces.
 #[derive(Drop)]
 struct Spaces {
     left: usize,

@@ -1,4 +1,4 @@
--- A word stands for one writer, or for readers alone.
+-- A word has one writer, or readers alone.
 use Rattle.std.proofs.Common.{◌≡◌, ◌⊎◌, ℕ, arith}
 use Rattle.std.proofs.lemmas.Grind.{common_steps}
 use Rattle.stamp_core.specs.Layout.{Units}

@@ -31,7 +31,7 @@ counts_at l w k (suc zero) r few apart one e =
     rw t cc
 counts_at l w k (suc (suc wr)) r few apart one e = absurd (omega arith)
 
--- a word stands for the counts of all events that it represents
+-- a word has the counts of all events that it represents
 pub counts_in-represented : (limits : Bounds) (word : LockWord) (events : List LockEvent) → AreInRange limits →
     Represents limits word events → counts_in word ≡ counts events
 counts_in-represented limits word events range represented =

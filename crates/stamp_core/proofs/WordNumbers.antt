@@ -80,13 +80,13 @@ represented_by limits n c e by = record {
       };
 }
 
--- a number is the word of the counts that it stands for
+-- a number is the word of its counts
 pub word_of-state : (l : Layout) (n : ℕ) → IsNumber (units_of l) n → n ≡
     word_number (units_of l) (counts_of (units_of l) n)
 unfolding counts_of
 word_of-state l n state = grind (arith, nat_tests, either_layout l)
 
--- what is known of the counts that a number stands for
+-- what is known of a number's counts
 pub record Stands (u : Units) (c : Counts) : Type 0 where
   pub one_writer : c.writers ≤ 1
   pub apart : 0 < c.writers → c.readers ≡ 0

@@ -6,7 +6,7 @@ use Rattle.stamp_core.specs.declared.call.Call.TheVariants.{Get, Put, PutIf}
 use Rattle.stamp_core.specs.declared.reply.Reply.{Reply}
 use Rattle.stamp_core.specs.declared.reply.Reply.TheVariants.{Yes, No, Done, Content}
 
--- what a record of so many words holds at first
+-- what a record of this many words holds at first
 abbrev pub zeros : ℕ → List ℕ
 zeros width = replicate width 0
 

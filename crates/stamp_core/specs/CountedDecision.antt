@@ -1,4 +1,4 @@
--- What a decision is, by the counts that a word's number stands for.
+-- What a decision is, by the counts of a word's number.
 use Rattle.std.specs.Prelude.{ℕ, List, [], ◌∷◌, Option, Some, None}
 use Rattle.stamp_core.specs.LockEvent.{LockEvent, Counts}
 use Rattle.stamp_core.specs.Limits.{Bounds, units}

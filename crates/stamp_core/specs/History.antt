@@ -54,6 +54,6 @@ IsLegalFrom limits events content (e ∷ es) =
     IsReply limits events content e.0 e.1 × IsLegalFrom limits
     (events ++ appended_by (transition limits events e.0)) (content_next content e.0 e.1) es
 
--- so it is from the opening on, with a record of so many words
+-- so it is from the opening on, with a record of this many words
 abbrev pub IsLegal : Bounds → ℕ → History → Type 0
 IsLegal limits width history = IsLegalFrom limits [] (zeros width) history

@@ -6,7 +6,7 @@ use Rattle.stamp_core.specs.declared.layout.Layout.TheVariants.{One, Two}
 pub record Units : Type 0 where
   -- what one write acquisition adds to a number
   pub version : ℕ
-  -- what stands for the writer
+  -- the unit of the writer
   pub writer : ℕ
   -- the most readers, and the most write acquisitions
   pub readers : ℕ

@@ -30,7 +30,7 @@ pub record AreLinearized (limits : Bounds) (width : ℕ) (entries : List Entry) 
 abbrev pub IsLinearized : Recorded → Type 0
 IsLinearized r = AreLinearized r.limits r.width r.entries
 
--- what an entry owes to those before it
+-- what an entry must meet, after those before it
 abbrev pub RisesAbove : List Entry → Entry → Type 0
 RisesAbove before e = (d : Entry) → 0 < length before → (slice_index_or before (length before - 1) d).point < e.point
 

@@ -38,15 +38,15 @@ pub record IsOptimisticStamp (u : Units) (k s : ℕ) : Type 0 where
 abbrev pub IsStamp : Units → ℕ → ℕ → Type 0
 IsStamp u k s = IsWriteStamp u k s ⊎ IsReadStamp u k s ⊎ IsOptimisticStamp u k s
 
--- the stamp stands for the writer that is there
+-- the stamp matches the writer that is there
 abbrev pub IsHeldWrite : Bounds → List LockEvent → ℕ → Type 0
 IsHeldWrite limits events s = IsWriteStamp (units limits) (write_count events) s × (writers events ≡ 1)
 
--- the stamp stands for readers of this version, of whom there are some
+-- the stamp matches readers of this version, of whom there are some
 abbrev pub IsHeldRead : Bounds → List LockEvent → ℕ → Type 0
 IsHeldRead limits events s = IsReadStamp (units limits) (write_count events) s × (0 < readers events)
 
--- the stamp stands for a mode that is held
+-- the stamp matches a mode that is held
 abbrev pub IsHeld : Bounds → List LockEvent → ℕ → Type 0
 IsHeld limits events s = IsHeldWrite limits events s ⊎ IsHeldRead limits events s
 

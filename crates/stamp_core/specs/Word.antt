@@ -18,7 +18,7 @@ word_in layout number = record { layout = layout; bits = number }
 abbrev pub word_at : Bounds → ℕ → LockWord
 word_at limits number = word_in limits.layout number
 
--- the number that stands for these counts
+-- the number of these counts
 abbrev pub word_number : Units → Counts → ℕ
 word_number u c = if c.writers == 0 then u.version * (c.write_count + 1) + c.readers else
     u.version * c.write_count + u.writer

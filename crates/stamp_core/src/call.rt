@@ -19,11 +19,11 @@ pub enum Call {
     Optimistic,
     /// Asks whether write mode was not acquired since the stamp was issued.
     Validate(u64),
-    /// Releases write mode, if the stamp stands for it.
+    /// Releases write mode, if the stamp matches it.
     UnlockWrite(u64),
-    /// Releases one hold of read mode, if the stamp stands for it.
+    /// Releases one hold of read mode, if the stamp matches it.
     UnlockRead(u64),
-    /// Releases what the stamp stands for.
+    /// Releases the mode that the stamp matches.
     Unlock(u64),
     /// Goes on in write mode.
     ToWrite(u64),
@@ -57,7 +57,7 @@ impl Call {
         !matches!(self, Call::Get | Call::Put(_) | Call::PutIf(_, _))
     }
 
-    /// Whether it can be called beside a record of so many words; 0 is no record.
+    /// Whether it can be called beside a record of this many words; 0 is no record.
     pub fn suits(&self, width: u64) -> bool
         ensures { result ≡ call_suits width self.now }
     {

@@ -18,8 +18,8 @@ pub fn legal_is_well_formed()
     ensures { LegalIsWellFormed }
 {}
 
-/// The tests that the transitions go by are the facts that a stamp is valid, stands for the writer,
-/// or stands for readers.
+/// The tests that the transitions go by are the facts that a stamp is valid, matches the writer,
+/// or matches readers.
 pub fn tests_are_exact()
     ensures { TestsAreExact }
 {}

@@ -23,7 +23,7 @@ impl Layout {
         }
     }
 
-    /// What stands for the writer.
+    /// The unit of the writer.
     pub(crate) fn writer_unit(self) -> u64
         ensures { result ≡ (units_of self).writer }
     {

@@ -12,10 +12,10 @@ use crate::word::Word;
 pub enum StampKind {
     /// The stamp of this write acquisition, counted from 1.
     Write(u64),
-    /// A read stamp after so many write acquisitions, and the number of readers that there were with
-    /// the one who got it.
+    /// A read stamp after this many write acquisitions, and the number of readers, with the one who
+    /// got it.
     Read(u64, u64),
-    /// The stamp of an optimistic read after so many write acquisitions.
+    /// The stamp of an optimistic read after this many write acquisitions.
     Optimistic(u64),
     /// No stamp.
     Neither,

@@ -28,7 +28,7 @@ answered bytes replay reading replies word replayed number bits {text} is =
       is = is ∙ ap (λ (n : ℕ). compact_text (replayed_data replies n)) bits;
     })
 
--- a refusal of the reading, handed on
+-- a refusal of the reading, passed on
 pub refused : (bytes : List ℕ) (r : Result (Vec ℕ Global) AnswerError) (e : ReadError) →
     IsErrAnd r (λ f. f ≡ Refused e) → (e ≢ Memory → replay_of bytes ≡ Err e) → Answers bytes r
 refused bytes (Ok text) e handed reading = absurd handed
@@ -36,7 +36,7 @@ refused bytes (Err f) e handed reading = λ other.
     let not_memory : e ≢ Memory = λ m. other (handed ∙ ap Refused m) in
     rw (reading not_memory) handed
 
--- a call that waits, handed on
+-- a call that waits, passed on
 pub waited : (bytes : List ℕ) (replay : Replay) (r : Result (Vec ℕ Global) AnswerError) (f : AnswerError) →
     replay_of bytes ≡ Ok replay → IsErrAnd r (λ g. g ≡ f) → RepliesTo replay.limits replay.calls (Err f) →
     Answers bytes r

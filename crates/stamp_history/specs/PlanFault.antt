@@ -27,7 +27,7 @@ are_short threads = list_all (λ calls. nat_le (length calls) 10000) threads
 abbrev pub are_suited : ℕ → List (List ScriptCall) → Bool
 are_suited width threads = list_all (list_all (suits width)) threads
 
--- the first step that names none of so many threads
+-- the first step that names none of this many threads
 abbrev pub first_unknown : ℕ → List ℕ → Option ℕ
 first_unknown threads steps = position (λ name. nat_le threads name) steps
 

@@ -229,7 +229,7 @@ fn read_reported(alloc: Global, count: usize, value: &Value) -> Result<Vec<(u64,
     pairs_in(alloc, list)
 }
 
-/// The report of so many entries; none where the key is absent.
+/// The report of this many entries; none where the key is absent.
 pub(crate) fn read_report(
     alloc: Global,
     count: usize,

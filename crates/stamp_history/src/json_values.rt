@@ -85,7 +85,7 @@ fn take_member(mut members: Map<String, Value>, key: &str) -> Option<Value>
     members.remove(key)
 }
 
-/// The list under a key, taken out of the value, the rest of which is let go.
+/// The list under a key, taken out of the value, the rest of which is dropped.
 pub(crate) fn take_list(value: Value, key: &str) -> Option<Vec<Value>>
     ensures { option_map (λ list. items_view list.items) result
         ≡ spec.list_under key.now (view value) }

@@ -90,8 +90,8 @@ fn thread_at(alloc: Global, thread: u64, value: Value) -> Result<Vec<ScriptCall>
     }
 }
 
-/// The calls of each thread. Each value is let go once it is read, so that the memory of a thread's
-/// values can serve the next thread's calls.
+/// The calls of each thread. Each value is dropped once it is read, so that its memory can serve the
+/// next thread's calls.
 fn threads_in(alloc: Global, list: Vec<Value>) -> Result<Vec<Vec<ScriptCall>>, ReadError>
     ensures { Gives ReadError.Memory (λ threads. map calls_in threads.items) result
         (each field.thread_at 0 (items_view list.items)) }

@@ -132,7 +132,7 @@ fn an_entry_is_refused_by_its_position(rt: HostRuntime) -> Result<(), Fail> {
     Ok(())
 }
 
-/// A history of so many items, none of which is an entry.
+/// A history of this many items, none of which is an entry.
 fn zeros(alloc: Global, count: usize) -> Result<Vec<u8>, AllocError> {
     let mut text = Vec::new(alloc);
     text.extend_from_slice(br#"{"format":1,"readers":1,"versions":0,"width":0,"entries":[0"#)?;

@@ -231,7 +231,7 @@ fn json_is_read_to_a_depth_of_127(rt: HostRuntime) -> Result<(), Fail> {
     Ok(())
 }
 
-/// A replay of so many items, none of which is a call.
+/// A replay of this many items, none of which is a call.
 fn zeros(alloc: Global, count: usize) -> Result<Vec<u8>, AllocError> {
     let mut text = Vec::new(alloc);
     text.extend_from_slice(b"{\"readers\":1,\"versions\":0,\"calls\":[0")?;

@@ -330,7 +330,7 @@ fn the_first_fault_of_the_fields_is_told(rt: HostRuntime) {
     );
 }
 
-/// A script of so many threads of so many calls, and of so many steps.
+/// A script of this many threads of this many calls, and of this many steps.
 fn script_text(
     alloc: Global,
     threads: usize,

@@ -148,7 +148,7 @@ after-reserved plan old mid made same after =
       stamps = λ t. same.stamps t ∙ after.stamps t;
     }
 
--- what is told of a step, and what it left
+-- what is reported of a step, and what it left
 going : (plan : Scripted) (old new : State) (made t : ℕ) → old.entries.items ≡ [] →
     calls_until plan (made + 1) ≡ calls_until plan made ++ new.entries.items →
     calls_until plan made ++ new.entries.items ≡ calls_until plan made ++ old.entries.items →

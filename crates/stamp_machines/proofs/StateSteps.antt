@@ -121,7 +121,7 @@ report-begun plan world mid t b s e m is =
     told-begun plan world t b (Going m) r = r
     told-begun plan world t b (Done q) r = r
 
--- what is told, without the entry
+-- what is reported, without the entry
 has-report : (plan : Scripted) (world : World) (t : ℕ) (s : Stepped) → Reports plan world t s →
     HasReport plan world t (progress_of s)
 has-report plan world t Idle r = r

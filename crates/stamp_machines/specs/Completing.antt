@@ -1,11 +1,11 @@
--- How far the finished calls of a script have been handed on.
+-- How far the finished calls of a script have been passed on.
 use Rattle.std.specs.Prelude.{◌≡◌, ℕ, ◌+◌, ◌<◌, ◌≤◌, List, Option, Some, None, length, drop}
 use Rattle.std.specs.Prelude.{slice_get}
 use Rattle.stamp_core.specs.declared.entry.Entry.{Entry}
 use Rattle.stamp_machines.specs.Script.{Scripted}
 use Rattle.stamp_machines.specs.World.{completed_calls}
 
--- the script, how many of its steps were made, the entry handed on last, and those to come
+-- the script, how many of its steps were made, the entry passed on last, and those to come
 pub record Completing : Type 0 where
   pub plan : Scripted
   pub made : ℕ
@@ -22,7 +22,7 @@ abbrev pub steps_until : Scripted → Option Entry → ℕ
 steps_until plan None = length plan.steps
 steps_until plan (Some e) = e.last + 1
 
--- where the first of those to come has been handed on, if there is one
+-- where the first of those to come has been passed on, if there is one
 abbrev pub after_next : Completing → Completing
 after_next c =
     record {

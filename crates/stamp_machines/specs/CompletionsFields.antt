@@ -11,7 +11,7 @@ use Rattle.stamp_machines.specs.declared.state.Progress.{Progress}
 use Rattle.stamp_machines.specs.declared.state.Progress.TheVariants.{Idle, Going, Ended}
 use Rattle.stamp_machines.specs.declared.completions.Completions.TheInside.{Inside}
 
--- what so many of the script's steps finish, and what the later ones do
+-- what this many of the script's steps finish, and what the later ones do
 abbrev pub calls_until : Scripted → ℕ → List Entry
 calls_until plan made = completed_calls plan (take made plan.steps)
 
@@ -39,7 +39,7 @@ pub record IsAfter (plan : Scripted) (s : State) (made : ℕ) : Type 0 where
   pub workers : vec_len s.workers ≡ length plan.threads
   pub stamps : (t : ℕ) → stamps_at s.workers.items t ≡ stamps_of t (calls_until plan made)
 
--- what is to come after a step that is told so
+-- what is to come after a step that is reported so
 abbrev pub HandsOn : Scripted → State → ℕ → Progress → Type 0
 HandsOn plan s made Ended =
     completing_at plan s (made + 1) ≡ after_next (completing_at plan s made)

@@ -62,7 +62,7 @@ StepsBoundedAlways =
     All (λ (e : Entry). NeverWaits e.call → own_steps names e ≤ interference plan names e + 2)
     (completed_calls plan names)
 
--- One that is still under way has made fewer than so many, at every position.
+-- One that is still under way has made fewer than this many, at every position.
 abbrev pub UnderWayBoundedAlways : Type 0
 UnderWayBoundedAlways =
     (plan : Scripted) (names : List ℕ) (thread : ℕ) (b : Begun) → IsSound plan →

@@ -43,7 +43,7 @@ pub record Kept (plan : Scripted) (world : World) : Type 0 where
   pub legal : IsLegal plan.limits plan.width (history_of world.entries)
   -- the lock word represents the events of this history
   pub represented : RepresentsAt plan.limits (slice_index world.words 0) (events_in plan world)
-  -- the record's lock and its words stand for the content of this history
+  -- the record's lock and its words are those of the content of this history
   pub record_kept : RecordKept (record_limits (shape_of plan)) (slice_index world.words 1)
       (drop 2 world.words) (content_in plan world) (map doing_in world.begun)
   pub width : length (content_in plan world) ≡ plan.width

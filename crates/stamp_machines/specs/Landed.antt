@@ -46,13 +46,13 @@ told_at thread position b (turned.Done reply) =
 abbrev pub turn_on : Begun → List ℕ → Turn
 turn_on b words = after_access b.machine (seen_by (next_access b.machine) words)
 
--- with the entry that is told, if one is
+-- with the entry that is reported, if one is
 abbrev pub entries_with : List Entry → Stepped → List Entry
 entries_with entries Idle = entries
 entries_with entries Going = entries
 entries_with entries (Ended e) = entries ++ e ∷ []
 
--- the words, the call that the thread is in, its stamps, the entries and what is told, after the
+-- the words, the call that the thread is in, its stamps, the entries and what is reported, after the
 -- access
 pub record Landed (b : Begun) (thread position : ℕ) (words stamps : List ℕ) (entries : List Entry)
     (words' : List ℕ) (begun' : Option Begun) (stamps' : List ℕ) (entries' : List Entry)

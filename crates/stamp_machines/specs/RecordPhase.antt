@@ -29,7 +29,7 @@ pub data Place : Type 0 where
   Locking : Errand → Option ℕ → Place  -- a lock phase, with the word that it decided on
   Reading : ℕ → List ℕ → Place  -- under a read stamp
   Checking : ℕ → List ℕ → Place  -- under a write stamp, of a put_if
-  Storing : ℕ → ℕ → Place  -- under a write stamp, so many words stored
+  Storing : ℕ → ℕ → Place  -- under a write stamp, this many words stored
   Releasing : ℕ → Reply → Place
 
 pub data PlaceTurn : Type 0 where

@@ -12,7 +12,7 @@ use Rattle.stamp_machines.specs.declared.state.State.{State}
 use Rattle.stamp_machines.specs.declared.state.Progress.{Progress}
 use Rattle.stamp_machines.specs.Progress.{progress_of}
 
--- the schedule's world after the access, the stamps, and what is told
+-- the schedule's world after the access, the stamps, and what is reported
 pub record StateLanded (gone : List Entry) (b : Begun) (thread position : ℕ)
     (old new : State) (progress : Progress) : Type 0 where
   pub world : world_at gone new (position + 1)

@@ -14,7 +14,7 @@ use Rattle.stamp_machines.specs.Access.{words_after, seen_by}
 use Rattle.stamp_machines.specs.MachineState.{start}
 use Rattle.stamp_machines.specs.Machine.{next_access, after_access}
 
--- the words and the turn after so many accesses, or after fewer where it has ended
+-- the words and the turn after this many accesses, or after fewer where it has ended
 abbrev pub alone : ℕ → List ℕ → Turn → List ℕ × Turn
 alone zero words turn = (words, turn)
 alone (suc n) words (Done reply) = (words, Done reply)

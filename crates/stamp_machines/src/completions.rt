@@ -11,7 +11,7 @@ use std::alloc::{AllocError, Global};
 use std::marker::Model;
 
 /// The finished calls of a script that is run by its own steps, in the order of their last steps:
-/// the entries of `run`, handed on one at a time. `advance` runs on to the next one, and `get` has
+/// the entries of `run`, one at a time. `advance` runs on to the next one, and `get` has
 /// it until then. No other entry is kept: of a call before it there is only the stamp that it
 /// answered.
 #[derive(Drop)]

@@ -55,7 +55,7 @@ impl From<AllocError> for RunError {
     }
 }
 
-/// A run of a script's threads. Which of them makes the next step is told to `step`; the steps that
+/// A run of a script's threads. `step` is given which of them makes the next step; the steps that
 /// the script itself lists are for `run` alone. `finished` has the entries so far, of which
 /// `Record::of` makes a record.
 #[derive(Drop)]
@@ -116,7 +116,7 @@ impl<'a> Run<'a> {
         Ok(self.told(progress))
     }
 
-    /// One access, told without the entry of the call that has ended by it: it is the last one.
+    /// One access, reported without the entry of the call that has ended by it: it is the last one.
     #[inline(always)]
     fn moved(&mut self, thread: u64) -> Result<Progress, RunError>
         requires { thread < length self.old.plan.threads }
@@ -145,7 +145,7 @@ impl<'a> Run<'a> {
         self.state.told(progress)
     }
 
-    /// One access, of which only the refusal is told.
+    /// One access, of which only the refusal is reported.
     #[inline(always)]
     pub(crate) fn advance(&mut self, thread: u64) -> Result<(), RunError>
         requires { thread < length self.old.plan.threads }

@@ -156,7 +156,7 @@ fn agrees(
     Ok(run.finished().len())
 }
 
-/// Puts the name so many times more.
+/// Puts the name this many times more.
 fn name_again(names: &mut Vec<u64>, name: u64, count: usize) -> Result<(), AllocError> {
     for _ in 0..count {
         names.push(name)?;

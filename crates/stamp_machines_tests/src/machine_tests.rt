@@ -28,7 +28,7 @@ fn idle_threads(alloc: Global, count: usize) -> Result<Vec<Vec<ScriptCall>>, Fai
     Ok(threads)
 }
 
-/// One thread with so many calls.
+/// One thread with this many calls.
 fn busy_thread(
     alloc: Global,
     call: &ScriptCall,
@@ -43,7 +43,7 @@ fn busy_thread(
     Ok(threads)
 }
 
-/// The first thread's name, so many times.
+/// The first thread's name, this many times.
 fn zeros(alloc: Global, count: usize) -> Result<Vec<u64>, Fail> {
     let mut steps = Vec::new(alloc);
     for _ in 0..count {

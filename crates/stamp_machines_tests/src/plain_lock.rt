@@ -119,7 +119,7 @@ impl PlainLock {
         })
     }
 
-    /// Releases write mode if the stamp stands for it, and tells whether it did.
+    /// Releases write mode if the stamp matches it, and says whether it did.
     fn end_write(&mut self, stamp: u64) -> bool {
         let is_ended = self.is_writing && stamp == self.write_stamp();
         if is_ended {
@@ -128,7 +128,7 @@ impl PlainLock {
         is_ended
     }
 
-    /// Releases one hold of read mode if the stamp stands for it, and tells whether it did.
+    /// Releases one hold of read mode if the stamp matches it, and says whether it did.
     fn end_read(&mut self, stamp: u64) -> bool {
         let is_ended = self.readers > 0 && self.is_read_stamp(stamp);
         if is_ended {

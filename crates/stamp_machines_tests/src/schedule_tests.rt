@@ -30,7 +30,7 @@ fn stepped_through<'a>(
     Ok(run)
 }
 
-/// How many of the script's steps there are until so many calls have finished.
+/// How many of the script's steps there are until this many calls have finished.
 fn steps_until(alloc: Global, script: &Script, calls: usize) -> Result<usize, RunError> {
     let mut run = Run::start(alloc, script)?;
     for name in script.steps() {
@@ -42,7 +42,7 @@ fn steps_until(alloc: Global, script: &Script, calls: usize) -> Result<usize, Ru
     Ok(run.steps().len())
 }
 
-/// The entries that are handed on, one at a time.
+/// The entries that are passed on, one at a time.
 fn handed_on(alloc: Global, script: &Script) -> Result<Vec<Entry>, Fail> {
     let mut completions = Completions::start(alloc, script)?;
     let mut entries = Vec::new(alloc);
@@ -63,7 +63,7 @@ fn handed_on(alloc: Global, script: &Script) -> Result<Vec<Entry>, Fail> {
     }
 }
 
-/// Run whole, run with a report, handed on and stepped through, the script has these entries, and
+/// Run whole, run with a report, passed on and stepped through, the script has these entries, and
 /// this word.
 fn ends_with(
     rt: &impl Abort,

@@ -219,7 +219,7 @@ splits_part enterable P shape id me is idle still =
     (sym (ap (λ (m : Seated). m.0) is))
     (part_kept P shape id (first_of me.0) (second_of me.0) idle still)
 
--- a load by a seat that stands for two
+-- a load by a seat that holds two
 pub allows_meet : (enterable : Bool) (P : List ℕ → Type 0) (shape : RecordShape) (slots id : ℕ) (me : Seated) →
     me ≡ both (first_of me.0) (second_of me.0) → (first_of me.0).phase ≡ Idle →
     (second_of me.0).phase ≡ Idle →

@@ -78,7 +78,7 @@ module _ {enterable : Bool} (limits : Bounds) (s : State (Unit {0}) (List LockPa
         log' grows (λ _ f. f));
   }
 
--- the rule, and what the pass knows, after a step of a seat that stands for one
+-- the rule, and what the pass knows, after a step of a seat that holds one
 abbrev Steps : Bool → (limits : Bounds) (s : State (Unit {0}) (List LockPass)) → ℕ → ℕ →
     List (Option (Unit {0})) → LockPass → Type 0
 Steps enterable limits s id word homes w = IsKept enterable limits
@@ -260,7 +260,7 @@ allows_exchange limits call slots id me old new reply lock is changes s r _ at _
     (at ∙ ap (λ (m : Me (Unit {0}) (List LockPass)). some m.0) is) changes
     (eqb (get_or s.words 0 0) old) refl
 
--- a load by a seat that stands for two
+-- a load by a seat that holds two
 pub allows_meet : {enterable : Bool} (limits : Bounds) (slots id : ℕ) (me : Me (Unit {0}) (List LockPass)) →
     me ≡ both (first_of me.0) (second_of me.0) →
     Allows (IsKept enterable limits) slots id me 0 (λ n. n) (MeetTells limits (step slots 0 0 0 none) me)

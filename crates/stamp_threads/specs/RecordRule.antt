@@ -161,7 +161,7 @@ module _ (shape : RecordShape) (v : RecordPassView) (found : ℕ) (me : Seated) 
     pub others : is_locked log ≡ true → marker_in log ≢ v.name
     pub consistent : IsConsistentWith shape.width (stopping (finding v found) log)
 
--- a load by a seat that stands for two passes
+-- a load by a seat that holds two passes
 pub record Met (shape : RecordShape) (v w : RecordPassView) (me : Seated) : Type 0 where
   pub log : RecordLog
   pub first_begins : IsPrefix v.observed log

@@ -1,4 +1,4 @@
--- Where passes stand. The view of a seat of the table is the list of the passes that it stands for:
+-- Where passes stand. The view of a seat of the table is the list of the passes that it holds:
 -- one, and two while they meet.
 use Rattle.std.specs.Prelude.{◌≡◌, ℕ, List, [], ◌∷◌}
 use mathlib.Core.Option.{some}
@@ -36,10 +36,10 @@ module _ {E P : Type 0} where
   second_of phase (v ∷ vs) = first_of phase vs
 
 module _ {V : Type 0} where
-  -- the seat stands for this pass alone, and holds no slot
+  -- the seat holds this pass alone, and no slot
   abbrev pub alone : V → Me (Unit {0}) (List V)
   alone v = (v ∷ [], [])
 
-  -- the seat stands for both
+  -- the seat holds both
   abbrev pub both : V → V → Me (Unit {0}) (List V)
   both v w = (v ∷ w ∷ [], [])

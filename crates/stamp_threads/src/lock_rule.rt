@@ -5,7 +5,7 @@ use stamp_core::{Call, Limits, Reply};
 use std::collections::LinkedList;
 use std::marker::{Brand, PhantomData};
 
-/// The passes that a seat of the table stands for: one, and two while they meet.
+/// The passes that a seat of the table holds: one, and two while they meet.
 pub type Passes = LinkedList<PassView<(Call, Reply), ()>>;
 
 /// What the rule of a lock reads: its limits, and whether passes may enter.
@@ -67,7 +67,7 @@ impl<C: StepFor> Play<(), Passes> for ExchangeStep<C> {
     ghost then = { ExchangeTells C.limits C.call };
 }
 
-/// A load by a seat that stands for two passes.
+/// A load by a seat that holds two passes.
 pub struct MeetStep<C> {
     of: PhantomData<C>,
 }

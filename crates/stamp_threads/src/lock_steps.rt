@@ -85,7 +85,7 @@ pub fn split(table: &LockTable, seat: &mut LockSeat) -> LockSeat
     table.split_seat::<GivePass>(seat)
 }
 
-/// A load by a seat that stands for two passes: it tells that both had observed beginnings of one
+/// A load by a seat that holds two passes: it shows that both had observed beginnings of one
 /// history.
 pub fn load_both<C: StepFor>(table: &LockTable, seat: &mut LockSeat)
     requires step { C.limits ≡ table.now.key.limits }

@@ -136,7 +136,7 @@ impl<C: WordsStep> Play<(), RecordPasses> for EnterRecordStep<C> {
     ghost then = { EnterTells C.shape };
 }
 
-/// A load by a seat that stands for two passes.
+/// A load by a seat that holds two passes.
 pub struct MeetRecordStep<C> {
     of: PhantomData<C>,
 }

@@ -200,7 +200,7 @@ pub fn share_seat<P: ContentRule>(table: &RecordTable<P>, seat: &mut RecordSeat,
     table.join_seat::<ShareSeat>(seat, other);
 }
 
-/// A load by a seat that stands for two passes: it tells that both had observed beginnings of one
+/// A load by a seat that holds two passes: it shows that both had observed beginnings of one
 /// history.
 pub fn load_both<C: WordsStep, P: ContentRule>(table: &RecordTable<P>, seat: &mut RecordSeat)
     requires step { C.shape ≡ table.now.key.shape }

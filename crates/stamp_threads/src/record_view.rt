@@ -31,18 +31,18 @@ pub enum RecordEvent {
 pub enum RecordPhase {
     /// Between two calls.
     Idle,
-    /// It has write mode after so many puts, and has stored so many of the words.
+    /// It has write mode after this many puts, and has stored this many of the words.
     Writing {
         version: u64,
         words: LinkedList<u64>,
         stored: u64,
     },
-    /// It began to read after so many puts, and has loaded these words.
+    /// It began to read after this many puts, and has loaded these words.
     Reading {
         version: u64,
         words: LinkedList<u64>,
     },
 }
 
-/// The passes that a seat of the table stands for: one, and two while they meet.
+/// The passes that a seat of the table holds: one, and two while they meet.
 pub type RecordPasses = LinkedList<PassView<RecordEvent, RecordPhase>>;

@@ -78,7 +78,7 @@ fn row_of(lock_word: u64, words: &[u64]) -> [u64; 17]
 
 impl RuledRecord<AnyContent> {
     /// A record of zeros, and its first pass, of which all others are split off. Of the limits only
-    /// the layout and the versions count: so many puts it will take in all. It refuses only for want
+    /// the layout and the versions count: it takes this many puts in all. It refuses only for want
     /// of memory.
     pub fn new(
         alloc: Global,

@@ -12,7 +12,7 @@ use std::sync::{Condvar, Mutex, Wait};
 #[derive(Drop)]
 pub struct Shared {
     book: Mutex<Book>,
-    /// Waited on by calls that wait, and told of each change of the word.
+    /// Waited on by calls that wait, and notified of each change of the word.
     changed: Condvar,
 }
 

@@ -15,7 +15,7 @@ pub fn opened(alloc: Global, most: u64) -> Result<Book, Fail>
     Ok(Book::new(alloc, limits, most))
 }
 
-/// Whether the book has this word, and so many entries.
+/// Whether the book has this word, and this many entries.
 fn is_at(book: &Book, word: u64, entries: usize) -> bool {
     book.word().bits() == word && book.entries().len() == entries
 }

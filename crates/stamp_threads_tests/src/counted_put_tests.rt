@@ -46,7 +46,7 @@ fn puts_are_made_until_no_version_is_left(rt: HostRuntime) -> Result<(), Fail> {
     Ok(())
 }
 
-/// Returns once so many threads are here, or after a while.
+/// Returns once this many threads are here, or after a while.
 fn start_with_others(here: &AtomicU64, threads: u64) {
     here.fetch_add(1, Ordering::SeqCst);
     for _ in 0..1_000_000u64 {
@@ -58,7 +58,7 @@ fn start_with_others(here: &AtomicU64, threads: u64) {
 }
 
 /// Puts again and again, in turns with others, until no version is left: how many puts were made,
-/// and the refusal at the end, or none after so many tries.
+/// and the refusal at the end, or none after this many tries.
 fn put_until_spent(
     shared: &RunningRecord,
     mut pass: RecordPass,

@@ -90,7 +90,7 @@ fn a_record_of_one_word(rt: HostRuntime) -> Result<(), Fail> {
     Ok(())
 }
 
-/// Whether a record of so many words gives what was put, by both gets.
+/// Whether a record of this many words gives what was put, by both gets.
 fn gives_every_word(alloc: Global, width: usize) -> Result<bool, Fail>
     requires { (1 ≤ width) × (width ≤ 16) }
 {

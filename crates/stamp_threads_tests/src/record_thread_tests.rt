@@ -14,7 +14,7 @@ use std::thread::{Threads, join};
 struct Found {
     /// The last content of either writer: twice its number, and 1 more of the second writer.
     last: [u64; 2],
-    /// The last lock word that a refusal told.
+    /// The last lock word that a refusal gave.
     word: u64,
     /// Each content was put whole, and neither contents nor lock words ever fell.
     is_right: bool,
@@ -56,7 +56,7 @@ impl Found {
     }
 }
 
-/// Tries so many gets, and says whether what they found was right.
+/// Tries this many gets, and says whether what they found was right.
 fn gets(shared: &RunningRecord, mut pass: RecordPass, tries: u64) -> (bool, RecordPass)
     requires { pass.table ≡ shared.now.table }
     ensures { result.1.table ≡ shared.now.table }
@@ -71,7 +71,7 @@ fn gets(shared: &RunningRecord, mut pass: RecordPass, tries: u64) -> (bool, Reco
     (found.is_right, pass)
 }
 
-/// Two readers of so many tries each, whose passes meet.
+/// Two readers of this many tries each, whose passes meet.
 fn two_readers<R: Threads + Sync>(
     rt: &R,
     shared: &RunningRecord,
@@ -92,7 +92,7 @@ fn two_readers<R: Threads + Sync>(
     (a && b, first)
 }
 
-/// Tries so many puts, each of sixteen times the same number: twice the try, and 1 more of the
+/// Tries this many puts, each of sixteen times the same number: twice the try, and 1 more of the
 /// second writer. Gives the last one that was made.
 fn puts(shared: &RunningRecord, mut pass: RecordPass, writer: u64) -> (u64, RecordPass)
     requires { (pass.table ≡ shared.now.table) × (shared.now.shape.width ≡ 16) }
@@ -127,7 +127,7 @@ fn two_writers<R: Threads + Sync>(
     ((a, b), first)
 }
 
-/// Three readers of so many tries each, whose passes meet.
+/// Three readers of this many tries each, whose passes meet.
 fn three_readers<R: Threads + Sync>(
     rt: &R,
     shared: &RunningRecord,
@@ -238,8 +238,8 @@ fn put_beside(shared: &RunningRecord, mut pass: RecordPass, is_over: &AtomicBool
     }
 }
 
-/// Gets until it was refused both ways, or so many times; whether it was. A get that finds a writer
-/// lets it go on, in case it was stopped in its put.
+/// Gets until it was refused both ways, or often enough; whether it was. A get that finds a writer
+/// yields to it, in case it was stopped in its put.
 fn get_until_refused(shared: &RunningRecord, mut pass: RecordPass, is_over: &AtomicBool) -> bool
     requires { pass.table ≡ shared.now.table }
 {
@@ -257,7 +257,7 @@ fn get_until_refused(shared: &RunningRecord, mut pass: RecordPass, is_over: &Ato
     seen.are_both()
 }
 
-/// Puts until it was refused both ways, or so many times; whether it was.
+/// Puts until it was refused both ways, or this many times; whether it was.
 fn put_until_refused(shared: &RunningRecord, mut pass: RecordPass, is_over: &AtomicBool) -> bool
     requires { (pass.table ≡ shared.now.table) × (shared.now.shape.width ≡ 16) }
 {

@@ -136,8 +136,8 @@ impl<'a> LockHandle<'a> {
         test_in(self.make_surely(Call::Validate(stamp.number())))
     }
 
-    /// Releases write mode (`unlockWrite`). `Mismatch` where the stamp doesn't stand for it: the lock
-    /// is as it was. It never waits, and tries nothing again: while the stamp stands for write mode,
+    /// Releases write mode (`unlockWrite`). `Mismatch` where the stamp doesn't match it: the lock
+    /// is as it was. It never waits, and tries nothing again: while the stamp matches write mode,
     /// nobody else can change the lock but by releasing it.
     #[inline(always)]
     pub fn unlock_write(&mut self, stamp: Stamp) -> Result<(), Mismatch>
@@ -146,7 +146,7 @@ impl<'a> LockHandle<'a> {
         release_in(self.make_surely(Call::UnlockWrite(stamp.number())))
     }
 
-    /// Releases one hold of read mode (`unlockRead`). `Mismatch` where the stamp doesn't stand for one:
+    /// Releases one hold of read mode (`unlockRead`). `Mismatch` where the stamp doesn't match one:
     /// the lock is as it was.
     pub fn unlock_read<R: Wait>(&mut self, rt: &R, stamp: Stamp) -> Result<(), Mismatch>
         ensures { Made (UnlockRead stamp) (released result) self.old self.new }
@@ -154,7 +154,7 @@ impl<'a> LockHandle<'a> {
         release_in(self.make(rt, Call::UnlockRead(stamp.number())))
     }
 
-    /// Releases the mode that the stamp stands for (`unlock`). `Mismatch` where it stands for none that
+    /// Releases the mode that the stamp matches (`unlock`). `Mismatch` where it matches none that
     /// is held: the lock is as it was.
     pub fn unlock<R: Wait>(&mut self, rt: &R, stamp: Stamp) -> Result<(), Mismatch>
         ensures { Made (Unlock stamp) (released result) self.old self.new }
@@ -181,7 +181,7 @@ impl<'a> LockHandle<'a> {
         stamp_in(self.make(rt, Call::ToRead(stamp.number())))
     }
 
-    /// Releases the mode that the stamp stands for, and answers an optimistic stamp
+    /// Releases the mode that the stamp matches, and answers an optimistic stamp
     /// (`tryConvertToOptimisticRead`); a valid optimistic stamp is answered itself. None otherwise: the
     /// lock is as it was. It waits for no holder.
     pub fn try_convert_to_optimistic<R: Wait>(&mut self, rt: &R, stamp: Stamp) -> Option<Stamp>

@@ -2,7 +2,7 @@
 use std::error::Error;
 use std::fmt;
 
-/// The stamp doesn't stand for a mode that is held (`IllegalMonitorStateException` in Java). The lock
+/// The stamp matches no mode that is held (`IllegalMonitorStateException` in Java). The lock
 /// is as it was.
 #[derive(Clone, Copy, PartialEq, Eq, Debug, Drop)]
 pub struct Mismatch;

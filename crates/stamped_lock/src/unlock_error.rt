@@ -10,7 +10,7 @@ use std::fmt;
 /// Why a release that is tried once was not made. The lock is as it was.
 #[derive(Clone, Copy, PartialEq, Eq, Debug, Drop)]
 pub enum UnlockError {
-    /// 1: the stamp doesn't stand for a mode that is held.
+    /// 1: the stamp matches no mode that is held.
     Mismatch,
     /// 2: another thread changed the lock in between. The call can be made again.
     Lost(Lost),

@@ -51,7 +51,7 @@ abbrev pub next_run : Bounds → Run → Option Call → Run
 next_run limits run (Some call) = taken run (decision limits run.number call)
 next_run limits run None = run
 
--- after so many calls
+-- after this many calls
 unfoldable pub run_after : Bounds → ℕ → Run
 run_after limits zero = run_start limits
 run_after limits (suc n) = let run = run_after limits n in next_run limits run (slice_get (cycle run.stamp) (n % TURNS))

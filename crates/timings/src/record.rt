@@ -112,7 +112,7 @@ fn sixteen_words<R: Eprint + Clock>(
     Ok(())
 }
 
-/// Gets by handles of a record, under the name that is given, and the same handed on.
+/// Gets by handles of a record, under the name that is given, and the same passed to a function.
 fn by_handle<const N: usize, R: Eprint + Clock>(
     rt: &R,
     names: (&str, &str),

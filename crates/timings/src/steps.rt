@@ -1,7 +1,7 @@
 //! Times the steps of a run: a script of 64 threads, built in memory.
 //!
 //! `steps [STEPS [WIDTH]]`: with a WIDTH of 0, or none, the calls are those of the lock; else they
-//! are gets and puts of a record of so many words.
+//! are gets and puts of a record of this many words.
 mod mix;
 mod run;
 mod sum;

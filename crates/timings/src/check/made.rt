@@ -63,7 +63,7 @@ fn answered(limits: Limits, width: u64, at: At, turn: u64) -> Option<(At, Call, 
     Some((next, call, reply))
 }
 
-/// The record of so many calls of 64 threads, without those that wait.
+/// The record of this many calls of 64 threads, without those that wait.
 pub fn record_of(
     alloc: Global,
     limits: Limits,

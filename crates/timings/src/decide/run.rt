@@ -61,7 +61,7 @@ impl Run {
     }
 }
 
-/// Makes so many calls from the opening word. One that waits is passed over.
+/// Makes this many calls from the opening word. One that waits is passed over.
 pub fn run_of(limits: Limits, calls: u64) -> Run
     ensures { result ≡ run_after limits calls }
 {

@@ -8,7 +8,7 @@ use std::thread::{Threads, join};
 /// How many pairs a thread validates before it acquires read mode once.
 const BETWEEN: u64 = 1_024;
 
-/// Validates so many pairs, with a read lock after each 1,024 of them.
+/// Validates this many pairs, with a read lock after each 1,024 of them.
 fn validated(lock: &RunningLock, mut pass: Pass, pairs: u64) -> (u64, Pass)
     requires { pass.table ≡ lock.now.table }
     ensures { result.1.table ≡ lock.now.table }
@@ -90,7 +90,7 @@ fn validated_by_four<R: Threads + Sync>(
     (a.wrapping_add(b), first)
 }
 
-/// Up to four threads that validate so many pairs each; how many pairs succeeded.
+/// Up to four threads that validate this many pairs each; how many pairs succeeded.
 pub fn validated_by<R: Threads + Sync>(
     rt: &R,
     lock: &RunningLock,

@@ -57,7 +57,7 @@ pub fn gets<const N: usize>(mut handle: RecordHandle<'_, N, AnyContent>, calls: 
     used(&mut handle, calls)
 }
 
-/// Gets whose words are handed on.
+/// Gets whose words are passed to a function.
 #[inline(never)]
 pub fn gets_handed<const N: usize>(mut handle: RecordHandle<'_, N, AnyContent>, calls: u64) -> u64
     requires { N ≤ 16 }

@@ -33,7 +33,7 @@ const CALLS: u64 = 10_000;
 /// How many calls of the lock there are before they come again.
 const TURNS: u64 = 13;
 
-/// The stamp of the thread's call that is so many calls before this one.
+/// The stamp of the thread's call that is this many calls before this one.
 fn before(thread: u64, index: u64, calls: u64) -> Arg {
     Arg::Of(thread, index.saturating_sub(calls))
 }
@@ -127,7 +127,7 @@ fn names_of(alloc: Global, steps: u64, turn: u64) -> Result<Vec<u64>, AllocError
     Ok(names)
 }
 
-/// A script of 64 threads and so many steps.
+/// A script of 64 threads and this many steps.
 pub fn script_of(alloc: Global, steps: u64, width: u64) -> Result<Script, MixError> {
     if steps > 1_000_000 || width > 16 {
         return Err(MixError::Script);

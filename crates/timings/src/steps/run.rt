@@ -13,7 +13,7 @@ fn ended(stepped: &Stepped) -> Option<Call> {
     }
 }
 
-/// One step, of which only the refusal is told.
+/// One step, of which only the refusal is reported.
 fn advance(run: &mut Run<'_>, thread: u64) -> Result<(), RunError>
     requires { thread < length run.old.plan.threads }
     ensures { OnOk result (run.new ≡ record run.old { names = run.old.names ++ thread ∷ [] }) }
