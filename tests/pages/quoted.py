@@ -1,24 +1,31 @@
-"""Fails unless each Rust block of docs/EXAMPLES.md stands word for word in a source of the examples.
+"""Fails unless each block of code on the pages stands word for word in a source of their crates.
 
     quoted.py
 
-Run at the top of the repository. A block of a method is quoted without the indentation of its `impl`."""
+Run at the top of the repository. Blocks of Rust stand in `src`, blocks of antt in `proofs`. A block of a
+method is quoted without the indentation of its `impl`."""
 import glob
 import re
 import sys
 import textwrap
 
-PAGE = "docs/EXAMPLES.md"
-CRATES = ["point", "price_board", "recorded_run"]
-BLOCK = re.compile(r"^```rust\n(.*?)^```$", re.DOTALL | re.MULTILINE)
+PAGES = {
+    "README.md": ["counter"],
+    "docs/EXAMPLES.md": ["point", "price_board", "recorded_run"],
+    "docs/TOUR.md": ["stamp_machines_tests", "stamp_threads_tests"],
+}
+BLOCK = re.compile(r"^```(rust|antt)\n(.*?)^```$", re.DOTALL | re.MULTILINE)
+SOURCES = {"rust": "src/**/*.rt", "antt": "proofs/**/*.antt"}
 
 
-def sources_of(crate):
-    texts = []
-    for path in sorted(glob.glob(f"crates/{crate}/src/*.rt")):
-        with open(path, encoding="utf-8") as file:
-            texts.append("\n" + file.read())
-    return texts
+def text_of(path):
+    with open(path, encoding="utf-8") as file:
+        return file.read()
+
+
+def sources_of(crate, language):
+    paths = glob.glob(f"crates/{crate}/{SOURCES[language]}", recursive=True)
+    return ["\n" + text_of(path) for path in sorted(paths)]
 
 
 def stands_in(block, texts):
@@ -27,20 +34,22 @@ def stands_in(block, texts):
     return any(form in text for form in forms for text in texts)
 
 
-def main():
-    with open(PAGE, encoding="utf-8") as file:
-        blocks = BLOCK.findall(file.read())
-    found = {crate: 0 for crate in CRATES}
-    for block in blocks:
-        crates = [crate for crate in CRATES if stands_in(block, sources_of(crate))]
+def check_page(page, names):
+    blocks = BLOCK.findall(text_of(page))
+    quoted = set()
+    for language, block in blocks:
+        crates = [name for name in names if stands_in(block, sources_of(name, language))]
         if not block.strip() or not crates:
-            sys.exit(f"{PAGE} quotes what stands in no example:\n{block}")
-        for crate in crates:
-            found[crate] += 1
-    for crate, count in found.items():
-        if count == 0:
-            sys.exit(f"{PAGE} quotes nothing of {crate}")
-    print(f"{PAGE}: {len(blocks)} quotes, each in its source")
+            sys.exit(f"{page} quotes what stands in none of {' '.join(names)}:\n{block}")
+        quoted.update(crates)
+    if quoted != set(names):
+        sys.exit(f"{page} quotes nothing of {' '.join(sorted(set(names) - quoted))}")
+    print(f"{page}: quotes found in their sources: {len(blocks)}")
+
+
+def main():
+    for page, names in PAGES.items():
+        check_page(page, names)
 
 
 main()
