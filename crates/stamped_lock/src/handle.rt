@@ -53,9 +53,24 @@ impl<'a> LockHandle<'a> {
         LockHandle { lock, pass }
     }
 
-    /// Makes the call, and tries again until it is made.
+    /// Makes a call that waits for nobody. Where its exchange loses, it is made again until it wins.
     #[inline(always)]
     fn make<R: Wait>(&mut self, rt: &R, call: Call) -> Reply
+        requires call { IsTrue (is_lock_call call) }
+        requires at_once { try_form call ≡ call }
+        ensures made { Made call result self.old self.new }
+        ensures reply { MayReply call result }
+    {
+        let again = call;
+        match self.make_once(call) {
+            Ok(reply) => reply,
+            Err(_) => self.make_waiting(rt, again),
+        }
+    }
+
+    /// Makes a call that may wait for others.
+    #[inline(always)]
+    fn make_waiting<R: Wait>(&mut self, rt: &R, call: Call) -> Reply
         requires { IsTrue (is_lock_call call) }
         ensures made { Made call result self.old self.new }
         ensures reply { MayReply call result }
@@ -92,7 +107,7 @@ impl<'a> LockHandle<'a> {
     pub fn write<R: Wait>(&mut self, rt: &R) -> Option<Stamp>
         ensures { Made WriteLock (stamped result) self.old self.new }
     {
-        stamp_in(self.make(rt, Call::WriteLock))
+        stamp_in(self.make_waiting(rt, Call::WriteLock))
     }
 
     /// Acquires write mode if nobody holds the lock (`tryWriteLock`). None where somebody does, or no
@@ -107,7 +122,7 @@ impl<'a> LockHandle<'a> {
     pub fn read<R: Wait>(&mut self, rt: &R) -> Stamp
         ensures { Made ReadLock (stamped (Some result)) self.old self.new }
     {
-        some_stamp_in(self.make(rt, Call::ReadLock))
+        some_stamp_in(self.make_waiting(rt, Call::ReadLock))
     }
 
     /// Acquires read mode if there is no writer, and room for a reader (`tryReadLock`). It waits for no

@@ -1,5 +1,7 @@
-use Rattle.stamped_lock.proofs.Replying.{may_reply}
+use Rattle.stamped_lock.proofs.Retried.{made_again}
 use Rattle.stamped_lock.proofs.handle.LockHandle.make.Goals as goal
 
-pub returns-clause-reply : goal.returns-clause-reply
-returns-clause-reply g c = may_reply _ _ _ _ _ c.requires c.call.ensures.made
+pub returns-in-Err-clause-made : goal.returns-in-Err-clause-made
+returns-in-Err-clause-made g c =
+    made_again c.args.call c.make_waiting.result c.in-Err.field-0 c.args.self.now
+    c.make_once.new.self c.make_waiting.new.self c.in-Err.ensures.made c.make_waiting.ensures.made

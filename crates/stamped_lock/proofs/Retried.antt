@@ -1,0 +1,43 @@
+-- A call that lost its exchange, and is made then.
+use Rattle.std.proofs.Common.{ℕ, List, [], ◌∷◌, ◌++◌, ap, ◌∙◌, append_assoc, subst}
+use Rattle.stamp_core.specs.Limits.{Bounds}
+use Rattle.stamp_core.specs.declared.call.Call.{Call}
+use Rattle.stamp_core.specs.declared.reply.Reply.{Reply}
+use Rattle.stamp_threads.specs.LockPass.{LockPass, LockView}
+use Rattle.stamp_threads.specs.PassView.{entry}
+use Rattle.stamp_threads.specs.Answered.{Answered}
+use Rattle.stamp_threads.specs.LostExchange.{LostExchange}
+use Rattle.stamp_threads.specs.declared.lost.Lost.{Lost}
+use Rattle.stamp_threads.proofs.Beginnings.{begins_further}
+use Rattle.stamped_lock.specs.HandleView.{HandleView}
+use Rattle.stamped_lock.specs.Made.{Made, HasLost}
+
+pub made_after_loss : (limits : Bounds) (call : Call) (reply : Reply) (loaded found : ℕ)
+    (v u w : LockPass) → LostExchange limits call loaded found v u →
+    Answered limits call reply u w → Answered limits call reply v w
+made_after_loss limits call reply loaded found v u w l a = record {
+  log = a.log;
+  word = a.word;
+  left = record {
+    begins = begins_further v.observed u.observed a.log l.at_second.begins a.left.begins;
+    legal = a.left.legal;
+    represents = a.left.represents;
+  };
+  earlier = loaded ∷ found ∷ a.earlier;
+  last = a.last ∙ (ap (λ (xs : List ℕ). xs ++ (a.earlier ++ a.word ∷ [])) l.looks ∙
+      append_assoc v.found (loaded ∷ found ∷ []) (a.earlier ++ a.word ∷ []));
+  observed = a.observed ∙ ap (λ (n : List ℕ). a.log ++ entry n (call, reply) ∷ []) l.name;
+  own = a.own ∙ ap (λ (xs : List (Call × Reply)). xs ++ (call, reply) ∷ []) l.own;
+  name = a.name ∙ l.name;
+  splits = a.splits ∙ l.splits;
+  consistent = a.consistent;
+}
+
+pub made_again : (call : Call) (reply : Reply) (lost : Lost) (h u h' : HandleView) →
+    HasLost call lost h u → Made call reply u h' → Made call reply h h'
+made_again call reply lost h u h' l m = record {
+  lock = m.lock ∙ l.lock;
+  answered = made_after_loss h.lock.limits call reply lost.loaded lost.found h.pass u.pass h'.pass
+      l.exchange (subst (λ (x : LockView). Answered x.limits call reply u.pass h'.pass) l.lock
+      m.answered);
+}
