@@ -1,7 +1,7 @@
 pub mod LastPositions
 pub mod LockOrRecord
 pub mod EntryByEntry
-pub mod LockAnswers
+pub mod ChangedWords
 pub mod WalkSteps
 pub mod OneFault
 pub mod RespelledStamps

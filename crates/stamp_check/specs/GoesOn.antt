@@ -8,7 +8,6 @@ use Rattle.stamp_core.specs.Transition.{transition}
 use Rattle.stamp_core.specs.History.{Replies, appended_by}
 use Rattle.stamp_core.specs.declared.call.Call.{Call}
 use Rattle.stamp_core.specs.declared.reply.Reply.{Reply}
-use Rattle.stamp_core.specs.declared.reply.Reply.TheVariants.{Content}
 
 -- the number of the word that a call of the lock leaves, where the lock replies so after whatever
 -- events the word represents
@@ -23,8 +22,3 @@ abbrev pub RecordGoesOn : List ℕ → Call → Reply → Option (List ℕ) → 
 RecordGoesOn content call reply found =
     MatchOption found (¬ RecordReplies content call reply)
     (λ next. RecordReplies content call reply × (next ≡ content_next content call reply))
-
--- a reply without the words of a record
-abbrev pub HasNoWords : Reply → Type 0
-HasNoWords (Content words) = ⊥
-HasNoWords _ = Unit {0}

@@ -2,33 +2,32 @@
 ghost use Rattle.std.specs.Prelude.{◌≡◌, ◌↔◌, IsTrue, MatchOption};
 ghost use Rattle.stamp_core.specs.Word.{IsAdmitted, word_at};
 ghost use Rattle.stamp_core.specs.Call.{is_lock_call};
-ghost use Rattle.stamp_check.specs.GoesOn.{HasNoWords, LockGoesOn, RecordGoesOn};
+ghost use Rattle.stamp_core.specs.LockDecision.{reply_as};
+ghost use Rattle.stamp_check.specs.GoesOn.{LockGoesOn, RecordGoesOn};
 
-use stamp_core::{Call, Decision, Limits, Reply, Words, decide};
+use stamp_core::{Call, Limits, LockDecision, LockReply, Reply, Words, decide_lock};
 
-/// Whether the lock's answer, which has no words, is this reply. Built into its caller, where the
-/// answer then needs no place in memory.
+/// Whether the lock's answer is this reply. Built into its caller, where the answer then needs no
+/// place in memory.
 #[inline(always)]
-fn is_answer(answer: &Reply, reply: &Reply) -> bool
-    requires { HasNoWords answer.now }
-    ensures { IsTrue result ↔ (answer.now ≡ reply.now) }
+fn is_answer(answer: LockReply, reply: &Reply) -> bool
+    ensures { IsTrue result ↔ (reply_as answer ≡ reply.now) }
 {
     match *reply {
-        Reply::Stamp(told) => matches!(*answer, Reply::Stamp(stamp) if stamp == told),
-        Reply::Yes => matches!(answer, Reply::Yes),
-        Reply::No => matches!(answer, Reply::No),
-        Reply::Done => matches!(answer, Reply::Done),
-        Reply::Mismatch => matches!(answer, Reply::Mismatch),
-        Reply::Count(told) => matches!(*answer, Reply::Count(count) if count == told),
+        Reply::Stamp(stamp) => matches!(answer, LockReply::Stamp(issued) if issued == stamp),
+        Reply::Yes => matches!(answer, LockReply::Yes),
+        Reply::No => matches!(answer, LockReply::No),
+        Reply::Done => matches!(answer, LockReply::Done),
+        Reply::Mismatch => matches!(answer, LockReply::Mismatch),
+        Reply::Count(count) => matches!(answer, LockReply::Count(counted) if counted == count),
         Reply::Content(_) => false,
     }
 }
 
 #[inline(always)]
-fn where_answered(bits: u64, answer: &Reply, reply: &Reply) -> Option<u64>
-    requires { HasNoWords answer.now }
-    ensures { MatchOption result (¬ (answer.now ≡ reply.now))
-        (λ next. (answer.now ≡ reply.now) × (next ≡ bits)) }
+fn where_answered(bits: u64, answer: LockReply, reply: &Reply) -> Option<u64>
+    ensures { MatchOption result (¬ (reply_as answer ≡ reply.now))
+        (λ next. (reply_as answer ≡ reply.now) × (next ≡ bits)) }
 {
     if is_answer(answer, reply) {
         Some(bits)
@@ -43,10 +42,10 @@ pub(crate) fn lock_goes_on(limits: Limits, bits: u64, call: &Call, reply: &Reply
     requires lock { IsTrue (is_lock_call call.now) }
     ensures { LockGoesOn limits bits call.now reply.now result }
 {
-    match &decide(limits, limits.word(bits), *call) {
-        Decision::Answer(answer) => where_answered(bits, answer, reply),
-        Decision::Change(next, answer) => where_answered(next.bits(), answer, reply),
-        Decision::Wait => None,
+    match decide_lock(limits, limits.word(bits), call) {
+        LockDecision::Answer(answer) => where_answered(bits, answer, reply),
+        LockDecision::Change(next, answer) => where_answered(next.bits(), answer, reply),
+        LockDecision::Wait => None,
     }
 }
 
