@@ -19,10 +19,12 @@ pub enum Why {
     Reply,
 }
 
-/// The first entry that breaks something, counted from 0, and the first thing that it breaks.
+/// The first fault of a history.
 #[derive(Clone, Copy, Debug, PartialEq, Eq)]
 pub struct Bad {
+    /// The first entry that breaks something, counted from 0.
     pub entry: u64,
+    /// The first thing that it breaks.
     pub why: Why,
 }
 

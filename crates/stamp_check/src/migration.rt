@@ -7,12 +7,13 @@ use stamp_core::{Call, CoreError, Entry, Layout, Limits, Record, Reply, respell}
 use std::error::Error;
 use std::fmt;
 
-/// Why a record is not migrated (1): this entry, counted from 0, is the first whose answered number
-/// is neither 0 nor a stamp of layout 1 of a version up to 2^46-2. The record is handed back as it
-/// was.
+/// Why a record is not migrated (1): an entry was answered a number which is neither 0 nor a stamp of
+/// layout 1 of a version up to 2^46-2.
 #[derive(Drop)]
 pub struct BadReply {
+    /// The first such entry, counted from 0.
     pub entry: u64,
+    /// The record as it was.
     pub unchanged: Record,
 }
 

@@ -303,7 +303,7 @@ fn a_call_that_waits_is_named(rt: HostRuntime) -> Result<(), Fail> {
     Ok(())
 }
 
-/// So many times the same call, and then what follows.
+/// The same call this many times, and then what follows.
 pub(crate) fn repeated(
     alloc: Global,
     call: &str,

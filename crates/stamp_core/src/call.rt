@@ -4,48 +4,53 @@ ghost use Rattle.stamp_core.specs.Call.{is_lock_call, call_suits};
 
 use crate::words::Words;
 
-/// A call of the lock, some of which take a stamp, or of the guarded record, which take words.
+/// A call: of the lock, with the name of its method of Java's `StampedLock`, or of the guarded record.
+/// A number is a stamp; any number may be given.
 #[derive(Clone, Copy, Debug, PartialEq, Eq)]
 pub enum Call {
-    /// Acquires write mode if it is free and a version is left.
+    /// Acquires write mode if nobody holds the lock and a version is left (`tryWriteLock`).
     TryWrite,
-    /// Acquires read mode if there is no writer and room for a reader.
+    /// Acquires read mode if there is no writer and room for a reader (`tryReadLock`).
     TryRead,
-    /// Acquires write mode, and waits while it is not free. Where no version is left it answers 0.
+    /// Acquires write mode, and waits while anybody holds the lock (`writeLock`). Where no version is
+    /// left it answers 0.
     WriteLock,
-    /// Acquires read mode, and waits while there is a writer or no room.
+    /// Acquires read mode, and waits while there is a writer or no room (`readLock`).
     ReadLock,
-    /// Asks for a stamp to be validated later.
+    /// Asks for a stamp to be validated later; 0 while there is a writer (`tryOptimisticRead`).
     Optimistic,
-    /// Asks whether write mode was not acquired since the stamp was issued.
+    /// Asks whether write mode was not acquired since the stamp was issued (`validate`).
     Validate(u64),
-    /// Releases write mode, if the stamp matches it.
+    /// Releases write mode, if the stamp matches it (`unlockWrite`).
     UnlockWrite(u64),
-    /// Releases one hold of read mode, if the stamp matches it.
+    /// Releases one hold of read mode, if the stamp matches it (`unlockRead`).
     UnlockRead(u64),
-    /// Releases the mode that the stamp matches.
+    /// Releases the mode that the stamp matches (`unlock`).
     Unlock(u64),
-    /// Goes on in write mode.
+    /// Converts to write mode (`tryConvertToWriteLock`): from write mode, from read mode with no other
+    /// reader, or from a valid optimistic stamp if nobody holds the lock. Otherwise it answers 0.
     ToWrite(u64),
-    /// Goes on in read mode.
+    /// Converts to read mode (`tryConvertToReadLock`): from write mode, from read mode, or from a valid
+    /// optimistic stamp if there is room. Otherwise it answers 0.
     ToRead(u64),
-    /// Goes on in optimistic mode.
+    /// Releases what the stamp holds, and answers an optimistic stamp (`tryConvertToOptimisticRead`); a
+    /// valid optimistic stamp is answered itself. Otherwise it answers 0.
     ToOptimistic(u64),
-    /// Releases write mode without a stamp.
+    /// Releases write mode without a stamp, if it is held (`tryUnlockWrite`).
     TryUnlockWrite,
-    /// Releases one hold of read mode without a stamp.
+    /// Releases one hold of read mode without a stamp, if there is one (`tryUnlockRead`).
     TryUnlockRead,
-    /// Asks whether write mode is held.
+    /// Asks whether write mode is held (`isWriteLocked`).
     IsWriteLocked,
-    /// Asks whether read mode is held.
+    /// Asks whether read mode is held (`isReadLocked`).
     IsReadLocked,
-    /// Asks how many hold read mode.
+    /// Asks how many hold read mode (`getReadLockCount`).
     ReadCount,
-    /// Reads the record.
+    /// Reads the words of the record.
     Get,
-    /// Writes the record.
+    /// Writes the words of the record.
     Put(Words),
-    /// Writes the second words if the record holds the first.
+    /// Writes the second words if the record holds the first; `No` and no change otherwise.
     PutIf(Words, Words),
 }
 

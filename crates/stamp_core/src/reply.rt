@@ -8,12 +8,14 @@ use crate::words::Words;
 pub enum Reply {
     /// A stamp, or 0 where the mode was not acquired.
     Stamp(u64),
-    /// To a test, a stampless release and `PutIf`.
+    /// What was asked is so; or the release without a stamp, or the `PutIf`, was made.
     Yes,
+    /// It is not so; or nothing was released, or put.
     No,
-    /// To a release by a stamp, and to `Put`.
+    /// The release by a stamp, or the `Put`, was made.
     Done,
-    /// The state does not match the stamp (`IllegalMonitorStateException` in Java).
+    /// Nothing was released, since the stamp matches no mode that is held
+    /// (`IllegalMonitorStateException` in Java).
     Mismatch,
     /// How many readers there are.
     Count(u64),

@@ -68,7 +68,7 @@ impl Words {
         Words { len, words: row }
     }
 
-    /// So many zeros: what a record of this width holds at first.
+    /// Zeros: what a record of this width holds at first.
     pub fn zeros(len: usize) -> Words
         requires some { 1 ≤ len }
         requires few { len ≤ 16 }
@@ -90,6 +90,7 @@ impl Words {
         self.len
     }
 
+    /// The words as a slice, one to sixteen.
     pub fn as_slice(&self) -> &[u64]
         ensures { result.now ≡ self.now }
     {

@@ -19,7 +19,7 @@ fn a_step_is_told_and_the_word_is_seen(rt: HostRuntime) -> Result<(), Fail> {
     Ok(())
 }
 
-/// So many threads without calls.
+/// This many threads without calls.
 fn idle_threads(alloc: Global, count: usize) -> Result<Vec<Vec<ScriptCall>>, Fail> {
     let mut threads = Vec::new(alloc);
     for _ in 0..count {

@@ -11,10 +11,13 @@ pub type Passes = LinkedList<PassView<(Call, Reply), ()>>;
 /// What the rule of a lock reads: its limits, and whether passes may enter.
 #[derive(Clone, Copy)]
 pub struct LockKey {
+    /// The limits of the lock.
     pub limits: Limits,
+    /// Whether passes may enter by a shared reference.
     pub enterable: bool,
 }
 
+/// The rule: one legal history, whose events the word represents, and passes that know parts of it.
 pub struct LockRule;
 
 impl TableRule<(), Passes, LockKey> for LockRule {
@@ -47,6 +50,7 @@ impl StepFor for Brand {
     ghost call = { IsWriteLocked };
 }
 
+/// A load of the word, by which a call may be made.
 pub struct LoadStep<C> {
     of: PhantomData<C>,
 }
@@ -57,6 +61,7 @@ impl<C: StepFor> Play<(), Passes> for LoadStep<C> {
     ghost then = { LoadTells C.limits C.call };
 }
 
+/// An exchange of the word, by which a call may be made.
 pub struct ExchangeStep<C> {
     of: PhantomData<C>,
 }

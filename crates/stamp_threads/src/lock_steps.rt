@@ -16,8 +16,10 @@ use crate::lock_rule::{
 use atomic_table::{Seat, Shared};
 use stamp_core::{Call, Reply};
 
+/// The table of a running lock: one word.
 pub type LockTable = Shared<(), Passes, LockKey, LockRule>;
 
+/// A seat of it, which a pass has.
 pub type LockSeat = Seat<(), Passes>;
 
 /// Loads the word. The call is made by it where it changes nothing.

@@ -3,7 +3,9 @@ use std::collections::LinkedList;
 
 /// What the pass of this name made, in the one history: of a lock a call with its reply.
 pub struct Entry<E> {
+    /// The name of the pass.
     pub name: LinkedList<u64>,
+    /// What it made.
     pub made: E,
 }
 
@@ -11,6 +13,7 @@ pub struct Entry<E> {
 /// one; their paths are empty. The j-th split of a pass, counted from 0, gives one of the same root,
 /// whose path has j more at its end.
 pub struct PassView<E, P> {
+    /// The root, and the path.
     pub name: LinkedList<u64>,
     /// How often it was split.
     pub splits: u64,

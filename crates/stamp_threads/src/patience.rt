@@ -23,6 +23,7 @@ pub struct Patience {
 }
 
 impl Patience {
+    /// Of a call that has not looked yet.
     pub fn new() -> Patience {
         Patience { rounds: 0 }
     }

@@ -19,6 +19,8 @@ impl ContentRule for AnyContent {
     ghost holds = { λ _. Unit {0} };
 }
 
+/// The rule: one legal log, whose content the words hold and keep to `P`, and passes that know parts
+/// of it.
 pub struct RecordRule<P> {
     of: PhantomData<P>,
 }

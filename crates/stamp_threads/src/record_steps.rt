@@ -19,8 +19,10 @@ use crate::record_rule::{
 use crate::record_view::{RecordKey, RecordPasses};
 use atomic_table::{Seat, Shared};
 
+/// The table of a running record: its lock word, and its words.
 pub type RecordTable<P> = Shared<(), RecordPasses, RecordKey, RecordRule<P>>;
 
+/// A seat of it, which a pass has.
 pub type RecordSeat = Seat<(), RecordPasses>;
 
 /// Loads the lock word, before a put.

@@ -7,7 +7,9 @@ use std::collections::LinkedList;
 /// The limits of a record's lock word, of which the readers don't matter, and its width in words.
 #[derive(Clone, Copy)]
 pub struct RecordShape {
+    /// The limits: their layout and their versions count.
     pub limits: Limits,
+    /// How many words there are, 1 to 16.
     pub width: usize,
 }
 
@@ -15,8 +17,11 @@ pub struct RecordShape {
 /// whether passes may enter.
 #[derive(Clone, Copy)]
 pub struct RecordKey {
+    /// The record's shape.
     pub shape: RecordShape,
+    /// What its first pass put when it was made; none for a record that begins with zeros.
     pub first: Option<Words>,
+    /// Whether passes may enter by a shared reference.
     pub enterable: bool,
 }
 
@@ -24,6 +29,7 @@ pub struct RecordKey {
 pub enum RecordEvent {
     /// A write mark: it got write mode.
     Mark,
+    /// A call, with its reply.
     Called(Call, Reply),
 }
 

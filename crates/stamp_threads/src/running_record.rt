@@ -77,9 +77,9 @@ fn row_of(lock_word: u64, words: &[u64]) -> [u64; 17]
 }
 
 impl RuledRecord<AnyContent> {
-    /// A record of zeros, and its first pass, of which all others are split off. Of the limits only
-    /// the layout and the versions count: it takes this many puts in all. It refuses only for want
-    /// of memory.
+    /// A record of zeros, and its first pass, of which all others are split off. The width is 1 to 16
+    /// words. Of the limits only the layout and the versions count: each put spends a version, and
+    /// where none is left a put is refused as `Spent`. It fails only for want of memory.
     pub fn new(
         alloc: Global,
         limits: Limits,

@@ -17,7 +17,8 @@ pub struct Shared {
 }
 
 impl Shared {
-    /// Takes no memory.
+    /// Shares a book: threads make their calls on it from here on. It keeps the book's entries, and
+    /// takes no memory.
     pub fn new(book: Book) -> Shared {
         Shared {
             book: Mutex::new(book),

@@ -7,7 +7,7 @@ pub const LOCK_TURNS: u64 = 20;
 
 pub const ALL_TURNS: u64 = 24;
 
-/// So many words with this number in each; `None` for a width of 0, or over 16.
+/// This many words with this number in each; `None` for a width of 0, or over 16.
 pub fn all_of(width: u64, number: u64) -> Option<Words> {
     if width > 16 {
         return None;
