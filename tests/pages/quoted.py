@@ -13,6 +13,7 @@ PAGES = {
     "README.md": ["counter"],
     "docs/EXAMPLES.md": ["point", "price_board", "recorded_run"],
     "docs/TOUR.md": ["stamp_machines_tests", "stamp_threads_tests"],
+    "docs/USING.md": ["counter", "config"],
 }
 BLOCK = re.compile(r"^```(rust|antt)\n(.*?)^```$", re.DOTALL | re.MULTILINE)
 SOURCES = {"rust": "src/**/*.rt", "antt": "proofs/**/*.antt"}

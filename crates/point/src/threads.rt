@@ -7,7 +7,7 @@ use std::thread::{Threads, join};
 /// How often each thread moves the point, or asks for its distance.
 const TURNS: u64 = 10_000;
 
-/// Moves the point from the origin if it is still there, and then so often; whether it was there.
+/// Moves the point from the origin if it is still there, and then TURNS times; whether it was there.
 fn walk<R: Wait>(rt: &R, mut point: PointHandle<'_>) -> Result<bool> {
     let is_first = point.move_if_at_origin(rt, 3, 4)?;
     for _ in 0..TURNS {
@@ -16,7 +16,7 @@ fn walk<R: Wait>(rt: &R, mut point: PointHandle<'_>) -> Result<bool> {
     Ok(is_first)
 }
 
-/// Asks for the distance so often. It fails where one isn't a multiple of 5.
+/// Asks for the distance TURNS times. It fails where one isn't a multiple of 5.
 fn watch<R: Wait>(rt: &R, mut point: PointHandle<'_>) -> Result<()> {
     for _ in 0..TURNS {
         let square = point.squared_distance(rt)?;

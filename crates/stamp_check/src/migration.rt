@@ -129,7 +129,8 @@ fn in_layout_two(history: Record) -> Record
 /// place there, and a number that is no stamp, or is of a version that layout 2 has not, becomes 0.
 /// The limits become those of layout 2 with the same readers and the smaller of the two numbers of
 /// versions. A record of layout 2 comes back as it is. One of layout 1 is refused exactly where some
-/// call was answered a number other than 0 that is no stamp with a place in layout 2, and handed back.
+/// call was answered a number other than 0 that is no stamp with a place in layout 2; the refusal
+/// returns the record.
 pub fn migrate(history: Record) -> Result<Record, BadReply>
     ensures ok { IsOk result ↔ CanMigrate history }
     ensures migrated { IfOk result (λ r. r ≡ migrated history) }

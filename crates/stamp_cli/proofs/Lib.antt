@@ -1,5 +1,6 @@
 pub mod Digits
 pub mod Refusals
+pub mod ShortInput
 pub mod Sent
 pub mod OneReplay
 pub mod OneAnswer

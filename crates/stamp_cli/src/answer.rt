@@ -22,61 +22,6 @@ use stamp_history::{
 use stamp_machines::run_reported;
 use std::alloc::Global;
 
-/// What the calls of a replay are replied.
-#[tactic(auto, using(crate::proofs::Refusals::inner))]
-fn line_of_calls(alloc: Global, input: &[u8]) -> Result<Vec<u8>, ServeFault>
-    ensures answer { UnlessMemory (AnswersReplay input.now) result }
-    ensures inner { IfErr result (λ e. is_of_end e ≡ false) }
-{
-    Ok(replay_text(alloc, input)?)
-}
-
-/// The history of the calls that a script finishes.
-#[tactic(auto, using(crate::proofs::Refusals::inner))]
-fn line_of_script(alloc: Global, input: &[u8]) -> Result<Vec<u8>, ServeFault>
-    ensures answer { UnlessMemory (AnswersRun input.now) result }
-    ensures inner { IfErr result (λ e. is_of_end e ≡ false) }
-{
-    let script = read_script(alloc, input)?;
-    Ok(write_run(alloc, &script)?)
-}
-
-/// That history, with a report.
-#[tactic(auto, using(crate::proofs::Refusals::inner))]
-fn line_of_reported_script(alloc: Global, input: &[u8]) -> Result<Vec<u8>, ServeFault>
-    ensures answer { UnlessMemory (AnswersReportedRun input.now) result }
-    ensures inner { IfErr result (λ e. is_of_end e ≡ false) }
-{
-    let script = read_script(alloc, input)?;
-    // A script has no more steps than a run can make, so that memory alone ends one early.
-    let Ok(record) = run_reported(alloc, &script) else {
-        return Err(ServeFault::Memory);
-    };
-    Ok(write_history(alloc, &record)?)
-}
-
-/// The verdict on a history.
-#[tactic(auto, using(crate::proofs::Refusals::inner))]
-fn line_of_history(alloc: Global, input: &[u8]) -> Result<Line, ServeFault>
-    ensures answer { LineUnlessMemory (AnswersCheck input.now) result }
-    ensures inner { IfErr result (λ e. is_of_end e ≡ false) }
-{
-    let history = read_history(alloc, input)?;
-    Ok(verdict_line(alloc, check(&history))?)
-}
-
-/// The history in layout 2.
-#[tactic(auto, using(crate::proofs::Refusals::inner))]
-fn line_of_migration(alloc: Global, input: &[u8]) -> Result<Vec<u8>, ServeFault>
-    ensures answer { UnlessMemory (AnswersMigrate input.now) result }
-    ensures inner { IfErr result (λ e. is_of_end e ≡ false) }
-{
-    match migrate(read_history(alloc, input)?) {
-        Ok(migrated) => Ok(write_history(alloc, &migrated)?),
-        Err(bad) => Err(ServeFault::BadReply(bad.entry)),
-    }
-}
-
 /// The input, unless it is longer than the most.
 fn within(input: &[u8]) -> Result<&[u8], ServeFault>
     ensures ok { IfOk result (λ bytes. (bytes.now ≡ input.now) × (length input.now ≤ most_bytes)) }
@@ -88,39 +33,59 @@ fn within(input: &[u8]) -> Result<&[u8], ServeFault>
     Ok(input)
 }
 
+/// What the calls of a replay are replied.
+#[tactic(auto, using(crate::proofs::Refusals::inner))]
 fn line_of_replay(alloc: Global, input: &[u8]) -> Result<Vec<u8>, ServeFault>
     ensures answer { UnlessMemory (IsInputAnswer AnswersReplay input.now) result }
     ensures inner { IfErr result (λ e. is_of_end e ≡ false) }
 {
-    line_of_calls(alloc, within(input)?)
+    Ok(replay_text(alloc, within(input)?)?)
 }
 
+/// The history of the calls that a script finishes.
+#[tactic(auto, using(crate::proofs::Refusals::inner))]
 fn line_of_run(alloc: Global, input: &[u8]) -> Result<Vec<u8>, ServeFault>
     ensures answer { UnlessMemory (IsInputAnswer AnswersRun input.now) result }
     ensures inner { IfErr result (λ e. is_of_end e ≡ false) }
 {
-    line_of_script(alloc, within(input)?)
+    let script = read_script(alloc, within(input)?)?;
+    Ok(write_run(alloc, &script)?)
 }
 
+/// That history, with a report.
+#[tactic(auto, using(crate::proofs::Refusals::inner))]
 fn line_of_reported_run(alloc: Global, input: &[u8]) -> Result<Vec<u8>, ServeFault>
     ensures answer { UnlessMemory (IsInputAnswer AnswersReportedRun input.now) result }
     ensures inner { IfErr result (λ e. is_of_end e ≡ false) }
 {
-    line_of_reported_script(alloc, within(input)?)
+    let script = read_script(alloc, within(input)?)?;
+    // A script has no more steps than a run can make, so that memory alone ends one early.
+    let Ok(record) = run_reported(alloc, &script) else {
+        return Err(ServeFault::Memory);
+    };
+    Ok(write_history(alloc, &record)?)
 }
 
+/// The verdict on a history.
+#[tactic(auto, using(crate::proofs::Refusals::inner))]
 fn line_of_check(alloc: Global, input: &[u8]) -> Result<Line, ServeFault>
     ensures answer { LineUnlessMemory (IsInputAnswer AnswersCheck input.now) result }
     ensures inner { IfErr result (λ e. is_of_end e ≡ false) }
 {
-    line_of_history(alloc, within(input)?)
+    let history = read_history(alloc, within(input)?)?;
+    Ok(verdict_line(alloc, check(&history))?)
 }
 
+/// The history in layout 2.
+#[tactic(auto, using(crate::proofs::Refusals::inner))]
 fn line_of_migrate(alloc: Global, input: &[u8]) -> Result<Vec<u8>, ServeFault>
     ensures answer { UnlessMemory (IsInputAnswer AnswersMigrate input.now) result }
     ensures inner { IfErr result (λ e. is_of_end e ≡ false) }
 {
-    line_of_migration(alloc, within(input)?)
+    match migrate(read_history(alloc, within(input)?)?) {
+        Ok(migrated) => Ok(write_history(alloc, &migrated)?),
+        Err(bad) => Err(ServeFault::BadReply(bad.entry)),
+    }
 }
 
 /// What the order reads of its source. A stamp makes no read.

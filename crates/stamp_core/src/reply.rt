@@ -14,7 +14,7 @@ pub enum Reply {
     No,
     /// The release by a stamp, or the `Put`, was made.
     Done,
-    /// Nothing was released, since the stamp matches no mode that is held
+    /// Nothing was released, since the stamp matches no held mode that the call releases
     /// (`IllegalMonitorStateException` in Java).
     Mismatch,
     /// How many readers there are.

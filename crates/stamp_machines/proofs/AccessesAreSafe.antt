@@ -13,7 +13,7 @@ use Rattle.stamp_machines.specs.LockNumber.{IsAdmittedAt}
 use Rattle.stamp_core.specs.CountedDecision.{decision}
 use Rattle.stamp_machines.specs.Job.{Job}
 use Rattle.stamp_machines.specs.RecordPhase as record_calls
-use Rattle.stamp_machines.specs.RecordPhase.{Place, Errand, call_for}
+use Rattle.stamp_machines.specs.RecordPhase.{Place, LockStep, call_for}
 use Rattle.stamp_machines.specs.LocalAccess.{LoadLock, LoadItem, with_lock}
 use Rattle.stamp_machines.specs.LockPhase.{phase_next, next_on}
 use Rattle.stamp_machines.specs.declared.shape.Shape.{Shape}
@@ -60,7 +60,7 @@ pub record-safe : (shape : Shape) (call : Call) (limits : Bounds) (k wr : ℕ)
     IsAdmittedAt (record_limits shape) (slice_index words 1) →
     HasVersionLeft shape (slice_index words 1) → Fits limits k wr content items job place →
     IsSafeIn shape call (OnRecord job place) words
-record-safe shape call limits k wr content items job record_calls.Glancing words n l w v f =
+record-safe shape call limits k wr content items job record_calls.LoadingLock words n l w v f =
     (omega (arith, n), w)
 record-safe shape call limits k wr content items job (record_calls.Copying first loaded) words n l w
     v f = copying-safe shape call job first loaded words n w

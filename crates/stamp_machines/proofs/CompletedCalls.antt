@@ -7,7 +7,7 @@ use Rattle.std.proofs.lemmas.List.{length-take}
 use Rattle.std.proofs.Math.Seq.{drop-append_seam}
 use Rattle.stamp_core.specs.declared.entry.Entry.{Entry}
 use Rattle.stamp_machines.specs.Script.{Scripted, IsSound}
-use Rattle.stamp_machines.specs.Kept.{Kept}
+use Rattle.stamp_machines.specs.Invariant.{Invariant}
 use Rattle.stamp_machines.specs.World.{World, execution_of, completed_calls, step, stepped, landed}
 use Rattle.stamp_machines.specs.World.{current, stamps_of, opening}
 use Rattle.stamp_machines.specs.Progress.{HasReport}
@@ -133,7 +133,7 @@ world-after plan s made after none =
 
 pub kept-after : (plan : Scripted) (s : State) (made : ℕ) → IsSound plan →
     length plan.steps ≤ 1000000 → IsAfter plan s made → s.entries.items ≡ [] →
-    Kept plan (world_at (calls_until plan made) s made)
+    Invariant plan (world_at (calls_until plan made) s made)
 kept-after plan s made sound few after none =
     rw (world-after plan s made after none)
     (always-kept plan (take made plan.steps) sound (simp length-take (omega (arith, few))))

@@ -23,7 +23,7 @@ use Rattle.stamp_machines.specs.MachineState.{first_phase, start}
 use Rattle.stamp_machines.specs.Script.{Scripted, Suits, calls_of}
 use Rattle.stamp_machines.specs.declared.state.Begun.{Begun}
 use Rattle.stamp_machines.specs.World.{World, current_of, begin, call_of, shape_of, stamps_of}
-use Rattle.stamp_machines.specs.Kept.{doing_at, doing_in, IsOf}
+use Rattle.stamp_machines.specs.Invariant.{doing_at, doing_in, IsOf}
 use Rattle.stamp_machines.specs.RecordKept.{read_by, written_by, read_in, written_in, Fits, FitsIn}
 
 opening_reads : (job : Job) → read_by (opening job) ≡ 0

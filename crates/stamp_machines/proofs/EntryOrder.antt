@@ -15,7 +15,7 @@ use Rattle.stamp_core.proofs.Linearizing.{linearized_none, linearized_more}
 use Rattle.stamp_core.proofs.StampValidity.{legal_rest}
 use Rattle.stamp_core.specs.Content.{zeros}
 use Rattle.stamp_machines.specs.Script.{IsSound}
-use Rattle.stamp_machines.specs.Kept.{Kept}
+use Rattle.stamp_machines.specs.Invariant.{Invariant}
 use Rattle.stamp_machines.proofs.StepsKeep.{history_more, step-kept, position-step, opening-kept}
 use Rattle.stamp_machines.specs.declared.script.ScriptCall.{ScriptCall}
 use Rattle.stamp_machines.specs.declared.state.Begun.{Begun}
@@ -214,12 +214,12 @@ opening-order plan = record {
   begun = λ k. rw (slot_none (length plan.threads) k) tt;
 }
 
-steps-order : (plan : Scripted) (world : World) (names : List ℕ) → Kept plan world → IsSound plan →
+steps-order : (plan : Scripted) (world : World) (names : List ℕ) → Invariant plan world → IsSound plan →
     world.position + length names ≤ 1000000 → InOrder plan world →
     InOrder plan (fold (step plan) world names)
 steps-order plan world [] k sound room o = o
 steps-order plan world (t ∷ names) k sound room o =
-    let kept : Kept plan (step plan world t) =
+    let kept : Invariant plan (step plan world t) =
     step-kept plan world t k sound (omega (arith, room)) in
     steps-order plan (step plan world t) names kept sound
     (rw (position-step plan world t) (omega (arith, room)))

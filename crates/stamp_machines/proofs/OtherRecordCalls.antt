@@ -7,9 +7,9 @@ use Rattle.std.proofs.lemmas.List.Sums.{sum_by-set, sum_by-cons}
 use Rattle.stamp_core.specs.Limits.{Bounds}
 use Rattle.stamp_machines.specs.LockNumber.{counts_at}
 use Rattle.stamp_machines.specs.Job.{Job}
-use Rattle.stamp_machines.specs.RecordPhase.{Place, Glancing, Copying, Locking, Reading, Checking}
+use Rattle.stamp_machines.specs.RecordPhase.{Place, LoadingLock, Copying, Locking, Reading, Checking}
 use Rattle.stamp_machines.specs.RecordPhase.{Storing, Releasing, ToShare, ToLeave, ToRefuse}
-use Rattle.stamp_machines.specs.RecordPhase.{ToUpgrade, ToRetreat, ToClaim}
+use Rattle.stamp_machines.specs.RecordPhase.{ToUpgrade, ToReleaseFirst, ToClaim}
 use Rattle.stamp_machines.specs.RecordKept.{read_by, written_by, Fits, FitsIn, Doing, read_in}
 use Rattle.stamp_machines.specs.RecordKept.{written_in, RecordKept, Moved, SameFor, AloneFor}
 
@@ -33,7 +33,7 @@ quiet-fits : (limits : Bounds) (k w k' w' : ℕ) (content content' items items' 
     (place : Place) → length content' ≡ length content → read_by place ≡ 0 → written_by place ≡ 0 →
     (k' ≡ k + 1) ⊎ ((w ≡ 1) × (k' ≡ k)) → Fits limits k w content items job place →
     Fits limits k' w' content' items' job place
-quiet-fits limits k w k' w' content content' items items' job Glancing l r s e h = h
+quiet-fits limits k w k' w' content content' items items' job LoadingLock l r s e h = h
 quiet-fits limits k w k' w' content content' items items' job (Copying first loaded) l r s e h = (
   h.0,
   grind (arith, h.1, e),
@@ -50,7 +50,7 @@ quiet-fits limits k w k' w' content content' items items' job (Locking (ToRefuse
     h = absurd (omega arith)
 quiet-fits limits k w k' w' content content' items items' job (Locking (ToUpgrade t) seen) l r s e
     h = absurd (omega arith)
-quiet-fits limits k w k' w' content content' items items' job (Locking (ToRetreat t) seen) l r s e
+quiet-fits limits k w k' w' content content' items items' job (Locking (ToReleaseFirst t) seen) l r s e
     h = absurd (omega arith)
 quiet-fits limits k w k' w' content content' items items' job (Locking ToClaim seen) l r s e h = h
 quiet-fits limits k w k' w' content content' items items' job (Reading t loaded) l r s e h =

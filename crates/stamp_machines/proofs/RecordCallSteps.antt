@@ -28,10 +28,10 @@ use Rattle.stamp_machines.specs.LockNumber.{IsAdmittedAt, RepresentsAt, counts_a
 use Rattle.stamp_core.specs.CountedDecision.{decision}
 use Rattle.stamp_machines.specs.Job.{Job, Getting, Putting, PuttingIf, content_with, reply_to}
 use Rattle.stamp_machines.specs.Job.{new_words, expects, is_get, stored_reply}
-use Rattle.stamp_machines.specs.RecordPhase.{Going, Done, Place, Errand, Glancing, Copying, Locking}
+use Rattle.stamp_machines.specs.RecordPhase.{Going, Done, Place, LockStep, LoadingLock, Copying, Locking}
 use Rattle.stamp_machines.specs.RecordPhase.{Reading, Checking, Storing, Releasing, ToShare}
-use Rattle.stamp_machines.specs.RecordPhase.{ToLeave, ToRefuse, ToUpgrade, ToRetreat, ToClaim, next}
-use Rattle.stamp_machines.specs.RecordPhase.{after, call_for, passed, errand_done, all_read}
+use Rattle.stamp_machines.specs.RecordPhase.{ToLeave, ToRefuse, ToUpgrade, ToReleaseFirst, ToClaim, next}
+use Rattle.stamp_machines.specs.RecordPhase.{after, call_for, passed, lock_step_done, all_read}
 use Rattle.stamp_machines.specs.RecordPhase.{unchanged}
 use Rattle.stamp_machines.specs.LockPhase.{Still, Ended, next_on, phase_next, phase_after}
 use Rattle.stamp_machines.specs.LockPhase.{PhaseTurn}
@@ -78,19 +78,19 @@ all_of : (loaded content : List ℕ) → loaded ≡ take (length loaded) content
     length content ≤ length loaded → loaded ≡ content
 all_of loaded content b h = grind (arith, common_steps)
 
-glancing : (limits : Bounds) (n : ℕ) (job : Job) (lock : ℕ) (items content : List ℕ) →
-    Stands limits job Glancing lock items content → n ≡ length content →
-    Steps limits job Glancing lock items content lock items (after limits n job Glancing lock)
-glancing limits n job lock items content s e = go ((counts_at limits lock).writers == 0) refl
+loading-lock : (limits : Bounds) (n : ℕ) (job : Job) (lock : ℕ) (items content : List ℕ) →
+    Stands limits job LoadingLock lock items content → n ≡ length content →
+    Steps limits job LoadingLock lock items content lock items (after limits n job LoadingLock lock)
+loading-lock limits n job lock items content s e = go ((counts_at limits lock).writers == 0) refl
   where
     go : (b : Bool) → ((counts_at limits lock).writers == 0) ≡ b →
-        Steps limits job Glancing lock items content lock items (if b then Going (Copying lock [])
+        Steps limits job LoadingLock lock items content lock items (if b then Going (Copying lock [])
         else Going (Locking ToShare None))
     go true q =
         let z : (counts_at limits lock).writers ≡ 0 = grind (arith, q) in
-        stays limits job Glancing (Copying lock []) lock items content s refl refl
+        stays limits job LoadingLock (Copying lock []) lock items content s refl refl
         (s.fits, omega arith, omega arith, λ _. (z, refl))
-    go false q = stays limits job Glancing (Locking ToShare None) lock items content s refl refl tt
+    go false q = stays limits job LoadingLock (Locking ToShare None) lock items content s refl refl tt
 
 copying : (limits : Bounds) (n : ℕ) (job : Job) (first : ℕ) (loaded : List ℕ) (lock : ℕ)
     (items content : List ℕ) → Stands limits job (Copying first loaded) lock items content →
@@ -436,8 +436,8 @@ items_same limits call (Some word) items = go (decision limits word call)
     go (Change new r) = refl
     go Wait = refl
 
--- an errand goes on with another word seen
-still : (limits : Bounds) (job : Job) (e : Errand) (seen now : Option ℕ) (lock : ℕ)
+-- a lock step goes on with another word seen
+still : (limits : Bounds) (job : Job) (e : LockStep) (seen now : Option ℕ) (lock : ℕ)
     (items content : List ℕ) → Stands limits job (Locking e seen) lock items content →
     Steps limits job (Locking e seen) lock items content lock items (Going (Locking e now))
 still limits job ToShare seen now lock items content s =
@@ -452,8 +452,8 @@ still limits job (ToRefuse t) seen now lock items content s =
 still limits job (ToUpgrade t) seen now lock items content s =
     stays limits job (Locking (ToUpgrade t) seen) (Locking (ToUpgrade t) now) lock items content s
     refl refl s.fits
-still limits job (ToRetreat t) seen now lock items content s =
-    stays limits job (Locking (ToRetreat t) seen) (Locking (ToRetreat t) now) lock items content s
+still limits job (ToReleaseFirst t) seen now lock items content s =
+    stays limits job (Locking (ToReleaseFirst t) seen) (Locking (ToReleaseFirst t) now) lock items content s
     refl refl s.fits
 still limits job ToClaim seen now lock items content s =
     stays limits job (Locking ToClaim seen) (Locking ToClaim now) lock items content s refl refl
@@ -618,7 +618,7 @@ upgraded : (limits : Bounds) (job : Job) (u : ℕ) (seen : Option ℕ) (lock loc
     Stands limits job (Locking (ToUpgrade u) seen) lock items content →
     Turns limits (ToWrite u) lock lock' r →
     Steps limits job (Locking (ToUpgrade u) seen) lock items content lock' items
-    (errand_done job (ToUpgrade u) (stamp_in r))
+    (lock_step_done job (ToUpgrade u) (stamp_in r))
 upgraded limits job u seen lock lock' items content r s t =
     go (upgraded_at limits (counts_at limits lock) u t.taken t.transition free
     (omega (arith, s.reads)))
@@ -632,7 +632,7 @@ upgraded limits job u seen lock lock' items content r s t =
         ≡ reply.Stamp (write_stamp (units limits) ((counts_at limits lock).write_count + 1))))
         ⊎ ((t.taken.appended ≡ []) × (t.taken.reply ≡ reply.Stamp 0)) →
         Steps limits job (Locking (ToUpgrade u) seen) lock items content lock' items
-        (errand_done job (ToUpgrade u) (stamp_in r))
+        (lock_step_done job (ToUpgrade u) (stamp_in r))
     go (inl h) =
         let st : stamp_in r ≡ write_stamp (units limits) ((counts_at limits lock).write_count + 1) =
         ap stamp_in (sym t.reply ∙ h.2) in
@@ -652,7 +652,7 @@ upgraded limits job u seen lock lock' items content r s t =
         ap (λ (c : Counts). c.writers) cs in
         let n : (counts_at limits lock').readers ≡ (counts_at limits lock).readers =
         ap (λ (c : Counts). c.readers) cs in
-        rw st (goes limits job (Locking (ToUpgrade u) seen) (Locking (ToRetreat u) None) lock lock'
+        rw st (goes limits job (Locking (ToUpgrade u) seen) (Locking (ToReleaseFirst u) None) lock lock'
         items content s (turned-word _ _ _ _ _ s.admitted t) (omega (arith, w))
         (omega (arith, n)) (λ _. s.free free)
         (s.fits.0, rw k s.fits.1) (inl (k, w, refl, refl)))
@@ -661,7 +661,7 @@ claimed : (limits : Bounds) (job : Job) (seen : Option ℕ) (lock lock' : ℕ) (
     (r : Reply) → Stands limits job (Locking ToClaim seen) lock items content →
     Turns limits WriteLock lock lock' r →
     Steps limits job (Locking ToClaim seen) lock items content lock' items
-    (errand_done job ToClaim (stamp_in r))
+    (lock_step_done job ToClaim (stamp_in r))
 claimed limits Getting seen lock lock' items content r s t = absurd (true_false s.fits)
   where
     true_false : true ≡ false → ⊥
@@ -681,11 +681,11 @@ claimed limits (PuttingIf a b) seen lock lock' items content r s t =
     ∙ claim_counts (counts_at limits lock) h.0 h.1) refl refl
     (refl, ap stamp_in (sym t.reply ∙ h.3), s.free h.0, (omega arith, refl), s.some)
 
-ended : (limits : Bounds) (job : Job) (e : Errand) (seen : Option ℕ) (lock lock' : ℕ)
+ended : (limits : Bounds) (job : Job) (e : LockStep) (seen : Option ℕ) (lock lock' : ℕ)
     (items content : List ℕ) (r : Reply) → Stands limits job (Locking e seen) lock items content →
     Turns limits (call_for e) lock lock' r →
     Steps limits job (Locking e seen) lock items content lock' items
-    (errand_done job e (stamp_in r))
+    (lock_step_done job e (stamp_in r))
 ended limits job ToShare seen lock lock' items content r s t =
     shared limits job seen lock lock' items content r s t
 ended limits job (ToLeave u loaded) seen lock lock' items content r s t =
@@ -696,9 +696,9 @@ ended limits job (ToRefuse u) seen lock lock' items content r s t =
     let g = refused_no job content s.fits.0 s.fits.2 in
     leaves limits job (Locking (ToRefuse u) seen) lock lock' u items content r reply.No s refl refl
     t s.fits.1 g.0 g.1
-ended limits job (ToRetreat u) seen lock lock' items content r s t =
+ended limits job (ToReleaseFirst u) seen lock lock' items content r s t =
     let l = left_counts limits lock lock' u r t s.fits.1 s.reads in
-    goes limits job (Locking (ToRetreat u) seen) (Locking ToClaim None) lock lock' items content s
+    goes limits job (Locking (ToReleaseFirst u) seen) (Locking ToClaim None) lock lock' items content s
     (turned-word _ _ _ _ _ s.admitted t) (omega (arith, l.1)) (omega (arith, l.2))
     (λ z. s.free (sym l.1 ∙ z)) s.fits.0 (inl (l.0, l.1, refl, refl))
 ended limits job (ToUpgrade u) seen lock lock' items content r s t =
@@ -706,7 +706,7 @@ ended limits job (ToUpgrade u) seen lock lock' items content r s t =
 ended limits job ToClaim seen lock lock' items content r s t =
     claimed limits job seen lock lock' items content r s t
 
-locking : (limits : Bounds) (job : Job) (e : Errand) (seen : Option ℕ) (lock : ℕ)
+locking : (limits : Bounds) (job : Job) (e : LockStep) (seen : Option ℕ) (lock : ℕ)
     (items content : List ℕ) → Stands limits job (Locking e seen) lock items content →
     Steps limits job (Locking e seen) lock items content
     (lock_after (phase_next limits (call_for e) seen) lock)
@@ -729,11 +729,11 @@ pub own-step : (limits : Bounds) (n : ℕ) (job : Job) (place : Place) (lock : �
     Steps limits job place lock items content (lock_after (next limits n job place) lock)
     (items_after (next limits n job place) items)
     (after limits n job place (local_seen (next limits n job place) lock items))
-own-step limits n job Glancing lock items content s e = glancing limits n job lock items content s e
+own-step limits n job LoadingLock lock items content s e = loading-lock limits n job lock items content s e
 own-step limits n job (Copying first loaded) lock items content s e =
     copying limits n job first loaded lock items content s e
-own-step limits n job (Locking errand seen) lock items content s e =
-    locking limits job errand seen lock items content s
+own-step limits n job (Locking lock_step seen) lock items content s e =
+    locking limits job lock_step seen lock items content s
 own-step limits n job (Reading t loaded) lock items content s e =
     reading limits n job t loaded lock items content s e
 own-step limits n job (Checking t loaded) lock items content s e =

@@ -13,7 +13,7 @@ use Rattle.stamp_machines.specs.StateFields.{world_at, SameState}
 use Rattle.stamp_core.specs.Word.{Represents, IsAdmitted, word_at}
 use Rattle.stamp_core.specs.History.{events_of}
 use Rattle.stamp_core.specs.Linearized.{history_of}
-use Rattle.stamp_machines.specs.Kept.{Kept, events_in}
+use Rattle.stamp_machines.specs.Invariant.{Invariant, events_in}
 use Rattle.stamp_machines.specs.RunFields.{IsAt}
 use Rattle.stamp_core.specs.Record.{IsRecorded}
 use Rattle.stamp_machines.proofs.StepsKeep.{always-kept, execution_of-more}
@@ -21,7 +21,7 @@ use Rattle.stamp_machines.proofs.EntryOrder.{InOrder, always-in-order}
 use Rattle.stamp_machines.proofs.EntryCount.{completed-recorded}
 
 pub run-kept : (r : Inside) → IsAt r →
-    Kept r.script.now (world_at [] r.state (length r.steps.items))
+    Invariant r.script.now (world_at [] r.state (length r.steps.items))
 run-kept r h = rw h.world (always-kept r.script.now r.steps.items h.sound h.few)
 
 same_world : (gone : List Entry) (old new : State) (n : ℕ) → SameState old new →
@@ -37,7 +37,7 @@ world-more plan old mid new names names' t w s n e =
     ∙ sym (execution_of-more plan names t))
 
 pub same-kept : (plan : Scripted) (old mid : State) (n : ℕ) → SameState old mid →
-    Kept plan (world_at [] old n) → Kept plan (world_at [] mid n)
+    Invariant plan (world_at [] old n) → Invariant plan (world_at [] mid n)
 same-kept plan old mid n s k = rw (same_world [] old mid n s) k
 
 pub run-memory : (r : Inside) → IsAt r → 0 < length r.state.words.items

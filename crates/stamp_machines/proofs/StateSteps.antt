@@ -21,7 +21,7 @@ use Rattle.stamp_machines.specs.declared.state.Progress.TheVariants as progress
 use Rattle.stamp_machines.specs.Progress.{HasReport, progress_of, told_by}
 use Rattle.stamp_core.specs.Decision.{stamp_in}
 use Rattle.stamp_machines.specs.Script.{IsSound}
-use Rattle.stamp_machines.specs.Kept.{Kept}
+use Rattle.stamp_machines.specs.Invariant.{Invariant}
 use Rattle.stamp_machines.specs.Landed.{IsSafeOn}
 use Rattle.stamp_machines.specs.StateLanded.{StateLanded}
 use Rattle.stamp_machines.specs.StateFields.{world_at, stamps_at, begun_in}
@@ -189,7 +189,7 @@ taken gone plan old mid new t position s some h m landed =
         }
 
 -- its access is safe
-pub taken-safe : (plan : Scripted) (world mid : World) (t : ℕ) → Kept plan world → IsSound plan →
+pub taken-safe : (plan : Scripted) (world mid : World) (t : ℕ) → Invariant plan world → IsSound plan →
     world.position < 1000000 → is_some (current plan world t) ≡ true → t < length world.begun →
     mid ≡ begun_with world t (current plan world t) →
     IfSome (slice_index_or mid.begun t None) (λ b. IsSafeOn b mid.words)

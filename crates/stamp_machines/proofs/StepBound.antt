@@ -41,7 +41,7 @@ use Rattle.stamp_machines.specs.Job.{job_in}
 use Rattle.stamp_machines.specs.LocalAccess.{LocalAccess, LoadLock, CasLock, LoadItem, StoreItem}
 use Rattle.stamp_machines.specs.LocalAccess.{with_lock, lock_after, local_seen}
 use Rattle.stamp_machines.specs.Machine.{next_access, after_access, lock_turn}
-use Rattle.stamp_machines.specs.Kept.{Kept, IsOf, events_in, job_at}
+use Rattle.stamp_machines.specs.Invariant.{Invariant, IsOf, events_in, job_at}
 use Rattle.stamp_machines.proofs.LockCallSteps.{decided}
 use Rattle.stamp_machines.proofs.TwoKindsOfCall.{lock_none}
 use Rattle.stamp_machines.proofs.LockPhaseSteps.{PhaseLanded, phase-landed}
@@ -289,7 +289,7 @@ seen-is (LoadItem i) word h = absurd h
 seen-is (StoreItem i v) word h = absurd h
 
 turn-bounded : (plan : Scripted) (world : World) (b : Begun) (phase : Phase) (own changes : ℕ) →
-    Kept plan world → IsSound plan → b.machine.shape ≡ shape_of plan →
+    Invariant plan world → IsSound plan → b.machine.shape ≡ shape_of plan →
     job_in b.machine.call ≡ job_at b.machine.phase → NeverWaits b.machine.call →
     b.machine.phase ≡ phase →
     BoundedPhase plan.limits b.machine.call (lock_word world) own changes phase →
@@ -421,7 +421,7 @@ step-bounded plan names n sound few all = by (current plan world n) refl
     world : World
     world = execution_of plan names
 
-    k : Kept plan world
+    k : Invariant plan world
     k = always-kept plan names sound few
 
     by : (c : Option Begun) → current plan world n ≡ c → AreBounded plan (names ++ n ∷ [])
@@ -497,6 +497,6 @@ under_way_bounded plan names t b sound few at never =
     let all = steps-bounded plan [] names sound (omega (arith, few)) (none-bounded plan) in
     let slot : BoundedSlot plan names t (Some b) =
     subst (BoundedSlot plan names t) at (all.slots t) in
-    let k : Kept plan (execution_of plan names) = always-kept plan names sound few in
+    let k : Invariant plan (execution_of plan names) = always-kept plan names sound few in
     let of : IsOf (shape_of plan) (Some b) = subst (IsOf (shape_of plan)) at (k.begun t) in
     under-way plan.limits b.machine.call _ _ _ b.machine.phase of.1 never (slot.1 never)

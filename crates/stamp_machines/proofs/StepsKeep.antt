@@ -1,4 +1,4 @@
--- Each step of a schedule keeps what `Kept` says.
+-- Each step of a schedule keeps what `Invariant` says.
 use Rattle.std.proofs.Common.{◌≡◌, ℕ, ◌+◌, ◌<◌, ◌≤◌, ◌==◌, Bool, true, false, List, [], ◌∷◌, ◌++◌}
 use Rattle.std.proofs.Common.{length, drop, Option, Some, None, zero, suc, if◌then◌else◌, refl, sym}
 use Rattle.std.proofs.Common.{◌∙◌, ap, subst, arith, ◌⊎◌, inl, inr}
@@ -39,7 +39,7 @@ use Rattle.stamp_machines.specs.World.{World, opening, opening_word, current, la
 use Rattle.stamp_machines.specs.World.{execution_of, entry_of, shape_of}
 use Rattle.stamp_machines.specs.RecordKept.{Doing, RecordKept, Steps, Stands, read_in, written_in}
 use Rattle.stamp_machines.specs.RecordKept.{read_by, written_by, FitsIn, SameFor, AloneFor}
-use Rattle.stamp_machines.specs.Kept.{Kept, IsOf, doing_in, doing_at, job_at, content_in, events_in}
+use Rattle.stamp_machines.specs.Invariant.{Invariant, IsOf, doing_in, doing_at, job_at, content_in, events_in}
 use Rattle.stamp_machines.proofs.LockPhaseSteps.{PhaseLanded, phase-landed, counts-of}
 use Rattle.stamp_machines.proofs.OtherRecordCalls.{moved-kept, le_sum}
 use Rattle.stamp_machines.specs.Laws.{ReleasesWinAlways}
@@ -86,14 +86,14 @@ record_room l =
     elim (either_layout l) [ inl h ↦ rw h.3 (omega arith) | inr h ↦ rw h.3 (omega arith) ]
 
 going-kept : (plan : Scripted) (world : World) (t : ℕ) (b : Begun) (words : List ℕ)
-    (m : MachineState) → Kept plan world →
+    (m : MachineState) → Invariant plan world →
     IsOf (shape_of plan) (Some (record { machine = m; first = b.first })) →
     length words ≡ 2 + plan.width → slice_index words 0 ≡ slice_index world.words 0 →
     RecordKept (record_limits (shape_of plan)) (slice_index words 1) (drop 2 words)
     (content_in plan world)
     (map doing_in (slice_set world.begun t (Some (record { machine = m; first = b.first })))) →
     (counts_at (record_limits (shape_of plan)) (slice_index words 1)).write_count ≤ world.position
-    + 1 → Kept plan (landed world t b words (machines.Going m))
+    + 1 → Invariant plan (landed world t b words (machines.Going m))
 going-kept plan world t b words m k o n s r f =
     record {
       legal = k.legal;
@@ -120,14 +120,14 @@ pub record Ends (plan : Scripted) (world : World) (call : Call) (r : Reply)
   pub content_is : content_next (content_in plan world) call r ≡ content
 
 done-kept : (plan : Scripted) (world : World) (t : ℕ) (b : Begun) (words : List ℕ) (r : Reply)
-    (events : List LockEvent) (content : List ℕ) → Kept plan world →
+    (events : List LockEvent) (content : List ℕ) → Invariant plan world →
     Ends plan world b.machine.call r events content →
     RepresentsAt plan.limits (slice_index words 0) events →
     RecordKept (record_limits (shape_of plan)) (slice_index words 1) (drop 2 words) content
     (map doing_in (slice_set world.begun t None)) → length content ≡ plan.width →
     length words ≡ 2 + plan.width →
     (counts_at (record_limits (shape_of plan)) (slice_index words 1)).write_count ≤ world.position
-    + 1 → Kept plan (landed world t b words (machines.Done r))
+    + 1 → Invariant plan (landed world t b words (machines.Done r))
 done-kept plan world t b words r events content k ends s rk w n f =
     let e : Entry = entry_of world t b r in
     let events_now : events_of plan.limits (history_of (world.entries ++ e ∷ [])) ≡ events =
@@ -176,11 +176,11 @@ record-ends plan world call job r j e =
 
 -- a step of a lock call
 lock-step : (plan : Scripted) (world : World) (t : ℕ) (b : Begun) (now : ℕ) (words : List ℕ)
-    (p : PhaseTurn) → Kept plan world → IsSound plan → b.machine.shape ≡ shape_of plan →
+    (p : PhaseTurn) → Invariant plan world → IsSound plan → b.machine.shape ≡ shape_of plan →
     job_in b.machine.call ≡ None → doing_in (slice_index_or world.begun t None) ≡ None →
     words ≡ now ∷ slice_index world.words 1 ∷ drop 2 world.words → length words ≡ 2 + plan.width →
     PhaseLanded plan.limits b.machine.call (slice_index world.words 0) now p →
-    Kept plan (landed world t b words (lock_turn b.machine.shape b.machine.call p))
+    Invariant plan (landed world t b words (lock_turn b.machine.shape b.machine.call p))
 lock-step plan world t b now words (Still seen) k sound o j z w n l =
     going-kept plan world t b words (record b.machine { phase = OnLock seen }) k (o, j) n (rw w l)
     (rw (
@@ -208,7 +208,7 @@ lock-step plan world t b now words (Ended r) k sound o j z w n l =
 
 -- a step of a call of the record
 record-step : (plan : Scripted) (world : World) (t : ℕ) (b : Begun) (job : Job) (place : Place)
-    (lock : ℕ) (items words : List ℕ) (turned : PlaceTurn) → Kept plan world →
+    (lock : ℕ) (items words : List ℕ) (turned : PlaceTurn) → Invariant plan world →
     t < length world.begun → b.machine.shape ≡ shape_of plan → job_in b.machine.call ≡ Some job →
     read_in (doing_in (slice_index_or world.begun t None)) ≡ read_by place →
     written_in (doing_in (slice_index_or world.begun t None)) ≡ written_by place →
@@ -216,7 +216,7 @@ record-step : (plan : Scripted) (world : World) (t : ℕ) (b : Begun) (job : Job
     (counts_at (record_limits (shape_of plan)) lock).write_count ≤ world.position + 1 →
     Steps (record_limits (shape_of plan)) job place (slice_index world.words 1) (drop 2 world.words)
     (content_in plan world) lock items turned →
-    Kept plan (landed world t b words (record_turn b.machine.shape b.machine.call job turned))
+    Invariant plan (landed world t b words (record_turn b.machine.shape b.machine.call job turned))
 record-step plan world t b job place lock items words (record_calls.Going to) k h o j rd wr w n f
     s =
     going-kept plan world t b words (record b.machine { phase = OnRecord job to }) k (o, j) n
@@ -262,7 +262,7 @@ at_most_one_more limits before lock lock' items content items' content' (inr e) 
 
 -- what a call of the record may rely on where it stands
 pub record-stands : (plan : Scripted) (world : World) (t : ℕ) (b : Begun) (job : Job)
-    (place : Place) → Kept plan world → world.position < 1000000 →
+    (place : Place) → Invariant plan world → world.position < 1000000 →
     Ready (record_limits (shape_of plan)) (shape_of plan)
     (counts_at (record_limits (shape_of plan)) (slice_index world.words 1)).write_count
     (counts_at (record_limits (shape_of plan)) (slice_index world.words 1)).writers
@@ -302,13 +302,13 @@ record-stands plan world t b job place k room ready e =
 
 -- one access of a call
 begun-kept : (plan : Scripted) (world : World) (t : ℕ) (b : Begun) (phase : Phase) →
-    Kept plan world → IsSound plan → world.position < 1000000 → t < length world.begun →
+    Invariant plan world → IsSound plan → world.position < 1000000 → t < length world.begun →
     Ready (record_limits (shape_of plan)) (shape_of plan)
     (counts_at (record_limits (shape_of plan)) (slice_index world.words 1)).write_count
     (counts_at (record_limits (shape_of plan)) (slice_index world.words 1)).writers
     (content_in plan world) (drop 2 world.words) (slice_index_or world.begun t None) b →
     b.machine.phase ≡ phase →
-    Kept plan (landed world t b
+    Invariant plan (landed world t b
     (words_after (next_in (shape_of plan) b.machine.call phase) world.words)
     (after_in (shape_of plan) b.machine.call
     (seen_by (next_in (shape_of plan) b.machine.call phase) world.words) phase))
@@ -325,7 +325,7 @@ begun-kept plan world t b (OnLock seen) k sound room h ready e =
     let n : length (words_after (with_lock 0 a) world.words) ≡ 2 + plan.width =
     length-words_after (with_lock 0 a) world.words ∙ k.memory in
     rw m.seen (subst
-    (λ (s : Shape). Kept plan
+    (λ (s : Shape). Invariant plan
     (landed world t b (words_after (with_lock 0 a) world.words)
     (lock_turn s b.machine.call
     (phase_after plan.limits b.machine.call seen
@@ -351,7 +351,7 @@ begun-kept plan world t b (OnRecord job place) k sound room h ready e =
     (let one = at_most_one_more limits place (slice_index world.words 1) _ (drop 2 world.words)
     (content_in plan world) _ _ s.0.effect in let f = k.few in omega (arith, one, f)) in
     rw m.seen (subst
-    (λ (x : Shape). Kept plan
+    (λ (x : Shape). Invariant plan
     (landed world t b (words_after (with_lock 1 a) world.words)
     (record_turn x b.machine.call job
     (record_calls.after limits plan.width job place
@@ -360,23 +360,23 @@ begun-kept plan world t b (OnRecord job place) k sound room h ready e =
 
 -- a machine of another shape is none of the script's
 of-shape : (plan : Scripted) (world : World) (t : ℕ) (b : Begun) → b.machine.shape ≡ shape_of plan →
-    Kept plan (landed world t b
+    Invariant plan (landed world t b
     (words_after (next_in (shape_of plan) b.machine.call b.machine.phase) world.words)
     (after_in (shape_of plan) b.machine.call
     (seen_by (next_in (shape_of plan) b.machine.call b.machine.phase) world.words)
     b.machine.phase)) →
-    Kept plan (landed world t b (words_after (next_access b.machine) world.words)
+    Invariant plan (landed world t b (words_after (next_access b.machine) world.words)
     (after_access b.machine (seen_by (next_access b.machine) world.words)))
 of-shape plan world t b e h =
-    subst (λ (s : Shape). Kept plan
+    subst (λ (s : Shape). Invariant plan
     (landed world t b (words_after (next_in s b.machine.call b.machine.phase) world.words)
     (after_in s b.machine.call
     (seen_by (next_in s b.machine.call b.machine.phase) world.words) b.machine.phase)))
     (sym e) h
 
-stepped-kept : (plan : Scripted) (world : World) (t : ℕ) (c : Option Begun) → Kept plan world →
+stepped-kept : (plan : Scripted) (world : World) (t : ℕ) (c : Option Begun) → Invariant plan world →
     IsSound plan → world.position < 1000000 → current plan world t ≡ c →
-    Kept plan (stepped world t c)
+    Invariant plan (stepped world t c)
 stepped-kept plan world t None k sound room e =
     record {
       legal = k.legal;
@@ -400,8 +400,8 @@ stepped-kept plan world t (Some b) k sound room e =
     of-shape plan world t b r.1.of.0
     (begun-kept plan world t b b.machine.phase k sound room r.0 r.1 refl)
 
-pub step-kept : (plan : Scripted) (world : World) (t : ℕ) → Kept plan world → IsSound plan →
-    world.position < 1000000 → Kept plan (step plan world t)
+pub step-kept : (plan : Scripted) (world : World) (t : ℕ) → Invariant plan world → IsSound plan →
+    world.position < 1000000 → Invariant plan (step plan world t)
 step-kept plan world t k sound room =
     stepped-kept plan world t (current plan world t) k sound room refl
 
@@ -428,7 +428,7 @@ none-fits limits k w content items (suc n) (suc t) = none-fits limits k w conten
 opening-shown : (limits : Bounds) → RepresentsAt limits (opening_word limits) []
 opening-shown limits = record { well_formed = well_formed_none; layout = refl; spelled = refl }
 
-pub opening-kept : (plan : Scripted) → IsSound plan → Kept plan (opening plan)
+pub opening-kept : (plan : Scripted) → IsSound plan → Invariant plan (opening plan)
 opening-kept plan sound =
     let limits : Bounds = record_limits (shape_of plan) in
     let range : AreInRange limits = record_range plan.limits.layout in
@@ -466,8 +466,8 @@ position-step plan world t = go (current plan world t)
     go None = refl
     go (Some b) = done b _ _
 
-steps-kept : (plan : Scripted) (world : World) (names : List ℕ) → Kept plan world → IsSound plan →
-    world.position + length names ≤ 1000000 → Kept plan (fold (step plan) world names)
+steps-kept : (plan : Scripted) (world : World) (names : List ℕ) → Invariant plan world → IsSound plan →
+    world.position + length names ≤ 1000000 → Invariant plan (fold (step plan) world names)
 steps-kept plan world [] k sound room = k
 steps-kept plan world (t ∷ names) k sound room =
     steps-kept plan (step plan world t) names (step-kept plan world t k sound (omega (arith, room)))
@@ -475,12 +475,12 @@ steps-kept plan world (t ∷ names) k sound room =
 
 -- the headline, of the definitions
 pub always-kept : (plan : Scripted) (names : List ℕ) → IsSound plan → length names ≤ 1000000 →
-    Kept plan (execution_of plan names)
+    Invariant plan (execution_of plan names)
 unfolding execution_of
 always-kept plan names sound few =
     steps-kept plan (opening plan) names (opening-kept plan sound) sound (omega (arith, few))
 
-phase-safe : (plan : Scripted) (world : World) (call : Call) (phase : Phase) → Kept plan world →
+phase-safe : (plan : Scripted) (world : World) (call : Call) (phase : Phase) → Invariant plan world →
     world.position < 1000000 →
     FitsIn (record_limits (shape_of plan))
     (counts_at (record_limits (shape_of plan)) (slice_index world.words 1)).write_count
@@ -496,7 +496,7 @@ phase-safe plan world call (OnRecord job place) k room f =
     (let v = record_room plan.limits.layout in let few = k.few in omega (arith, v, few, room)) f.2
 
 -- what a thread's step needs
-pub current-safe : (plan : Scripted) (world : World) (t : ℕ) (b : Begun) → Kept plan world →
+pub current-safe : (plan : Scripted) (world : World) (t : ℕ) (b : Begun) → Invariant plan world →
     IsSound plan → world.position < 1000000 → current plan world t ≡ Some b →
     IsSafeIn b.machine.shape b.machine.call b.machine.phase world.words
 current-safe plan world t b k sound room e =
@@ -513,7 +513,7 @@ current-safe plan world t b k sound room e =
 
 -- the exchange that releases finds what it expects
 releases : (plan : Scripted) (world : World) (t : ℕ) (b : Begun) (job : Job) (s : ℕ) (r : Reply) →
-    Kept plan world → IsSound plan → world.position < 1000000 → current plan world t ≡ Some b →
+    Invariant plan world → IsSound plan → world.position < 1000000 → current plan world t ≡ Some b →
     b.machine.phase ≡ OnRecord job (record_calls.Releasing s r) →
     (next_access b.machine ≡ Cas 1 s (s + (units plan.limits).writer))
     × (slice_index world.words 1 ≡ s)
@@ -557,7 +557,7 @@ unfolding execution_of
 execution_of-more plan names t = fold-append (step plan) (opening plan) names (t ∷ [])
 
 -- the call that a thread is in is of the script's shape, and its phase is one of its call
-pub current-of : (plan : Scripted) (world : World) (t : ℕ) (b : Begun) → Kept plan world →
+pub current-of : (plan : Scripted) (world : World) (t : ℕ) (b : Begun) → Invariant plan world →
     IsSound plan → current plan world t ≡ Some b → IsOf (shape_of plan) (Some b)
 current-of plan world t b k sound e =
     let limits : Bounds = record_limits (shape_of plan) in

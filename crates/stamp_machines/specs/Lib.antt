@@ -9,7 +9,7 @@ pub mod Machine
 pub mod PhaseState
 pub mod LockCallSteps
 pub mod MachinePhase
-pub mod Passage
+pub mod PhaseNext
 pub mod MachineFields
 pub mod MachineTurn
 pub mod Script
@@ -17,13 +17,13 @@ pub mod ScriptFault
 pub mod ScriptFields
 pub mod World
 pub mod RecordKept
-pub mod Kept
+pub mod Invariant
 pub mod Undisturbed
 pub mod Interference
 pub mod Tally
 pub mod Laws
 pub mod StateFields
-pub mod Course
+pub mod RunView
 pub mod Stepped
 pub mod Progress
 pub mod Landed

@@ -1,5 +1,5 @@
 -- The next access of a call, and where it stands after it.
-use Rattle.std.specs.Prelude.{ℕ, ◌<◌, ◌≤◌, length}
+use Rattle.std.specs.Prelude.{◌≡◌, ℕ, ◌<◌, ◌≤◌, List, [], ◌∷◌, length}
 use Rattle.stamp_core.specs.declared.call.Call.{Call}
 use Rattle.stamp_machines.specs.LockNumber.{IsAdmittedAt, counts_at}
 use Rattle.stamp_machines.specs.Job.{Job}
@@ -42,6 +42,13 @@ after_in shape call seen (OnRecord job place) =
 abbrev pub after_access : MachineState → ℕ → Turn
 after_access s seen = after_in s.shape s.call seen s.phase
 
+-- the accesses of a call found these words, one after another, and it stands here after them. A call
+-- that has ended makes no access
+abbrev pub Finds : List ℕ → Turn → Turn → Type 0
+Finds [] turn after = turn ≡ after
+Finds (word ∷ words) (Going s) after = Finds words (after_access s word) after
+Finds (word ∷ words) (Done reply) after = ⊥
+
 -- a version of the record's lock is left: write mode can still be acquired there
 abbrev pub HasVersionLeft : Shape → ℕ → Type 0
 HasVersionLeft shape found =
@@ -50,7 +57,7 @@ HasVersionLeft shape found =
 -- what is read as a lock's word is one that the lock's limits admit, and where a call of the record
 -- is about its lock, one with a version left
 abbrev pub IsFoundAt : Shape → Place → ℕ → Type 0
-IsFoundAt shape record_calls.Glancing found = IsAdmittedAt (record_limits shape) found
+IsFoundAt shape record_calls.LoadingLock found = IsAdmittedAt (record_limits shape) found
 IsFoundAt shape (record_calls.Copying first loaded) found =
     shape.width ≤ length loaded → IsAdmittedAt (record_limits shape) found
 IsFoundAt shape (record_calls.Locking e seen) found =

@@ -6,21 +6,21 @@ use Rattle.stamp_core.specs.declared.call.Call.{Call}
 use Rattle.stamp_core.specs.declared.reply.Reply.{Reply}
 use Rattle.stamp_core.specs.declared.reply.Reply.TheVariants.{No}
 use Rattle.stamp_machines.specs.LockNumber.{IsAdmittedAt}
-use Rattle.stamp_machines.specs.Passage.{IsChanging}
+use Rattle.stamp_machines.specs.PhaseNext.{IsChanging}
 use Rattle.stamp_machines.specs.Job.{Job, Getting, job_in, is_get, new_words, stored_reply}
 use Rattle.stamp_machines.specs.RecordPhase as places
 use Rattle.stamp_machines.specs.RecordPhase.{call_for}
 use Rattle.stamp_machines.specs.MachineState.{MachineState, Phase, OnLock, OnRecord, record_limits}
 use Rattle.stamp_machines.specs.declared.shape.Shape.{Shape}
 use Rattle.stamp_machines.specs.declared.stage.Stage.{Stage}
-use Rattle.stamp_machines.specs.declared.stage.Stage.TheVariants.{Public, Glancing, Copying}
+use Rattle.stamp_machines.specs.declared.stage.Stage.TheVariants.{Public, LoadingLock, Copying}
 use Rattle.stamp_machines.specs.declared.stage.Stage.TheVariants.{Locking, Reading, Checking}
 use Rattle.stamp_machines.specs.declared.stage.Stage.TheVariants.{Storing, Releasing}
-use Rattle.stamp_machines.specs.declared.stage.Errand.{Errand}
-use Rattle.stamp_machines.specs.declared.stage.Errand.TheVariants.{Share, Leave, Refuse, Upgrade}
-use Rattle.stamp_machines.specs.declared.stage.Errand.TheVariants.{Retreat, Claim}
-use Rattle.stamp_machines.specs.declared.stage.Next.{Next}
-use Rattle.stamp_machines.specs.declared.stage.Next.TheVariants.{To, Done}
+use Rattle.stamp_machines.specs.declared.stage.LockStep.{LockStep}
+use Rattle.stamp_machines.specs.declared.stage.LockStep.TheVariants.{Share, Leave, Refuse, Upgrade}
+use Rattle.stamp_machines.specs.declared.stage.LockStep.TheVariants.{ReleaseFirst, Claim}
+use Rattle.stamp_machines.specs.declared.stage.StageNext.{StageNext}
+use Rattle.stamp_machines.specs.declared.stage.StageNext.TheVariants as next
 use Rattle.stamp_machines.specs.declared.machine.Turn.{Turn}
 use Rattle.stamp_machines.specs.declared.machine.Turn.TheVariants.{Going}
 use Rattle.stamp_machines.specs.declared.machine.Turn.TheVariants as turned
@@ -34,13 +34,13 @@ abbrev pub job_of : Call → Job
 job_of call = job_or (job_in call)
 
 -- with these words loaded
-abbrev pub errand_in : List ℕ → Errand → places.Errand
-errand_in loaded Share = places.ToShare
-errand_in loaded (Leave stamp) = places.ToLeave stamp loaded
-errand_in loaded (Refuse stamp) = places.ToRefuse stamp
-errand_in loaded (Upgrade stamp) = places.ToUpgrade stamp
-errand_in loaded (Retreat stamp) = places.ToRetreat stamp
-errand_in loaded Claim = places.ToClaim
+abbrev pub lock_step_in : List ℕ → LockStep → places.LockStep
+lock_step_in loaded Share = places.ToShare
+lock_step_in loaded (Leave stamp) = places.ToLeave stamp loaded
+lock_step_in loaded (Refuse stamp) = places.ToRefuse stamp
+lock_step_in loaded (Upgrade stamp) = places.ToUpgrade stamp
+lock_step_in loaded (ReleaseFirst stamp) = places.ToReleaseFirst stamp
+lock_step_in loaded Claim = places.ToClaim
 
 -- its reply once its write lock is released
 abbrev pub released_reply : Job → Bool → Reply
@@ -48,10 +48,10 @@ released_reply job is_stored = if is_stored then stored_reply job else No
 
 abbrev pub phase_at : Call → List ℕ → Stage → Phase
 phase_at call loaded (Public seen) = OnLock seen
-phase_at call loaded Glancing = OnRecord (job_of call) places.Glancing
+phase_at call loaded LoadingLock = OnRecord (job_of call) places.LoadingLock
 phase_at call loaded (Copying first) = OnRecord (job_of call) (places.Copying first loaded)
-phase_at call loaded (Locking errand seen) =
-    OnRecord (job_of call) (places.Locking (errand_in loaded errand) seen)
+phase_at call loaded (Locking lock_step seen) =
+    OnRecord (job_of call) (places.Locking (lock_step_in loaded lock_step) seen)
 phase_at call loaded (Reading stamp) = OnRecord (job_of call) (places.Reading stamp loaded)
 phase_at call loaded (Checking stamp) = OnRecord (job_of call) (places.Checking stamp loaded)
 phase_at call loaded (Storing stamp stored) = OnRecord (job_of call) (places.Storing stamp stored)
@@ -67,9 +67,9 @@ going_at shape call loaded stage =
     Going (record { shape = shape; call = call; phase = phase_at call loaded stage })
 
 -- the turn of a call that has these words loaded, with this reply
-abbrev pub turn_in : Shape → Call → List ℕ → Reply → Next → Turn
-turn_in shape call loaded reply (To stage) = going_at shape call loaded stage
-turn_in shape call loaded reply Done = turned.Done reply
+abbrev pub turn_in : Shape → Call → List ℕ → Reply → StageNext → Turn
+turn_in shape call loaded reply (next.Going stage) = going_at shape call loaded stage
+turn_in shape call loaded reply next.Done = turned.Done reply
 
 -- a call of the record has the record's width
 abbrev pub IsRecordCall : Shape → Call → Type 0
@@ -83,24 +83,24 @@ IsWriter shape call =
     (is_lock_call call ≡ false) × (0 < shape.width) × (shape.width ≤ 16)
     × (is_get (job_of call) ≡ false) × (length (new_words (job_of call)) ≡ shape.width)
 
-abbrev pub IsErrand : Shape → Call → List ℕ → Errand → Type 0
-IsErrand shape call loaded Share = IsRecordCall shape call
-IsErrand shape call loaded (Leave stamp) = IsRecordCall shape call × (1 ≤ length loaded)
-IsErrand shape call loaded (Refuse stamp) = IsRecordCall shape call
-IsErrand shape call loaded (Upgrade stamp) = IsWriter shape call
-IsErrand shape call loaded (Retreat stamp) = IsWriter shape call
-IsErrand shape call loaded Claim = IsWriter shape call
+abbrev pub IsLockStep : Shape → Call → List ℕ → LockStep → Type 0
+IsLockStep shape call loaded Share = IsRecordCall shape call
+IsLockStep shape call loaded (Leave stamp) = IsRecordCall shape call × (1 ≤ length loaded)
+IsLockStep shape call loaded (Refuse stamp) = IsRecordCall shape call
+IsLockStep shape call loaded (Upgrade stamp) = IsWriter shape call
+IsLockStep shape call loaded (ReleaseFirst stamp) = IsWriter shape call
+IsLockStep shape call loaded Claim = IsWriter shape call
 
 abbrev pub IsStage : Shape → Call → List ℕ → Stage → Type 0
 IsStage shape call loaded (Public seen) =
     (is_lock_call call ≡ true) × IsChanging shape.limits call seen
-IsStage shape call loaded Glancing = IsRecordCall shape call
+IsStage shape call loaded LoadingLock = IsRecordCall shape call
 IsStage shape call loaded (Copying first) =
     IsRecordCall shape call × IsAdmittedAt (record_limits shape) first
     × (length loaded ≤ shape.width)
-IsStage shape call loaded (Locking errand seen) =
-    IsErrand shape call loaded errand
-    × IsChanging (record_limits shape) (call_for (errand_in loaded errand)) seen
+IsStage shape call loaded (Locking lock_step seen) =
+    IsLockStep shape call loaded lock_step
+    × IsChanging (record_limits shape) (call_for (lock_step_in loaded lock_step)) seen
 IsStage shape call loaded (Reading stamp) = IsRecordCall shape call × (length loaded < shape.width)
 IsStage shape call loaded (Checking stamp) =
     IsWriter shape call × (length loaded < shape.width) × (stamp < 2 ^ 63)
@@ -110,9 +110,9 @@ IsStage shape call loaded (Releasing stamp is_stored) =
     (is_lock_call call ≡ false) × (stamp < 2 ^ 63)
 
 -- where it goes on with the words now loaded; the end of a call leaves them as they were
-abbrev pub IsNext : Shape → Call → List ℕ → List ℕ → Next → Type 0
-IsNext shape call before loaded (To stage) = IsStage shape call loaded stage
-IsNext shape call before loaded Done = loaded ≡ before
+abbrev pub IsStageNext : Shape → Call → List ℕ → List ℕ → StageNext → Type 0
+IsStageNext shape call before loaded (next.Going stage) = IsStage shape call loaded stage
+IsStageNext shape call before loaded next.Done = loaded ≡ before
 
 abbrev pub IsSound : Inside → Type 0
 IsSound m = IsStage m.shape m.call m.loaded m.stage

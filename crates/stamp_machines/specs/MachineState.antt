@@ -25,3 +25,12 @@ start shape call = record { shape = shape; call = call; phase = first_phase (job
 -- the limits of the record's lock
 abbrev pub record_limits : Shape → Bounds
 record_limits shape = widest shape.limits.layout
+
+-- a lock that no record stands beside
+abbrev pub lock_alone : Bounds → Shape
+lock_alone limits = record { limits = limits; width = 0 }
+
+-- the machine of a lock call there, which has seen this word
+abbrev pub on_lock_alone : Bounds → Call → Option ℕ → MachineState
+on_lock_alone limits call seen =
+    record { shape = lock_alone limits; call = call; phase = OnLock seen }

@@ -7,20 +7,20 @@ use Rattle.stamp_core.specs.Limits.{Bounds, units, AreInRange}
 use Rattle.stamp_core.specs.Stamp.{write_stamp, read_stamp}
 use Rattle.stamp_machines.specs.LockNumber.{IsAdmittedAt, counts_at}
 use Rattle.stamp_machines.specs.Job.{Job, content_with, reply_to, new_words, expects, is_get}
-use Rattle.stamp_machines.specs.RecordPhase.{Going, Done, Place, Glancing, Copying, Locking}
+use Rattle.stamp_machines.specs.RecordPhase.{Going, Done, Place, LoadingLock, Copying, Locking}
 use Rattle.stamp_machines.specs.RecordPhase.{Reading, Checking, Storing, Releasing, ToShare}
-use Rattle.stamp_machines.specs.RecordPhase.{ToLeave, ToRefuse, ToUpgrade, ToRetreat, ToClaim}
+use Rattle.stamp_machines.specs.RecordPhase.{ToLeave, ToRefuse, ToUpgrade, ToReleaseFirst, ToClaim}
 use Rattle.stamp_machines.specs.RecordPhase.{PlaceTurn}
 
 -- how many read and write locks a call at this place holds
 abbrev pub read_by : Place → ℕ
-read_by Glancing = 0
+read_by LoadingLock = 0
 read_by (Copying first loaded) = 0
 read_by (Locking ToShare seen) = 0
 read_by (Locking (ToLeave s loaded) seen) = 1
 read_by (Locking (ToRefuse s) seen) = 1
 read_by (Locking (ToUpgrade s) seen) = 1
-read_by (Locking (ToRetreat s) seen) = 1
+read_by (Locking (ToReleaseFirst s) seen) = 1
 read_by (Locking ToClaim seen) = 0
 read_by (Reading s loaded) = 1
 read_by (Checking s loaded) = 0
@@ -28,7 +28,7 @@ read_by (Storing s i) = 0
 read_by (Releasing s a) = 0
 
 abbrev pub written_by : Place → ℕ
-written_by Glancing = 0
+written_by LoadingLock = 0
 written_by (Copying first loaded) = 0
 written_by (Locking e seen) = 0
 written_by (Reading s loaded) = 0
@@ -46,7 +46,7 @@ IsRead limits k s =
     (read_stamp (units limits) k 1 ≤ s) × (s ≤ read_stamp (units limits) k (units limits).readers)
 
 abbrev pub Fits : Bounds → ℕ → ℕ → List ℕ → List ℕ → Job → Place → Type 0
-Fits limits k w content items job Glancing = is_get job ≡ true
+Fits limits k w content items job LoadingLock = is_get job ≡ true
 Fits limits k w content items job (Copying first loaded) =
     (is_get job ≡ true) × ((counts_at limits first).write_count ≤ k)
     × (length loaded ≤ length content)
@@ -58,7 +58,7 @@ Fits limits k w content items job (Locking (ToRefuse s) seen) =
     (is_get job ≡ false) × IsRead limits k s × (expects job content ≡ false)
 Fits limits k w content items job (Locking (ToUpgrade s) seen) =
     (is_get job ≡ false) × IsRead limits k s × (expects job content ≡ true)
-Fits limits k w content items job (Locking (ToRetreat s) seen) =
+Fits limits k w content items job (Locking (ToReleaseFirst s) seen) =
     (is_get job ≡ false) × IsRead limits k s
 Fits limits k w content items job (Locking ToClaim seen) = is_get job ≡ false
 Fits limits k w content items job (Reading s loaded) =

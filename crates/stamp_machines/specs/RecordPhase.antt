@@ -15,18 +15,18 @@ use Rattle.stamp_machines.specs.LocalAccess.{LocalAccess, LoadLock, CasLock, Loa
 use Rattle.stamp_machines.specs.LockPhase.{PhaseTurn, Still, Ended, phase_next, phase_after}
 
 -- a lock call on the record's lock, and what its end leads to
-pub data Errand : Type 0 where
-  ToShare : Errand  -- read lock of a get or a put_if
-  ToLeave : ℕ → List ℕ → Errand  -- unlock after a get has read these words
-  ToRefuse : ℕ → Errand  -- unlock of a put_if that read other words
-  ToUpgrade : ℕ → Errand  -- conversion of a put_if that read its words
-  ToRetreat : ℕ → Errand  -- unlock of a put_if whose conversion gave nothing
-  ToClaim : Errand  -- write lock of a put or a put_if
+pub data LockStep : Type 0 where
+  ToShare : LockStep  -- read lock of a get or a put_if
+  ToLeave : ℕ → List ℕ → LockStep  -- unlock after a get has read these words
+  ToRefuse : ℕ → LockStep  -- unlock of a put_if that read other words
+  ToUpgrade : ℕ → LockStep  -- conversion of a put_if that read its words
+  ToReleaseFirst : ℕ → LockStep  -- unlock of a put_if whose conversion gave nothing
+  ToClaim : LockStep  -- write lock of a put or a put_if
 
 pub data Place : Type 0 where
-  Glancing : Place
+  LoadingLock : Place
   Copying : ℕ → List ℕ → Place  -- the lock word first seen, the words loaded
-  Locking : Errand → Option ℕ → Place  -- a lock phase, with the word that it decided on
+  Locking : LockStep → Option ℕ → Place  -- a lock phase, with the word that it decided on
   Reading : ℕ → List ℕ → Place  -- under a read stamp
   Checking : ℕ → List ℕ → Place  -- under a write stamp, of a put_if
   Storing : ℕ → ℕ → Place  -- under a write stamp, this many words stored
@@ -36,21 +36,21 @@ pub data PlaceTurn : Type 0 where
   Going : Place → PlaceTurn
   Done : Reply → PlaceTurn
 
-abbrev pub call_for : Errand → Call
+abbrev pub call_for : LockStep → Call
 call_for ToShare = ReadLock
 call_for (ToLeave s loaded) = UnlockRead s
 call_for (ToRefuse s) = UnlockRead s
 call_for (ToUpgrade s) = ToWrite s
-call_for (ToRetreat s) = UnlockRead s
+call_for (ToReleaseFirst s) = UnlockRead s
 call_for ToClaim = WriteLock
 
 abbrev pub opening : Job → Place
-opening Getting = Glancing
+opening Getting = LoadingLock
 opening (Putting a) = Locking ToClaim None
 opening (PuttingIf a b) = Locking ToShare None
 
 abbrev pub next : Bounds → ℕ → Job → Place → LocalAccess
-next limits n job Glancing = LoadLock
+next limits n job LoadingLock = LoadLock
 next limits n job (Copying first loaded) =
     if nat_lt (length loaded) n then LoadItem (length loaded) else LoadLock
 next limits n job (Locking e seen) = phase_next limits (call_for e) seen
@@ -65,18 +65,18 @@ claimed Getting s = Going (Storing s 0)
 claimed (Putting a) s = Going (Storing s 0)
 claimed (PuttingIf a b) s = Going (Checking s [])
 
-abbrev pub errand_done : Job → Errand → ℕ → PlaceTurn
-errand_done job ToShare s = Going (Reading s [])
-errand_done job (ToLeave t loaded) s = Done (reply.Content loaded)
-errand_done job (ToRefuse t) s = Done reply.No
-errand_done job (ToUpgrade t) s =
-    if s == 0 then Going (Locking (ToRetreat t) None) else Going (Storing s 0)
-errand_done job (ToRetreat t) s = Going (Locking ToClaim None)
-errand_done job ToClaim s = claimed job s
+abbrev pub lock_step_done : Job → LockStep → ℕ → PlaceTurn
+lock_step_done job ToShare s = Going (Reading s [])
+lock_step_done job (ToLeave t loaded) s = Done (reply.Content loaded)
+lock_step_done job (ToRefuse t) s = Done reply.No
+lock_step_done job (ToUpgrade t) s =
+    if s == 0 then Going (Locking (ToReleaseFirst t) None) else Going (Storing s 0)
+lock_step_done job (ToReleaseFirst t) s = Going (Locking ToClaim None)
+lock_step_done job ToClaim s = claimed job s
 
-abbrev pub passed : Job → Errand → PhaseTurn → PlaceTurn
+abbrev pub passed : Job → LockStep → PhaseTurn → PlaceTurn
 passed job e (Still seen) = Going (Locking e seen)
-passed job e (Ended r) = errand_done job e (stamp_in r)
+passed job e (Ended r) = lock_step_done job e (stamp_in r)
 
 abbrev pub unchanged : Bounds → ℕ → ℕ → Bool
 unchanged limits first found =
@@ -90,7 +90,7 @@ all_read job s loaded =
     else Going (Locking (ToRefuse s) None))
 
 abbrev pub after : Bounds → ℕ → Job → Place → ℕ → PlaceTurn
-after limits n job Glancing found =
+after limits n job LoadingLock found =
     if (counts_at limits found).writers == 0 then Going (Copying found [])
     else Going (Locking ToShare None)
 after limits n job (Copying first loaded) found =

@@ -1,12 +1,12 @@
 -- How the fields of a run are read, and what each run keeps to.
 use Rattle.std.specs.Prelude.{◌≡◌, ℕ, ◌≤◌, [], length}
 use Rattle.stamp_machines.specs.declared.running.Run.TheInside.{Inside}
-use Rattle.stamp_machines.specs.Course.{Course}
+use Rattle.stamp_machines.specs.RunView.{RunView}
 use Rattle.stamp_machines.specs.Script.{IsSound}
 use Rattle.stamp_machines.specs.World.{execution_of, stamps_of}
 use Rattle.stamp_machines.specs.StateFields.{world_at, stamps_at}
 
-abbrev pub course_of : Inside → Course
+abbrev pub course_of : Inside → RunView
 course_of r = record { plan = r.script.now; names = r.steps.items }
 
 -- the words, the threads' calls and the entries are those of the schedule for the names so far

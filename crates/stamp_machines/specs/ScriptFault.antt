@@ -1,4 +1,4 @@
--- Which fault of what is handed in for a script comes first.
+-- Which fault of what is given for a script comes first.
 use Rattle.std.specs.Prelude.{◌⊎◌, ℕ, ◌<◌, ◌≤◌, List, length, take, slice_index, All, Vec}
 use Rattle.std.specs.Global.{Global}
 use Rattle.stamp_machines.specs.Script.{Suits}

@@ -18,7 +18,6 @@ mod tally;
 
 pub use access::Access;
 pub use completions::Completions;
-pub use lock_phase::{Passage, after_lock_access, lock_access};
 pub use machine::{Machine, Turn};
 pub use run_whole::{run, run_reported};
 pub use running::{MOST_STEPS, Run, RunError, Stepped};

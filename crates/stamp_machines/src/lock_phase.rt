@@ -6,21 +6,19 @@ ghost use Rattle.stamp_core.specs.Word.{IsAdmitted, word_at};
 ghost use Rattle.stamp_machines.specs.Access.{words_after};
 ghost use Rattle.stamp_machines.specs.LocalAccess.{with_lock, lock_after};
 ghost use Rattle.stamp_machines.specs.LockPhase.{phase_next, phase_after};
-ghost use Rattle.stamp_machines.specs.LockCallSteps.{Plans, on_lock};
-ghost use Rattle.stamp_machines.specs.Machine.{next_access, after_access};
-ghost use Rattle.stamp_machines.specs.Passage.{phase_turn, IsChanging, IsPassage, LeadsOn};
-ghost use Rattle.stamp_machines.specs.Passage.{machine_on_lock, turn_on_lock};
+ghost use Rattle.stamp_machines.specs.LockCallSteps.{Plans};
+ghost use Rattle.stamp_machines.specs.PhaseNext.{phase_turn, IsChanging, IsPhaseNext, LeadsOn};
 
 use crate::access::Access;
 use stamp_core::{Call, Limits, LockDecision, Reply, decide_lock};
 
-/// What an access of a lock call leads to.
+/// What an access of a lock call leads to, in its phase.
 #[derive(Clone, Copy)]
-pub enum Passage {
+pub enum PhaseNext {
     /// It goes on: to an exchange from this word, which was seen, or to a load.
-    Still(Option<u64>),
+    Going(Option<u64>),
     /// Its reply was written where the caller asked.
-    Ended,
+    Done,
 }
 
 /// The next access of a lock call, on the word `at`.
@@ -62,13 +60,13 @@ fn tried(
     seen: Option<u64>,
     found: u64,
     answer: &mut Reply,
-) -> (u64, Passage)
+) -> (u64, PhaseNext)
     requires lock { IsTrue (is_lock_call call.now) }
     requires seen { IsChanging limits call.now seen }
     requires word { IsAdmitted limits (word_at limits found) }
     ensures word { result.0 ≡ lock_after (phase_next limits call.now seen) found }
     ensures passage { phase_turn result.1 answer.new ≡ phase_after limits call.now seen found }
-    ensures changing { IsPassage limits call.now result.1 answer.new }
+    ensures changing { IsPhaseNext limits call.now result.1 answer.new }
     ensures leads { (at : ℕ) →
         LeadsOn (record { at = at; limits = limits; call = call.now; seen = seen }) found result.1
         answer.new }
@@ -77,17 +75,17 @@ fn tried(
     match decide_lock(limits, limits.word(found), call) {
         LockDecision::Answer(reply) => {
             *answer = reply.as_reply();
-            (found, Passage::Ended)
+            (found, PhaseNext::Done)
         }
         LockDecision::Change(new, reply) => {
             if is_seen(seen, found) {
                 *answer = reply.as_reply();
-                (new.bits(), Passage::Ended)
+                (new.bits(), PhaseNext::Done)
             } else {
-                (found, Passage::Still(Some(found)))
+                (found, PhaseNext::Going(Some(found)))
             }
         }
-        LockDecision::Wait => (found, Passage::Still(None)),
+        LockDecision::Wait => (found, PhaseNext::Going(None)),
     }
 }
 
@@ -99,12 +97,12 @@ pub(crate) fn passed(
     seen: Option<u64>,
     found: u64,
     answer: &mut Reply,
-) -> Passage
+) -> PhaseNext
     requires lock { IsTrue (is_lock_call call.now) }
     requires seen { IsChanging limits call.now seen }
     requires word { IsAdmitted limits (word_at limits found) }
     ensures passage { phase_turn result answer.new ≡ phase_after limits call.now seen found }
-    ensures changing { IsPassage limits call.now result answer.new }
+    ensures changing { IsPhaseNext limits call.now result answer.new }
     ensures leads { (at : ℕ) →
         LeadsOn (record { at = at; limits = limits; call = call.now; seen = seen }) found result
         answer.new }
@@ -123,7 +121,7 @@ pub(crate) fn accessed(
     seen: Option<u64>,
     words: &mut [u64],
     answer: &mut Reply,
-) -> Passage
+) -> PhaseNext
     requires memory { at < length words.old }
     requires lock { IsTrue (is_lock_call call.now) }
     requires seen { IsChanging limits call.now seen }
@@ -132,7 +130,7 @@ pub(crate) fn accessed(
         ≡ words_after (with_lock at (phase_next limits call.now seen)) words.old }
     ensures passage { phase_turn result answer.new
         ≡ phase_after limits call.now seen (slice_index words.old at) }
-    ensures changing { IsPassage limits call.now result answer.new }
+    ensures changing { IsPhaseNext limits call.now result answer.new }
 {
     let (word, passage) = tried(limits, call, seen, words[at], answer);
     words[at] = word;
@@ -148,37 +146,4 @@ fn is_seen(seen: Option<u64>, found: u64) -> bool
         Some(old) => found == old,
         None => false,
     }
-}
-
-/// The next access of a call of the lock that has seen this word, or has to load it: what the
-/// machine of the call plans, without room for the stages of the record's calls.
-#[inline(always)]
-pub fn lock_access(limits: Limits, call: &Call, seen: Option<u64>) -> Access
-    requires lock { IsTrue (is_lock_call call.now) }
-    requires seen { IsChanging limits call.now seen }
-    ensures next { result ≡ next_access (machine_on_lock limits call.now seen) }
-    ensures plans { Plans (on_lock limits call.now seen) result }
-{
-    planned(0, limits, call, seen)
-}
-
-/// Goes on after that access has found this word, as the machine does. Where the call has ended,
-/// its reply stands in `answer`.
-#[inline(always)]
-pub fn after_lock_access(
-    limits: Limits,
-    call: &Call,
-    seen: Option<u64>,
-    found: u64,
-    answer: &mut Reply,
-) -> Passage
-    requires lock { IsTrue (is_lock_call call.now) }
-    requires seen { IsChanging limits call.now seen }
-    requires word { IsAdmitted limits (word_at limits found) }
-    ensures after { turn_on_lock limits call.now result answer.new
-        ≡ after_access (machine_on_lock limits call.now seen) found }
-    ensures changing { IsPassage limits call.now result answer.new }
-    ensures leads { LeadsOn (on_lock limits call.now seen) found result answer.new }
-{
-    passed(limits, call, seen, found, answer)
 }

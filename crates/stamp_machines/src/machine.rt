@@ -10,18 +10,18 @@ ghost use Rattle.stamp_machines.specs.Machine.{after_in, IsFoundIn};
 ghost use Rattle.stamp_machines.specs.MachineState.{MachineState, OnLock, record_limits};
 ghost use Rattle.stamp_machines.specs.Access.{place_of, words_after, seen_by};
 ghost use Rattle.stamp_machines.specs.MachineTurn.{turn_of};
-ghost use Rattle.stamp_machines.specs.MachineFields.{phase_at, turn_in, errand_in, IsStage};
-ghost use Rattle.stamp_machines.specs.MachineFields.{IsErrand, IsNext};
-ghost use Rattle.stamp_machines.specs.Passage.{IsChanging};
+ghost use Rattle.stamp_machines.specs.MachineFields.{phase_at, turn_in, lock_step_in, IsStage};
+ghost use Rattle.stamp_machines.specs.MachineFields.{IsLockStep, IsStageNext};
+ghost use Rattle.stamp_machines.specs.PhaseNext.{IsChanging};
 ghost use Rattle.stamp_machines.specs.RecordPhase.{call_for};
 
 use crate::access::{Access, make};
 use crate::loaded::Loaded;
-use crate::lock_phase::{Passage, accessed, passed, planned};
+use crate::lock_phase::{PhaseNext, accessed, passed, planned};
 use crate::shape::Shape;
 use crate::stage::{
-    Errand, Next, Stage, call_for, checked, copied, ended, first_stage, glanced, new_word, read,
-    released_reply, stored,
+    LockStep, Stage, StageNext, call_for, checked, copied, ended, first_stage, lock_loaded,
+    new_word, read, released_reply, stored,
 };
 use stamp_core::{Call, Reply};
 use std::marker::Model;
@@ -65,12 +65,12 @@ fn after_public(
     seen: Option<u64>,
     found: u64,
     answer: &mut Reply,
-) -> Next
+) -> StageNext
     requires stage { IsStage shape.now call.now loaded.now (Stage.Public seen) }
     requires found { IsFoundIn shape.now (phase_at call.now loaded.now (Stage.Public seen)) found }
     ensures next { turn_in shape.now call.now loaded.now answer.new result
         ≡ after_in shape.now call.now found (phase_at call.now loaded.now (Stage.Public seen)) }
-    ensures sound { IsNext shape.now call.now loaded.now loaded.now result }
+    ensures sound { IsStageNext shape.now call.now loaded.now loaded.now result }
     ensures leads { Leads (lock_phase
         (record {
           shape = shape.now;
@@ -83,8 +83,8 @@ fn after_public(
         (λ p. LeadsIn p found (turn_in shape.now call.now loaded.now answer.new result)) }
 {
     match passed(shape.limits, call, seen, found, answer) {
-        Passage::Still(seen) => Next::To(Stage::Public { seen }),
-        Passage::Ended => Next::Done,
+        PhaseNext::Going(seen) => StageNext::Going(Stage::Public { seen }),
+        PhaseNext::Done => StageNext::Done,
     }
 }
 
@@ -93,32 +93,32 @@ fn after_public(
 fn after_locking(
     shape: &Shape,
     call: &Call,
-    errand: Errand,
+    lock_step: LockStep,
     seen: Option<u64>,
     loaded: &mut Loaded,
     found: u64,
     answer: &mut Reply,
-) -> Next
-    requires stage { IsStage shape.now call.now loaded.old (Stage.Locking errand seen) }
-    requires found { IsFoundIn shape.now (phase_at call.now loaded.old (Stage.Locking errand seen))
+) -> StageNext
+    requires stage { IsStage shape.now call.now loaded.old (Stage.Locking lock_step seen) }
+    requires found { IsFoundIn shape.now (phase_at call.now loaded.old (Stage.Locking lock_step seen))
         found }
     ensures next { turn_in shape.now call.now loaded.new answer.new result
         ≡ after_in shape.now call.now found
-        (phase_at call.now loaded.old (Stage.Locking errand seen)) }
-    ensures sound { IsNext shape.now call.now loaded.old loaded.new result }
+        (phase_at call.now loaded.old (Stage.Locking lock_step seen)) }
+    ensures sound { IsStageNext shape.now call.now loaded.old loaded.new result }
     ensures phase { IfSome
-        (phase_in shape.now call.now (phase_at call.now loaded.old (Stage.Locking errand seen)))
+        (phase_in shape.now call.now (phase_at call.now loaded.old (Stage.Locking lock_step seen)))
         (λ p. LeadsIn p found (turn_in shape.now call.now loaded.new answer.new result)) }
 {
     match passed(
         shape.record_limits(),
-        &call_for(errand),
+        &call_for(lock_step),
         seen,
         found,
         answer,
     ) {
-        Passage::Still(seen) => Next::To(Stage::Locking { errand, seen }),
-        Passage::Ended => ended(shape, call, errand, loaded, answer),
+        PhaseNext::Going(seen) => StageNext::Going(Stage::Locking { lock_step, seen }),
+        PhaseNext::Done => ended(shape, call, lock_step, loaded, answer),
     }
 }
 
@@ -131,12 +131,12 @@ fn next(
     stage: Stage,
     found: u64,
     answer: &mut Reply,
-) -> Next
+) -> StageNext
     requires stage { IsStage shape.now call.now loaded.old stage }
     requires found { IsFoundIn shape.now (phase_at call.now loaded.old stage) found }
     ensures next { turn_in shape.now call.now loaded.new answer.new result
         ≡ after_in shape.now call.now found (phase_at call.now loaded.old stage) }
-    ensures sound { IsNext shape.now call.now loaded.old loaded.new result }
+    ensures sound { IsStageNext shape.now call.now loaded.old loaded.new result }
     ensures leads { IsTrue (is_lock_call call.now) →
         Leads (lock_phase
         (record {
@@ -150,19 +150,19 @@ fn next(
 {
     match stage {
         Stage::Public { seen } => after_public(shape, call, loaded, seen, found, answer),
-        Stage::Glancing => Next::To(glanced(shape, call, loaded, found)),
+        Stage::LoadingLock => StageNext::Going(lock_loaded(shape, call, loaded, found)),
         Stage::Copying { first } => copied(shape, call, first, loaded, found, answer),
-        Stage::Locking { errand, seen } => {
-            after_locking(shape, call, errand, seen, loaded, found, answer)
+        Stage::Locking { lock_step, seen } => {
+            after_locking(shape, call, lock_step, seen, loaded, found, answer)
         }
-        Stage::Reading { stamp } => Next::To(read(shape, call, stamp, loaded, found)),
-        Stage::Checking { stamp } => Next::To(checked(shape, call, stamp, loaded, found)),
+        Stage::Reading { stamp } => StageNext::Going(read(shape, call, stamp, loaded, found)),
+        Stage::Checking { stamp } => StageNext::Going(checked(shape, call, stamp, loaded, found)),
         Stage::Storing { stamp, stored: i } => {
-            Next::To(stored(shape, call, stamp, i, loaded, found))
+            StageNext::Going(stored(shape, call, stamp, i, loaded, found))
         }
         Stage::Releasing { is_stored, .. } => {
             *answer = released_reply(call, is_stored);
-            Next::Done
+            StageNext::Done
         }
     }
 }
@@ -200,7 +200,7 @@ impl Machine {
     {
         match self.stage {
             Stage::Public { seen } => planned(0, self.shape.limits, &self.call, seen),
-            Stage::Glancing => Access::Load(1),
+            Stage::LoadingLock => Access::Load(1),
             Stage::Copying { .. } => {
                 if self.loaded.len() < self.shape.words() {
                     Access::Load(2 + self.loaded.len())
@@ -208,8 +208,8 @@ impl Machine {
                     Access::Load(1)
                 }
             }
-            Stage::Locking { errand, seen } => {
-                planned(1, self.shape.record_limits(), &call_for(errand), seen)
+            Stage::Locking { lock_step, seen } => {
+                planned(1, self.shape.record_limits(), &call_for(lock_step), seen)
             }
             Stage::Reading { .. } | Stage::Checking { .. } => Access::Load(2 + self.loaded.len()),
             Stage::Storing { stored, .. } => Access::Store(
@@ -256,11 +256,11 @@ impl Machine {
         match self.stage {
             Stage::Public { seen } => {
                 match accessed(0, self.shape.limits, &self.call, seen, words, answer) {
-                    Passage::Still(seen) => {
+                    PhaseNext::Going(seen) => {
                         self.stage = Stage::Public { seen };
                         false
                     }
-                    Passage::Ended => true,
+                    PhaseNext::Done => true,
                 }
             }
             _ => {
@@ -290,11 +290,11 @@ impl Machine {
             found,
             answer,
         ) {
-            Next::To(stage) => {
+            StageNext::Going(stage) => {
                 self.stage = stage;
                 false
             }
-            Next::Done => true,
+            StageNext::Done => true,
         }
     }
 }

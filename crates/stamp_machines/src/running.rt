@@ -66,9 +66,9 @@ pub struct Run<'a> {
 }
 
 impl<'a> Model for Run<'a> {
-    ghost use Rattle.stamp_machines.specs.Course.{Course};
+    ghost use Rattle.stamp_machines.specs.RunView.{RunView};
 
-    ghost Value = { Course };
+    ghost Value = { RunView };
 
     ghost use Rattle.stamp_machines.specs.RunFields.{course_of, IsAt};
 

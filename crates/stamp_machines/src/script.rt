@@ -111,7 +111,7 @@ fn first_unknown(steps: &[u64], threads: u64) -> Option<usize>
 }
 
 impl Script {
-    /// A script of just what was handed in, or its first fault; then all of it is dropped. It may
+    /// A script of just what was given, or its first fault; then all of it is dropped. It may
     /// have up to `MOST_THREADS` threads, `MOST_CALLS` calls in each, `MOST_STEPS` steps and a record
     /// of `MOST_WIDTH` words.
     pub fn new(

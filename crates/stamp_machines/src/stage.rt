@@ -6,14 +6,14 @@ ghost use Rattle.stamp_core.specs.Decision.{stamp_in};
 ghost use Rattle.stamp_core.specs.Word.{IsAdmitted, word_at};
 ghost use Rattle.stamp_machines.specs.LockNumber.{counts_at};
 ghost use Rattle.stamp_machines.specs.Job.{job_in, new_words, is_get, expects, stored_reply};
-ghost use Rattle.stamp_machines.specs.RecordPhase.{after, unchanged, all_read, errand_done};
+ghost use Rattle.stamp_machines.specs.RecordPhase.{after, unchanged, all_read, lock_step_done};
 ghost use Rattle.stamp_machines.specs.RecordPhase.{claimed, call_for};
 ghost use Rattle.stamp_machines.specs.RecordPhase as places;
 ghost use Rattle.stamp_machines.specs.MachineState.{first_phase, record_limits};
 ghost use Rattle.stamp_machines.specs.Machine.{record_turn};
-ghost use Rattle.stamp_machines.specs.MachineFields.{phase_at, going_at, turn_in, errand_in};
-ghost use Rattle.stamp_machines.specs.MachineFields.{job_of, released_reply, IsStage, IsNext};
-ghost use Rattle.stamp_machines.specs.MachineFields.{IsRecordCall, IsWriter, IsErrand};
+ghost use Rattle.stamp_machines.specs.MachineFields.{phase_at, going_at, turn_in, lock_step_in};
+ghost use Rattle.stamp_machines.specs.MachineFields.{job_of, released_reply, IsStage, IsStageNext};
+ghost use Rattle.stamp_machines.specs.MachineFields.{IsRecordCall, IsWriter, IsLockStep};
 
 use crate::loaded::Loaded;
 use crate::shape::Shape;
@@ -21,7 +21,7 @@ use stamp_core::{Call, Limits, Reply, Words};
 
 /// A lock call on the record's lock, and what its end leads to.
 #[derive(Clone, Copy)]
-pub(crate) enum Errand {
+pub(crate) enum LockStep {
     /// A read lock to read under.
     Share,
     /// The words are read, and are the answer.
@@ -31,7 +31,7 @@ pub(crate) enum Errand {
     /// The words are those expected: the read lock is to become a write lock.
     Upgrade { stamp: u64 },
     /// It could not.
-    Retreat { stamp: u64 },
+    ReleaseFirst { stamp: u64 },
     /// A write lock.
     Claim,
 }
@@ -40,27 +40,45 @@ pub(crate) enum Errand {
 #[derive(Clone, Copy)]
 pub(crate) enum Stage {
     /// A lock call, on the public lock.
-    Public { seen: Option<u64> },
+    Public {
+        seen: Option<u64>,
+    },
     /// The record's lock has to be seen.
-    Glancing,
+    LoadingLock,
     /// It was seen free, and words are being loaded without a lock.
-    Copying { first: u64 },
+    Copying {
+        first: u64,
+    },
     /// A lock call on the record's lock.
-    Locking { errand: Errand, seen: Option<u64> },
+    Locking {
+        lock_step: LockStep,
+        seen: Option<u64>,
+    },
     /// Words are being loaded under a read lock.
-    Reading { stamp: u64 },
+    Reading {
+        stamp: u64,
+    },
     /// Words are being loaded under a write lock, to be compared.
-    Checking { stamp: u64 },
+    Checking {
+        stamp: u64,
+    },
     /// Words are being stored under a write lock.
-    Storing { stamp: u64, stored: usize },
+    Storing {
+        stamp: u64,
+        stored: usize,
+    },
     /// The write lock is to be released, after the words were stored or were not those expected.
-    Releasing { stamp: u64, is_stored: bool },
+    Releasing {
+        stamp: u64,
+        is_stored: bool,
+    },
 }
 
-/// Where a call goes on, if it does.
+/// What an access of a call leads to, in a stage.
 #[derive(Clone, Copy)]
-pub(crate) enum Next {
-    To(Stage),
+pub(crate) enum StageNext {
+    /// It goes on, at this stage.
+    Going(Stage),
     /// Its reply was written where the caller asked.
     Done,
 }
@@ -107,19 +125,18 @@ pub(crate) fn new_word(call: &Call, i: usize) -> u64
     }
 }
 
-/// The lock call of an errand.
+/// The lock call of a step.
 #[inline(always)]
-pub(crate) fn call_for(errand: Errand) -> Call
-    ensures call { (loaded : List ℕ) → result ≡ call_for (errand_in loaded errand) }
+pub(crate) fn call_for(lock_step: LockStep) -> Call
+    ensures call { (loaded : List ℕ) → result ≡ call_for (lock_step_in loaded lock_step) }
     ensures lock { IsTrue (is_lock_call result) }
 {
-    match errand {
-        Errand::Share => Call::ReadLock,
-        Errand::Leave { stamp } | Errand::Refuse { stamp } | Errand::Retreat { stamp } => {
-            Call::UnlockRead(stamp)
-        }
-        Errand::Upgrade { stamp } => Call::ToWrite(stamp),
-        Errand::Claim => Call::WriteLock,
+    match lock_step {
+        LockStep::Share => Call::ReadLock,
+        LockStep::Leave { stamp } | LockStep::Refuse { stamp } | LockStep::ReleaseFirst { stamp } =>
+            { Call::UnlockRead(stamp) }
+        LockStep::Upgrade { stamp } => Call::ToWrite(stamp),
+        LockStep::Claim => Call::WriteLock,
     }
 }
 
@@ -144,23 +161,26 @@ fn is_unchanged(limits: Limits, first: u64, found: u64) -> bool
 }
 
 /// A lock call on the record's lock, before its first access.
-fn locking(shape: &Shape, call: &Call, loaded: &Loaded, errand: Errand) -> Stage
-    requires { IsErrand shape.now call.now loaded.now errand }
+fn locking(shape: &Shape, call: &Call, loaded: &Loaded, lock_step: LockStep) -> Stage
+    requires { IsLockStep shape.now call.now loaded.now lock_step }
     ensures next { going_at shape.now call.now loaded.now result
         ≡ record_turn shape.now call.now (job_of call.now)
-        (places.Going (places.Locking (errand_in loaded.now errand) None)) }
+        (places.Going (places.Locking (lock_step_in loaded.now lock_step) None)) }
     ensures sound { IsStage shape.now call.now loaded.now result }
 {
-    Stage::Locking { errand, seen: None }
+    Stage::Locking {
+        lock_step,
+        seen: None,
+    }
 }
 
 #[inline(always)]
-pub(crate) fn glanced(shape: &Shape, call: &Call, loaded: &mut Loaded, found: u64) -> Stage
+pub(crate) fn lock_loaded(shape: &Shape, call: &Call, loaded: &mut Loaded, found: u64) -> Stage
     requires call { IsRecordCall shape.now call.now }
     requires word { IsAdmitted (record_limits shape.now) (word_at (record_limits shape.now) found) }
     ensures next { going_at shape.now call.now loaded.new result
         ≡ record_turn shape.now call.now (job_of call.now)
-        (after (record_limits shape.now) shape.now.width (job_of call.now) (places.Glancing)
+        (after (record_limits shape.now) shape.now.width (job_of call.now) (places.LoadingLock)
         found) }
     ensures sound { IsStage shape.now call.now loaded.new result }
 {
@@ -168,7 +188,7 @@ pub(crate) fn glanced(shape: &Shape, call: &Call, loaded: &mut Loaded, found: u6
     if is_free(shape.record_limits(), found) {
         Stage::Copying { first: found }
     } else {
-        locking(shape, call, loaded, Errand::Share)
+        locking(shape, call, loaded, LockStep::Share)
     }
 }
 
@@ -180,7 +200,7 @@ pub(crate) fn copied(
     loaded: &mut Loaded,
     found: u64,
     answer: &mut Reply,
-) -> Next
+) -> StageNext
     requires call { IsRecordCall shape.now call.now }
     requires first { IsAdmitted (record_limits shape.now)
         (word_at (record_limits shape.now) first) }
@@ -191,16 +211,16 @@ pub(crate) fn copied(
         ≡ record_turn shape.now call.now (job_of call.now)
         (after (record_limits shape.now) shape.now.width (job_of call.now)
         (places.Copying first loaded.old) found) }
-    ensures sound { IsNext shape.now call.now loaded.old loaded.new result }
+    ensures sound { IsStageNext shape.now call.now loaded.old loaded.new result }
 {
     if loaded.len() < shape.words() {
         loaded.push(found);
-        Next::To(Stage::Copying { first })
+        StageNext::Going(Stage::Copying { first })
     } else if is_unchanged(shape.record_limits(), first, found) {
         *answer = Reply::Content(loaded.words());
-        Next::Done
+        StageNext::Done
     } else {
-        Next::To(locking(shape, call, loaded, Errand::Share))
+        StageNext::Going(locking(shape, call, loaded, LockStep::Share))
     }
 }
 
@@ -231,11 +251,11 @@ fn all_read(shape: &Shape, call: &Call, stamp: u64, loaded: &Loaded) -> Stage
     ensures sound { IsStage shape.now call.now loaded.now result }
 {
     if is_get(call) {
-        locking(shape, call, loaded, Errand::Leave { stamp })
+        locking(shape, call, loaded, LockStep::Leave { stamp })
     } else if expects(call, &loaded.words()) {
-        locking(shape, call, loaded, Errand::Upgrade { stamp })
+        locking(shape, call, loaded, LockStep::Upgrade { stamp })
     } else {
-        locking(shape, call, loaded, Errand::Refuse { stamp })
+        locking(shape, call, loaded, LockStep::Refuse { stamp })
     }
 }
 
@@ -341,11 +361,11 @@ fn upgraded(shape: &Shape, call: &Call, stamp: u64, loaded: &Loaded, got: u64) -
     requires fits { got < 2 ^ 63 }
     ensures next { going_at shape.now call.now loaded.now result
         ≡ record_turn shape.now call.now (job_of call.now)
-        (errand_done (job_of call.now) (places.ToUpgrade stamp) got) }
+        (lock_step_done (job_of call.now) (places.ToUpgrade stamp) got) }
     ensures sound { IsStage shape.now call.now loaded.now result }
 {
     if got == 0 {
-        locking(shape, call, loaded, Errand::Retreat { stamp })
+        locking(shape, call, loaded, LockStep::ReleaseFirst { stamp })
     } else {
         Stage::Storing {
             stamp: got,
@@ -370,31 +390,36 @@ fn shared(shape: &Shape, call: &Call, stamp: u64, loaded: &mut Loaded) -> Stage
 pub(crate) fn ended(
     shape: &Shape,
     call: &Call,
-    errand: Errand,
+    lock_step: LockStep,
     loaded: &mut Loaded,
     answer: &mut Reply,
-) -> Next
-    requires errand { IsErrand shape.now call.now loaded.old errand }
+) -> StageNext
+    requires lock_step { IsLockStep shape.now call.now loaded.old lock_step }
     requires fits { stamp_in answer.old < 2 ^ 63 }
     ensures next { turn_in shape.now call.now loaded.new answer.new result
         ≡ record_turn shape.now call.now (job_of call.now)
-        (errand_done (job_of call.now) (errand_in loaded.old errand) (stamp_in answer.old)) }
-    ensures sound { IsNext shape.now call.now loaded.old loaded.new result }
+        (lock_step_done (job_of call.now) (lock_step_in loaded.old lock_step) (stamp_in answer.old)) }
+    ensures sound { IsStageNext shape.now call.now loaded.old loaded.new result }
 {
     let got = stamp_in(answer);
-    match errand {
-        Errand::Share => Next::To(shared(shape, call, got, loaded)),
-        Errand::Leave { .. } => {
+    match lock_step {
+        LockStep::Share => StageNext::Going(shared(shape, call, got, loaded)),
+        LockStep::Leave { .. } => {
             *answer = Reply::Content(loaded.words());
-            Next::Done
+            StageNext::Done
         }
-        Errand::Refuse { .. } => {
+        LockStep::Refuse { .. } => {
             *answer = Reply::No;
-            Next::Done
+            StageNext::Done
         }
-        Errand::Upgrade { stamp } => Next::To(upgraded(shape, call, stamp, loaded, got)),
-        Errand::Retreat { .. } => Next::To(locking(shape, call, loaded, Errand::Claim)),
-        Errand::Claim => Next::To(claimed(shape, call, got, loaded)),
+        LockStep::Upgrade { stamp } => StageNext::Going(upgraded(shape, call, stamp, loaded, got)),
+        LockStep::ReleaseFirst { .. } => StageNext::Going(locking(
+            shape,
+            call,
+            loaded,
+            LockStep::Claim,
+        )),
+        LockStep::Claim => StageNext::Going(claimed(shape, call, got, loaded)),
     }
 }
 
@@ -408,13 +433,13 @@ pub(crate) fn first_stage(shape: &Shape, call: &Call) -> Stage
         phase_at call.now loaded result ≡ first_phase (job_in call.now) }
 {
     match call {
-        Call::Get => Stage::Glancing,
+        Call::Get => Stage::LoadingLock,
         Call::Put(_) => Stage::Locking {
-            errand: Errand::Claim,
+            lock_step: LockStep::Claim,
             seen: None,
         },
         Call::PutIf(_, _) => Stage::Locking {
-            errand: Errand::Share,
+            lock_step: LockStep::Share,
             seen: None,
         },
         _ => Stage::Public { seen: None },

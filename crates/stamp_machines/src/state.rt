@@ -280,7 +280,7 @@ impl State {
     ghost use Rattle.stamp_machines.specs.StateFields.{world_at, SameState};
     ghost use Rattle.stamp_machines.specs.StateLanded.{StateLanded};
     ghost use Rattle.stamp_machines.specs.Progress.{told_by, HasReport};
-    ghost use Rattle.stamp_machines.specs.Kept.{Kept};
+    ghost use Rattle.stamp_machines.specs.Invariant.{Invariant};
     ghost use Rattle.stamp_machines.specs.Script.{IsSound};
 
     /// The opening words, and threads that have begun nothing.
@@ -399,7 +399,7 @@ impl State {
     pub(crate) fn step(&mut self, script: &Script, thread: usize, position: u64) -> Progress
         ghost gone: { List Entry }
         requires sound { IsSound script.now }
-        requires kept { Kept script.now (world_at gone self.old position) }
+        requires kept { Invariant script.now (world_at gone self.old position) }
         requires few { position < 1000000 }
         requires thread { thread < vec_len self.old.workers }
         requires workers { vec_len self.old.workers ≡ length script.now.threads }

@@ -36,7 +36,7 @@ impl Meter {
         }
     }
 
-    /// After one more step, where the word had changed so often before it, and so often by it.
+    /// After one more step, where the word had changed this many times before it, and this many by it.
     fn stepped(self, changes: u64, change: u64) -> Meter
         requires steps { self.steps ≤ 1000000 }
         requires before { self.before ≤ 1000000 }

@@ -2,7 +2,7 @@
 use Rattle.std.proofs.Common.{◌≡◌, ◌⊎◌, ℕ, ◌+◌, ◌<◌, ◌≤◌, Bool, List, [], ◌∷◌, ◌++◌, length, refl}
 use Rattle.std.proofs.Common.{ap, sym, ◌∙◌, subst, ⊎_elim, inl, inr, arith, append_assoc}
 use Rattle.std.proofs.Common.{length-append}
-use Rattle.stamp_threads.specs.declared.pass_view.Entry.{Entry}
+use Rattle.stamp_threads.specs.declared.pass_view.LogEntry.{LogEntry}
 use Rattle.stamp_threads.specs.declared.pass_view.PassView.{PassView}
 use Rattle.stamp_threads.specs.PassName.{HasGiven, HasGivenAll, IsRooted}
 use Rattle.stamp_threads.specs.PassView.{made_by, IsPart, after_split, split_off}
@@ -18,7 +18,7 @@ regiven name name' splits splits' other other' a b c h =
 
 -- no entry has the name that the pass gives next
 pub child_none : {E : Type 0} (kind : E → Bool) (name : List ℕ) (splits : ℕ)
-    (log : List (Entry E)) → HasGivenAll name splits log →
+    (log : List (LogEntry E)) → HasGivenAll name splits log →
     made_by kind (name ++ splits ∷ []) log ≡ []
 child_none kind name splits [] h = refl
 child_none kind name splits (e ∷ log) h =
@@ -31,7 +31,7 @@ pub child_unused : (name : List ℕ) (splits : ℕ) (other : List ℕ) → HasGi
 child_unused name splits other h j rest p =
     not_below splits (h splits (j ∷ rest) (p ∙ append_assoc name (splits ∷ []) (j ∷ rest)))
 
-pub child_unused_all : {E : Type 0} (name : List ℕ) (splits : ℕ) (log : List (Entry E)) →
+pub child_unused_all : {E : Type 0} (name : List ℕ) (splits : ℕ) (log : List (LogEntry E)) →
     HasGivenAll name splits log → HasGivenAll (name ++ splits ∷ []) 0 log
 child_unused_all name splits [] h = tt
 child_unused_all name splits (e ∷ log) h =
@@ -47,7 +47,7 @@ pub given_more : (name : List ℕ) (splits more : ℕ) (other : List ℕ) → sp
     HasGiven name splits other → HasGiven name more other
 given_more name splits more other le h j rest p = let l = h j rest p in omega arith
 
-pub given_more_all : {E : Type 0} (name : List ℕ) (splits more : ℕ) (log : List (Entry E)) →
+pub given_more_all : {E : Type 0} (name : List ℕ) (splits more : ℕ) (log : List (LogEntry E)) →
     splits ≤ more → HasGivenAll name splits log → HasGivenAll name more log
 given_more_all name splits more [] le h = tt
 given_more_all name splits more (e ∷ log) le h =
@@ -71,7 +71,7 @@ last_or_before (x ∷ xs) (y ∷ ys) a j rest e =
     (λ (p : (more : List ℕ) × (xs ≡ ys ++ j ∷ more)). inr (p.0, λ i. h i ∷ p.1 i))
     (last_or_before xs ys a j rest t)
 
-pub part-after_split : {E P : Type 0} (is_own : E → Bool) (log : List (Entry E))
+pub part-after_split : {E P : Type 0} (is_own : E → Bool) (log : List (LogEntry E))
     (v : PassView E P) → IsPart is_own log v → IsPart is_own log (after_split v)
 part-after_split is_own log v f = record {
   observed = f.observed;
@@ -80,7 +80,7 @@ part-after_split is_own log v f = record {
       given_more_all v.name v.splits (v.splits + 1) log (omega arith) f.given;
 }
 
-pub part-split_off : {E P : Type 0} (is_own : E → Bool) (log : List (Entry E)) (v : PassView E P) →
+pub part-split_off : {E P : Type 0} (is_own : E → Bool) (log : List (LogEntry E)) (v : PassView E P) →
     IsPart is_own log v → IsPart is_own log (split_off v)
 part-split_off is_own log v f = record {
   observed = f.observed;

@@ -10,9 +10,10 @@ pub mod RuleKept
 pub mod PassMoves
 pub mod NewLock
 pub mod ClosedLock
-pub mod TwoAccesses
-pub mod CallSteps
 pub mod Looks
+pub mod CallSteps
+pub mod Underway
+pub mod TwoAccesses
 pub mod RecordWords
 pub mod RecordLogs
 pub mod RecordSteps

@@ -31,7 +31,7 @@ module _ (limits : Bounds) (call : Call) (v : LockPass) (found : ℕ) (w : LockP
   looks_by_load l = ap (λ (u : LockPass). u.found) l.after ∙
       found-reading (transition_after limits l.log call) call (finding v found) l.log
 
-  looks_by_win : Won limits call v found w → HasFound v (found ∷ []) w
+  pub looks_by_win : Won limits call v found w → HasFound v (found ∷ []) w
   looks_by_win l = ap (λ (u : LockPass). u.found) l.after ∙
       found-making (transition_after limits l.log call) call (finding v found) l.log
 

@@ -3,7 +3,7 @@ use Rattle.std.proofs.Common.{◌≡◌, ◌≢◌, ◌⊎◌, ℕ, ◌+◌, Boo
 use Rattle.std.proofs.Common.{◌∙◌, ap, subst, ⊎_elim, inl, inr, arith}
 use mathlib.Core.Option.{some}
 use lib.ListN.{get_elem?}
-use Rattle.stamp_threads.specs.declared.pass_view.Entry.{Entry}
+use Rattle.stamp_threads.specs.declared.pass_view.LogEntry.{LogEntry}
 use Rattle.stamp_threads.specs.declared.pass_view.PassView.{PassView}
 use Rattle.stamp_threads.specs.PassName.{HasGiven, HasGivenAll, IsRooted, AreRooted}
 use Rattle.stamp_threads.specs.PassView.{IsPart, entering, made_by}
@@ -30,17 +30,17 @@ rooted_further : (m : ℕ) (name : List ℕ) → IsRooted m name → IsRooted (m
 rooted_further m [] r = r
 rooted_further m (x ∷ name) r = omega arith
 
-all_further : {E : Type 0} (m : ℕ) (log : List (Entry E)) → AreRooted m log → AreRooted (m + 1) log
+all_further : {E : Type 0} (m : ℕ) (log : List (LogEntry E)) → AreRooted m log → AreRooted (m + 1) log
 all_further m [] r = tt
 all_further m (e ∷ log) r = (rooted_further m e.name r.0, all_further m log r.1)
 
 -- no entry is the newcomer's, nor under a name that it may give
-pub new_unused : {E : Type 0} (m : ℕ) (log : List (Entry E)) → AreRooted m log →
+pub new_unused : {E : Type 0} (m : ℕ) (log : List (LogEntry E)) → AreRooted m log →
     HasGivenAll (m ∷ []) 0 log
 new_unused m [] r = tt
 new_unused m (e ∷ log) r = (not_given m 0 e.name r.0, new_unused m log r.1)
 
-pub new_none : {E : Type 0} (kind : E → Bool) (m : ℕ) (log : List (Entry E)) → AreRooted m log →
+pub new_none : {E : Type 0} (kind : E → Bool) (m : ℕ) (log : List (LogEntry E)) → AreRooted m log →
     made_by kind (m ∷ []) log ≡ []
 new_none kind m [] r = refl
 new_none kind m (e ∷ log) r =
@@ -48,7 +48,7 @@ new_none kind m (e ∷ log) r =
     (new_none kind m log r.1)
 
 -- it knows the whole history
-pub new_part : {E P : Type 0} (is_own : E → Bool) (m : ℕ) (phase : P) (log : List (Entry E))
+pub new_part : {E P : Type 0} (is_own : E → Bool) (m : ℕ) (phase : P) (log : List (LogEntry E))
     (word : ℕ) → AreRooted m log → IsPart is_own log (entering m phase log word)
 new_part is_own m phase log word r = record {
   observed = begins_all log;
@@ -56,7 +56,7 @@ new_part is_own m phase log word r = record {
   given = new_unused m log r;
 }
 
-module _ {E P : Type 0} (Fits : PassView E P → Type 0) (m : ℕ) (log : List (Entry E))
+module _ {E P : Type 0} (Fits : PassView E P → Type 0) (m : ℕ) (log : List (LogEntry E))
     (seats : List (List (PassView E P))) (r : AreSeated Fits m log seats) (phase : P)
     (word : ℕ) (fits : Fits (entering m phase log word)) where
   abbrev w : PassView E P

@@ -2,7 +2,7 @@
 use Rattle.std.proofs.Common.{◌≡◌, ◌≢◌, ℕ, Bool, List, [], ◌∷◌, ◌++◌, refl, ap, sym, ◌∙◌}
 use Rattle.std.proofs.Common.{⊎_elim, inl, inr}
 use mathlib.Core.List.{IsPrefix}
-use Rattle.stamp_threads.specs.declared.pass_view.Entry.{Entry}
+use Rattle.stamp_threads.specs.declared.pass_view.LogEntry.{LogEntry}
 use Rattle.stamp_threads.specs.declared.pass_view.PassView.{PassView}
 use Rattle.stamp_threads.specs.PassView.{IsPart, made_by}
 use Rattle.stamp_threads.specs.OneHistory.{AreOrdered, Agree}
@@ -24,15 +24,15 @@ beginnings_ordered : {A : Type 0} (xs ys all : List A) → IsPrefix xs all → I
 beginnings_ordered xs ys all a b = ordered_by xs a.0 ys b.0 (a.1 ∙ sym b.1)
 
 -- what a beginning has of a pass are the first that it made
-made_first : {E : Type 0} (kind : E → Bool) (name : List ℕ) (xs all : List (Entry E)) (own : List E)
+made_first : {E : Type 0} (kind : E → Bool) (name : List ℕ) (xs all : List (LogEntry E)) (own : List E)
     → IsPrefix xs all → made_by kind name all ≡ own → IsPrefix (made_by kind name xs) own
 made_first kind name xs all own a is = (
   made_by kind name a.0,
   sym (made_by-append kind name xs a.0) ∙ (ap (made_by kind name) a.1 ∙ is),
 )
 
-pub agree : {E P : Type 0} (is_own : E → Bool) (IsLegal : List (Entry E) → Type 0)
-    (v w : PassView E P) (log : List (Entry E)) → IsLegal log → IsPart is_own log v →
+pub agree : {E P : Type 0} (is_own : E → Bool) (IsLegal : List (LogEntry E) → Type 0)
+    (v w : PassView E P) (log : List (LogEntry E)) → IsLegal log → IsPart is_own log v →
     IsPart is_own log w → v.name ≢ w.name → Agree is_own IsLegal v w
 agree is_own IsLegal v w log legal first second apart = record {
   log = log;

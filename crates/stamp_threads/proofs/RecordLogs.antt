@@ -10,7 +10,7 @@ use Rattle.stamp_core.specs.History.{History, IsReply, IsLegal, content_after, e
 use Rattle.stamp_core.specs.declared.call.Call.{Call}
 use Rattle.stamp_core.specs.declared.reply.Reply.{Reply}
 use Rattle.stamp_core.proofs.Linearizing.{content_from-append, legal_more}
-use Rattle.stamp_threads.specs.declared.pass_view.Entry.{Entry}
+use Rattle.stamp_threads.specs.declared.pass_view.LogEntry.{LogEntry}
 use Rattle.stamp_threads.specs.declared.record_view.RecordEvent.{RecordEvent}
 use Rattle.stamp_threads.specs.declared.record_view.RecordEvent.TheVariants.{Mark, Called}
 use Rattle.stamp_threads.specs.PassView.{entry, made_by}
@@ -21,7 +21,7 @@ use Rattle.stamp_threads.specs.RecordLog.{is_mark, marks_of}
 use Rattle.stamp_threads.specs.RecordRule.{put_of, get_of}
 use Rattle.stamp_threads.proofs.MadeBy.{made_by-same}
 
-leaving-append : {C : Type 0} (f : C → Entry RecordEvent → C) (c : C) (xs ys : RecordLog) →
+leaving-append : {C : Type 0} (f : C → LogEntry RecordEvent → C) (c : C) (xs ys : RecordLog) →
     leaving f c (xs ++ ys) ≡ leaving f (leaving f c xs) ys
 leaving-append f c [] ys = refl
 leaving-append f c (x ∷ xs) ys = leaving-append f (f c x) xs ys
@@ -44,8 +44,8 @@ puts_in-append (x ∷ es) e = let h = puts_in-append es e in omega arith
 
 pub puts_longer : (log : RecordLog) (name : List ℕ) (e : RecordEvent) →
     puts (log ++ entry name e ∷ []) ≡ puts log + put_in e
-puts_longer log name e = ap puts_in (map-append (λ (x : Entry RecordEvent). x.made) log _) ∙
-    puts_in-append (map (λ (x : Entry RecordEvent). x.made) log) e
+puts_longer log name e = ap puts_in (map-append (λ (x : LogEntry RecordEvent). x.made) log _) ∙
+    puts_in-append (map (λ (x : LogEntry RecordEvent). x.made) log) e
 
 -- the history
 history-append : (xs ys : RecordLog) → history_in (xs ++ ys) ≡ history_in xs ++ history_in ys

@@ -16,7 +16,7 @@ use Rattle.stamp_threads.specs.RecordLog.{RecordLog, puts, is_locked}
 use Rattle.stamp_threads.specs.RecordPass.{RecordPassView, LeavesLockWord, first_of, second_of}
 use Rattle.stamp_threads.specs.RecordRule.{Seated, with_phase, opening, acquiring, Looked, Acquired, Opened, Released}
 use Rattle.stamp_threads.specs.RecordRule.{Confirmed, Overtaken, word_to_confirm, Met}
-use Rattle.stamp_threads.specs.RecordCall.{Recorded, SawWord, WasBusy, WasLost, WasSpent}
+use Rattle.stamp_threads.specs.RecordCall.{RecordAnswered, SawWord, WasBusy, WasLost, WasSpent}
 use Rattle.stamp_threads.specs.RecordCall.{HaveMet}
 use Rattle.stamp_threads.proofs.Beginnings.{begins_further, begins_more}
 use Rattle.stamp_threads.proofs.RecordLogs.{puts_get}
@@ -248,11 +248,11 @@ module _ (shape : RecordShape) (v : RecordPassView) (loaded : ℕ) where
         }) refl)
 
     get_made : (found : ℕ) (me3 : Seated) → Told found me3 (first_of me2.0) → found ≡ loaded →
-        Recorded shape Get (Content words) v (first_of me3.0)
+        RecordAnswered shape Get (Content words) v (first_of me3.0)
     get_made found me3 told same =
         let o : Confirmed shape reads found me3 P words =
         told_by found me3 true (eq-eqb found loaded same) told in
-        subst (λ (m : Seated). Recorded shape Get (Content words) v (first_of m.0)) (sym o.after)
+        subst (λ (m : Seated). RecordAnswered shape Get (Content words) v (first_of m.0)) (sym o.after)
         (record {
           log = o.log;
           first = t.log;
@@ -284,7 +284,7 @@ module _ (shape : RecordShape) (v : RecordPassView) (loaded : ℕ) where
       me3 ≡ alone (with_phase (first_of me2.0) (Writing (puts got.log) words shape.width)) →
       held ≡ loaded + writer_unit shape.limits.layout →
       Released shape (first_of me3.0) held me4 words →
-      Recorded shape (Put words) Done v (first_of me4.0)
+      RecordAnswered shape (Put words) Done v (first_of me4.0)
   put_made me me2 me3 me4 words found held t got hit stored up told =
       let u : RecordPassView = observing (finding v loaded) t.log in
       let is : first_of me.0 ≡ u = ap (λ (m : Seated). first_of m.0) t.after in
@@ -298,7 +298,7 @@ module _ (shape : RecordShape) (v : RecordPassView) (loaded : ℕ) where
       let o : Released shape x held me4 words =
       subst (λ (y : RecordPassView). Released shape y held me4 words) x_is told in
       let mark = entry v.name Mark in
-      subst (λ (m : Seated). Recorded shape (Put words) Done v (first_of m.0)) (sym o.after) (record {
+      subst (λ (m : Seated). RecordAnswered shape (Put words) Done v (first_of m.0)) (sym o.after) (record {
         word = loaded;
         looks = ap (λ (l : List ℕ). l ++ held ∷ [])
             (append_assoc v.found (loaded ∷ []) (found ∷ [])) ∙
@@ -376,10 +376,10 @@ module _ (key shape : RecordShape) (same : key ≡ shape) (v : RecordPassView) (
       me3 ≡ alone (with_phase (first_of me2.0) (Writing (puts got.log) words key.width)) →
       held ≡ loaded + writer_unit shape.limits.layout →
       Released key (first_of me3.0) held me4 words →
-      Recorded shape (Put words) Done v (first_of me4.0)
+      RecordAnswered shape (Put words) Done v (first_of me4.0)
   put_made_of me me2 me3 me4 words found held t got hit stored up told =
       subst (λ (z : RecordShape). held ≡ loaded + writer_unit z.limits.layout →
-      Recorded z (Put words) Done v (first_of me4.0)) same
+      RecordAnswered z (Put words) Done v (first_of me4.0)) same
       (λ is. put_made key v loaded me me2 me3 me4 words found held t got hit stored is told) up
 
   pub get_busy_of : (me : Seated) → Opened key v loaded me → v.phase ≡ Idle →
@@ -403,10 +403,10 @@ module _ (key shape : RecordShape) (same : key ≡ shape) (v : RecordPassView) (
         WasLost z v loaded found (first_of me3.0)) same
         (λ f. get_lost key v loaded P me me2 words t f loads found me3 told differ) test
 
-    pub get_made_of : found ≡ loaded → Recorded shape Get (Content words) v (first_of me3.0)
+    pub get_made_of : found ≡ loaded → RecordAnswered shape Get (Content words) v (first_of me3.0)
     get_made_of hit =
         subst (λ (z : RecordShape). HeldTest z loaded false →
-        Recorded z Get (Content words) v (first_of me3.0)) same
+        RecordAnswered z Get (Content words) v (first_of me3.0)) same
         (λ f. get_made key v loaded P me me2 words t f loads found me3 told hit) test
 
     pub get_obeys_of : found ≡ loaded → P words

@@ -6,7 +6,7 @@ use mathlib.Core.Option.{some, some-ne-none}
 use lib.ListN.{get_elem?}
 use Rattle.atomic_table.proofs.Lists.{at_set, set_else}
 use Rattle.stamp_threads.specs.declared.pass_view.PassView.{PassView}
-use Rattle.stamp_threads.specs.declared.pass_view.Entry.{Entry}
+use Rattle.stamp_threads.specs.declared.pass_view.LogEntry.{LogEntry}
 use Rattle.stamp_threads.specs.PassName.{HasGiven, IsRooted}
 use Rattle.stamp_threads.specs.PassView.{after_split, split_off}
 use Rattle.stamp_threads.specs.Seats.{StandsAt, AreSeated}
@@ -14,7 +14,7 @@ use Rattle.stamp_threads.proofs.ListElements.{at_end, before_end, only_one, two_
 use Rattle.stamp_threads.proofs.GivenNames.{regiven, child_unused, given_more, not_longer}
 use Rattle.stamp_threads.proofs.GivenNames.{last_or_before, child_rooted}
 
-module _ {E P : Type 0} (Fits : PassView E P → Type 0) (roots : ℕ) (log : List (Entry E)) where
+module _ {E P : Type 0} (Fits : PassView E P → Type 0) (roots : ℕ) (log : List (LogEntry E)) where
   -- each pass stood somewhere before, and goes from there to one place
   moved : (before after : List (List (PassView E P))) → AreSeated Fits roots log before →
       (forward : ℕ → ℕ → ℕ × ℕ)

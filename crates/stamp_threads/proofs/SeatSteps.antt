@@ -3,7 +3,7 @@ use Rattle.std.proofs.Common.{◌≡◌, ◌≢◌, ℕ, Bool, List, [], ◌∷�
 use mathlib.Core.Option.{some}
 use lib.ListN.{get_elem?}
 use Rattle.atomic_table.proofs.Lists.{at_set}
-use Rattle.stamp_threads.specs.declared.pass_view.Entry.{Entry}
+use Rattle.stamp_threads.specs.declared.pass_view.LogEntry.{LogEntry}
 use Rattle.stamp_threads.specs.declared.pass_view.PassView.{PassView}
 use Rattle.stamp_threads.specs.PassName.{HasGivenAll, IsRooted}
 use Rattle.stamp_threads.specs.PassView.{IsPart, IsSamePass}
@@ -29,7 +29,7 @@ pub same_two : {E P : Type 0} (v u v' u' : PassView E P) → IsSamePass v v' →
 same_two {E} {P} v u v' u' a b = two_of (λ k w. (x : PassView E P) ×
     (get_elem? (v ∷ u ∷ []) k ≡ some x) × IsSamePass x w) v' u' (v, refl, a) (u, refl, b)
 
-module _ {E P : Type 0} (Fits : PassView E P → Type 0) (roots : ℕ) (log : List (Entry E))
+module _ {E P : Type 0} (Fits : PassView E P → Type 0) (roots : ℕ) (log : List (LogEntry E))
     (seats : List (List (PassView E P))) (r : AreSeated Fits roots log seats) (id : ℕ)
     (vs ws : List (PassView E P))
     (at : get_elem? seats id ≡ some vs) (same : Same vs ws) where
@@ -47,7 +47,7 @@ module _ {E P : Type 0} (Fits : PassView E P → Type 0) (roots : ℕ) (log : Li
       (at_set seats id i ws st.0 st.1)
 
   -- the rule of the names after the step
-  pub stands_on : (Fits' : PassView E P → Type 0) (log' : List (Entry E)) → Grows vs log log' →
+  pub stands_on : (Fits' : PassView E P → Type 0) (log' : List (LogEntry E)) → Grows vs log log' →
       ((k : ℕ) (w : PassView E P) → get_elem? ws k ≡ some w → Fits' w) →
       ((i k : ℕ) (w : PassView E P) → i ≢ id → StandsAt seats i k w → Fits' w) →
       AreSeated Fits' roots log' (set seats id ws)
@@ -77,7 +77,7 @@ module _ {E P : Type 0} (Fits : PassView E P → Type 0) (roots : ℕ) (log : Li
       (j : ℕ) (v : PassView E P) → get_elem? vs j ≡ some v → v.name ≢ w.name
   apart_from i k w away st j v h e = away (sym (r.apart id j i k v w (vs, at, h) st e).0)
 
-  module _ (is_own : E → Bool) (log' : List (Entry E)) (grows : Grows vs log log')
+  module _ (is_own : E → Bool) (log' : List (LogEntry E)) (grows : Grows vs log log')
       (part : (v : PassView E P) → Fits v → IsPart is_own log v) where
     pub own_given : (k : ℕ) (w : PassView E P) → get_elem? ws k ≡ some w →
         HasGivenAll w.name w.splits log'

@@ -5,7 +5,7 @@ use Rattle.stamp_core.specs.Limits.{Bounds}
 use Rattle.stamp_core.specs.declared.call.Call.{Call}
 use Rattle.stamp_core.specs.declared.call.Call.TheVariants.{TryWrite, TryRead, WriteLock, ReadLock}
 use Rattle.stamp_core.specs.declared.reply.Reply.{Reply}
-use Rattle.stamp_threads.specs.declared.pass_view.Entry.{Entry}
+use Rattle.stamp_threads.specs.declared.pass_view.LogEntry.{LogEntry}
 use Rattle.stamp_threads.specs.PassView.{entry, HasFound}
 use Rattle.stamp_threads.specs.LockLog.{LockLog}
 use Rattle.stamp_threads.specs.LockPass.{LockPass, IsConsistentWith, LeavesWord}
@@ -45,7 +45,7 @@ pub record LooksTwice (limits : Bounds) (v w : LockPass) : Type 0 where
   pub at_first : LeavesWord limits v loaded first
   pub log : LockLog
   pub longer : IsPrefix first log
-  pub made : Entry (Call × Reply)
+  pub made : LogEntry (Call × Reply)
   pub observed : w.observed ≡ log ++ made ∷ []
 
 -- one access of the word was made, or two

@@ -8,7 +8,7 @@ pub mod LostExchange
 pub mod HaveMet
 pub mod Closes
 pub mod LockRule
-pub mod LockStep
+pub mod Underway
 pub mod RecordWord
 pub mod RecordLog
 pub mod RecordPass

@@ -8,10 +8,10 @@ use Rattle.stamp_core.specs.Transition.{Transition, transition}
 use Rattle.stamp_core.specs.History.{History, IsLegal, events_of}
 use Rattle.stamp_core.specs.declared.call.Call.{Call}
 use Rattle.stamp_core.specs.declared.reply.Reply.{Reply}
-use Rattle.stamp_threads.specs.declared.pass_view.Entry.{Entry}
+use Rattle.stamp_threads.specs.declared.pass_view.LogEntry.{LogEntry}
 
 abbrev pub LockLog : Type 0
-LockLog = List (Entry (Call × Reply))
+LockLog = List (LogEntry (Call × Reply))
 
 -- the calls and replies, in the order of the log
 abbrev pub history_in : LockLog → History

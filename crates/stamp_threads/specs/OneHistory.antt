@@ -1,7 +1,7 @@
 -- What two passes know of the one history.
 use Rattle.std.specs.Prelude.{◌≢◌, ◌⊎◌, Bool, List}
 use mathlib.Core.List.{IsPrefix}
-use Rattle.stamp_threads.specs.declared.pass_view.Entry.{Entry}
+use Rattle.stamp_threads.specs.declared.pass_view.LogEntry.{LogEntry}
 use Rattle.stamp_threads.specs.declared.pass_view.PassView.{PassView}
 use Rattle.stamp_threads.specs.PassView.{IsPart, made_by}
 
@@ -11,9 +11,9 @@ AreOrdered xs ys = IsPrefix xs ys ⊎ IsPrefix ys xs
 
 -- Both know a part of one legal history, under names of their own. So what they have observed is
 -- ordered, and what either has observed of the other's calls are the first of these.
-pub record Agree {E P : Type 0} (is_own : E → Bool) (IsLegal : List (Entry E) → Type 0)
+pub record Agree {E P : Type 0} (is_own : E → Bool) (IsLegal : List (LogEntry E) → Type 0)
     (v w : PassView E P) : Type 0 where
-  pub log : List (Entry E)
+  pub log : List (LogEntry E)
   pub legal : IsLegal log
   pub first : IsPart is_own log v
   pub second : IsPart is_own log w

@@ -3,18 +3,18 @@
 use Rattle.std.specs.Prelude.{◌≡◌, ℕ, ◌+◌, Bool, true, if◌then◌else◌, nat_eq, List, [], ◌∷◌, ◌++◌}
 use lib.Pointwise.{pointwise}
 use mathlib.Core.List.{IsPrefix}
-use Rattle.stamp_threads.specs.declared.pass_view.Entry.{Entry}
+use Rattle.stamp_threads.specs.declared.pass_view.LogEntry.{LogEntry}
 use Rattle.stamp_threads.specs.declared.pass_view.PassView.{PassView}
 use Rattle.stamp_threads.specs.PassName.{HasGivenAll}
 
-abbrev pub entry : {E : Type 0} → List ℕ → E → Entry E
+abbrev pub entry : {E : Type 0} → List ℕ → E → LogEntry E
 entry name made = record { name = name; made = made }
 
 abbrev pub every : {E : Type 0} → E → Bool
 every made = true
 
 -- what the pass of this name made, of one kind, in the order of the history
-abbrev pub made_by : {E : Type 0} → (E → Bool) → List ℕ → List (Entry E) → List E
+abbrev pub made_by : {E : Type 0} → (E → Bool) → List ℕ → List (LogEntry E) → List E
 made_by kind name [] = []
 made_by kind name (e ∷ log) = if pointwise nat_eq e.name name then
     (if kind e.made then e.made ∷ made_by kind name log else made_by kind name log) else made_by
@@ -23,17 +23,17 @@ made_by kind name (e ∷ log) = if pointwise nat_eq e.name name then
 module _ {E P : Type 0} where
   -- the pass knows a part of the history: a beginning, and all that it made itself. No entry has a
   -- name that it may still give
-  pub record IsPart (is_own : E → Bool) (log : List (Entry E)) (v : PassView E P) : Type 0 where
+  pub record IsPart (is_own : E → Bool) (log : List (LogEntry E)) (v : PassView E P) : Type 0 where
     pub observed : IsPrefix v.observed log
     pub own : made_by is_own v.name log ≡ v.own
     pub given : HasGivenAll v.name v.splits log
 
   -- the pass after it observed the whole history
-  abbrev pub observing : PassView E P → List (Entry E) → PassView E P
+  abbrev pub observing : PassView E P → List (LogEntry E) → PassView E P
   observing v log = record v { observed = log }
 
   -- the pass after it added an entry of its own to the whole history
-  abbrev pub adding : PassView E P → List (Entry E) → E → PassView E P
+  abbrev pub adding : PassView E P → List (LogEntry E) → E → PassView E P
   adding v log made =
       record v { observed = log ++ entry v.name made ∷ []; own = v.own ++ made ∷ [] }
 
@@ -61,7 +61,7 @@ module _ {E P : Type 0} where
 
   -- a pass that enters by this root: it has observed the whole history, found this word, and made
   -- nothing
-  abbrev pub entering : ℕ → P → List (Entry E) → ℕ → PassView E P
+  abbrev pub entering : ℕ → P → List (LogEntry E) → ℕ → PassView E P
   entering root phase log word = record {
     name = root ∷ [];
     splits = 0;

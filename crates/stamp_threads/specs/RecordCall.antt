@@ -32,7 +32,7 @@ last_found layout _ word = word
 -- a first history goes on from what the pass had observed, and leaves the word that its accesses
 -- found; the log goes on from that, and leaves the last of these words. Then comes this call with
 -- the reply that the log gives it, which is one more of the pass's own
-pub record Recorded (shape : RecordShape) (call : Call) (reply : Reply) (v w : RecordPassView) :
+pub record RecordAnswered (shape : RecordShape) (call : Call) (reply : Reply) (v w : RecordPassView) :
     Type 0 where
   pub word : ℕ
   pub looks : HasFound v (words_found shape.limits.layout call word) w

@@ -6,14 +6,14 @@ use Rattle.stamp_core.specs.Call.{is_lock_call}
 use Rattle.stamp_core.specs.History.{History, IsLegal, content_after}
 use Rattle.stamp_core.specs.declared.layout.Layout.{Layout}
 use Rattle.stamp_core.specs.declared.call.Call.TheVariants.{Put}
-use Rattle.stamp_threads.specs.declared.pass_view.Entry.{Entry}
+use Rattle.stamp_threads.specs.declared.pass_view.LogEntry.{LogEntry}
 use Rattle.stamp_threads.specs.declared.record_view.RecordEvent.{RecordEvent}
 use Rattle.stamp_threads.specs.declared.record_view.RecordEvent.TheVariants.{Mark, Called}
 use Rattle.stamp_threads.specs.PassView.{made_by}
 use Rattle.stamp_threads.specs.RecordWord.{word_with}
 
 abbrev pub RecordLog : Type 0
-RecordLog = List (Entry RecordEvent)
+RecordLog = List (LogEntry RecordEvent)
 
 -- the calls and replies, in the order of the log; marks are passed over
 abbrev pub calls_in : RecordEvent → History
@@ -50,7 +50,7 @@ abbrev pub puts : RecordLog → ℕ
 puts log = puts_in (map (λ e. e.made) log)
 
 -- what a log leaves, entry by entry
-abbrev pub leaving : {C : Type 0} → (C → Entry RecordEvent → C) → C → RecordLog → C
+abbrev pub leaving : {C : Type 0} → (C → LogEntry RecordEvent → C) → C → RecordLog → C
 leaving f c [] = c
 leaving f c (e ∷ log) = leaving f (f c e) log
 

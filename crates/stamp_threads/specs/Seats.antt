@@ -5,7 +5,7 @@ use mathlib.Core.Option.{some}
 use lib.ListN.{get_elem?}
 use Rattle.atomic_table.specs.Table.{Me}
 use Rattle.stamp_threads.specs.declared.pass_view.PassView.{PassView}
-use Rattle.stamp_threads.specs.declared.pass_view.Entry.{Entry}
+use Rattle.stamp_threads.specs.declared.pass_view.LogEntry.{LogEntry}
 use Rattle.stamp_threads.specs.PassName.{HasGiven, IsRooted, AreRooted}
 use Rattle.stamp_threads.specs.PassView.{first_pass}
 
@@ -16,7 +16,7 @@ StandsAt {V} seats i k v = (vs : List V) × (get_elem? seats i ≡ some vs) × (
 -- each pass that stands is so; two places have two names; no name stands that a pass may still give;
 -- and the names that stand, and those of the entries, have roots that were taken
 pub record AreSeated {E P : Type 0} (Fits : PassView E P → Type 0) (roots : ℕ)
-    (log : List (Entry E)) (seats : List (List (PassView E P))) : Type 0 where
+    (log : List (LogEntry E)) (seats : List (List (PassView E P))) : Type 0 where
   pub fits : (i k : ℕ) (v : PassView E P) → StandsAt seats i k v → Fits v
   pub apart : (i k j l : ℕ) (v w : PassView E P) → StandsAt seats i k v → StandsAt seats j l w →
       v.name ≡ w.name → (i ≡ j) × (k ≡ l)

@@ -1,8 +1,8 @@
 //! What a pass knows. No value of these types is made: they stand in contracts and proofs alone.
 use std::collections::LinkedList;
 
-/// What the pass of this name made, in the one history: of a lock a call with its reply.
-pub struct Entry<E> {
+/// An entry of the one history: what the pass of this name made. Of a lock it is a call with its reply.
+pub struct LogEntry<E> {
     /// The name of the pass.
     pub name: LinkedList<u64>,
     /// What it made.
@@ -18,7 +18,7 @@ pub struct PassView<E, P> {
     /// How often it was split.
     pub splits: u64,
     /// A beginning of the one history.
-    pub observed: LinkedList<Entry<E>>,
+    pub observed: LinkedList<LogEntry<E>>,
     /// What it made itself.
     pub own: LinkedList<E>,
     /// Where it stands in what it is making; nothing for a lock, whose calls are made by one step.

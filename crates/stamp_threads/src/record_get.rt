@@ -7,7 +7,7 @@ ghost use Rattle.stamp_threads.specs.Seats.{alone};
 ghost use Rattle.stamp_threads.specs.RecordPass.{first_of};
 ghost use Rattle.stamp_threads.specs.RecordRule.{with_phase};
 ghost use Rattle.stamp_threads.specs.RecordLog.{puts};
-ghost use Rattle.stamp_threads.specs.RecordCall.{Recorded, GetRefused};
+ghost use Rattle.stamp_threads.specs.RecordCall.{RecordAnswered, GetRefused};
 
 use crate::faults::GetFault;
 use crate::record_rule::ContentRule;
@@ -54,7 +54,7 @@ fn got_words<P: ContentRule>(
     ensures long { length into.new ≡ length into.old }
     ensures alone { seat.new.me ≡ alone (first_of seat.new.me.0) }
     ensures ok { let v = first_of seat.old.me.0 in let w = first_of seat.new.me.0 in
-        IfOk result (λ _. Recorded shape Get (Content into.new) v w) }
+        IfOk result (λ _. RecordAnswered shape Get (Content into.new) v w) }
     ensures obeys { IfOk result (λ _. P.holds into.new) }
     ensures err { let v = first_of seat.old.me.0 in let w = first_of seat.new.me.0 in
         IfErr result (λ fault. GetRefused shape v fault w) }
@@ -89,7 +89,7 @@ pub fn get_words<P: ContentRule>(
     ensures long { length into.new ≡ length into.old }
     ensures alone { seat.new.me ≡ alone (first_of seat.new.me.0) }
     ensures ok { let v = first_of seat.old.me.0 in let w = first_of seat.new.me.0 in
-        IfOk result (λ _. Recorded shape Get (Content into.new) v w) }
+        IfOk result (λ _. RecordAnswered shape Get (Content into.new) v w) }
     ensures obeys { IfOk result (λ _. P.holds into.new) }
     ensures err { let v = first_of seat.old.me.0 in let w = first_of seat.new.me.0 in
         IfErr result (λ fault. GetRefused shape v fault w) }

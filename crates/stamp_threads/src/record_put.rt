@@ -6,7 +6,7 @@ ghost use Rattle.stamp_threads.specs.declared.record_view.RecordPhase.TheVariant
 ghost use Rattle.stamp_threads.specs.Seats.{alone};
 ghost use Rattle.stamp_threads.specs.RecordPass.{first_of};
 ghost use Rattle.stamp_threads.specs.RecordRule.{with_phase};
-ghost use Rattle.stamp_threads.specs.RecordCall.{Recorded, PutRefused};
+ghost use Rattle.stamp_threads.specs.RecordCall.{RecordAnswered, PutRefused};
 
 use crate::faults::PutFault;
 use crate::record_rule::ContentRule;
@@ -52,7 +52,7 @@ pub fn put_words<P: ContentRule>(
     ensures table { seat.new.table_id ≡ seat.old.table_id }
     ensures alone { seat.new.me ≡ alone (first_of seat.new.me.0) }
     ensures ok { let v = first_of seat.old.me.0 in let w = first_of seat.new.me.0 in
-        IfOk result (λ _. Recorded shape (Put words.now) Done v w) }
+        IfOk result (λ _. RecordAnswered shape (Put words.now) Done v w) }
     ensures err { let v = first_of seat.old.me.0 in let w = first_of seat.new.me.0 in
         IfErr result (λ fault. PutRefused shape v fault w) }
 {

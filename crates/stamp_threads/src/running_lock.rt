@@ -1,22 +1,27 @@
 //! The lock that threads share.
 ghost use Rattle.std.specs.Prelude.{◌≡◌, IfOk, IfErr, OnOk, IsTrue, true, false};
 ghost use Rattle.stamp_core.specs.Call.{is_lock_call};
+ghost use Rattle.stamp_core.specs.Word.{IsAdmitted, word_at};
+ghost use Rattle.stamp_core.specs.Decision.{Changes, Decides};
+ghost use Rattle.stamp_core.specs.CountedDecision.{decision};
+ghost use Rattle.stamp_core.specs.LockDecision.{decision_as};
+ghost use Rattle.stamp_machines.specs.declared.machine.Turn.TheVariants as Turn;
 ghost use Rattle.stamp_threads.specs.PassView.{after_split, split_off};
 ghost use Rattle.stamp_threads.specs.LockPass.{HasEntered, IsConsistentWith, first_pass};
 ghost use Rattle.stamp_threads.specs.Answered.{Answered, IsWaiting, LooksOnceOrTwice, try_form};
 ghost use Rattle.stamp_threads.specs.LostExchange.{LostExchange};
+ghost use Rattle.stamp_threads.specs.LockRule.{Loaded, Exchanged};
+ghost use Rattle.stamp_threads.specs.Underway.{GoesAsMachine, turn_once};
 ghost use Rattle.stamp_threads.specs.HaveMet.{HaveMet};
 ghost use Rattle.stamp_threads.specs.Closes.{Closes};
 
 use crate::lock_rule::{LockKey, LockRule, Passes};
 use crate::lock_steps;
 use crate::lost::Lost;
-use crate::machine_steps::try_form;
 use crate::pass::Pass;
 use crate::patience::Patience;
 use atomic_table::Table;
-use stamp_core::{Call, Limits, Reply, Word};
-use stamp_machines::Passage;
+use stamp_core::{Call, Layout, Limits, LockDecision, Reply, Word, decide_lock};
 use std::alloc::Global;
 use std::error::Error;
 use std::fmt;
@@ -39,6 +44,20 @@ impl fmt::Display for LockError {
 }
 
 impl Error for LockError {}
+
+/// The call that doesn't wait, where there is one that does.
+#[inline(always)]
+fn try_form(call: &Call) -> Call
+    ensures form { result ≡ try_form call.now }
+    ensures lock { IsTrue (is_lock_call call.now) → IsTrue (is_lock_call result) }
+    ensures never { IsWaiting result → ⊥ }
+{
+    match call {
+        Call::WriteLock => Call::TryWrite,
+        Call::ReadLock => Call::TryRead,
+        other => *other,
+    }
+}
 
 /// A lock in one word that threads share by reference, each with a pass of its own.
 #[derive(Drop)]
@@ -114,6 +133,46 @@ impl RunningLock {
         }
     }
 
+    /// Loads the word. The call is made by it where it changes nothing.
+    #[inline(always)]
+    fn load(&self, pass: &mut Pass, call: &Call) -> u64
+        requires call { IsTrue (is_lock_call call.now) }
+        requires lock { pass.old.table ≡ self.now.table }
+        ensures lock { pass.new.table ≡ self.now.table }
+        ensures told { Loaded self.now.limits call.now pass.old.view result pass.new.view }
+    {
+        lock_steps::load::<Brand>(&self.table.shared, &mut pass.seat, call)
+    }
+
+    /// Makes the call by an exchange. One that finds another word is as a load.
+    #[inline(always)]
+    fn exchange(&self, pass: &mut Pass, call: &Call, old: u64, new: Word) -> u64
+        requires call { IsTrue (is_lock_call call.now) }
+        requires lock { pass.old.table ≡ self.now.table }
+        requires changes { let limits = self.now.limits in
+            (reply : Reply) × Changes limits (word_at limits old) call.now new reply }
+        ensures lock { pass.new.table ≡ self.now.table }
+        ensures told { Exchanged self.now.limits call.now old pass.old.view result pass.new.view }
+    {
+        lock_steps::exchange::<Brand>(&self.table.shared, &mut pass.seat, call, old, new.bits())
+    }
+
+    /// Decides the call on this word. Each layout has its own code, where the masks are constants.
+    #[inline(always)]
+    fn decide(&self, call: &Call, word: u64) -> LockDecision
+        requires call { IsTrue (is_lock_call call.now) }
+        requires admitted { IsAdmitted self.now.limits (word_at self.now.limits word) }
+        ensures decides { let limits = self.now.limits in
+            Decides limits (word_at limits word) call.now (decision_as result) }
+        ensures number { decision_as result ≡ decision self.now.limits word call.now }
+    {
+        let word = self.limits.word(word);
+        match self.limits.layout() {
+            Layout::One => decide_lock(self.limits, word, call),
+            Layout::Two => decide_lock(self.limits, word, call),
+        }
+    }
+
     /// Makes the call by one load and at most one exchange, and waits for nobody: `WriteLock` and
     /// `ReadLock` are made as `TryWrite` and `TryRead`. A call that is refused as `Lost` has
     /// changed nothing, and can be made again.
@@ -128,34 +187,25 @@ impl RunningLock {
         ensures lost { let v = pass.old.view in let w = pass.new.view in
             IfErr result (λ l.
             LostExchange self.now.limits (try_form call) l.loaded l.found v w) }
+        ensures machine { GoesAsMachine self.now.limits (try_form call) pass.old.view pass.new.view
+            (turn_once self.now.limits (try_form call) result) }
     {
         let call = try_form(&call);
-        self.tried(pass, self.limits, &call)
-    }
-
-    /// Makes a call that doesn't wait, as `once` does.
-    #[inline(always)]
-    fn tried(&self, pass: &mut Pass, limits: Limits, call: &Call) -> Result<Reply, Lost>
-        requires limits { limits ≡ self.now.limits }
-        requires call { IsTrue (is_lock_call call.now) }
-        requires waits { IsWaiting call.now → ⊥ }
-        requires lock { pass.old.table ≡ self.now.table }
-        ensures lock { pass.new.table ≡ self.now.table }
-        ensures ok { let v = pass.old.view in let w = pass.new.view in
-            IfOk result (λ r. Answered limits call.now r v w) }
-        ensures looks { OnOk result (LooksOnceOrTwice self.now.limits pass.old.view pass.new.view) }
-        ensures lost { let v = pass.old.view in let w = pass.new.view in
-            IfErr result (λ l. LostExchange limits call.now l.loaded l.found v w) }
-    {
-        let mut reply = Reply::Done;
-        let (loaded, passage) = self.load_step(pass, limits, call, &mut reply);
-        let Passage::Still(Some(old)) = passage else {
-            return Ok(reply);
-        };
-        let (found, passage) = self.exchange_step(pass, limits, call, old, &mut reply);
-        match passage {
-            Passage::Ended => Ok(reply),
-            Passage::Still(_) => Err(Lost { loaded, found }),
+        let loaded = self.load(pass, &call);
+        match self.decide(&call, loaded) {
+            LockDecision::Answer(reply) => Ok(reply.as_reply()),
+            LockDecision::Change(new, reply) => {
+                let found = self.exchange(pass, &call, loaded, new);
+                if found == loaded {
+                    return Ok(reply.as_reply());
+                }
+                match self.decide(&call, found) {
+                    LockDecision::Answer(answer) => Ok(answer.as_reply()),
+                    LockDecision::Change(_, _) => Err(Lost { loaded, found }),
+                    LockDecision::Wait => unreachable!(),
+                }
+            }
+            LockDecision::Wait => unreachable!(),
         }
     }
 
@@ -168,21 +218,26 @@ impl RunningLock {
         requires lock { pass.old.table ≡ self.now.table }
         ensures lock { pass.new.table ≡ self.now.table }
         ensures made { Answered self.now.limits call result pass.old.view pass.new.view }
+        ensures machine { GoesAsMachine self.now.limits call pass.old.view pass.new.view
+            (Turn.Done result) }
     {
-        let mut reply = Reply::Done;
-        let mut seen = None;
         let mut patience = Patience::new();
+        let mut found = self.load(pass, &call);
         for _ in rt.forever() {
-            let has_tried = seen.is_some();
-            let (found, passage) = self.step(pass, &call, seen, &mut reply);
-            match passage {
-                Passage::Ended => return reply,
-                Passage::Still(next) => seen = next,
-            }
-            if seen.is_none() {
-                patience.wait(rt, &self.table.shared, found);
-            } else if has_tried {
-                patience.lose();
+            match self.decide(&call, found) {
+                LockDecision::Answer(reply) => return reply.as_reply(),
+                LockDecision::Change(new, reply) => {
+                    let old = found;
+                    found = self.exchange(pass, &call, old, new);
+                    if found == old {
+                        return reply.as_reply();
+                    }
+                    patience.lose();
+                }
+                LockDecision::Wait => {
+                    patience.wait(rt, &self.table.shared, found);
+                    found = self.load(pass, &call);
+                }
             }
         }
         unreachable!()
@@ -214,7 +269,7 @@ impl RunningLock {
         Pass { seat }
     }
 
-    /// The pass that was handed in, and a new one, which has observed as much and made no call. It
+    /// The pass given, and a new one, which has observed as much and made no call. It
     /// makes one load and takes no memory.
     pub fn split(&self, mut pass: Pass) -> (Pass, Pass)
         requires { pass.table ≡ self.now.table }

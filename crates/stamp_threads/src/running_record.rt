@@ -5,7 +5,7 @@ ghost use Rattle.stamp_core.specs.declared.call.Call.TheVariants.{Get, Put};
 ghost use Rattle.stamp_core.specs.declared.reply.Reply.TheVariants.{Done, Content};
 ghost use Rattle.stamp_threads.specs.PassView.{after_split, split_off};
 ghost use Rattle.stamp_threads.specs.RecordPass.{HasEntered, IsConsistentWith, first_pass};
-ghost use Rattle.stamp_threads.specs.RecordCall.{Recorded, PutRefused, GetRefused, HaveMet};
+ghost use Rattle.stamp_threads.specs.RecordCall.{RecordAnswered, PutRefused, GetRefused, HaveMet};
 ghost use Rattle.stamp_threads.specs.RecordRule.{opening_pass, IsKept};
 ghost use Rattle.atomic_table.specs.Table.{opening};
 
@@ -199,7 +199,7 @@ impl<P: ContentRule> RuledRecord<P> {
         requires good { P.holds words }
         ensures table { pass.new.table ≡ self.now.table }
         ensures ok { let v = pass.old.view in let w = pass.new.view in
-            IfOk result (λ _. Recorded self.now.shape (Put words) Done v w) }
+            IfOk result (λ _. RecordAnswered self.now.shape (Put words) Done v w) }
         ensures err { let v = pass.old.view in let w = pass.new.view in
             IfErr result (λ fault. PutRefused self.now.shape v fault w) }
     {
@@ -219,7 +219,7 @@ impl<P: ContentRule> RuledRecord<P> {
         ensures table { pass.new.table ≡ self.now.table }
         ensures width { IfOk result (λ words. length words ≡ self.now.shape.width) }
         ensures ok { let v = pass.old.view in let w = pass.new.view in
-            IfOk result (λ words. Recorded self.now.shape Get (Content words) v w) }
+            IfOk result (λ words. RecordAnswered self.now.shape Get (Content words) v w) }
         ensures obeys { IfOk result (λ words. P.holds words) }
         ensures err { let v = pass.old.view in let w = pass.new.view in
             IfErr result (λ fault. GetRefused self.now.shape v fault w) }
@@ -241,7 +241,7 @@ impl<P: ContentRule> RuledRecord<P> {
         ensures table { pass.new.table ≡ self.now.table }
         ensures width { IfOk result (λ words. length words ≡ self.now.shape.width) }
         ensures ok { let v = pass.old.view in let w = pass.new.view in
-            IfOk result (λ words. Recorded self.now.shape Get (Content words) v w) }
+            IfOk result (λ words. RecordAnswered self.now.shape Get (Content words) v w) }
         ensures obeys { IfOk result (λ words. P.holds words) }
         ensures err { let v = pass.old.view in let w = pass.new.view in
             IfErr result (λ fault. GetRefused self.now.shape v fault w) }
@@ -261,7 +261,7 @@ impl<P: ContentRule> RuledRecord<P> {
         ensures table { pass.new.table ≡ self.now.table }
         ensures width { IfOk result (λ words. length words ≡ self.now.shape.width) }
         ensures ok { let v = pass.old.view in let w = pass.new.view in
-            IfOk result (λ words. Recorded self.now.shape Get (Content words) v w) }
+            IfOk result (λ words. RecordAnswered self.now.shape Get (Content words) v w) }
         ensures obeys { IfOk result (λ words. P.holds words) }
         ensures err { let v = pass.old.view in let w = pass.new.view in
             IfErr result (λ fault. GetRefused self.now.shape v fault w) }
@@ -280,7 +280,7 @@ impl<P: ContentRule> RuledRecord<P> {
         ensures table { pass.new.table ≡ self.now.table }
         ensures width { length into.new ≡ length into.old }
         ensures ok { let v = pass.old.view in let w = pass.new.view in
-            IfOk result (λ _. Recorded self.now.shape Get (Content into.new) v w) }
+            IfOk result (λ _. RecordAnswered self.now.shape Get (Content into.new) v w) }
         ensures obeys { IfOk result (λ _. P.holds into.new) }
         ensures err { let v = pass.old.view in let w = pass.new.view in
             IfErr result (λ fault. GetRefused self.now.shape v fault w) }
@@ -314,7 +314,7 @@ impl<P: ContentRule> RuledRecord<P> {
         RecordPass { seat }
     }
 
-    /// The pass that was handed in, and a new one, which has observed as much and made no call.
+    /// The pass given, and a new one, which has observed as much and made no call.
     pub fn split(&self, mut pass: RecordPass) -> (RecordPass, RecordPass)
         requires { pass.table ≡ self.now.table }
         ensures table { (result.0.table ≡ self.now.table) × (result.1.table ≡ self.now.table) }

@@ -40,7 +40,7 @@ fn two_threads_write_in_turns(rt: HostRuntime) -> Result<(), Fail> {
     Ok(())
 }
 
-/// Makes the call once, and hands back the pass.
+/// Makes the call once, and returns the pass.
 fn once_by(lock: &RunningLock, mut pass: Pass, call: Call) -> (Result<Reply, Lost>, Pass)
     requires call { IsTrue (is_lock_call call) }
     requires lock { pass.table ≡ lock.now.table }

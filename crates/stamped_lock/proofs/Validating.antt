@@ -14,7 +14,7 @@ use Rattle.stamp_core.specs.declared.reply.Reply.{Reply}
 use Rattle.stamp_core.specs.declared.reply.Reply.TheVariants.{Stamp, Yes, No}
 use Rattle.stamp_core.proofs.TwoLayouts.{either_layout}
 use Rattle.stamp_core.proofs.StampValidity.{events_from-append}
-use Rattle.stamp_threads.specs.declared.pass_view.Entry.{Entry}
+use Rattle.stamp_threads.specs.declared.pass_view.LogEntry.{LogEntry}
 use Rattle.stamp_threads.specs.LockLog.{LockLog, history_in, events_after, transition_after}
 use Rattle.stamp_threads.specs.LockPass.{LockPass}
 use Rattle.stamp_threads.specs.PassView.{entry}
@@ -40,7 +40,7 @@ valid_is : (b : Bool) → (if b then Yes else No) ≡ Yes → b ≡ true
 valid_is true e = refl
 valid_is false e = cc
 
-events_after-push : (limits : Bounds) (log : LockLog) (e : Entry (Call × Reply)) →
+events_after-push : (limits : Bounds) (log : LockLog) (e : LogEntry (Call × Reply)) →
     events_after limits (log ++ e ∷ []) ≡
     events_after limits log ++ appended_by (transition_after limits log e.made.0)
 events_after-push limits log e =

@@ -8,7 +8,7 @@ use Rattle.stamp_threads.specs.declared.faults.PutFault.TheVariants.{Spent}
 use Rattle.stamp_threads.specs.declared.faults.GetFault.{GetFault}
 use Rattle.stamp_threads.specs.PassView.{IsSamePass}
 use Rattle.stamp_threads.specs.RecordPass.{RecordPassView, RecordView}
-use Rattle.stamp_threads.specs.RecordCall.{Recorded, PutRefused, GetRefused}
+use Rattle.stamp_threads.specs.RecordCall.{RecordAnswered, PutRefused, GetRefused}
 
 -- its record, and what its pass knows
 pub record RecordHandleView : Type 0 where
@@ -19,7 +19,7 @@ pub record RecordHandleView : Type 0 where
 -- observed, and ends with this call; h' is the handle after it
 pub record Recording (call : Call) (reply : Reply) (h h' : RecordHandleView) : Type 0 where
   pub same : h'.shared ≡ h.shared
-  pub recorded : Recorded h.shared.shape call reply h.pass h'.pass
+  pub recorded : RecordAnswered h.shared.shape call reply h.pass h'.pass
 
 -- the put was refused, and changed nothing
 pub record RefusesPut (fault : PutFault) (h h' : RecordHandleView) : Type 0 where

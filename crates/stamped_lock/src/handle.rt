@@ -103,7 +103,7 @@ impl<'a> LockHandle<'a> {
     }
 
     /// Acquires write mode (`writeLock`). It waits while anybody holds the lock. None where no version
-    /// is left, which no lock of layout 1 comes to.
+    /// is left: a lock of `StampedLock::new` has 2^55-2 of them.
     pub fn write<R: Wait>(&mut self, rt: &R) -> Option<Stamp>
         ensures { Made WriteLock (stamped result) self.old self.new }
     {

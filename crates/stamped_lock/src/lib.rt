@@ -3,8 +3,8 @@
 //!
 //! `StampedLock::new` makes the lock. Each thread gets a `LockHandle` by its `enter`, and makes its
 //! calls by this handle. A call that acquires a mode answers a `Stamp`, and a call that releases the mode
-//! takes it. The lock has no owner: any thread may release by a stamp, and nobody may acquire write
-//! mode twice.
+//! takes it. The lock has no owner: any thread may release by a stamp. It isn't reentrant: while anybody
+//! holds it, the caller included, write mode can't be acquired.
 //!
 //! # How long a call takes
 //!

@@ -2,14 +2,14 @@
 use std::error::Error;
 use std::fmt;
 
-/// The stamp matches no mode that is held (`IllegalMonitorStateException` in Java). The lock
+/// The stamp matches no held mode that the call releases (`IllegalMonitorStateException` in Java). The lock
 /// is as it was.
 #[derive(Clone, Copy, PartialEq, Eq, Debug, Drop)]
 pub struct Mismatch;
 
 impl fmt::Display for Mismatch {
     fn fmt<W: fmt::Write>(&self, f: &mut fmt::Formatter<W>) -> fmt::Result {
-        write!(f, "the stamp does not stand for a mode that is held")
+        write!(f, "the stamp matches no held mode that the call releases")
     }
 }
 

@@ -10,7 +10,7 @@ use std::fmt;
 /// Why a release that is tried once was not made. The lock is as it was.
 #[derive(Clone, Copy, PartialEq, Eq, Debug, Drop)]
 pub enum UnlockError {
-    /// 1: the stamp matches no mode that is held.
+    /// 1: the stamp matches no held mode that the call releases.
     Mismatch,
     /// 2: another thread changed the lock in between. The call can be made again.
     Lost(Lost),
@@ -19,7 +19,10 @@ pub enum UnlockError {
 impl fmt::Display for UnlockError {
     fn fmt<W: fmt::Write>(&self, f: &mut fmt::Formatter<W>) -> fmt::Result {
         match self {
-            UnlockError::Mismatch => write!(f, "the stamp does not stand for a mode that is held"),
+            UnlockError::Mismatch => write!(
+                f,
+                "the stamp matches no held mode that the call releases"
+            ),
             UnlockError::Lost(_) => write!(f, "another thread changed the lock: try again"),
         }
     }

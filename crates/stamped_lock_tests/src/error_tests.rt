@@ -17,11 +17,11 @@ fn each_error_says_what_happened(rt: HostRuntime) -> Result<(), Fail> {
     let rows = [
         (
             format!(in rt.alloc(); "{}", Mismatch)?,
-            "the stamp does not stand for a mode that is held",
+            "the stamp matches no held mode that the call releases",
         ),
         (
             format!(in rt.alloc(); "{}", UnlockError::Mismatch)?,
-            "the stamp does not stand for a mode that is held",
+            "the stamp matches no held mode that the call releases",
         ),
         (
             format!(in rt.alloc(); "{}", UnlockError::Lost(lost))?,

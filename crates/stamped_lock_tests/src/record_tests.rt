@@ -17,7 +17,7 @@ impl ContentRule for BidBelowAsk {
 
 type Board = StampedRecord<2, BidBelowAsk>;
 
-/// How far the ask is above the bid, read so often: the least and the most.
+/// How far the ask is above the bid, read this many times: the least and the most.
 fn spreads<R: Wait>(rt: &R, mut board: RecordHandle<'_, 2, BidBelowAsk>) -> (u64, u64) {
     let mut least = u64::MAX;
     let mut most = 0;

@@ -8,7 +8,7 @@ use std::thread;
 use std::thread::join;
 use std::time::{Clock, Duration};
 
-/// Adds one so often, each time by a load and a store that no other writer may come between.
+/// Adds one this many times, each time by a load and a store that no other writer may come between.
 fn add_often<R: Wait>(rt: &R, mut lock: LockHandle<'_>, sum: &AtomicU64) {
     for _ in 0..10_000 {
         let _ = lock.write_with(rt, |_| {

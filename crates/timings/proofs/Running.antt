@@ -10,7 +10,7 @@ use Rattle.stamp_core.specs.declared.call.Call.{Call}
 use Rattle.stamp_core.specs.declared.decision.Decision.{Decision}
 use Rattle.stamp_core.specs.declared.decision.Decision.TheVariants.{Answer, Change, Wait}
 use Rattle.timings.specs.declared.decide.run.Run.{Run}
-use Rattle.timings.specs.declared.decide.cycle.TheConstants.{TURNS}
+use Rattle.timings.specs.declared.cycle.TheConstants.{TURNS}
 use Rattle.timings.specs.Cycle.{cycle}
 use Rattle.timings.specs.DecidedRun.{run_after, run_start, next_run, taken}
 

@@ -10,7 +10,7 @@ use Rattle.stamp_core.specs.declared.reply.Reply.TheVariants.{Stamp, Yes, No, Do
 use Rattle.stamp_core.specs.declared.decision.Decision.{Decision}
 use Rattle.stamp_core.specs.declared.decision.Decision.TheVariants.{Answer, Change, Wait}
 use Rattle.timings.specs.declared.decide.run.Run.{Run}
-use Rattle.timings.specs.declared.decide.cycle.TheConstants.{TURNS}
+use Rattle.timings.specs.declared.cycle.TheConstants.{TURNS}
 use Rattle.timings.specs.Cycle.{cycle}
 
 -- a reply as one number

@@ -2,7 +2,6 @@
 //!
 //! `decide [CALLS [LAYOUT]]`: LAYOUT is 1 or 2, and 1 where none is given; since it is read, the
 //! compiler can't leave out what the other layout needs.
-mod cycle;
 mod run;
 
 use crate::Numbers;

@@ -8,6 +8,7 @@
 ghost use Rattle.std.specs.Prelude.{◌≡◌, ◌≤◌, IfOk, IfSome};
 
 mod check;
+mod cycle;
 mod decide;
 mod lock;
 mod record;

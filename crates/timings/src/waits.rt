@@ -2,7 +2,7 @@
 //!
 //! `write_waits [EACH]` and `read_waits [EACH]` start eight threads. One of them acquires write mode,
 //! sleeps for a millisecond, releases, stays away for half a millisecond, and so on. Each of the
-//! other seven acquires the mode so often, and pauses for a millisecond after each release. The line
+//! other seven acquires the mode that many times, and pauses for a millisecond after each release. The line
 //! has the mode, how many threads, how many acquisitions the seven were to make, the nanoseconds
 //! until the last, and how many they made.
 mod waiters;

@@ -1,6 +1,7 @@
 //! A record whose entries are linearized.
 
-use crate::check::calls::{ALL_TURNS, LOCK_TURNS, all_of, call_at};
+use crate::check::calls::{ALL_TURNS, all_of, call_at};
+use crate::cycle::TURNS;
 use stamp_core::{Call, Entry, Limits, Record, Reply, Word, step};
 use std::alloc::{AllocError, Global};
 
@@ -70,7 +71,7 @@ pub fn record_of(
     width: u64,
     calls: u64,
 ) -> Result<Option<Record>, AllocError> {
-    let turns = if width == 0 { LOCK_TURNS } else { ALL_TURNS };
+    let turns = if width == 0 { TURNS } else { ALL_TURNS };
     let mut at = At {
         bits: Word::opening_in(limits.layout()).bits(),
         stamp: 0,

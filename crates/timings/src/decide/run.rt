@@ -2,7 +2,7 @@
 ghost use Rattle.std.specs.Prelude.{◌≡◌};
 ghost use Rattle.timings.specs.DecidedRun.{run_after, taken, answered, last_stamp, reply_number};
 
-use crate::decide::cycle::{TURNS, call_at};
+use crate::cycle::{TURNS, call_at};
 use stamp_core::{Decision, Limits, Reply, Word, decide};
 
 /// How far a run has come.

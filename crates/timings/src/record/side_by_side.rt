@@ -11,7 +11,7 @@ use std::time::{Clock, Instant};
 /// How many nanoseconds lie between two puts.
 const BETWEEN: u128 = 10_000;
 
-/// Gets the two words so often.
+/// Gets the two words this many times.
 fn read_alone(shared: &RunningRecord, mut pass: RecordPass, calls: u64) -> (u64, RecordPass)
     requires { (pass.table ≡ shared.now.table) × (shared.now.shape.width ≡ 2) }
     ensures { result.1.table ≡ shared.now.table }
@@ -90,7 +90,7 @@ fn read_by_four<R: Threads + Sync>(
     (a.wrapping_add(b), first)
 }
 
-/// Up to four threads that get so often each; how many gets succeeded.
+/// Up to four threads that make this many gets each; how many gets succeeded.
 pub fn read_by<R: Threads + Sync>(
     rt: &R,
     shared: &RunningRecord,

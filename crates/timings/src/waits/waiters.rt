@@ -60,7 +60,7 @@ fn acquire_once<R: Wait>(rt: &R, handle: &mut LockHandle<'_>, mode: Mode) -> boo
     }
 }
 
-/// Acquires the mode so often, with a pause after each time; how often it did.
+/// Acquires the mode this many times, with a pause after each; how often it did.
 pub fn acquire_often<R: Wait + Clock>(
     rt: &R,
     lock: &StampedLock,

@@ -3,7 +3,7 @@ use Rattle.std.proofs.Common.{◌∙◌, ap, arith}
 use Rattle.std.specs.Prelude.{vec_len}
 use Rattle.stamp_core.specs.declared.entry.Entry.{Entry}
 use Rattle.stamp_machines.specs.World.{stamps_of}
-use Rattle.stamp_machines.specs.Kept.{Kept}
+use Rattle.stamp_machines.specs.Invariant.{Invariant}
 use Rattle.stamp_machines.specs.StateFields.{world_at, stamps_at}
 use Rattle.std.proofs.lemmas.Grind.{common_steps}
 use Rattle.std.proofs.lemmas.List.{length-append}
@@ -21,7 +21,7 @@ step-requires c =
     grind (arith, common_steps) in
     let workers : vec_len c.reserve-2.new.self.workers ≡ length c.self.inside.script.now.threads =
     grind (arith, common_steps) in
-    let kept : Kept c.self.inside.script.now
+    let kept : Invariant c.self.inside.script.now
     (world_at [] c.reserve-2.new.self c.len-position.result) =
     rw here (same-kept _ _ _ _ same (run-kept c.self.inside c.self.invariant)) in
     let stamps : (t : ℕ) → stamps_at c.reserve-2.new.self.workers.items t

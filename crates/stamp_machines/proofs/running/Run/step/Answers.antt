@@ -1,5 +1,5 @@
 use Rattle.std.proofs.Common.{◌≡◌, ◌∙◌, ap}
-use Rattle.stamp_machines.specs.Course.{Course}
+use Rattle.stamp_machines.specs.RunView.{RunView}
 use Rattle.stamp_machines.specs.World.{World, execution_of, completed_calls, step}
 use Rattle.stamp_machines.proofs.StateSteps.{told-reports}
 use Rattle.stamp_machines.proofs.StepsKeep.{execution_of-more}
@@ -10,7 +10,7 @@ returns-clause-report c =
     let world : World = execution_of c.args.self.now.plan c.args.self.now.names in
     let entries : completed_calls c.moved.new.self.plan c.moved.new.self.names
     ≡ (step c.args.self.now.plan world c.args.thread).entries =
-    ap (λ (r : Course). completed_calls r.plan r.names) c.in_ok-progress.ensures.ok
+    ap (λ (r : RunView). completed_calls r.plan r.names) c.in_ok-progress.ensures.ok
     ∙ ap (λ (w : World). w.entries)
     (execution_of-more c.args.self.now.plan c.args.self.now.names c.args.thread) in
     rw c.told.ensures

@@ -38,7 +38,7 @@ events_in plan world = events_of plan.limits (history_of world.entries)
 abbrev pub content_in : Scripted → World → List ℕ
 content_in plan world = content_after plan.width (history_of world.entries)
 
-pub record Kept (plan : Scripted) (world : World) : Type 0 where
+pub record Invariant (plan : Scripted) (world : World) : Type 0 where
   -- the finished calls are a history of the sequential lock and record, with exactly these replies
   pub legal : IsLegal plan.limits plan.width (history_of world.entries)
   -- the lock word represents the events of this history

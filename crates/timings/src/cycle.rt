@@ -1,4 +1,4 @@
-//! The calls that are timed.
+//! The calls of the lock that are timed, one after another.
 ghost use Rattle.std.specs.Prelude.{◌≡◌, ◌<◌, IsTrue, slice_get};
 ghost use Rattle.stamp_core.specs.Call.{is_lock_call};
 ghost use Rattle.timings.specs.Cycle.{cycle};

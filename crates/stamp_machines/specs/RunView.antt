@@ -2,6 +2,6 @@
 use Rattle.std.specs.Prelude.{ℕ, List}
 use Rattle.stamp_machines.specs.Script.{Scripted}
 
-pub record Course : Type 0 where
+pub record RunView : Type 0 where
   pub plan : Scripted
   pub names : List ℕ

@@ -1,0 +1,202 @@
+-- A lock call from one access to the next.
+use Rattle.std.proofs.Common.{◌≡◌, ℕ, ◌==◌, Bool, true, false, Option, Some, None}
+use Rattle.std.proofs.Common.{List, [], ◌∷◌, ◌++◌, refl, ap, sym, ◌∙◌, subst, if◌then◌else◌}
+use Rattle.std.proofs.Common.{append-nil, append_assoc, arith}
+use Rattle.std.specs.Prelude.{IsTrue}
+use Rattle.std.proofs.lemmas.Bool.Decides.{nat_tests}
+use Rattle.stamp_core.specs.Call.{is_lock_call}
+use Rattle.stamp_core.specs.Limits.{Bounds}
+use Rattle.stamp_core.specs.Word.{LockWord, word_at}
+use Rattle.stamp_core.specs.Decision.{Answers, Changes, HasNone}
+use Rattle.stamp_core.specs.CountedDecision.{decision}
+use Rattle.stamp_core.specs.declared.call.Call.{Call}
+use Rattle.stamp_core.specs.declared.reply.Reply.{Reply}
+use Rattle.stamp_core.specs.declared.decision.Decision.{Decision}
+use Rattle.stamp_core.specs.declared.decision.Decision.TheVariants.{Answer, Change, Wait}
+use Rattle.stamp_machines.specs.Job.{Job}
+use Rattle.stamp_machines.specs.LockPhase as phases
+use Rattle.stamp_machines.specs.LockPhase.{judged}
+use Rattle.stamp_machines.specs.Machine.{Finds, after_access, lock_turn}
+use Rattle.stamp_machines.specs.MachineState.{MachineState, start, first_phase}
+use Rattle.stamp_machines.specs.MachineState.{lock_alone, on_lock_alone}
+use Rattle.stamp_machines.specs.declared.machine.Turn.{Turn}
+use Rattle.stamp_machines.specs.declared.machine.Turn.TheVariants.{Going, Done}
+use Rattle.stamp_machines.proofs.TwoKindsOfCall.{lock_none}
+use Rattle.stamp_threads.specs.LockPass.{LockPass}
+use Rattle.stamp_threads.specs.LockRule.{Loaded, Won}
+use Rattle.stamp_threads.specs.PassView.{entry, HasFound}
+use Rattle.stamp_threads.specs.Answered.{Answered}
+use Rattle.stamp_threads.specs.Underway.{GoesAsMachine, Underway, Waited, WentOn}
+use Rattle.stamp_threads.proofs.Beginnings.{begins_all, begins_further}
+use Rattle.stamp_threads.proofs.CallSteps.{by_answer, by_change, by_change_made, by_wait}
+use Rattle.stamp_threads.proofs.Looks.{looks_by_load, looks_by_win}
+
+-- a machine that goes on finds one word more
+finds_more : (words : List ℕ) (turn : Turn) (m : MachineState) (word : ℕ) (after : Turn) →
+    Finds words turn (Going m) → after_access m word ≡ after → Finds (words ++ word ∷ []) turn after
+finds_more [] turn m word after is next =
+    subst (λ (t : Turn). Finds (word ∷ []) t after) (sym is) next
+finds_more (first ∷ words) (Going s) m word after is next =
+    finds_more words (after_access s first) m word after is next
+finds_more (first ∷ words) (Done reply) m word after is next = absurd is
+
+-- a pass that waited, and one more access
+waits_more : (limits : Bounds) (v u : LockPass) (words : List ℕ) (found : ℕ) (w : LockPass) →
+    Waited v words u → WentOn limits u found w → HasFound u (found ∷ []) w →
+    Waited v (words ++ found ∷ []) w
+waits_more limits v u words found w waited went looks = record {
+  begins = begins_further v.observed u.observed w.observed waited.begins went.left.begins;
+  found = looks ∙ (ap (λ (l : List ℕ). l ++ found ∷ []) waited.found ∙
+      append_assoc v.found words (found ∷ []));
+  own = went.own ∙ waited.own;
+  name = went.name ∙ waited.name;
+  splits = went.splits ∙ waited.splits;
+}
+
+-- a call that has waited, and is answered by the next access
+answered_after : (limits : Bounds) (call : Call) (reply : Reply) (v u : LockPass) (words : List ℕ)
+    (w : LockPass) → Waited v words u → Answered limits call reply u w →
+    Answered limits call reply v w
+answered_after limits call reply v u words w waited a = record {
+  log = a.log;
+  word = a.word;
+  left = record {
+    begins = begins_further v.observed u.observed a.log waited.begins a.left.begins;
+    legal = a.left.legal;
+    represents = a.left.represents;
+  };
+  earlier = words ++ a.earlier;
+  last = a.last ∙ (ap (λ (l : List ℕ). l ++ (a.earlier ++ a.word ∷ [])) waited.found ∙
+      (append_assoc v.found words (a.earlier ++ a.word ∷ []) ∙
+      ap (λ (l : List ℕ). v.found ++ l) (sym (append_assoc words a.earlier (a.word ∷ [])))));
+  observed = a.observed ∙ ap (λ (n : List ℕ). a.log ++ entry n (call, reply) ∷ []) waited.name;
+  own = a.own ∙ ap (λ (l : List (Call × Reply)). l ++ (call, reply) ∷ []) waited.own;
+  name = a.name ∙ waited.name;
+  splits = a.splits ∙ waited.splits;
+  consistent = a.consistent;
+}
+
+-- the first load of a call
+pub begins : (limits : Bounds) (call : Call) (v : LockPass) (found : ℕ) (w : LockPass) →
+    IsTrue (is_lock_call call) → Loaded limits call v found w → Underway limits call v found w
+begins limits call v found w lock loaded = record {
+  before = v;
+  words = [];
+  waited = record {
+    begins = begins_all v.observed;
+    found = sym (append-nil v.found);
+    own = refl;
+    name = refl;
+    splits = refl;
+  };
+  loaded = loaded;
+  machine = ap (λ (j : Option Job). after_access (record {
+    shape = lock_alone limits;
+    call = call;
+    phase = first_phase j;
+  }) found) (lock_none call lock);
+}
+
+module _ (limits : Bounds) (call : Call) (v : LockPass) (found : ℕ) (w : LockPass)
+    (underway : Underway limits call v found w) where
+  looks_so_far : HasFound v (underway.words ++ found ∷ []) w
+  looks_so_far =
+      looks_by_load limits call underway.before found w underway.loaded ∙
+      (ap (λ (l : List ℕ). l ++ found ∷ []) underway.waited.found ∙
+      append_assoc v.found underway.words (found ∷ []))
+
+  -- the machine stands where the decision on the word found leads
+  turns : (d : Decision) → d ≡ decision limits found call →
+      Finds (underway.words ++ found ∷ []) (Going (start (lock_alone limits) call))
+      (lock_turn (lock_alone limits) call (judged found d))
+  turns d is = subst (λ (e : Decision). Finds (underway.words ++ found ∷ [])
+      (Going (start (lock_alone limits) call))
+      (lock_turn (lock_alone limits) call (judged found e))) (sym is) underway.machine
+
+  -- the word found answers the call
+  pub is_answered : (reply : Reply) → Answers limits (word_at limits found) call reply →
+      Answered limits call reply v w
+  is_answered reply answers = answered_after limits call reply v underway.before underway.words w
+      underway.waited (by_answer limits call underway.before found w reply underway.loaded answers)
+
+  pub ends_by_answer : (reply : Reply) → Answer reply ≡ decision limits found call →
+      GoesAsMachine limits call v w (Done reply)
+  ends_by_answer reply is = (underway.words ++ found ∷ [], looks_so_far, turns (Answer reply) is)
+
+  module _ (new : LockWord) (reply : Reply)
+      (changes : Changes limits (word_at limits found) call new reply)
+      (is : Change new reply ≡ decision limits found call) where
+    went : WentOn limits underway.before found w
+    went = by_change limits call underway.before found w new reply underway.loaded changes
+
+    waited : Waited v (underway.words ++ found ∷ []) w
+    waited = waits_more limits v underway.before underway.words found w underway.waited went
+        (looks_by_load limits call underway.before found w underway.loaded)
+
+    -- where the machine stands after its exchange has found this word
+    exchanged : (word : ℕ) (b : Bool) → (word == found) ≡ b →
+        after_access (on_lock_alone limits call (Some found)) word ≡ lock_turn (lock_alone limits) call
+        (if b then phases.Ended reply else judged word (decision limits word call))
+    exchanged word b same =
+        ap (λ (d : Decision). lock_turn (lock_alone limits) call (phases.tried limits call found word d))
+        (sym is) ∙
+        ap (λ (c : Bool). lock_turn (lock_alone limits) call
+        (if c then phases.Ended reply else judged word (decision limits word call))) same
+
+    -- the exchange found the same word
+    pub is_made : (u : LockPass) → Won limits call w found u → Answered limits call reply v u
+    is_made u won = answered_after limits call reply v w (underway.words ++ found ∷ []) u waited
+        (by_change_made limits call w found u new reply won changes)
+
+    pub ends_by_change : (u : LockPass) → Won limits call w found u →
+        GoesAsMachine limits call v u (Done reply)
+    ends_by_change u won = (
+      (underway.words ++ found ∷ []) ++ found ∷ [],
+      looks_by_win limits call w found u won ∙
+          (ap (λ (l : List ℕ). l ++ found ∷ []) waited.found ∙
+          append_assoc v.found (underway.words ++ found ∷ []) (found ∷ [])),
+      finds_more (underway.words ++ found ∷ []) (Going (start (lock_alone limits) call))
+          (on_lock_alone limits call (Some found)) found (Done reply) (turns (Change new reply) is)
+          (exchanged found true (grind (arith, nat_tests))),
+    )
+
+    -- the exchange found another word
+    pub loses_exchange : (word : ℕ) (u : LockPass) → (word == found) ≡ false →
+        Loaded limits call w word u → Underway limits call v word u
+    loses_exchange word u other loaded = record {
+      before = w;
+      words = underway.words ++ found ∷ [];
+      waited = waited;
+      loaded = loaded;
+      machine = finds_more (underway.words ++ found ∷ []) (Going (start (lock_alone limits) call))
+          (on_lock_alone limits call (Some found)) word
+          (lock_turn (lock_alone limits) call (judged word (decision limits word call)))
+          (turns (Change new reply) is) (exchanged word false other);
+    }
+
+  -- the call waits, and loads the word again
+  pub loads_again : HasNone limits (word_at limits found) call → Wait ≡ decision limits found call →
+      (word : ℕ) (u : LockPass) → Loaded limits call w word u → Underway limits call v word u
+  loads_again none is word u loaded = record {
+    before = w;
+    words = underway.words ++ found ∷ [];
+    waited = waits_more limits v underway.before underway.words found w underway.waited
+        (by_wait limits call underway.before found w underway.loaded none)
+        (looks_by_load limits call underway.before found w underway.loaded);
+    loaded = loaded;
+    machine = finds_more (underway.words ++ found ∷ []) (Going (start (lock_alone limits) call))
+        (on_lock_alone limits call None) word
+        (lock_turn (lock_alone limits) call (judged word (decision limits word call)))
+        (turns Wait is) refl;
+  }
+
+-- the call is to change the word found
+pub goes_to_change : (limits : Bounds) (call : Call) (v : LockPass) (found : ℕ) (w : LockPass)
+    (new : LockWord) (reply : Reply) → Underway limits call v found w →
+    Change new reply ≡ decision limits found call →
+    GoesAsMachine limits call v w (Going (on_lock_alone limits call (Some found)))
+goes_to_change limits call v found w new reply underway is = (
+  underway.words ++ found ∷ [],
+  looks_so_far limits call v found w underway,
+  turns limits call v found w underway (Change new reply) is,
+)

@@ -1,0 +1,51 @@
+use Rattle.std.proofs.Common.{◌∙◌, sym}
+use Rattle.stamp_threads.proofs.CallSteps.{exchange_won, exchange_lost}
+use Rattle.stamp_threads.proofs.Underway.{begins, is_answered, ends_by_answer, is_made}
+use Rattle.stamp_threads.proofs.Underway.{ends_by_change, loses_exchange, loads_again}
+use Rattle.stamp_threads.proofs.running_lock.RunningLock.call.Goals as goal
+
+pub loop-init : goal.loop-init
+loop-init g c = record {
+  lock = c.load-found.ensures.lock ∙ sym c.requires.lock;
+  underway = begins _ _ _ _ _ c.requires.call c.load-found.ensures.told;
+}
+
+pub returns-in-Answer-clause-made : goal.returns-in-Answer-clause-made
+returns-in-Answer-clause-made g c =
+    rw c.as_reply.ensures
+    (is_answered _ _ _ _ _ c.loop.invariant.underway _ c.in-Answer.ensures.decides)
+
+pub returns-in-Answer-clause-machine : goal.returns-in-Answer-clause-machine
+returns-in-Answer-clause-machine g c =
+    rw c.as_reply.ensures
+    (ends_by_answer _ _ _ _ _ c.loop.invariant.underway _ c.in-Answer.ensures.number)
+
+pub returns-then-found-old-clause-made : goal.returns-then-found-old-clause-made
+returns-then-found-old-clause-made g c =
+    rw c.as_reply-then-found-old.ensures
+    (is_made _ _ _ _ _ c.loop.invariant.underway _ _ c.in-Change.ensures.decides
+    c.in-Change.ensures.number _
+    (exchange_won _ _ _ _ _ _ c.if-found-old.true c.exchange-found.ensures.told))
+
+pub returns-then-found-old-clause-machine : goal.returns-then-found-old-clause-machine
+returns-then-found-old-clause-machine g c =
+    rw c.as_reply-then-found-old.ensures
+    (ends_by_change _ _ _ _ _ c.loop.invariant.underway _ _ c.in-Change.ensures.decides
+    c.in-Change.ensures.number _
+    (exchange_won _ _ _ _ _ _ c.if-found-old.true c.exchange-found.ensures.told))
+
+pub loop-preserved-in-Change : goal.loop-preserved-in-Change
+loop-preserved-in-Change g c =
+    let lost = exchange_lost _ _ _ _ _ _ c.if-found-old.false c.exchange-found.ensures.told in
+    record {
+      lock = c.exchange-found.ensures.lock ∙ sym c.requires.lock;
+      underway = loses_exchange _ _ _ _ _ c.loop.invariant.underway _ _ c.in-Change.ensures.decides
+          c.in-Change.ensures.number _ _ lost.0 lost.1;
+    }
+
+pub loop-preserved : goal.loop-preserved
+loop-preserved g c = record {
+  lock = c.load-found-in-Wait.ensures.lock ∙ sym c.requires.lock;
+  underway = loads_again _ _ _ _ _ c.loop.invariant.underway c.in-Wait.ensures.decides
+      c.in-Wait.ensures.number _ _ c.load-found-in-Wait.ensures.told;
+}

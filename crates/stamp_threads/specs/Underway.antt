@@ -1,0 +1,55 @@
+-- A lock call on its way on the running word.
+use Rattle.std.specs.Prelude.{◌≡◌, ℕ, List, [], ◌∷◌, ◌++◌, Some, Result, Ok, Err}
+use mathlib.Core.List.{IsPrefix}
+use Rattle.stamp_core.specs.Limits.{Bounds}
+use Rattle.stamp_core.specs.CountedDecision.{decision}
+use Rattle.stamp_core.specs.declared.call.Call.{Call}
+use Rattle.stamp_core.specs.declared.reply.Reply.{Reply}
+use Rattle.stamp_machines.specs.LockPhase.{judged}
+use Rattle.stamp_machines.specs.Machine.{Finds, lock_turn}
+use Rattle.stamp_machines.specs.MachineState.{start, lock_alone, on_lock_alone}
+use Rattle.stamp_machines.specs.declared.machine.Turn.{Turn}
+use Rattle.stamp_machines.specs.declared.machine.Turn.TheVariants.{Going, Done}
+use Rattle.stamp_threads.specs.declared.lost.Lost.{Lost}
+use Rattle.stamp_threads.specs.PassView.{HasFound}
+use Rattle.stamp_threads.specs.LockPass.{LockPass, IsConsistentWith, LeavesWord}
+use Rattle.stamp_threads.specs.LockRule.{Loaded}
+
+-- the accesses of the call's machine found the words that the pass found between v and w, and the
+-- machine stands here after them
+abbrev pub GoesAsMachine : Bounds → Call → LockPass → LockPass → Turn → Type 0
+GoesAsMachine limits call v w turn = (words : List ℕ) × HasFound v words w ×
+    Finds words (Going (start (lock_alone limits) call)) turn
+
+-- where the machine of a call stands that was made once: it has ended, or is to exchange the word that
+-- its exchange found
+abbrev pub turn_once : Bounds → Call → Result Reply Lost → Turn
+turn_once limits call (Ok reply) = Done reply
+turn_once limits call (Err lost) = Going (on_lock_alone limits call (Some lost.found))
+
+-- the pass has observed more, found these words, and made no call
+pub record Waited (v : LockPass) (words : List ℕ) (w : LockPass) : Type 0 where
+  pub begins : IsPrefix v.observed w.observed
+  pub found : HasFound v words w
+  pub own : w.own ≡ v.own
+  pub name : w.name ≡ v.name
+  pub splits : w.splits ≡ v.splits
+
+-- the pass had observed the whole history when the access found this word, and made no call
+pub record WentOn (limits : Bounds) (v : LockPass) (word : ℕ) (w : LockPass) : Type 0 where
+  pub left : LeavesWord limits v word w.observed
+  pub own : w.own ≡ v.own
+  pub name : w.name ≡ v.name
+  pub splits : w.splits ≡ v.splits
+  pub consistent : IsConsistentWith limits w
+
+-- the last access of the call has found this word, on which it isn't decided yet. The pass, which was
+-- v when the call began, was `before` until then
+pub record Underway (limits : Bounds) (call : Call) (v : LockPass) (found : ℕ) (w : LockPass) :
+    Type 0 where
+  pub before : LockPass
+  pub words : List ℕ
+  pub waited : Waited v words before
+  pub loaded : Loaded limits call before found w
+  pub machine : Finds (words ++ found ∷ []) (Going (start (lock_alone limits) call))
+      (lock_turn (lock_alone limits) call (judged found (decision limits found call)))
