@@ -1,4 +1,4 @@
--- A step of one seat keeps the names, and hands on what the passes know.
+-- A step of one seat keeps the names, and what the passes know.
 use Rattle.std.proofs.Common.{◌≡◌, ◌≢◌, ℕ, Bool, List, [], ◌∷◌, set, refl, sym, ◌∙◌, subst, ⊎_elim}
 use mathlib.Core.Option.{some}
 use lib.ListN.{get_elem?}
