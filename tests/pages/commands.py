@@ -1,0 +1,75 @@
+"""Fails unless the command lines on the pages print what the pages say.
+
+    commands.py STAMPED
+
+Run at the top of the repository, with the program `stamped`. A command stands indented behind `$ `, and what it
+prints below it. `rt run --` is the program. What a run prints is the file `history.json` of the commands after it."""
+import os
+import subprocess
+import sys
+import tempfile
+
+PAGES = ["README.md", "docs/TOUR.md"]
+INDENT = "    "
+
+
+def text_of(path):
+    with open(path, encoding="utf-8") as file:
+        return file.read()
+
+
+def commands_of(page):
+    """The commands of a page, each with the lines that it is to print."""
+    found = []
+    is_open = False
+    for line in text_of(page).split("\n"):
+        if line.startswith(INDENT + "$ "):
+            found.append((line[len(INDENT) + 2:], []))
+            is_open = True
+        elif is_open and line.startswith(INDENT):
+            found[-1][1].append(line[len(INDENT):])
+        else:
+            is_open = False
+    return found
+
+
+def printed_by(command, program, room):
+    words = command.replace("rt run --", program)
+    run = subprocess.run(["bash", "-c", words], cwd=room, capture_output=True, text=True, timeout=120)
+    return run.stdout + run.stderr
+
+
+def check_page(page, program, room):
+    commands = commands_of(page)
+    for command, wanted in commands:
+        printed = printed_by(command, program, room)
+        if not wanted or printed != "\n".join(wanted) + "\n":
+            sys.exit(f"{page}: {command}\nprints\n{printed}and not\n" + "\n".join(wanted))
+        if printed.startswith('{"entries":'):
+            with open(os.path.join(room, "history.json"), "w", encoding="utf-8") as file:
+                file.write(printed)
+    if not commands:
+        sys.exit(f"{page} has no command")
+    print(f"{page}: commands that print what it says: {len(commands)}")
+
+
+def check_first_run(program, room):
+    """The five calls of `examples/first.json` stand in the tour, and their answer on both pages."""
+    first = text_of("examples/first.json").strip()
+    with open(os.path.join(room, "first.json"), "w", encoding="utf-8") as file:
+        file.write(first)
+    answer = printed_by("rt run -- replay < first.json", program, room)
+    for page, line in [("docs/TOUR.md", first + "\n"), *((page, answer) for page in PAGES)]:
+        if INDENT + line not in text_of(page):
+            sys.exit(f"{page} doesn't have the line {line}")
+
+
+def main():
+    program = os.path.abspath(sys.argv[1])
+    with tempfile.TemporaryDirectory() as room:
+        for page in PAGES:
+            check_page(page, program, room)
+        check_first_run(program, room)
+
+
+main()
