@@ -9,7 +9,8 @@ import subprocess
 import sys
 import tempfile
 
-PAGES = ["README.md", "docs/TOUR.md"]
+PAGES = ["README.md", "docs/TOUR.md", "docs/FORMATS.md"]
+ANSWERED = ["README.md", "docs/TOUR.md"]
 INDENT = "    "
 
 
@@ -59,7 +60,7 @@ def check_first_run(program, room):
     with open(os.path.join(room, "first.json"), "w", encoding="utf-8") as file:
         file.write(first)
     answer = printed_by("rt run -- replay < first.json", program, room)
-    for page, line in [("docs/TOUR.md", first + "\n"), *((page, answer) for page in PAGES)]:
+    for page, line in [("docs/TOUR.md", first + "\n"), *((page, answer) for page in ANSWERED)]:
         if INDENT + line not in text_of(page):
             sys.exit(f"{page} doesn't have the line {line}")
 
