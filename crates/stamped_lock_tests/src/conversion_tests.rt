@@ -1,11 +1,11 @@
 //! The three conversions, from each mode.
-use crate::lock_tests::{made, stamp};
+use crate::fixtures::{Ask, answer, made};
 use stamped_lock::{LockHandle, Stamp};
 use std::sync::Wait;
 use std::test::Fail;
 
 /// How the lock is found.
-#[derive(Clone, Copy, Debug)]
+#[derive(Clone, Copy)]
 enum Found {
     /// Free, and never written.
     Free,
@@ -40,55 +40,50 @@ fn bring<R: Wait>(rt: &R, lock: &mut LockHandle<'_>, found: Found) {
     }
 }
 
-/// How the lock is found, a stamp, and what it is converted to: write, read and optimistic; 0 is none.
-const ROWS: [(Found, u64, [u64; 3]); 10] = [
-    (Found::Free, 256, [384, 257, 256]),
-    (Found::Free, 257, [0, 0, 0]),
-    (Found::OneReader, 257, [384, 257, 256]),
-    (Found::OneReader, 256, [0, 258, 256]),
-    (Found::TwoReaders, 258, [0, 258, 256]),
-    (Found::Writer, 384, [384, 513, 512]),
-    (Found::Writer, 256, [0, 0, 0]),
-    (Found::Written, 256, [0, 0, 0]),
-    (Found::Written, 384, [0, 0, 0]),
-    (Found::Written, 512, [640, 513, 512]),
+/// How the lock is found, a stamp, a conversion, and its answer.
+type Row = (Found, u64, Ask, u64);
+
+const ROWS: [Row; 30] = [
+    (Found::Free, 256, Ask::ToWrite, 384),
+    (Found::Free, 256, Ask::ToRead, 257),
+    (Found::Free, 256, Ask::ToOptimistic, 256),
+    (Found::Free, 257, Ask::ToWrite, 0),
+    (Found::Free, 257, Ask::ToRead, 0),
+    (Found::Free, 257, Ask::ToOptimistic, 0),
+    (Found::OneReader, 257, Ask::ToWrite, 384),
+    (Found::OneReader, 257, Ask::ToRead, 257),
+    (Found::OneReader, 257, Ask::ToOptimistic, 256),
+    (Found::OneReader, 256, Ask::ToWrite, 0),
+    (Found::OneReader, 256, Ask::ToRead, 258),
+    (Found::OneReader, 256, Ask::ToOptimistic, 256),
+    (Found::TwoReaders, 258, Ask::ToWrite, 0),
+    (Found::TwoReaders, 258, Ask::ToRead, 258),
+    (Found::TwoReaders, 258, Ask::ToOptimistic, 256),
+    (Found::Writer, 384, Ask::ToWrite, 384),
+    (Found::Writer, 384, Ask::ToRead, 513),
+    (Found::Writer, 384, Ask::ToOptimistic, 512),
+    (Found::Writer, 256, Ask::ToWrite, 0),
+    (Found::Writer, 256, Ask::ToRead, 0),
+    (Found::Writer, 256, Ask::ToOptimistic, 0),
+    (Found::Written, 256, Ask::ToWrite, 0),
+    (Found::Written, 256, Ask::ToRead, 0),
+    (Found::Written, 256, Ask::ToOptimistic, 0),
+    (Found::Written, 384, Ask::ToWrite, 0),
+    (Found::Written, 384, Ask::ToRead, 0),
+    (Found::Written, 384, Ask::ToOptimistic, 0),
+    (Found::Written, 512, Ask::ToWrite, 640),
+    (Found::Written, 512, Ask::ToRead, 513),
+    (Found::Written, 512, Ask::ToOptimistic, 512),
 ];
 
 #[test]
 fn each_mode_is_converted_to_each(rt: HostRuntime) -> Result<(), Fail> {
-    for (found, number, [to_write, to_read, to_optimistic]) in ROWS {
-        let old = stamp(number)?;
+    for (at, (found, old, ask, new)) in ROWS.into_iter().enumerate() {
         let lock = made(rt.alloc())?;
         let mut lock = lock.enter();
         bring(&rt, &mut lock, found);
-        let new = lock.try_convert_to_write(&rt, old);
-        assert_eq!(rt; new, Stamp::new(to_write), "{number} at {found:?}");
-        let lock = made(rt.alloc())?;
-        let mut lock = lock.enter();
-        bring(&rt, &mut lock, found);
-        let new = lock.try_convert_to_read(&rt, old);
-        assert_eq!(rt; new, Stamp::new(to_read), "{number} at {found:?}");
-        let lock = made(rt.alloc())?;
-        let mut lock = lock.enter();
-        bring(&rt, &mut lock, found);
-        let new = lock.try_convert_to_optimistic(&rt, old);
-        assert_eq!(rt; new, Stamp::new(to_optimistic), "{number} at {found:?}");
+        let got = answer(&rt, &mut lock, ask, Stamp::new(old));
+        assert_eq!(rt; got, Some(new), "row {at}");
     }
-    Ok(())
-}
-
-#[test]
-fn a_conversion_releases_what_was_held(rt: HostRuntime) -> Result<(), Fail> {
-    let lock = made(rt.alloc())?;
-    let mut lock = lock.enter();
-    assert_eq!(rt; lock.write(&rt), Stamp::new(384));
-    assert_eq!(rt; lock.try_convert_to_read(&rt, stamp(384)?), Stamp::new(513));
-    assert!(rt; !lock.is_write_locked());
-    assert_eq!(rt; lock.read_count(), 1);
-    assert_eq!(rt;
-        lock.try_convert_to_optimistic(&rt, stamp(513)?),
-        Stamp::new(512)
-    );
-    assert_eq!(rt; lock.read_count(), 0);
     Ok(())
 }

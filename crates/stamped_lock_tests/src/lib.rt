@@ -6,6 +6,8 @@ mod conversion_tests;
 #[cfg(test)]
 mod error_tests;
 #[cfg(test)]
+mod fixtures;
+#[cfg(test)]
 mod lock_tests;
 #[cfg(test)]
 mod once_tests;

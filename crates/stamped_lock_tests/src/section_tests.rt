@@ -1,5 +1,5 @@
 //! Sections of one thread.
-use crate::lock_tests::{made, made_with};
+use crate::fixtures::{made, made_with};
 use stamped_lock::{Layout, Mismatch, Stamp, WriteError};
 use std::sync::atomic::{AtomicU64, Ordering};
 use std::test::Fail;

@@ -1,5 +1,5 @@
 //! Threads that really share a lock, each by a handle.
-use crate::lock_tests::made;
+use crate::fixtures::made;
 use stamped_lock::{LockHandle, Lost, Mismatch, Stamp};
 use std::sync::atomic::{AtomicBool, AtomicU64, Ordering};
 use std::sync::{Barrier, Wait};

@@ -1,0 +1,107 @@
+//! A lock, and calls by one handle as a table.
+use stamped_lock::{Layout, Limits, LockHandle, Stamp, StampedLock};
+use std::alloc::Global;
+use std::sync::Wait;
+use std::test::Fail;
+
+/// A lock of the widest limits; the test fails where there is no memory for it.
+pub fn made(alloc: Global) -> Result<StampedLock, Fail> {
+    match StampedLock::new(alloc) {
+        Ok(lock) => Ok(lock),
+        Err(_) => Err(Fail::from("no memory for the lock")),
+    }
+}
+
+/// A lock of these limits.
+pub fn made_with(
+    alloc: Global,
+    layout: Layout,
+    readers: u64,
+    versions: u64,
+) -> Result<StampedLock, Fail> {
+    let Ok(limits) = Limits::in_layout(layout, readers, versions) else {
+        return Err(Fail::from("limits"));
+    };
+    match StampedLock::with_limits(alloc, limits) {
+        Ok(lock) => Ok(lock),
+        Err(_) => Err(Fail::from("no memory for the lock")),
+    }
+}
+
+/// A call by a handle.
+#[derive(Clone, Copy)]
+pub enum Ask {
+    Write,
+    TryWrite,
+    Read,
+    TryRead,
+    Optimistic,
+    Validate,
+    UnlockWrite,
+    UnlockRead,
+    Unlock,
+    TryUnlockWrite,
+    TryUnlockRead,
+    ToWrite,
+    ToRead,
+    ToOptimistic,
+    IsWriteLocked,
+    IsReadLocked,
+    ReadCount,
+}
+
+/// A call, the number of the stamp that it takes, if any, and what it answers as a number: that of the stamp, or 0
+/// for none; the count; and 1 for true, or for a release that was made, or else 0.
+pub type Row = (Ask, u64, u64);
+
+/// The number of a stamp, or 0 for none.
+pub fn number(stamp: Option<Stamp>) -> u64 {
+    match stamp {
+        Some(stamp) => stamp.number(),
+        None => 0,
+    }
+}
+
+/// What a call with this stamp answers; none where it wants a stamp and there is none.
+pub fn answer<R: Wait>(
+    rt: &R,
+    lock: &mut LockHandle<'_>,
+    ask: Ask,
+    stamp: Option<Stamp>,
+) -> Option<u64> {
+    let answered = match ask {
+        Ask::Write => number(lock.write(rt)),
+        Ask::TryWrite => number(lock.try_write(rt)),
+        Ask::Read => lock.read(rt).number(),
+        Ask::TryRead => number(lock.try_read(rt)),
+        Ask::Optimistic => number(lock.try_optimistic_read()),
+        Ask::Validate => u64::from(lock.validate(stamp?)),
+        Ask::UnlockWrite => u64::from(lock.unlock_write(stamp?).is_ok()),
+        Ask::UnlockRead => u64::from(lock.unlock_read(rt, stamp?).is_ok()),
+        Ask::Unlock => u64::from(lock.unlock(rt, stamp?).is_ok()),
+        Ask::TryUnlockWrite => u64::from(lock.try_unlock_write(rt)),
+        Ask::TryUnlockRead => u64::from(lock.try_unlock_read(rt)),
+        Ask::ToWrite => number(lock.try_convert_to_write(rt, stamp?)),
+        Ask::ToRead => number(lock.try_convert_to_read(rt, stamp?)),
+        Ask::ToOptimistic => number(lock.try_convert_to_optimistic(rt, stamp?)),
+        Ask::IsWriteLocked => u64::from(lock.is_write_locked()),
+        Ask::IsReadLocked => u64::from(lock.is_read_locked()),
+        Ask::ReadCount => lock.read_count(),
+    };
+    Some(answered)
+}
+
+/// Makes the calls of a table in turn, up to the first that answers otherwise: its row, from 0, and what it answered.
+pub fn first_wrong<R: Wait>(
+    rt: &R,
+    lock: &mut LockHandle<'_>,
+    rows: &[Row],
+) -> Option<(usize, Option<u64>)> {
+    for (at, (ask, taken, want)) in rows.iter().enumerate() {
+        let got = answer(rt, lock, *ask, Stamp::new(*taken));
+        if got != Some(*want) {
+            return Some((at, got));
+        }
+    }
+    None
+}
