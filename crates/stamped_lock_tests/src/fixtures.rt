@@ -1,5 +1,5 @@
 //! A lock, and calls by one handle as a table.
-use stamped_lock::{Layout, Limits, LockHandle, Stamp, StampedLock};
+use stamped_lock::{Layout, Limits, LockHandle, Stamp, StampedLock, UnlockError};
 use std::alloc::Global;
 use std::sync::Wait;
 use std::test::Fail;
@@ -48,6 +48,15 @@ pub enum Ask {
     IsWriteLocked,
     IsReadLocked,
     ReadCount,
+    TryWriteOnce,
+    TryReadOnce,
+    UnlockReadOnce,
+    UnlockOnce,
+    TryUnlockWriteOnce,
+    TryUnlockReadOnce,
+    ToWriteOnce,
+    ToReadOnce,
+    ToOptimisticOnce,
 }
 
 /// A call, the number of the stamp that it takes, if any, and what it answers as a number: that of the stamp, or 0
@@ -62,7 +71,16 @@ pub fn number(stamp: Option<Stamp>) -> u64 {
     }
 }
 
-/// What a call with this stamp answers; none where it wants a stamp and there is none.
+/// Whether a release was made; none where its exchange was lost.
+fn released(answer: Result<(), UnlockError>) -> Option<u64> {
+    match answer {
+        Ok(()) => Some(1),
+        Err(UnlockError::Mismatch) => Some(0),
+        Err(UnlockError::Lost(_)) => None,
+    }
+}
+
+/// What a call with this stamp answers; none where it wants a stamp and there is none, or its exchange was lost.
 pub fn answer<R: Wait>(
     rt: &R,
     lock: &mut LockHandle<'_>,
@@ -87,6 +105,15 @@ pub fn answer<R: Wait>(
         Ask::IsWriteLocked => u64::from(lock.is_write_locked()),
         Ask::IsReadLocked => u64::from(lock.is_read_locked()),
         Ask::ReadCount => lock.read_count(),
+        Ask::TryWriteOnce => number(lock.try_write_once().ok()?),
+        Ask::TryReadOnce => number(lock.try_read_once().ok()?),
+        Ask::UnlockReadOnce => released(lock.unlock_read_once(stamp?))?,
+        Ask::UnlockOnce => released(lock.unlock_once(stamp?))?,
+        Ask::TryUnlockWriteOnce => u64::from(lock.try_unlock_write_once().ok()?),
+        Ask::TryUnlockReadOnce => u64::from(lock.try_unlock_read_once().ok()?),
+        Ask::ToWriteOnce => number(lock.try_convert_to_write_once(stamp?).ok()?),
+        Ask::ToReadOnce => number(lock.try_convert_to_read_once(stamp?).ok()?),
+        Ask::ToOptimisticOnce => number(lock.try_convert_to_optimistic_once(stamp?).ok()?),
     };
     Some(answered)
 }
