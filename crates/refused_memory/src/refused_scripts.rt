@@ -108,7 +108,7 @@ fn script(alloc: Global) -> Result<Script, Outcome> {
 
 /// Steps until a step is refused: after how many, and why.
 fn first_refusal(run: &mut Run) -> Option<(usize, RunError)>
-    requires { 0 < length run.old.plan.threads }
+    requires { 0 < length run.old.script.threads }
 {
     for made in 0..=MOST_STEPS {
         if let Err(error) = run.step(0) {

@@ -81,7 +81,7 @@ fn is_run_reported(alloc: Global) -> Result<bool, Outcome> {
 
 /// Makes a step, and once more where memory was refused.
 fn step_again(run: &mut Run, name: u64) -> Result<Stepped, RunError>
-    requires { name < length run.old.plan.threads }
+    requires { name < length run.old.script.threads }
     ensures { OnOk result (run.new ≡ record run.old { names = run.old.names ++ name ∷ [] }) }
 {
     match run.step(name) {

@@ -105,6 +105,6 @@ one_verdict r (Err a) (Ok m) x y = absurd (faults_are_exact r a.entry a.why x y.
 one_verdict r (Err a) (Err b) x y = ap (λ (bad : Bad). Err bad) (one_fault r a b x y)
 
 pub runs_are_accepted : RunsAreAccepted
-runs_are_accepted plan sound few =
-    let all = (always-in-order plan plan.steps sound few).linearized in
+runs_are_accepted script sound few =
+    let all = (always-in-order script script.steps sound few).linearized in
     (λ a verdict. one_verdict _ a _ verdict (all, refl), λ a verdict. one_verdict _ a _ verdict (all, refl))

@@ -21,7 +21,7 @@ OneVerdict = (r : Recorded) (a b : Result ℕ Bad) → IsVerdict r a → IsVerdi
 -- The verdict on what a script is run to, with or without its report, is the number of its finished calls.
 abbrev pub RunsAreAccepted : Type 0
 RunsAreAccepted =
-    (plan : Scripted) → IsSound plan → length plan.steps ≤ 1000000 →
-    let accepted = Ok (length (completed_calls plan plan.steps)) in
-    ((a : Result ℕ Bad) → IsVerdict (run_record plan) a → a ≡ accepted) ×
-    ((a : Result ℕ Bad) → IsVerdict (reported_record plan) a → a ≡ accepted)
+    (script : Scripted) → IsSound script → length script.steps ≤ 1000000 →
+    let accepted = Ok (length (completed_calls script script.steps)) in
+    ((a : Result ℕ Bad) → IsVerdict (run_record script) a → a ≡ accepted) ×
+    ((a : Result ℕ Bad) → IsVerdict (reported_record script) a → a ≡ accepted)

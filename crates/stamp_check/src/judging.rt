@@ -39,7 +39,7 @@ fn where_answered(bits: u64, answer: LockReply, reply: &Reply) -> Option<u64>
 /// The number of the word after a call of the lock, where this is its reply.
 pub(crate) fn lock_goes_on(limits: Limits, bits: u64, call: &Call, reply: &Reply) -> Option<u64>
     requires admitted { IsAdmitted limits (word_at limits bits) }
-    requires lock { IsTrue (is_lock_call call.now) }
+    requires lock_call { IsTrue (is_lock_call call.now) }
     ensures { LockGoesOn limits bits call.now reply.now result }
 {
     match decide_lock(limits, limits.word(bits), call) {

@@ -50,7 +50,7 @@ IsReplayAnswer (Err e) answer = answer ≡ Err (refusal e)
 
 -- and if that is a script: the text of the record that it is run to
 abbrev pub script_answer : (Scripted → Recorded) → Result Scripted ReadError → Result (List ℕ) ServeFault
-script_answer record_of (Ok plan) = Ok (history_text (record_of plan))
+script_answer record_of (Ok script) = Ok (history_text (record_of script))
 script_answer record_of (Err e) = Err (refusal e)
 
 -- a history has this verdict, which the line says

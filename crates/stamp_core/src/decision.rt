@@ -26,7 +26,7 @@ pub enum Decision {
 #[inline(always)]
 pub fn decide(limits: Limits, word: Word, call: Call) -> Decision
     requires admitted { IsAdmitted limits word }
-    requires lock { IsTrue (is_lock_call call) }
+    requires lock_call { IsTrue (is_lock_call call) }
     ensures decides { Decides limits word call result }
 
     // For the crates above: the decision is a function of the number, and its stamp leaves room.
@@ -39,7 +39,7 @@ pub fn decide(limits: Limits, word: Word, call: Call) -> Decision
 /// The word after a call of the lock and its reply; nothing where the call waits.
 pub fn step(limits: Limits, word: Word, call: Call) -> Option<(Word, Reply)>
     requires admitted { IsAdmitted limits word }
-    requires lock { IsTrue (is_lock_call call) }
+    requires lock_call { IsTrue (is_lock_call call) }
     ensures { Steps limits word call result }
 {
     match decide(limits, word, call) {

@@ -71,7 +71,7 @@ impl LockDecision {
 #[inline(always)]
 pub fn decide_lock(limits: Limits, word: Word, call: &Call) -> LockDecision
     requires admitted { IsAdmitted limits word }
-    requires lock { IsTrue (is_lock_call call.now) }
+    requires lock_call { IsTrue (is_lock_call call.now) }
     ensures decides { Decides limits word call.now (decision_as result) }
 
     // For the crates above: the decision is a function of the number, and its stamp leaves room.

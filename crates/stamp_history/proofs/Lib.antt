@@ -9,7 +9,7 @@ pub mod ReplayAnswers
 pub mod OnlyLockCalls
 pub mod ScriptCallLengths
 pub mod NumbersSoFar
-pub mod PlanFaults
+pub mod FirstFaults
 pub mod ItemByItem
 pub mod ItemsText
 pub mod Appending

@@ -12,7 +12,7 @@ pub mod ReplayAnswer
 pub mod WordsValue
 pub mod ScriptCallValue
 pub mod ScriptValue
-pub mod PlanFault
+pub mod FirstFault
 pub mod ScriptReading
 pub mod HistoryText
 pub mod HistoryCall

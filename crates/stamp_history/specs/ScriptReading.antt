@@ -6,13 +6,13 @@ use Rattle.stamp_machines.specs.Script.{Scripted}
 use Rattle.stamp_history.specs.declared.read_error.ReadError.{ReadError}
 use Rattle.stamp_history.specs.declared.read_error.ReadError.TheVariants.{BadScript}
 use Rattle.stamp_history.specs.LimitFields.{limits}
-use Rattle.stamp_history.specs.PlanFault.{plan_fault}
+use Rattle.stamp_history.specs.FirstFault.{first_fault}
 use Rattle.stamp_history.specs.Reading.{◌>>=◌, json_of}
 use Rattle.stamp_history.specs.ScriptValue.{top, width, threads, steps}
 
 -- what the fields hold
-unfoldable pub plan_in : Data → Result Scripted ReadError
-plan_in d = do
+unfoldable pub script_in : Data → Result Scripted ReadError
+script_in d = do
   _ ← top d
   found_limits ← limits d
   found_width ← width d
@@ -20,12 +20,12 @@ plan_in d = do
   found_steps ← steps d
   Ok (record { limits = found_limits; width = found_width; threads = found_threads; steps = found_steps })
 
--- a plan without a fault
+-- a script without a fault
 abbrev pub faultless : Scripted → Result Scripted ReadError
-faultless plan = option_map_or (λ fault. Err (BadScript fault)) (plan_fault plan) (Ok plan)
+faultless script = option_map_or (λ fault. Err (BadScript fault)) (first_fault script) (Ok script)
 
 unfoldable pub script_of : List ℕ → Result Scripted ReadError
 script_of bytes = do
   d ← json_of bytes
-  plan ← plan_in d
-  faultless plan
+  script ← script_in d
+  faultless script

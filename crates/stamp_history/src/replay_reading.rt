@@ -34,7 +34,7 @@ pub(crate) fn read_stored(
 
 fn calls_of(alloc: Global, stored: &[StoredCall]) -> Result<Vec<Call>, AllocError>
     ensures calls { IfOk result (λ calls. calls.items ≡ map call_of stored.now) }
-    ensures lock { IfOk result (λ calls. All (λ call. IsTrue (is_lock_call call)) calls.items) }
+    ensures lock_call { IfOk result (λ calls. All (λ call. IsTrue (is_lock_call call)) calls.items) }
 {
     let mut calls = Vec::with_capacity(alloc, stored.len())?;
     for call in stored {
@@ -49,7 +49,7 @@ fn calls_of(alloc: Global, stored: &[StoredCall]) -> Result<Vec<Call>, AllocErro
 /// field out of range; 4 `Memory`, which may come before these. Nothing is kept after any.
 pub fn read_replay(alloc: Global, bytes: &[u8]) -> Result<(Limits, Vec<Call>), ReadError>
     ensures replay { Gives ReadError.Memory replay_view result (replay_of bytes.now) }
-    ensures lock { IfOk result (λ read. All (λ call. IsTrue (is_lock_call call)) read.1.items) }
+    ensures lock_call { IfOk result (λ read. All (λ call. IsTrue (is_lock_call call)) read.1.items) }
     ensures memory { IfErr result (λ e. e ≡ ReadError.Memory → 0 < length bytes.now) }
 {
     let (limits, stored) = read_stored(alloc, bytes)?;

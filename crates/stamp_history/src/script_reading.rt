@@ -39,7 +39,7 @@ fn script_from(
 /// `NotJson`; 5 `NotScript`, with the field of another kind; 3 `Limit`, with the field out of
 /// range; 6 `BadScript`, with the first fault of a script whose fields were all read; 4 `Memory`,
 /// which may come before these. Nothing is kept after any.
-#[tactic(auto, unfolding(crate::specs::ScriptReading::script_of, crate::specs::ScriptReading::plan_in))]
+#[tactic(auto, unfolding(crate::specs::ScriptReading::script_of, crate::specs::ScriptReading::script_in))]
 pub fn read_script(alloc: Global, bytes: &[u8]) -> Result<Script, ReadError>
     ensures read { Gives ReadError.Memory (λ script. script) result (script_of bytes.now) }
     ensures memory { IfErr result (λ e. e ≡ ReadError.Memory → 0 < length bytes.now) }

@@ -31,7 +31,7 @@ pub(crate) enum StoredCall {
 impl StoredCall {
     pub(crate) fn call(self) -> Call
         ensures call { result ≡ call_of self }
-        ensures lock { IsTrue (is_lock_call result) }
+        ensures lock_call { IsTrue (is_lock_call result) }
     {
         match self {
             StoredCall::TryWrite => Call::TryWrite,

@@ -36,12 +36,12 @@ stepped-entries : (world : World) (t : ℕ) (o : Option Begun) →
 stepped-entries world t None = ([], sym (append-nil world.entries))
 stepped-entries world t (Some b) = landed-entries world t b _ _
 
-entries-more : (plan : Scripted) (world : World) (names : List ℕ) →
-    (more : List Entry) × ((fold (step plan) world names).entries ≡ world.entries ++ more)
-entries-more plan world [] = ([], sym (append-nil world.entries))
-entries-more plan world (t ∷ names) =
-    let one = stepped-entries world t (current plan world t) in
-    let rest = entries-more plan (step plan world t) names in (
+entries-more : (script : Scripted) (world : World) (names : List ℕ) →
+    (more : List Entry) × ((fold (step script) world names).entries ≡ world.entries ++ more)
+entries-more script world [] = ([], sym (append-nil world.entries))
+entries-more script world (t ∷ names) =
+    let one = stepped-entries world t (current script world t) in
+    let rest = entries-more script (step script world t) names in (
       one.0 ++ rest.0,
       rest.1 ∙ ap (λ (es : List Entry). es ++ rest.0) one.1
           ∙ append_assoc world.entries one.0 rest.0,
@@ -68,41 +68,41 @@ stepped-last world t None e more = absurd (no_entry world.entries e more)
 stepped-last world t (Some b) e more = landed-last world t b _ _ e more
 
 -- all that a script finishes is what it has finished and what it still does
-until-and-after : (plan : Scripted) (made : ℕ) →
-    completed_calls plan plan.steps ≡ calls_until plan made ++ calls_after plan made
-until-and-after plan made =
+until-and-after : (script : Scripted) (made : ℕ) →
+    completed_calls script script.steps ≡ calls_until script made ++ calls_after script made
+until-and-after script made =
     let more =
-    entries-more plan (execution_of plan (take made plan.steps)) (drop made plan.steps) in
-    let all : completed_calls plan plan.steps ≡ calls_until plan made ++ more.0 =
-    ap (λ (w : World). w.entries) (sym (execution-rest plan plan.steps made)) ∙ more.1 in
-    let rest : calls_after plan made ≡ more.0 =
-    ap (λ (es : List Entry). drop (length (calls_until plan made)) es) all
-    ∙ drop-append_seam (calls_until plan made) more.0 in
-    all ∙ ap (λ (es : List Entry). calls_until plan made ++ es) (sym rest)
+    entries-more script (execution_of script (take made script.steps)) (drop made script.steps) in
+    let all : completed_calls script script.steps ≡ calls_until script made ++ more.0 =
+    ap (λ (w : World). w.entries) (sym (execution-rest script script.steps made)) ∙ more.1 in
+    let rest : calls_after script made ≡ more.0 =
+    ap (λ (es : List Entry). drop (length (calls_until script made)) es) all
+    ∙ drop-append_seam (calls_until script made) more.0 in
+    all ∙ ap (λ (es : List Entry). calls_until script made ++ es) (sym rest)
 
-after-ended : (plan : Scripted) (made made' : ℕ) (e : Entry) →
-    calls_until plan made' ≡ calls_until plan made ++ e ∷ [] →
-    calls_after plan made ≡ e ∷ calls_after plan made'
-after-ended plan made made' e more =
-    let all : completed_calls plan plan.steps
-    ≡ calls_until plan made ++ (e ∷ calls_after plan made') =
-    until-and-after plan made'
-    ∙ ap (λ (es : List Entry). es ++ calls_after plan made') more
-    ∙ append_assoc (calls_until plan made) (e ∷ []) (calls_after plan made') in
-    ap (λ (es : List Entry). drop (length (calls_until plan made)) es) all
-    ∙ drop-append_seam (calls_until plan made) (e ∷ calls_after plan made')
+after-ended : (script : Scripted) (made made' : ℕ) (e : Entry) →
+    calls_until script made' ≡ calls_until script made ++ e ∷ [] →
+    calls_after script made ≡ e ∷ calls_after script made'
+after-ended script made made' e more =
+    let all : completed_calls script script.steps
+    ≡ calls_until script made ++ (e ∷ calls_after script made') =
+    until-and-after script made'
+    ∙ ap (λ (es : List Entry). es ++ calls_after script made') more
+    ∙ append_assoc (calls_until script made) (e ∷ []) (calls_after script made') in
+    ap (λ (es : List Entry). drop (length (calls_until script made)) es) all
+    ∙ drop-append_seam (calls_until script made) (e ∷ calls_after script made')
 
-after-same : (plan : Scripted) (made made' : ℕ) → calls_until plan made' ≡ calls_until plan made →
-    calls_after plan made' ≡ calls_after plan made
-after-same plan made made' same =
-    ap (λ (es : List Entry). drop (length es) (completed_calls plan plan.steps)) same
+after-same : (script : Scripted) (made made' : ℕ) → calls_until script made' ≡ calls_until script made →
+    calls_after script made' ≡ calls_after script made
+after-same script made made' same =
+    ap (λ (es : List Entry). drop (length es) (completed_calls script script.steps)) same
 
 -- before the first step
-pub opening-after : (plan : Scripted) (s : State) → world_at [] s 0 ≡ opening plan →
-    vec_len s.workers ≡ length plan.threads →
-    ((t : ℕ) → stamps_at s.workers.items t ≡ []) → IsAfter plan s 0
+pub opening-after : (script : Scripted) (s : State) → world_at [] s 0 ≡ opening script →
+    vec_len s.workers ≡ length script.threads →
+    ((t : ℕ) → stamps_at s.workers.items t ≡ []) → IsAfter script s 0
 unfolding execution_of
-opening-after plan s world workers stamps =
+opening-after script s world workers stamps =
     record {
       world = ap (λ (w : World). record w { entries = [] }) world;
       few = omega arith;
@@ -110,37 +110,37 @@ opening-after plan s world workers stamps =
       stamps = stamps;
     }
 
-pub opening-completing : (plan : Scripted) (s : State) → world_at [] s 0 ≡ opening plan →
-    completing_at plan s 0 ≡ before_all plan
+pub opening-completing : (script : Scripted) (s : State) → world_at [] s 0 ≡ opening script →
+    completing_at script s 0 ≡ before_all script
 unfolding execution_of
-opening-completing plan s world =
+opening-completing script s world =
     ap (λ (es : List Entry). record {
-      plan = plan;
+      script = script;
       made = 0;
       last = slice_get es 0;
-      rest = completed_calls plan plan.steps;
+      rest = completed_calls script script.steps;
     }) (ap (λ (w : World). w.entries) world)
 
 -- the schedule's world, where the entries of the steps made are gone
-pub world-after : (plan : Scripted) (s : State) (made : ℕ) → IsAfter plan s made →
+pub world-after : (script : Scripted) (s : State) (made : ℕ) → IsAfter script s made →
     s.entries.items ≡ [] →
-    world_at (calls_until plan made) s made ≡ execution_of plan (take made plan.steps)
-world-after plan s made after none =
-    let until : calls_until plan made ++ s.entries.items ≡ calls_until plan made =
-    ap (λ (es : List Entry). calls_until plan made ++ es) none
-    ∙ append-nil (calls_until plan made) in
+    world_at (calls_until script made) s made ≡ execution_of script (take made script.steps)
+world-after script s made after none =
+    let until : calls_until script made ++ s.entries.items ≡ calls_until script made =
+    ap (λ (es : List Entry). calls_until script made ++ es) none
+    ∙ append-nil (calls_until script made) in
     ap (λ (es : List Entry). record (world_at [] s made) { entries = es }) until ∙ after.world
 
-pub kept-after : (plan : Scripted) (s : State) (made : ℕ) → IsSound plan →
-    length plan.steps ≤ 1000000 → IsAfter plan s made → s.entries.items ≡ [] →
-    Invariant plan (world_at (calls_until plan made) s made)
-kept-after plan s made sound few after none =
-    rw (world-after plan s made after none)
-    (always-kept plan (take made plan.steps) sound (simp length-take (omega (arith, few))))
+pub kept-after : (script : Scripted) (s : State) (made : ℕ) → IsSound script →
+    length script.steps ≤ 1000000 → IsAfter script s made → s.entries.items ≡ [] →
+    Invariant script (world_at (calls_until script made) s made)
+kept-after script s made sound few after none =
+    rw (world-after script s made after none)
+    (always-kept script (take made script.steps) sound (simp length-take (omega (arith, few))))
 
-pub after-reserved : (plan : Scripted) (old mid : State) (made : ℕ) → SameState old mid →
-    IsAfter plan old made → IsAfter plan mid made
-after-reserved plan old mid made same after =
+pub after-reserved : (script : Scripted) (old mid : State) (made : ℕ) → SameState old mid →
+    IsAfter script old made → IsAfter script mid made
+after-reserved script old mid made same after =
     record {
       world = simp (same.words, same.begun) after.world;
       few = after.few;
@@ -149,62 +149,62 @@ after-reserved plan old mid made same after =
     }
 
 -- what is reported of a step, and what it left
-going : (plan : Scripted) (old new : State) (made t : ℕ) → old.entries.items ≡ [] →
-    calls_until plan (made + 1) ≡ calls_until plan made ++ new.entries.items →
-    calls_until plan made ++ new.entries.items ≡ calls_until plan made ++ old.entries.items →
-    (new.entries.items ≡ []) × (calls_after plan (made + 1) ≡ calls_after plan made)
-going plan old new made t none until same =
-    let gone : List Entry = calls_until plan made in
+going : (script : Scripted) (old new : State) (made t : ℕ) → old.entries.items ≡ [] →
+    calls_until script (made + 1) ≡ calls_until script made ++ new.entries.items →
+    calls_until script made ++ new.entries.items ≡ calls_until script made ++ old.entries.items →
+    (new.entries.items ≡ []) × (calls_after script (made + 1) ≡ calls_after script made)
+going script old new made t none until same =
+    let gone : List Entry = calls_until script made in
     let items : new.entries.items ≡ [] =
     append_cancel_left gone new.entries.items old.entries.items same ∙ none in (
       items,
-      after-same plan made (made + 1)
+      after-same script made (made + 1)
           (until ∙ ap (λ (es : List Entry). gone ++ es) items ∙ append-nil gone),
     )
 
-handed-on : (plan : Scripted) (old new : State) (made t : ℕ) (p : Progress) →
+handed-on : (script : Scripted) (old new : State) (made t : ℕ) (p : Progress) →
     old.entries.items ≡ [] →
-    (step plan (world_at (calls_until plan made) old made) t).entries
-    ≡ calls_until plan made ++ new.entries.items →
-    calls_until plan (made + 1) ≡ calls_until plan made ++ new.entries.items →
-    HasReport plan (world_at (calls_until plan made) old made) t p → HandsOn plan new made p
-handed-on plan old new made t Idle none entries until told =
-    let world : World = world_at (calls_until plan made) old made in
-    going plan old new made t none until
+    (step script (world_at (calls_until script made) old made) t).entries
+    ≡ calls_until script made ++ new.entries.items →
+    calls_until script (made + 1) ≡ calls_until script made ++ new.entries.items →
+    HasReport script (world_at (calls_until script made) old made) t p → HandsOn script new made p
+handed-on script old new made t Idle none entries until told =
+    let world : World = world_at (calls_until script made) old made in
+    going script old new made t none until
     (sym entries ∙ ap (λ (o : Option Begun). (stepped world t o).entries) told)
-handed-on plan old new made t Going none entries until told =
-    going plan old new made t none until (sym entries ∙ told.1)
-handed-on plan old new made t Ended none entries until told =
-    let gone : List Entry = calls_until plan made in
+handed-on script old new made t Going none entries until told =
+    going script old new made t none until (sym entries ∙ told.1)
+handed-on script old new made t Ended none entries until told =
+    let gone : List Entry = calls_until script made in
     let one : new.entries.items ≡ told.0 ∷ [] =
     append_cancel_left gone new.entries.items (told.0 ∷ [])
     (sym entries ∙ told.1 ∙ ap (λ (es : List Entry). (gone ++ es) ++ told.0 ∷ []) none
     ∙ ap (λ (es : List Entry). es ++ told.0 ∷ []) (append-nil gone)) in
-    let rest : calls_after plan made ≡ told.0 ∷ calls_after plan (made + 1) =
-    after-ended plan made (made + 1) told.0
+    let rest : calls_after script made ≡ told.0 ∷ calls_after script (made + 1) =
+    after-ended script made (made + 1) told.0
     (until ∙ ap (λ (es : List Entry). gone ++ es) one) in
     let ended : made + 1 ≡ told.0.last + 1 =
     ap (λ (n : ℕ). n + 1)
-    (sym (stepped-last (world_at gone old made) t (current plan (world_at gone old made) t) told.0 told.1)) in
+    (sym (stepped-last (world_at gone old made) t (current script (world_at gone old made) t) told.0 told.1)) in
     rw (one, rest, ended) refl
 
-pub step-made : (plan : Scripted) (old new : State) (made t : ℕ) (p : Progress) →
-    IsAfter plan old made → made < length plan.steps → old.entries.items ≡ [] →
-    take (made + 1) plan.steps ≡ take made plan.steps ++ t ∷ [] →
-    world_at (calls_until plan made) new (made + 1)
-    ≡ step plan (world_at (calls_until plan made) old made) t →
+pub step-made : (script : Scripted) (old new : State) (made t : ℕ) (p : Progress) →
+    IsAfter script old made → made < length script.steps → old.entries.items ≡ [] →
+    take (made + 1) script.steps ≡ take made script.steps ++ t ∷ [] →
+    world_at (calls_until script made) new (made + 1)
+    ≡ step script (world_at (calls_until script made) old made) t →
     vec_len new.workers ≡ vec_len old.workers →
     ((u : ℕ) → stamps_at new.workers.items u
-    ≡ stamps_of u (calls_until plan made ++ new.entries.items)) →
-    HasReport plan (world_at (calls_until plan made) old made) t p → StepMade plan new made p
-step-made plan old new made t p after left none names world workers stamps told =
-    let until' : List Entry = calls_until plan (made + 1) in
-    let here : world_at (calls_until plan made) new (made + 1)
-    ≡ execution_of plan (take (made + 1) plan.steps) =
-    world ∙ ap (λ (w : World). step plan w t) (world-after plan old made after none)
-    ∙ sym (execution_of-more plan (take made plan.steps) t)
-    ∙ ap (λ (ns : List ℕ). execution_of plan ns) (sym names) in
-    let until : until' ≡ calls_until plan made ++ new.entries.items =
+    ≡ stamps_of u (calls_until script made ++ new.entries.items)) →
+    HasReport script (world_at (calls_until script made) old made) t p → StepMade script new made p
+step-made script old new made t p after left none names world workers stamps told =
+    let until' : List Entry = calls_until script (made + 1) in
+    let here : world_at (calls_until script made) new (made + 1)
+    ≡ execution_of script (take (made + 1) script.steps) =
+    world ∙ ap (λ (w : World). step script w t) (world-after script old made after none)
+    ∙ sym (execution_of-more script (take made script.steps) t)
+    ∙ ap (λ (ns : List ℕ). execution_of script ns) (sym names) in
+    let until : until' ≡ calls_until script made ++ new.entries.items =
     ap (λ (w : World). w.entries) (sym here) in
     record {
       after = record {
@@ -213,6 +213,6 @@ step-made plan old new made t p after left none names world workers stamps told 
         workers = workers ∙ after.workers;
         stamps = λ u. stamps u ∙ ap (λ (es : List Entry). stamps_of u es) (sym until);
       };
-      hands_on = handed-on plan old new made t p none
+      hands_on = handed-on script old new made t p none
           (ap (λ (w : World). w.entries) (sym world)) until told;
     }

@@ -117,39 +117,39 @@ slot-within [] t b e = cc
 slot-within (x ∷ begun) zero b e = omega arith
 slot-within (x ∷ begun) (suc t) b e = let h = slot-within begun t b e in omega (arith, h)
 
-next-ready : (limits : Bounds) (plan : Scripted) (stamps : ℕ → List ℕ) (position t : ℕ) (k w : ℕ)
+next-ready : (limits : Bounds) (script : Scripted) (stamps : ℕ → List ℕ) (position t : ℕ) (k w : ℕ)
     (content items : List ℕ) (c : Option ScriptCall) (b : Begun) →
-    (All (λ calls. All (Suits plan.width) calls) plan.threads) → length content ≡ plan.width →
-    slice_get (calls_of plan t) (length (stamps t)) ≡ c →
-    begin (shape_of plan) stamps position c ≡ Some b → (t < length plan.threads)
-    × Ready limits (shape_of plan) k w content items None b
-next-ready limits plan stamps position t k w content items None b h n e q = cc
-next-ready limits plan stamps position t k w content items (Some c) b h n e q =
-    let within : t < length plan.threads = thread-within plan.threads t (length (stamps t)) c e in
-    let suits : Suits plan.width c =
-    call-suits plan.width (calls_of plan t) (length (stamps t)) c (h t [] within) e in
-    let same : record { machine = start (shape_of plan) (call_of stamps c); first = position } ≡ b =
+    (All (λ calls. All (Suits script.width) calls) script.threads) → length content ≡ script.width →
+    slice_get (calls_of script t) (length (stamps t)) ≡ c →
+    begin (shape_of script) stamps position c ≡ Some b → (t < length script.threads)
+    × Ready limits (shape_of script) k w content items None b
+next-ready limits script stamps position t k w content items None b h n e q = cc
+next-ready limits script stamps position t k w content items (Some c) b h n e q =
+    let within : t < length script.threads = thread-within script.threads t (length (stamps t)) c e in
+    let suits : Suits script.width c =
+    call-suits script.width (calls_of script t) (length (stamps t)) c (h t [] within) e in
+    let same : record { machine = start (shape_of script) (call_of stamps c); first = position } ≡ b =
     cc in (
       within,
-      subst (λ (x : Begun). Ready limits (shape_of plan) k w content items None x) same
-          (first-ready limits (shape_of plan) k w content items (call_of stamps c) position
-          (job_in (call_of stamps c)) refl (rw n (suits-job stamps plan.width c suits))),
+      subst (λ (x : Begun). Ready limits (shape_of script) k w content items None x) same
+          (first-ready limits (shape_of script) k w content items (call_of stamps c) position
+          (job_in (call_of stamps c)) refl (rw n (suits-job stamps script.width c suits))),
     )
 
-pub current-ready : (limits : Bounds) (plan : Scripted) (world : World) (t : ℕ) (k w : ℕ)
+pub current-ready : (limits : Bounds) (script : Scripted) (world : World) (t : ℕ) (k w : ℕ)
     (content items : List ℕ) (slot : Option Begun) (b : Begun) →
-    (All (λ calls. All (Suits plan.width) calls) plan.threads) → length content ≡ plan.width →
-    length world.begun ≡ length plan.threads → slice_index_or world.begun t None ≡ slot →
-    IsOf (shape_of plan) slot → FitsIn limits k w content items (doing_in slot) →
-    current_of plan (λ x. stamps_of x world.entries) world.position t slot ≡ Some b →
-    (t < length world.begun) × Ready limits (shape_of plan) k w content items slot b
-current-ready limits plan world t k w content items (Some d) b h n l at o f e =
+    (All (λ calls. All (Suits script.width) calls) script.threads) → length content ≡ script.width →
+    length world.begun ≡ length script.threads → slice_index_or world.begun t None ≡ slot →
+    IsOf (shape_of script) slot → FitsIn limits k w content items (doing_in slot) →
+    current_of script (λ x. stamps_of x world.entries) world.position t slot ≡ Some b →
+    (t < length world.begun) × Ready limits (shape_of script) k w content items slot b
+current-ready limits script world t k w content items (Some d) b h n l at o f e =
     let same : d ≡ b = cc in (
       slot-within world.begun t d at,
-      subst (λ (x : Begun). Ready limits (shape_of plan) k w content items (Some d) x) same
+      subst (λ (x : Begun). Ready limits (shape_of script) k w content items (Some d) x) same
           (record { of = o; reads = refl; writes = refl; fits = f; lock = λ q. q }),
     )
-current-ready limits plan world t k w content items None b h n l at o f e =
-    let r = next-ready limits plan (λ x. stamps_of x world.entries) world.position t k w content
-    items (slice_get (calls_of plan t) (length (stamps_of t world.entries))) b h n refl e in
+current-ready limits script world t k w content items None b h n l at o f e =
+    let r = next-ready limits script (λ x. stamps_of x world.entries) world.position t k w content
+    items (slice_get (calls_of script t) (length (stamps_of t world.entries))) b h n refl e in
     (rw l r.0, r.1)

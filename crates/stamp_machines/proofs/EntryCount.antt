@@ -142,53 +142,53 @@ resolved-suits stamps width (PutIf a b) s = both_suit width (length a) (length b
 
 -- a call that has begun is one of its thread's, and so not yet among those that have ended
 abbrev pub IsOneOf : Scripted → List Entry → ℕ → Option Begun → Type 0
-IsOneOf plan entries t None = count_of entries t ≤ length (calls_of plan t)
-IsOneOf plan entries t (Some b) =
-    (t < length plan.threads) × (count_of entries t < length (calls_of plan t))
-    × IsTrue (call_suits plan.width b.machine.call)
+IsOneOf script entries t None = count_of entries t ≤ length (calls_of script t)
+IsOneOf script entries t (Some b) =
+    (t < length script.threads) × (count_of entries t < length (calls_of script t))
+    × IsTrue (call_suits script.width b.machine.call)
 
-pub record IsCounted (plan : Scripted) (world : World) : Type 0 where
-  pub named : All (λ (e : Entry). e.thread < length plan.threads) world.entries
-  pub suits : All (λ (e : Entry). IsTrue (call_suits plan.width e.call)) world.entries
-  pub begun : (t : ℕ) → IsOneOf plan world.entries t (slice_index_or world.begun t None)
+pub record IsCounted (script : Scripted) (world : World) : Type 0 where
+  pub named : All (λ (e : Entry). e.thread < length script.threads) world.entries
+  pub suits : All (λ (e : Entry). IsTrue (call_suits script.width e.call)) world.entries
+  pub begun : (t : ℕ) → IsOneOf script world.entries t (slice_index_or world.begun t None)
 
-current-one : (plan : Scripted) (world : World) (t : ℕ) (b : Begun) → IsSound plan →
-    IsCounted plan world → current plan world t ≡ Some b → IsOneOf plan world.entries t (Some b)
-current-one plan world t b sound counts = by (slice_index_or world.begun t None) refl
+current-one : (script : Scripted) (world : World) (t : ℕ) (b : Begun) → IsSound script →
+    IsCounted script world → current script world t ≡ Some b → IsOneOf script world.entries t (Some b)
+current-one script world t b sound counts = by (slice_index_or world.begun t None) refl
   where
-    begins : (c : Option ScriptCall) → slice_get (calls_of plan t) (count_of world.entries t) ≡ c →
-        begin (shape_of plan) (λ k. stamps_of k world.entries) world.position c ≡ Some b →
-        IsOneOf plan world.entries t (Some b)
+    begins : (c : Option ScriptCall) → slice_get (calls_of script t) (count_of world.entries t) ≡ c →
+        begin (shape_of script) (λ k. stamps_of k world.entries) world.position c ≡ Some b →
+        IsOneOf script world.entries t (Some b)
     begins None at e = cc
     begins (Some c) at e =
-        let within : t < length plan.threads =
-        thread-within plan.threads t (count_of world.entries t) c at in
-        let suits : Suits plan.width c =
-        call-suits plan.width (calls_of plan t) (count_of world.entries t) c
+        let within : t < length script.threads =
+        thread-within script.threads t (count_of world.entries t) c at in
+        let suits : Suits script.width c =
+        call-suits script.width (calls_of script t) (count_of world.entries t) c
         (sound.suited t [] within) at in
         let same : record {
-          machine = start (shape_of plan)
+          machine = start (shape_of script)
               (call_of (λ k. stamps_of k world.entries) c);
           first = world.position;
         } ≡ b = cc in (
           within,
-          slice_get_within (calls_of plan t) (count_of world.entries t) c at,
-          subst (λ (x : Begun). IsTrue (call_suits plan.width x.machine.call)) same
-              (resolved-suits (λ k. stamps_of k world.entries) plan.width c suits),
+          slice_get_within (calls_of script t) (count_of world.entries t) c at,
+          subst (λ (x : Begun). IsTrue (call_suits script.width x.machine.call)) same
+              (resolved-suits (λ k. stamps_of k world.entries) script.width c suits),
         )
 
     by : (slot : Option Begun) → slice_index_or world.begun t None ≡ slot →
-        current_of plan (λ k. stamps_of k world.entries) world.position t slot ≡ Some b →
-        IsOneOf plan world.entries t (Some b)
-    by None at e = begins (slice_get (calls_of plan t) (count_of world.entries t)) refl e
+        current_of script (λ k. stamps_of k world.entries) world.position t slot ≡ Some b →
+        IsOneOf script world.entries t (Some b)
+    by None at e = begins (slice_get (calls_of script t) (count_of world.entries t)) refl e
     by (Some c) at e = let same : c ≡ b =
-        cc in subst (λ (x : Begun). IsOneOf plan world.entries t (Some x)) same
-        (subst (IsOneOf plan world.entries t) at (counts.begun t))
+        cc in subst (λ (x : Begun). IsOneOf script world.entries t (Some x)) same
+        (subst (IsOneOf script world.entries t) at (counts.begun t))
 
-at_most : (plan : Scripted) (entries : List Entry) (t : ℕ) (slot : Option Begun) →
-    IsOneOf plan entries t slot → count_of entries t ≤ length (calls_of plan t)
-at_most plan entries t None one = one
-at_most plan entries t (Some b) one = omega (arith, one.1)
+at_most : (script : Scripted) (entries : List Entry) (t : ℕ) (slot : Option Begun) →
+    IsOneOf script entries t slot → count_of entries t ≤ length (calls_of script t)
+at_most script entries t None one = one
+at_most script entries t (Some b) one = omega (arith, one.1)
 
 count_last : (entries : List Entry) (e : Entry) (t : ℕ) →
     count_of (entries ++ e ∷ []) t ≡ count_of entries t + one_where (t == e.thread)
@@ -200,15 +200,15 @@ count_last entries e t = ap length (stamps_of-append t entries e) ∙ by (t == e
     by true = length-append (stamps_of t entries) (stamp_in e.reply ∷ [])
     by false = omega arith
 
-other-one : (plan : Scripted) (entries : List Entry) (e : Entry) (t : ℕ) (slot : Option Begun) →
-    (t == e.thread) ≡ false → IsOneOf plan entries t slot → IsOneOf plan (entries ++ e ∷ []) t slot
-other-one plan entries e t slot n one = by slot one
+other-one : (script : Scripted) (entries : List Entry) (e : Entry) (t : ℕ) (slot : Option Begun) →
+    (t == e.thread) ≡ false → IsOneOf script entries t slot → IsOneOf script (entries ++ e ∷ []) t slot
+other-one script entries e t slot n one = by slot one
   where
     same : count_of (entries ++ e ∷ []) t ≡ count_of entries t + 0
     same = count_last entries e t ∙ ap (λ (b : Bool). count_of entries t + one_where b) n
 
-    by : (slot : Option Begun) → IsOneOf plan entries t slot →
-        IsOneOf plan (entries ++ e ∷ []) t slot
+    by : (slot : Option Begun) → IsOneOf script entries t slot →
+        IsOneOf script (entries ++ e ∷ []) t slot
     by None one = omega (arith, same, one)
     by (Some b) one = (one.0, omega (arith, same, one.1), one.2)
 
@@ -233,62 +233,62 @@ after_same s seen = by s.phase
     by (OnLock last) = lock_same s.shape s.call _
     by (OnRecord job place) = record_same s.shape s.call job _
 
-lands-counted : (plan : Scripted) (world : World) (t : ℕ) (b : Begun) (words : List ℕ)
-    (turned : Turn) → IsCounted plan world → IsOneOf plan world.entries t (Some b) →
-    IsStillOf b.machine.call turned → IsCounted plan (landed world t b words turned)
-lands-counted plan world t b words (Going m) counts one same = record {
+lands-counted : (script : Scripted) (world : World) (t : ℕ) (b : Begun) (words : List ℕ)
+    (turned : Turn) → IsCounted script world → IsOneOf script world.entries t (Some b) →
+    IsStillOf b.machine.call turned → IsCounted script (landed world t b words turned)
+lands-counted script world t b words (Going m) counts one same = record {
   named = counts.named;
   suits = counts.suits;
-  begun = each_slot (IsOneOf plan world.entries) world.begun t
+  begun = each_slot (IsOneOf script world.entries) world.begun t
       (Some (record { machine = m; first = b.first })) (λ k n. counts.begun k)
-      (one.0, one.1, subst (λ (x : Call). IsTrue (call_suits plan.width x)) (sym same) one.2)
-      (at_most plan world.entries t (Some b) one);
+      (one.0, one.1, subst (λ (x : Call). IsTrue (call_suits script.width x)) (sym same) one.2)
+      (at_most script world.entries t (Some b) one);
 }
-lands-counted plan world t b words (Done r) counts one same =
+lands-counted script world t b words (Done r) counts one same =
     let x : Entry = entry_of world t b r in
     let itself : (t == t) ≡ true = grind arith in
     let more : count_of (world.entries ++ x ∷ []) t ≡ count_of world.entries t + 1 =
     count_last world.entries x t
     ∙ ap (λ (b : Bool). count_of world.entries t + one_where b) itself in
-    let room : count_of (world.entries ++ x ∷ []) t ≤ length (calls_of plan t) =
+    let room : count_of (world.entries ++ x ∷ []) t ≤ length (calls_of script t) =
     omega (arith, more, one.1) in
     record {
-      named = All-push (λ (y : Entry). y.thread < length plan.threads) world.entries x counts.named
+      named = All-push (λ (y : Entry). y.thread < length script.threads) world.entries x counts.named
           one.0;
-      suits = All-push (λ (y : Entry). IsTrue (call_suits plan.width y.call)) world.entries x
+      suits = All-push (λ (y : Entry). IsTrue (call_suits script.width y.call)) world.entries x
           counts.suits one.2;
-      begun = each_slot (IsOneOf plan (world.entries ++ x ∷ [])) world.begun t None
-          (λ k n. other-one plan world.entries x k _ n (counts.begun k)) room room;
+      begun = each_slot (IsOneOf script (world.entries ++ x ∷ [])) world.begun t None
+          (λ k n. other-one script world.entries x k _ n (counts.begun k)) room room;
     }
 
-step-counted : (plan : Scripted) (world : World) (t : ℕ) → IsSound plan → IsCounted plan world →
-    IsCounted plan (step plan world t)
-step-counted plan world t sound counts = by (current plan world t) refl
+step-counted : (script : Scripted) (world : World) (t : ℕ) → IsSound script → IsCounted script world →
+    IsCounted script (step script world t)
+step-counted script world t sound counts = by (current script world t) refl
   where
-    by : (c : Option Begun) → current plan world t ≡ c → IsCounted plan (stepped world t c)
+    by : (c : Option Begun) → current script world t ≡ c → IsCounted script (stepped world t c)
     by None e = record { named = counts.named; suits = counts.suits; begun = counts.begun }
     by (Some b) e =
-        lands-counted plan world t b _ _ counts (current-one plan world t b sound counts e)
+        lands-counted script world t b _ _ counts (current-one script world t b sound counts e)
         (after_same b.machine _)
 
-opening-counted : (plan : Scripted) → IsCounted plan (opening plan)
-opening-counted plan = record {
-  named = All-nil (λ (e : Entry). e.thread < length plan.threads);
-  suits = All-nil (λ (e : Entry). IsTrue (call_suits plan.width e.call));
-  begun = λ t. rw (slot_none (length plan.threads) t) (omega arith);
+opening-counted : (script : Scripted) → IsCounted script (opening script)
+opening-counted script = record {
+  named = All-nil (λ (e : Entry). e.thread < length script.threads);
+  suits = All-nil (λ (e : Entry). IsTrue (call_suits script.width e.call));
+  begun = λ t. rw (slot_none (length script.threads) t) (omega arith);
 }
 
-steps-counted : (plan : Scripted) (world : World) (names : List ℕ) → IsSound plan →
-    IsCounted plan world → IsCounted plan (fold (step plan) world names)
-steps-counted plan world [] sound counts = counts
-steps-counted plan world (t ∷ names) sound counts =
-    steps-counted plan (step plan world t) names sound (step-counted plan world t sound counts)
+steps-counted : (script : Scripted) (world : World) (names : List ℕ) → IsSound script →
+    IsCounted script world → IsCounted script (fold (step script) world names)
+steps-counted script world [] sound counts = counts
+steps-counted script world (t ∷ names) sound counts =
+    steps-counted script (step script world t) names sound (step-counted script world t sound counts)
 
-always-counted : (plan : Scripted) (names : List ℕ) → IsSound plan →
-    IsCounted plan (execution_of plan names)
+always-counted : (script : Scripted) (names : List ℕ) → IsSound script →
+    IsCounted script (execution_of script names)
 unfolding execution_of
-always-counted plan names sound =
-    steps-counted plan (opening plan) names sound (opening-counted plan)
+always-counted script names sound =
+    steps-counted script (opening script) names sound (opening-counted script)
 
 calls_few : (threads : List (List ScriptCall)) (t : ℕ) →
     All (λ calls. length calls ≤ 10000) threads → length (slice_index_or threads t []) ≤ 10000
@@ -300,22 +300,22 @@ calls_few (x ∷ threads) (suc t) short =
     (All-tail (λ (calls : List ScriptCall). length calls ≤ 10000) x threads short)
 
 -- what a schedule finishes can stand in a record
-pub completed-recorded : (plan : Scripted) (names : List ℕ) → IsSound plan →
+pub completed-recorded : (script : Scripted) (names : List ℕ) → IsSound script →
     IsRecorded (record {
-      limits = plan.limits;
-      width = plan.width;
-      entries = completed_calls plan names;
+      limits = script.limits;
+      width = script.width;
+      entries = completed_calls script names;
       report = [];
     })
-completed-recorded plan names sound =
-    let world : World = execution_of plan names in
-    let counts : IsCounted plan world = always-counted plan names sound in
-    let all : total (length plan.threads) (count_of world.entries) ≡ length world.entries =
-    counted (length plan.threads) world.entries counts.named in
-    let few : total (length plan.threads) (count_of world.entries) ≤ length plan.threads * 10000 =
-    total_few (length plan.threads) 10000 (count_of world.entries)
-    (λ t. let a = at_most plan world.entries t _ (counts.begun t) in
-    let b = calls_few plan.threads t sound.short in omega (arith, a, b)) in
+completed-recorded script names sound =
+    let world : World = execution_of script names in
+    let counts : IsCounted script world = always-counted script names sound in
+    let all : total (length script.threads) (count_of world.entries) ≡ length world.entries =
+    counted (length script.threads) world.entries counts.named in
+    let few : total (length script.threads) (count_of world.entries) ≤ length script.threads * 10000 =
+    total_few (length script.threads) 10000 (count_of world.entries)
+    (λ t. let a = at_most script world.entries t _ (counts.begun t) in
+    let b = calls_few script.threads t sound.short in omega (arith, a, b)) in
     let threads = sound.threads in
     record {
       width = sound.width;

@@ -66,15 +66,15 @@ validates limits width before check s range split is =
     (λ yes. exact.0 (either.0 yes), λ valid. either.1 (exact.1 valid))
 
 pub stamps_validate : StampsValidateAlways
-stamps_validate plan names before between after issue check s sound few is issued some asks =
-    let limits : Bounds = plan.limits in
-    let legal : IsLegal limits plan.width
+stamps_validate script names before between after issue check s sound few is issued some asks =
+    let limits : Bounds = script.limits in
+    let legal : IsLegal limits script.width
     (history_of ((before ++ issue ∷ between) ++ check ∷ after)) =
-    subst (λ (es : List Entry). IsLegal limits plan.width (history_of es)) is
-    (always-kept plan names sound few).legal in
-    let parts : Splits limits plan.width (before ++ issue ∷ between) check =
-    split limits plan.width (before ++ issue ∷ between) after check legal in
-    let here = validates limits plan.width (before ++ issue ∷ between) check s sound.range parts
+    subst (λ (es : List Entry). IsLegal limits script.width (history_of es)) is
+    (always-kept script names sound few).legal in
+    let parts : Splits limits script.width (before ++ issue ∷ between) check =
+    split limits script.width (before ++ issue ∷ between) after check legal in
+    let here = validates limits script.width (before ++ issue ∷ between) check s sound.range parts
     asks in
     let spread : history_of (before ++ issue ∷ between) ≡ history_of before
     ++ (issue.call, issue.reply) ∷ history_of between =
@@ -82,9 +82,9 @@ stamps_validate plan names before between after issue check s sound few is issue
     let start : history_of (before ++ issue ∷ []) ≡ history_of before
     ++ (issue.call, issue.reply) ∷ [] =
     map-append (λ (x : Entry). (x.call, x.reply)) before (issue ∷ []) in
-    let law = stamp_validity limits plan.width (history_of before) (issue.call, issue.reply)
+    let law = stamp_validity limits script.width (history_of before) (issue.call, issue.reply)
     (history_of between) s sound.range
-    (subst (λ (h : History). IsLegal limits plan.width h) spread parts.legal) issued some in
+    (subst (λ (h : History). IsLegal limits script.width h) spread parts.legal) issued some in
     rw start (
       λ yes. law.0
           (subst (λ (h : History). IsValid limits (events_of limits h) s) spread (here.0 yes)),
@@ -94,11 +94,11 @@ stamps_validate plan names before between after issue check s sound few is issue
     )
 
 pub gets_answer_content : GetsAnswerContentAlways
-gets_answer_content plan names before after get sound few is asks =
-    let legal : IsLegal plan.limits plan.width (history_of (before ++ get ∷ after)) =
-    subst (λ (es : List Entry). IsLegal plan.limits plan.width (history_of es)) is
-    (always-kept plan names sound few).legal in
-    let answered : IsReply plan.limits (events_of plan.limits (history_of before))
-    (content_after plan.width (history_of before)) Get get.reply =
-    rw asks at (split plan.limits plan.width before after get legal).answered in
+gets_answer_content script names before after get sound few is asks =
+    let legal : IsLegal script.limits script.width (history_of (before ++ get ∷ after)) =
+    subst (λ (es : List Entry). IsLegal script.limits script.width (history_of es)) is
+    (always-kept script names sound few).legal in
+    let answered : IsReply script.limits (events_of script.limits (history_of before))
+    (content_after script.width (history_of before)) Get get.reply =
+    rw asks at (split script.limits script.width before after get legal).answered in
     answered

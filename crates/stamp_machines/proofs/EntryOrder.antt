@@ -74,19 +74,19 @@ abbrev pub IsSince : ℕ → List Entry → ℕ → Option Begun → Type 0
 IsSince position entries thread None = Unit {0}
 IsSince position entries thread (Some b) = (b.first ≤ position) × HasEnded thread b.first entries
 
-pub record InOrder (plan : Scripted) (world : World) : Type 0 where
-  pub linearized : AreLinearized plan.limits plan.width world.entries
+pub record InOrder (script : Scripted) (world : World) : Type 0 where
+  pub linearized : AreLinearized script.limits script.width world.entries
   pub points : All (λ (d : Entry). d.point ≡ d.last) world.entries
   pub ended : All (λ (d : Entry). d.last < world.position) world.entries
   pub begun : (t : ℕ) → IsSince world.position world.entries t (slice_index_or world.begun t None)
 
 -- the call that a thread is in
-current-since : (plan : Scripted) (world : World) (t : ℕ) (b : Begun) → InOrder plan world →
-    current plan world t ≡ Some b → IsSince world.position world.entries t (Some b)
-current-since plan world t b o = by (slice_index_or world.begun t None) refl
+current-since : (script : Scripted) (world : World) (t : ℕ) (b : Begun) → InOrder script world →
+    current script world t ≡ Some b → IsSince world.position world.entries t (Some b)
+current-since script world t b o = by (slice_index_or world.begun t None) refl
   where
     begins : (c : Option ScriptCall) →
-        begin (shape_of plan) (λ k. stamps_of k world.entries) world.position c ≡ Some b →
+        begin (shape_of script) (λ k. stamps_of k world.entries) world.position c ≡ Some b →
         IsSince world.position world.entries t (Some b)
     begins None e = cc
     begins (Some c) e =
@@ -98,9 +98,9 @@ current-since plan world t b o = by (slice_index_or world.begun t None) refl
         first_of (Some x) = x.first
 
     by : (slot : Option Begun) → slice_index_or world.begun t None ≡ slot →
-        current_of plan (λ k. stamps_of k world.entries) world.position t slot ≡ Some b →
+        current_of script (λ k. stamps_of k world.entries) world.position t slot ≡ Some b →
         IsSince world.position world.entries t (Some b)
-    by None at e = begins (slice_get (calls_of plan t) (length (stamps_of t world.entries))) e
+    by None at e = begins (slice_get (calls_of script t) (length (stamps_of t world.entries))) e
     by (Some c) at e = let same : c ≡ b =
         cc in subst (λ (x : Begun). IsSince world.position world.entries t (Some x)) same
         (subst (IsSince world.position world.entries t) at (o.begun t))
@@ -121,16 +121,16 @@ other-since position entries e t (Some b) n since = (
       (λ same. absurd (grind (arith, n, same))),
 )
 
-going-order : (plan : Scripted) (world : World) (t : ℕ) (words : List ℕ) (now : Option Begun) →
-    InOrder plan world → IsSince world.position world.entries t now →
-    InOrder plan
+going-order : (script : Scripted) (world : World) (t : ℕ) (words : List ℕ) (now : Option Begun) →
+    InOrder script world → IsSince world.position world.entries t now →
+    InOrder script
     (record {
       words = words;
       begun = slice_set world.begun t now;
       entries = world.entries;
       position = world.position + 1;
     })
-going-order plan world t words now o since = record {
+going-order script world t words now o since = record {
   linearized = o.linearized;
   points = o.points;
   ended = λ k d lt. let h = o.ended k d lt in omega (arith, h);
@@ -147,11 +147,11 @@ last-answered limits width entries e legal =
     (subst (λ (h : History). IsLegal limits width h) (history_more entries e) legal)).0
 
 -- the entry fits after those before it
-entry-fits : (plan : Scripted) (world : World) (t : ℕ) (b : Begun) (r : Reply) →
-    InOrder plan world → IsSince world.position world.entries t (Some b) →
-    IsAnswered plan.limits plan.width world.entries (entry_of world t b r) →
-    Fits plan.limits plan.width world.entries (entry_of world t b r)
-entry-fits plan world t b r o since answered = record {
+entry-fits : (script : Scripted) (world : World) (t : ℕ) (b : Begun) (r : Reply) →
+    InOrder script world → IsSince world.position world.entries t (Some b) →
+    IsAnswered script.limits script.width world.entries (entry_of world t b r) →
+    Fits script.limits script.width world.entries (entry_of world t b r)
+entry-fits script world t b r o since answered = record {
   within = record { begun = since.0; ended = omega arith };
   rises = λ d some.
       let k : ℕ = length world.entries - 1 in
@@ -163,17 +163,17 @@ entry-fits plan world t b r o since answered = record {
   answered = answered;
 }
 
-done-order : (plan : Scripted) (world : World) (t : ℕ) (b : Begun) (words : List ℕ) (r : Reply) →
-    InOrder plan world → IsSince world.position world.entries t (Some b) →
-    IsLegal plan.limits plan.width (history_of (world.entries ++ entry_of world t b r ∷ [])) →
-    InOrder plan (landed world t b words (Done r))
-done-order plan world t b words r o since legal =
+done-order : (script : Scripted) (world : World) (t : ℕ) (b : Begun) (words : List ℕ) (r : Reply) →
+    InOrder script world → IsSince world.position world.entries t (Some b) →
+    IsLegal script.limits script.width (history_of (world.entries ++ entry_of world t b r ∷ [])) →
+    InOrder script (landed world t b words (Done r))
+done-order script world t b words r o since legal =
     let e : Entry = entry_of world t b r in
     record {
       linearized =
-          linearized_more plan.limits plan.width world.entries e o.linearized
-          (entry-fits plan world t b r o since
-          (last-answered plan.limits plan.width world.entries e legal));
+          linearized_more script.limits script.width world.entries e o.linearized
+          (entry-fits script world t b r o since
+          (last-answered script.limits script.width world.entries e legal));
       points = All-push (λ (d : Entry). d.point ≡ d.last) world.entries e o.points refl;
       ended = All-push (λ (d : Entry). d.last < world.position + 1) world.entries e
           (λ k d lt. let h = o.ended k d lt in omega (arith, h)) (omega arith);
@@ -182,52 +182,52 @@ done-order plan world t b words r o since legal =
     }
 
 -- one step
-step-order : (plan : Scripted) (world : World) (t : ℕ) → InOrder plan world →
-    IsLegal plan.limits plan.width (history_of (step plan world t).entries) →
-    InOrder plan (step plan world t)
-step-order plan world t o legal = by (current plan world t) refl legal
+step-order : (script : Scripted) (world : World) (t : ℕ) → InOrder script world →
+    IsLegal script.limits script.width (history_of (step script world t).entries) →
+    InOrder script (step script world t)
+step-order script world t o legal = by (current script world t) refl legal
   where
     lands : (b : Begun) (words : List ℕ) (turned : Turn) →
         IsSince world.position world.entries t (Some b) →
-        IsLegal plan.limits plan.width (history_of (landed world t b words turned).entries) →
-        InOrder plan (landed world t b words turned)
+        IsLegal script.limits script.width (history_of (landed world t b words turned).entries) →
+        InOrder script (landed world t b words turned)
     lands b words (Going m) since legal =
-        going-order plan world t words (Some (record { machine = m; first = b.first })) o since
-    lands b words (Done r) since legal = done-order plan world t b words r o since legal
+        going-order script world t words (Some (record { machine = m; first = b.first })) o since
+    lands b words (Done r) since legal = done-order script world t b words r o since legal
 
-    by : (c : Option Begun) → current plan world t ≡ c →
-        IsLegal plan.limits plan.width (history_of (stepped world t c).entries) →
-        InOrder plan (stepped world t c)
+    by : (c : Option Begun) → current script world t ≡ c →
+        IsLegal script.limits script.width (history_of (stepped world t c).entries) →
+        InOrder script (stepped world t c)
     by None e legal = record {
       linearized = o.linearized;
       points = o.points;
       ended = λ k d lt. let h = o.ended k d lt in omega (arith, h);
       begun = λ k. later world.position world.entries k _ (o.begun k);
     }
-    by (Some b) e legal = lands b _ _ (current-since plan world t b o e) legal
+    by (Some b) e legal = lands b _ _ (current-since script world t b o e) legal
 
-opening-order : (plan : Scripted) → InOrder plan (opening plan)
-opening-order plan = record {
-  linearized = linearized_none plan.limits plan.width;
+opening-order : (script : Scripted) → InOrder script (opening script)
+opening-order script = record {
+  linearized = linearized_none script.limits script.width;
   points = All-nil (λ (d : Entry). d.point ≡ d.last);
   ended = All-nil (λ (d : Entry). d.last < 0);
-  begun = λ k. rw (slot_none (length plan.threads) k) tt;
+  begun = λ k. rw (slot_none (length script.threads) k) tt;
 }
 
-steps-order : (plan : Scripted) (world : World) (names : List ℕ) → Invariant plan world → IsSound plan →
-    world.position + length names ≤ 1000000 → InOrder plan world →
-    InOrder plan (fold (step plan) world names)
-steps-order plan world [] k sound room o = o
-steps-order plan world (t ∷ names) k sound room o =
-    let kept : Invariant plan (step plan world t) =
-    step-kept plan world t k sound (omega (arith, room)) in
-    steps-order plan (step plan world t) names kept sound
-    (rw (position-step plan world t) (omega (arith, room)))
-    (step-order plan world t o kept.legal)
+steps-order : (script : Scripted) (world : World) (names : List ℕ) → Invariant script world → IsSound script →
+    world.position + length names ≤ 1000000 → InOrder script world →
+    InOrder script (fold (step script) world names)
+steps-order script world [] k sound room o = o
+steps-order script world (t ∷ names) k sound room o =
+    let kept : Invariant script (step script world t) =
+    step-kept script world t k sound (omega (arith, room)) in
+    steps-order script (step script world t) names kept sound
+    (rw (position-step script world t) (omega (arith, room)))
+    (step-order script world t o kept.legal)
 
-pub always-in-order : (plan : Scripted) (names : List ℕ) → IsSound plan → length names ≤ 1000000 →
-    InOrder plan (execution_of plan names)
+pub always-in-order : (script : Scripted) (names : List ℕ) → IsSound script → length names ≤ 1000000 →
+    InOrder script (execution_of script names)
 unfolding execution_of
-always-in-order plan names sound few =
-    steps-order plan (opening plan) names (opening-kept plan sound) sound (omega (arith, few))
-    (opening-order plan)
+always-in-order script names sound few =
+    steps-order script (opening script) names (opening-kept script sound) sound (omega (arith, few))
+    (opening-order script)

@@ -28,17 +28,17 @@ same_world : (gone : List Entry) (old new : State) (n : ℕ) → SameState old n
     world_at gone new n ≡ world_at gone old n
 same_world gone old new n s = simp (s.words, s.begun, s.entries)
 
-pub world-more : (plan : Scripted) (old mid new : State) (names names' : List ℕ) (t : ℕ) →
-    world_at [] old (length names) ≡ execution_of plan names → SameState old mid →
-    world_at [] new (length names + 1) ≡ step plan (world_at [] mid (length names)) t →
-    names' ≡ names ++ t ∷ [] → world_at [] new (length names') ≡ execution_of plan names'
-world-more plan old mid new names names' t w s n e =
-    rw (e, length-append) (n ∙ ap (λ x. step plan x t) (same_world [] old mid (length names) s ∙ w)
-    ∙ sym (execution_of-more plan names t))
+pub world-more : (script : Scripted) (old mid new : State) (names names' : List ℕ) (t : ℕ) →
+    world_at [] old (length names) ≡ execution_of script names → SameState old mid →
+    world_at [] new (length names + 1) ≡ step script (world_at [] mid (length names)) t →
+    names' ≡ names ++ t ∷ [] → world_at [] new (length names') ≡ execution_of script names'
+world-more script old mid new names names' t w s n e =
+    rw (e, length-append) (n ∙ ap (λ x. step script x t) (same_world [] old mid (length names) s ∙ w)
+    ∙ sym (execution_of-more script names t))
 
-pub same-kept : (plan : Scripted) (old mid : State) (n : ℕ) → SameState old mid →
-    Invariant plan (world_at [] old n) → Invariant plan (world_at [] mid n)
-same-kept plan old mid n s k = rw (same_world [] old mid n s) k
+pub same-kept : (script : Scripted) (old mid : State) (n : ℕ) → SameState old mid →
+    Invariant script (world_at [] old n) → Invariant script (world_at [] mid n)
+same-kept script old mid n s k = rw (same_world [] old mid n s) k
 
 pub run-memory : (r : Inside) → IsAt r → 0 < length r.state.words.items
 run-memory r h = let k = run-kept r h in omega (arith, k.memory)

@@ -36,43 +36,43 @@ landed-begun : (world : World) (t : ℕ) (b : Begun) (words : List ℕ) (turned 
 landed-begun world t b words (Going m) = simp set-set
 landed-begun world t b words (Done r) = simp set-set
 
-pub step-begun : (plan : Scripted) (world mid : World) (t : ℕ) (b : Begun) →
-    current plan world t ≡ Some b → mid ≡ begun_with world t (current plan world t) →
+pub step-begun : (script : Scripted) (world mid : World) (t : ℕ) (b : Begun) →
+    current script world t ≡ Some b → mid ≡ begun_with world t (current script world t) →
     landed mid t b (words_after (next_access b.machine) mid.words)
-    (after_access b.machine (seen_by (next_access b.machine) mid.words)) ≡ step plan world t
-step-begun plan world mid t b e m =
+    (after_access b.machine (seen_by (next_access b.machine) mid.words)) ≡ step script world t
+step-begun script world mid t b e m =
     let m' : mid ≡ begun_with world t (Some b) = rw e at m in
     rw (m', e) (landed-begun world t b (words_after (next_access b.machine) world.words)
     (after_access b.machine (seen_by (next_access b.machine) world.words)))
 
 -- the call that a thread begins that was in none
-pub begun-next : (plan : Scripted) (world : World) (stamps : ℕ → List ℕ) (t : ℕ) (b : Begun) →
+pub begun-next : (script : Scripted) (world : World) (stamps : ℕ → List ℕ) (t : ℕ) (b : Begun) →
     is_some (slice_index_or world.begun t None) ≡ false →
     ((u : ℕ) → stamps u ≡ stamps_of u world.entries) →
-    Some b ≡ next_call plan stamps world.position t → current plan world t ≡ Some b
-begun-next plan world stamps t b none same is =
+    Some b ≡ next_call script stamps world.position t → current script world t ≡ Some b
+begun-next script world stamps t b none same is =
     let f : (λ (u : ℕ). stamps u) ≡ (λ (u : ℕ). stamps_of u world.entries) =
     same_stamps stamps (λ (u : ℕ). stamps_of u world.entries) same in
     let none' : slice_index_or world.begun t None ≡ None =
     none-told (slice_index_or world.begun t None) none in
-    rw none' (sym (is ∙ ap (λ (g : ℕ → List ℕ). next_call plan g world.position t) f))
+    rw none' (sym (is ∙ ap (λ (g : ℕ → List ℕ). next_call script g world.position t) f))
   where
     none-told : (o : Option Begun) → is_some o ≡ false → o ≡ None
     none-told None e = refl
     none-told (Some x) e = cc
 
 -- the call that the thread is in, once it was begun
-pub begun-there : (plan : Scripted) (world mid : World) (t : ℕ) (b : Begun) →
-    t < length world.begun → current plan world t ≡ Some b →
-    mid ≡ begun_with world t (current plan world t) → slice_index_or mid.begun t None ≡ Some b
-begun-there plan world mid t b h e m = let m' : mid ≡ begun_with world t (Some b) = rw e at m in
+pub begun-there : (script : Scripted) (world mid : World) (t : ℕ) (b : Begun) →
+    t < length world.begun → current script world t ≡ Some b →
+    mid ≡ begun_with world t (current script world t) → slice_index_or mid.begun t None ≡ Some b
+begun-there script world mid t b h e m = let m' : mid ≡ begun_with world t (Some b) = rw e at m in
     rw m' (get_or-set_same world.begun t (Some b) None h)
 
 -- a thread with no call left
-pub step-idle : (plan : Scripted) (world mid : World) (t : ℕ) → current plan world t ≡ None →
-    mid ≡ begun_with world t (current plan world t) →
-    record mid { position = mid.position + 1 } ≡ step plan world t
-step-idle plan world mid t e m = let m' : mid ≡ world = rw e at m in rw (m', e) refl
+pub step-idle : (script : Scripted) (world mid : World) (t : ℕ) → current script world t ≡ None →
+    mid ≡ begun_with world t (current script world t) →
+    record mid { position = mid.position + 1 } ≡ step script world t
+step-idle script world mid t e m = let m' : mid ≡ world = rw e at m in rw (m', e) refl
 
 pub stamps_of-append : (t : ℕ) (entries : List Entry) (e : Entry) →
     stamps_of t (entries ++ e ∷ []) ≡ (if t == e.thread
@@ -99,34 +99,34 @@ pub stamps-taken : (mid new : World) (t thread : ℕ) (b : Begun) (words : List 
 stamps-taken mid new t thread b words turned before now p q r =
     rw (p, q, r) (stamps_of-landed mid t thread b words turned)
 
-reports : (plan : Scripted) (world : World) (t : ℕ) (b : Begun) (turned : Turn) →
-    current plan world t ≡ Some b →
+reports : (script : Scripted) (world : World) (t : ℕ) (b : Begun) (turned : Turn) →
+    current script world t ≡ Some b →
     after_access b.machine (seen_by (next_access b.machine) world.words) ≡ turned →
-    Reports plan world t (told world t b turned)
-reports plan world t b (Going m) e is = (rw e refl, rw (e, is) refl)
-reports plan world t b (Done r) e is = rw (e, is) refl
+    Reports script world t (told world t b turned)
+reports script world t b (Going m) e is = (rw e refl, rw (e, is) refl)
+reports script world t b (Done r) e is = rw (e, is) refl
 
 -- what the step of the call that was begun tells
-pub report-begun : (plan : Scripted) (world mid : World) (t : ℕ) (b : Begun) (s : Stepped) →
-    current plan world t ≡ Some b → mid ≡ begun_with world t (current plan world t) →
+pub report-begun : (script : Scripted) (world mid : World) (t : ℕ) (b : Begun) (s : Stepped) →
+    current script world t ≡ Some b → mid ≡ begun_with world t (current script world t) →
     s ≡ told mid t b (after_access b.machine (seen_by (next_access b.machine) mid.words)) →
-    Reports plan world t s
-report-begun plan world mid t b s e m is =
+    Reports script world t s
+report-begun script world mid t b s e m is =
     let m' : mid ≡ begun_with world t (Some b) = rw e at m in
-    rw (is, m') (told-begun plan world t b _ (reports plan world t b _ e refl))
+    rw (is, m') (told-begun script world t b _ (reports script world t b _ e refl))
   where
-    told-begun : (plan : Scripted) (world : World) (t : ℕ) (b : Begun) (turned : Turn) →
-        Reports plan world t (told world t b turned) →
-        Reports plan world t (told (begun_with world t (Some b)) t b turned)
-    told-begun plan world t b (Going m) r = r
-    told-begun plan world t b (Done q) r = r
+    told-begun : (script : Scripted) (world : World) (t : ℕ) (b : Begun) (turned : Turn) →
+        Reports script world t (told world t b turned) →
+        Reports script world t (told (begun_with world t (Some b)) t b turned)
+    told-begun script world t b (Going m) r = r
+    told-begun script world t b (Done q) r = r
 
 -- what is reported, without the entry
-has-report : (plan : Scripted) (world : World) (t : ℕ) (s : Stepped) → Reports plan world t s →
-    HasReport plan world t (progress_of s)
-has-report plan world t Idle r = r
-has-report plan world t Still r = r
-has-report plan world t (Ended e) r = (e, r)
+has-report : (script : Scripted) (world : World) (t : ℕ) (s : Stepped) → Reports script world t s →
+    HasReport script world t (progress_of s)
+has-report script world t Idle r = r
+has-report script world t Still r = r
+has-report script world t (Ended e) r = (e, r)
 
 last-one : (es : List Entry) (e : Entry) →
     slice_get (es ++ e ∷ []) (length (es ++ e ∷ []) - 1) ≡ Some e
@@ -138,68 +138,68 @@ last-one es e = let here : length (es ++ e ∷ []) - 1 ≡ length es = rw length
     go (x ∷ xs) = go xs
 
 -- with the last entry again
-pub told-reports : (plan : Scripted) (world : World) (t : ℕ) (p : Progress) (entries : List Entry) →
-    entries ≡ (step plan world t).entries → HasReport plan world t p →
-    Reports plan world t (told_by entries p)
-told-reports plan world t progress.Idle entries is r = r
-told-reports plan world t progress.Going entries is r = r
-told-reports plan world t progress.Ended entries is r =
+pub told-reports : (script : Scripted) (world : World) (t : ℕ) (p : Progress) (entries : List Entry) →
+    entries ≡ (step script world t).entries → HasReport script world t p →
+    Reports script world t (told_by entries p)
+told-reports script world t progress.Idle entries is r = r
+told-reports script world t progress.Going entries is r = r
+told-reports script world t progress.Ended entries is r =
     let here : slice_get entries (length entries - 1) ≡ Some r.0 =
     rw (is, r.1) (last-one world.entries r.0) in
     let told_it : told_by entries progress.Ended ≡ Ended r.0 = rw here refl in
     rw told_it r.1
 
 -- what a step of a thread that is in a call leaves
-pub record Taken (gone : List Entry) (plan : Scripted) (old mid new : State) (t position : ℕ)
+pub record Taken (gone : List Entry) (script : Scripted) (old mid new : State) (t position : ℕ)
     (s : Progress) : Type 0 where
-  pub world : world_at gone new (position + 1) ≡ step plan (world_at gone old position) t
+  pub world : world_at gone new (position + 1) ≡ step script (world_at gone old position) t
   pub stamps : (u : ℕ) → stamps_at mid.workers.items u ≡ stamps_of u (gone ++ mid.entries.items) →
       stamps_at new.workers.items u ≡ stamps_of u (gone ++ new.entries.items)
-  pub report : HasReport plan (world_at gone old position) t s
+  pub report : HasReport script (world_at gone old position) t s
 
-pub taken : (gone : List Entry) (plan : Scripted) (old mid new : State) (t position : ℕ)
+pub taken : (gone : List Entry) (script : Scripted) (old mid new : State) (t position : ℕ)
     (s : Progress) →
-    is_some (current plan (world_at gone old position) t) ≡ true →
+    is_some (current script (world_at gone old position) t) ≡ true →
     t < length (map begun_in old.workers.items) →
     world_at gone mid position ≡ begun_with (world_at gone old position) t
-    (current plan (world_at gone old position) t) →
+    (current script (world_at gone old position) t) →
     IfSome (slice_index_or (map begun_in mid.workers.items) t None)
-    (λ b. StateLanded gone b t position mid new s) → Taken gone plan old mid new t position s
-taken gone plan old mid new t position s some h m landed =
-    go (current plan (world_at gone old position) t) refl some
+    (λ b. StateLanded gone b t position mid new s) → Taken gone script old mid new t position s
+taken gone script old mid new t position s some h m landed =
+    go (current script (world_at gone old position) t) refl some
   where
-    go : (o : Option Begun) → current plan (world_at gone old position) t ≡ o → is_some o ≡ true →
-        Taken gone plan old mid new t position s
+    go : (o : Option Begun) → current script (world_at gone old position) t ≡ o → is_some o ≡ true →
+        Taken gone script old mid new t position s
     go None e is = cc
     go (Some b) e is =
         let l : StateLanded gone b t position mid new s =
-        rw (begun-there plan (world_at gone old position) (world_at gone mid position) t b h e m) at
+        rw (begun-there script (world_at gone old position) (world_at gone mid position) t b h e m) at
         landed in
-        let w : world_at gone new (position + 1) ≡ step plan (world_at gone old position) t =
+        let w : world_at gone new (position + 1) ≡ step script (world_at gone old position) t =
         l.world
-        ∙ step-begun plan (world_at gone old position) (world_at gone mid position) t b e m in
+        ∙ step-begun script (world_at gone old position) (world_at gone mid position) t b e m in
         record {
           world = w;
           stamps = λ u before. stamps-taken (world_at gone mid position)
               (world_at gone new (position + 1)) u t b _ _ _ _ (l.stamps u) before l.world;
           report = rw l.told_is
-              (has-report plan (world_at gone old position) t _
-              (report-begun plan (world_at gone old position) (world_at gone mid position) t b _ e m
+              (has-report script (world_at gone old position) t _
+              (report-begun script (world_at gone old position) (world_at gone mid position) t b _ e m
               refl));
         }
 
 -- its access is safe
-pub taken-safe : (plan : Scripted) (world mid : World) (t : ℕ) → Invariant plan world → IsSound plan →
-    world.position < 1000000 → is_some (current plan world t) ≡ true → t < length world.begun →
-    mid ≡ begun_with world t (current plan world t) →
+pub taken-safe : (script : Scripted) (world mid : World) (t : ℕ) → Invariant script world → IsSound script →
+    world.position < 1000000 → is_some (current script world t) ≡ true → t < length world.begun →
+    mid ≡ begun_with world t (current script world t) →
     IfSome (slice_index_or mid.begun t None) (λ b. IsSafeOn b mid.words)
-taken-safe plan world mid t kept sound room some h m = go (current plan world t) refl some
+taken-safe script world mid t kept sound room some h m = go (current script world t) refl some
   where
-    go : (o : Option Begun) → current plan world t ≡ o → is_some o ≡ true →
+    go : (o : Option Begun) → current script world t ≡ o → is_some o ≡ true →
         IfSome (slice_index_or mid.begun t None) (λ b. IsSafeOn b mid.words)
     go None e is = cc
     go (Some b) e is =
         let m' : mid ≡ begun_with world t (Some b) = rw e at m in
         let words : mid.words ≡ world.words = ap (λ (x : World). x.words) m' in
-        rw (begun-there plan world mid t b h e m, words)
-        (current-safe plan world t b kept sound room e)
+        rw (begun-there script world mid t b h e m, words)
+        (current-safe script world t b kept sound room e)

@@ -141,50 +141,50 @@ own_since-more names n t first within =
     by true e = grind (arith, split, e)
     by false e = grind (arith, split, e)
 
-changes-append : (plan : Scripted) (t : ℕ) (world : World) (names : List ℕ) (n : ℕ) →
-    changes_by_others plan t world (names ++ n ∷ []) ≡ changes_by_others plan t world names
-    + (if interferes plan t (fold (step plan) world names) n then 1 else 0)
-changes-append plan t world [] n = omega arith
-changes-append plan t world (x ∷ names) n = let rest =
-    changes-append plan t (step plan world x) names n in omega (arith, rest)
+changes-append : (script : Scripted) (t : ℕ) (world : World) (names : List ℕ) (n : ℕ) →
+    changes_by_others script t world (names ++ n ∷ []) ≡ changes_by_others script t world names
+    + (if interferes script t (fold (step script) world names) n then 1 else 0)
+changes-append script t world [] n = omega arith
+changes-append script t world (x ∷ names) n = let rest =
+    changes-append script t (step script world x) names n in omega (arith, rest)
 
-pub execution-rest : (plan : Scripted) (names : List ℕ) (first : ℕ) →
-    fold (step plan) (execution_of plan (take first names)) (drop first names)
-    ≡ execution_of plan names
+pub execution-rest : (script : Scripted) (names : List ℕ) (first : ℕ) →
+    fold (step script) (execution_of script (take first names)) (drop first names)
+    ≡ execution_of script names
 unfolding execution_of
-execution-rest plan names first =
-    sym (fold-append (step plan) _ (take first names) (drop first names))
-    ∙ ap (λ (xs : List ℕ). fold (step plan) _ xs) (take-append-drop first names)
+execution-rest script names first =
+    sym (fold-append (step script) _ (take first names) (drop first names))
+    ∙ ap (λ (xs : List ℕ). fold (step script) _ xs) (take-append-drop first names)
 
-pub changes_since-more : (plan : Scripted) (names : List ℕ) (n t first : ℕ) → first ≤ length names →
-    changes_since plan (names ++ n ∷ []) t first ≡ changes_since plan names t first
-    + (if interferes plan t (execution_of plan names) n then 1 else 0)
-changes_since-more plan names n t first within =
+pub changes_since-more : (script : Scripted) (names : List ℕ) (n t first : ℕ) → first ≤ length names →
+    changes_since script (names ++ n ∷ []) t first ≡ changes_since script names t first
+    + (if interferes script t (execution_of script names) n then 1 else 0)
+changes_since-more script names n t first within =
     rw (
       drop-append-le first names (n ∷ []) within,
       take-append-le first names (n ∷ []) within,
-      ← execution-rest plan names first,
+      ← execution-rest script names first,
     )
-    (changes-append plan t (execution_of plan (take first names)) (drop first names) n)
+    (changes-append script t (execution_of script (take first names)) (drop first names) n)
 
 -- a call that has begun, and an entry
 abbrev pub BoundedSlot : Scripted → List ℕ → ℕ → Option Begun → Type 0
-BoundedSlot plan names t None = Unit {0}
-BoundedSlot plan names t (Some b) =
+BoundedSlot script names t None = Unit {0}
+BoundedSlot script names t (Some b) =
     (b.first ≤ length names)
     × (NeverWaits b.machine.call →
-    BoundedPhase plan.limits b.machine.call (lock_word (execution_of plan names))
-    (own_since names t b.first) (changes_since plan names t b.first) b.machine.phase)
+    BoundedPhase script.limits b.machine.call (lock_word (execution_of script names))
+    (own_since names t b.first) (changes_since script names t b.first) b.machine.phase)
 
 abbrev pub BoundedEntry : Scripted → List ℕ → Entry → Type 0
-BoundedEntry plan names e =
+BoundedEntry script names e =
     (e.first ≤ e.last) × (e.last < length names)
-    × (NeverWaits e.call → own_steps names e ≤ interference plan names e + 2)
+    × (NeverWaits e.call → own_steps names e ≤ interference script names e + 2)
 
-pub record AreBounded (plan : Scripted) (names : List ℕ) : Type 0 where
+pub record AreBounded (script : Scripted) (names : List ℕ) : Type 0 where
   pub slots : (t : ℕ) →
-      BoundedSlot plan names t (slice_index_or (execution_of plan names).begun t None)
-  pub entries : All (BoundedEntry plan names) (completed_calls plan names)
+      BoundedSlot script names t (slice_index_or (execution_of script names).begun t None)
+  pub entries : All (BoundedEntry script names) (completed_calls script names)
 
 pub one_more : (names : List ℕ) (n : ℕ) → length (names ++ n ∷ []) ≡ length names + 1
 one_more names n = length-append names (n ∷ [])
@@ -193,27 +193,27 @@ pub flip : (n k : ℕ) → (k == n) ≡ false → (n == k) ≡ false
 flip n k apart = grind (arith, apart)
 
 -- another thread's step
-other-slot : (plan : Scripted) (names : List ℕ) (n t : ℕ) (slot : Option Begun) → (n == t) ≡ false →
-    BoundedSlot plan names t slot → BoundedSlot plan (names ++ n ∷ []) t slot
-other-slot plan names n t None e bounded = tt
-other-slot plan names n t (Some b) e bounded =
+other-slot : (script : Scripted) (names : List ℕ) (n t : ℕ) (slot : Option Begun) → (n == t) ≡ false →
+    BoundedSlot script names t slot → BoundedSlot script (names ++ n ∷ []) t slot
+other-slot script names n t None e bounded = tt
+other-slot script names n t (Some b) e bounded =
     let longer = one_more names n in
     let within = bounded.0 in
     let own : own_since (names ++ n ∷ []) t b.first ≡ own_since names t b.first =
     own_since-more names n t b.first within ∙ rw e (omega arith) in
-    let changes : changes_since plan (names ++ n ∷ []) t b.first
-    ≡ changes_since plan names t b.first
-    + (if not (lock_word (step plan (execution_of plan names) n) == lock_word
-    (execution_of plan names)) then 1 else 0) =
-    changes_since-more plan names n t b.first within ∙ rw e refl in (
+    let changes : changes_since script (names ++ n ∷ []) t b.first
+    ≡ changes_since script names t b.first
+    + (if not (lock_word (step script (execution_of script names) n) == lock_word
+    (execution_of script names)) then 1 else 0) =
+    changes_since-more script names n t b.first within ∙ rw e refl in (
       omega (arith, longer, within),
-      λ never. rw (own, changes, execution_of-more plan names n)
-          (other-bound plan.limits b.machine.call _ _ _ _ b.machine.phase (bounded.1 never)),
+      λ never. rw (own, changes, execution_of-more script names n)
+          (other-bound script.limits b.machine.call _ _ _ _ b.machine.phase (bounded.1 never)),
     )
 
-older : (plan : Scripted) (names : List ℕ) (n : ℕ) (e : Entry) → BoundedEntry plan names e →
-    BoundedEntry plan (names ++ n ∷ []) e
-older plan names n e bounded =
+older : (script : Scripted) (names : List ℕ) (n : ℕ) (e : Entry) → BoundedEntry script names e →
+    BoundedEntry script (names ++ n ∷ []) e
+older script names n e bounded =
     let longer = one_more names n in
     let whole = bounded.0 in
     let ended = bounded.1 in
@@ -223,22 +223,22 @@ older plan names n e bounded =
     take-append-le e.first names (n ∷ []) (omega (arith, whole, ended)) in
     (whole, omega (arith, longer, ended), λ never. rw (last, first) (bounded.2 never))
 
-all-older : (plan : Scripted) (names : List ℕ) (n : ℕ) (entries : List Entry) →
-    All (BoundedEntry plan names) entries → All (BoundedEntry plan (names ++ n ∷ [])) entries
-all-older plan names n entries all =
-    λ k d lt. older plan names n (slice_index_or entries k d) (all k d lt)
+all-older : (script : Scripted) (names : List ℕ) (n : ℕ) (entries : List Entry) →
+    All (BoundedEntry script names) entries → All (BoundedEntry script (names ++ n ∷ [])) entries
+all-older script names n entries all =
+    λ k d lt. older script names n (slice_index_or entries k d) (all k d lt)
 
 -- the call that a thread is in
-current-bounded : (plan : Scripted) (names : List ℕ) (n : ℕ) (b : Begun) → AreBounded plan names →
-    current plan (execution_of plan names) n ≡ Some b → BoundedSlot plan names n (Some b)
-current-bounded plan names n b all = by (slice_index_or (execution_of plan names).begun n None) refl
+current-bounded : (script : Scripted) (names : List ℕ) (n : ℕ) (b : Begun) → AreBounded script names →
+    current script (execution_of script names) n ≡ Some b → BoundedSlot script names n (Some b)
+current-bounded script names n b all = by (slice_index_or (execution_of script names).begun n None) refl
   where
-    here : (execution_of plan names).position ≡ length names
-    here = execution-position plan names
+    here : (execution_of script names).position ≡ length names
+    here = execution-position script names
 
     fresh : (call : Call) → NeverWaits call →
-        BoundedPhase plan.limits call (lock_word (execution_of plan names))
-        (own_since names n (length names)) (changes_since plan names n (length names))
+        BoundedPhase script.limits call (lock_word (execution_of script names))
+        (own_since names n (length names)) (changes_since script names n (length names))
         (first_phase (job_in call))
     fresh call never =
         let lock : job_in call ≡ None = lock_none call never.lock in
@@ -246,27 +246,27 @@ current-bounded plan names n b all = by (slice_index_or (execution_of plan names
         rw (lock, none) refl
 
     begins : (c : Option ScriptCall) →
-        begin (shape_of plan) (λ k. stamps_of k (execution_of plan names).entries)
-        (execution_of plan names).position c ≡ Some b → BoundedSlot plan names n (Some b)
+        begin (shape_of script) (λ k. stamps_of k (execution_of script names).entries)
+        (execution_of script names).position c ≡ Some b → BoundedSlot script names n (Some b)
     begins None e = cc
     begins (Some c) e =
         let same : record {
-          machine = start (shape_of plan)
-              (call_of (λ k. stamps_of k (execution_of plan names).entries) c);
-          first = (execution_of plan names).position;
+          machine = start (shape_of script)
+              (call_of (λ k. stamps_of k (execution_of script names).entries) c);
+          first = (execution_of script names).position;
         } ≡ b = cc in
-        subst (λ (x : Begun). BoundedSlot plan names n (Some x)) same
+        subst (λ (x : Begun). BoundedSlot script names n (Some x)) same
         (rw here (omega arith, λ never. fresh _ never))
 
-    by : (slot : Option Begun) → slice_index_or (execution_of plan names).begun n None ≡ slot →
-        current_of plan (λ k. stamps_of k (execution_of plan names).entries)
-        (execution_of plan names).position n slot ≡ Some b → BoundedSlot plan names n (Some b)
+    by : (slot : Option Begun) → slice_index_or (execution_of script names).begun n None ≡ slot →
+        current_of script (λ k. stamps_of k (execution_of script names).entries)
+        (execution_of script names).position n slot ≡ Some b → BoundedSlot script names n (Some b)
     by None at e =
-        begins (slice_get (calls_of plan n)
-        (length (stamps_of n (execution_of plan names).entries))) e
+        begins (slice_get (calls_of script n)
+        (length (stamps_of n (execution_of script names).entries))) e
     by (Some c) at e = let same : c ≡ b =
-        cc in subst (λ (x : Begun). BoundedSlot plan names n (Some x)) same
-        (subst (BoundedSlot plan names n) at (all.slots n))
+        cc in subst (λ (x : Begun). BoundedSlot script names n (Some x)) same
+        (subst (BoundedSlot script names n) at (all.slots n))
 
 -- what its step leads to
 abbrev pub BoundedMachine : Bounds → Call → ℕ → ℕ → ℕ → Turn → Type 0
@@ -288,38 +288,38 @@ seen-is (CasLock old new) word h = refl
 seen-is (LoadItem i) word h = absurd h
 seen-is (StoreItem i v) word h = absurd h
 
-turn-bounded : (plan : Scripted) (world : World) (b : Begun) (phase : Phase) (own changes : ℕ) →
-    Invariant plan world → IsSound plan → b.machine.shape ≡ shape_of plan →
+turn-bounded : (script : Scripted) (world : World) (b : Begun) (phase : Phase) (own changes : ℕ) →
+    Invariant script world → IsSound script → b.machine.shape ≡ shape_of script →
     job_in b.machine.call ≡ job_at b.machine.phase → NeverWaits b.machine.call →
     b.machine.phase ≡ phase →
-    BoundedPhase plan.limits b.machine.call (lock_word world) own changes phase →
-    BoundedMachine plan.limits b.machine.call
+    BoundedPhase script.limits b.machine.call (lock_word world) own changes phase →
+    BoundedMachine script.limits b.machine.call
     (slice_index (words_after (next_access b.machine) world.words) 0) (own + 1) changes
     (after_access b.machine (seen_by (next_access b.machine) world.words))
-turn-bounded plan world b (OnRecord job place) own changes k sound shape kind never at bounded =
+turn-bounded script world b (OnRecord job place) own changes k sound shape kind never at bounded =
     let none : job_in b.machine.call ≡ None = lock_none b.machine.call never.lock in
     let some : job_in b.machine.call ≡ Some job = kind ∙ ap job_at at in
     let apart : None ≡ Some job = sym none ∙ some in
     cc
-turn-bounded plan world b (OnLock seen) own changes k sound shape kind never at bounded =
+turn-bounded script world b (OnLock seen) own changes k sound shape kind never at bounded =
     let call : Call = b.machine.call in
-    let a : LocalAccess = phase_next plan.limits call seen in
+    let a : LocalAccess = phase_next script.limits call seen in
     let word : ℕ = lock_word world in
-    let to_lock : IsToLock a = phase-to_lock plan.limits call seen in
-    let m = lock-moves world.words plan.width a k.memory to_lock in
-    let admitted : IsAdmittedAt plan.limits word =
-    record { events = events_in plan world; represented = k.represented } in
+    let to_lock : IsToLock a = phase-to_lock script.limits call seen in
+    let m = lock-moves world.words script.width a k.memory to_lock in
+    let admitted : IsAdmittedAt script.limits word =
+    record { events = events_in script world; represented = k.represented } in
     let found : local_seen a word [] ≡ word = seen-is a word to_lock in
-    let l : PhaseLanded plan.limits call word (lock_after a word)
-    (phase_after plan.limits call seen word) =
-    rw found at (phase-landed plan.limits call word [] seen sound.range admitted) in
-    let t : BoundedTurn plan.limits call word (own + 1) changes
-    (phase_after plan.limits call seen word) =
-    own-bound plan.limits call word own changes seen
-    (never_waits plan.limits call word sound.range admitted never) bounded in
-    let done : BoundedMachine plan.limits call (lock_after a word) (own + 1) changes
-    (lock_turn (shape_of plan) call (phase_after plan.limits call seen word)) =
-    lock-bounded plan.limits (shape_of plan) call word (lock_after a word) (own + 1) changes _ l
+    let l : PhaseLanded script.limits call word (lock_after a word)
+    (phase_after script.limits call seen word) =
+    rw found at (phase-landed script.limits call word [] seen sound.range admitted) in
+    let t : BoundedTurn script.limits call word (own + 1) changes
+    (phase_after script.limits call seen word) =
+    own-bound script.limits call word own changes seen
+    (never_waits script.limits call word sound.range admitted never) bounded in
+    let done : BoundedMachine script.limits call (lock_after a word) (own + 1) changes
+    (lock_turn (shape_of script) call (phase_after script.limits call seen word)) =
+    lock-bounded script.limits (shape_of script) call word (lock_after a word) (own + 1) changes _ l
     t in
     let moved : slice_index (words_after (with_lock 0 a) world.words) 0 ≡ lock_after a word =
     ap (λ (ws : List ℕ). slice_index ws 0) m.after in
@@ -333,151 +333,151 @@ pub own-more : (names : List ℕ) (n first : ℕ) → first ≤ length names →
     own_since (names ++ n ∷ []) n first ≡ own_since names n first + 1
 own-more names n first within = own_since-more names n n first within ∙ rw (itself n) refl
 
-pub changes-same : (plan : Scripted) (names : List ℕ) (n first : ℕ) → first ≤ length names →
-    changes_since plan (names ++ n ∷ []) n first ≡ changes_since plan names n first
-changes-same plan names n first within =
-    changes_since-more plan names n n first within ∙ rw (itself n) (omega arith)
+pub changes-same : (script : Scripted) (names : List ℕ) (n first : ℕ) → first ≤ length names →
+    changes_since script (names ++ n ∷ []) n first ≡ changes_since script names n first
+changes-same script names n first within =
+    changes_since-more script names n n first within ∙ rw (itself n) (omega arith)
 
 -- the entry's steps are those since its first one
-entry-bounded : (plan : Scripted) (names : List ℕ) (n : ℕ) (b : Begun) (r : Reply) →
+entry-bounded : (script : Scripted) (names : List ℕ) (n : ℕ) (b : Begun) (r : Reply) →
     b.first ≤ length names →
-    (NeverWaits b.machine.call → own_since names n b.first + 1 ≤ changes_since plan names n b.first
-    + 2) → BoundedEntry plan (names ++ n ∷ []) (entry_of (execution_of plan names) n b r)
-entry-bounded plan names n b r within few =
-    let here : (execution_of plan names).position ≡ length names = execution-position plan names in
+    (NeverWaits b.machine.call → own_since names n b.first + 1 ≤ changes_since script names n b.first
+    + 2) → BoundedEntry script (names ++ n ∷ []) (entry_of (execution_of script names) n b r)
+entry-bounded script names n b r within few =
+    let here : (execution_of script names).position ≡ length names = execution-position script names in
     let longer = one_more names n in
-    let whole : take ((execution_of plan names).position + 1) (names ++ n ∷ []) ≡ names ++ n ∷ [] =
+    let whole : take ((execution_of script names).position + 1) (names ++ n ∷ []) ≡ names ++ n ∷ [] =
     ap (λ (k : ℕ). take k (names ++ n ∷ [])) (ap (λ (k : ℕ). k + 1) here ∙ sym longer)
     ∙ take-length (names ++ n ∷ []) in
     let own = own-more names n b.first within in
-    let changes = changes-same plan names n b.first within in (
+    let changes = changes-same script names n b.first within in (
       omega (arith, within, here),
       omega (arith, longer, here),
       λ never. let h = few never in
           rw whole (omega (arith, own, changes, h)),
     )
 
-lands-bounded : (plan : Scripted) (names : List ℕ) (n : ℕ) (b : Begun) (words : List ℕ)
-    (turned : Turn) → AreBounded plan names → BoundedSlot plan names n (Some b) →
-    execution_of plan (names ++ n ∷ []) ≡ landed (execution_of plan names) n b words turned →
+lands-bounded : (script : Scripted) (names : List ℕ) (n : ℕ) (b : Begun) (words : List ℕ)
+    (turned : Turn) → AreBounded script names → BoundedSlot script names n (Some b) →
+    execution_of script (names ++ n ∷ []) ≡ landed (execution_of script names) n b words turned →
     IsStillOf b.machine.call turned →
     (NeverWaits b.machine.call →
-    BoundedMachine plan.limits b.machine.call (slice_index words 0)
-    (own_since names n b.first + 1) (changes_since plan names n b.first) turned) →
-    AreBounded plan (names ++ n ∷ [])
-lands-bounded plan names n b words (Going m) all bounded now same turn =
+    BoundedMachine script.limits b.machine.call (slice_index words 0)
+    (own_since names n b.first + 1) (changes_since script names n b.first) turned) →
+    AreBounded script (names ++ n ∷ [])
+lands-bounded script names n b words (Going m) all bounded now same turn =
     let names' : List ℕ = names ++ n ∷ [] in
     let longer = one_more names n in
     let within = bounded.0 in
     let own = own-more names n b.first within in
-    let changes = changes-same plan names n b.first within in
-    let word : lock_word (execution_of plan names') ≡ slice_index words 0 = ap lock_word now in
-    let begun : (execution_of plan names').begun
-    ≡ slice_set (execution_of plan names).begun n
+    let changes = changes-same script names n b.first within in
+    let word : lock_word (execution_of script names') ≡ slice_index words 0 = ap lock_word now in
+    let begun : (execution_of script names').begun
+    ≡ slice_set (execution_of script names).begun n
     (Some (record { machine = m; first = b.first })) = ap (λ (w : World). w.begun) now in
-    let slot : BoundedSlot plan names' n (Some (record { machine = m; first = b.first })) = (
+    let slot : BoundedSlot script names' n (Some (record { machine = m; first = b.first })) = (
       omega (arith, longer, within),
       λ never. rw (word, own, changes, same) (turn (subst NeverWaits same never)),
     ) in
     record {
       slots = λ t. rw begun
-          (each_slot (BoundedSlot plan names') (execution_of plan names).begun n
+          (each_slot (BoundedSlot script names') (execution_of script names).begun n
           (Some (record { machine = m; first = b.first }))
-          (λ k apart. other-slot plan names n k _ (flip n k apart) (all.slots k)) slot tt t);
+          (λ k apart. other-slot script names n k _ (flip n k apart) (all.slots k)) slot tt t);
       entries = rw (ap (λ (w : World). w.entries) now)
-          (all-older plan names n (completed_calls plan names) all.entries);
+          (all-older script names n (completed_calls script names) all.entries);
     }
-lands-bounded plan names n b words (Done r) all bounded now same turn =
+lands-bounded script names n b words (Done r) all bounded now same turn =
     let names' : List ℕ = names ++ n ∷ [] in
-    let begun : (execution_of plan names').begun
-    ≡ slice_set (execution_of plan names).begun n None = ap (λ (w : World). w.begun) now in
-    let e : Entry = entry_of (execution_of plan names) n b r in
-    let entries : (execution_of plan names').entries ≡ completed_calls plan names ++ e ∷ [] =
+    let begun : (execution_of script names').begun
+    ≡ slice_set (execution_of script names).begun n None = ap (λ (w : World). w.begun) now in
+    let e : Entry = entry_of (execution_of script names) n b r in
+    let entries : (execution_of script names').entries ≡ completed_calls script names ++ e ∷ [] =
     ap (λ (w : World). w.entries) now in
     record {
       slots = λ t. rw begun
-          (each_slot (BoundedSlot plan names') (execution_of plan names).begun n None
-          (λ k apart. other-slot plan names n k _ (flip n k apart) (all.slots k)) tt tt t);
+          (each_slot (BoundedSlot script names') (execution_of script names).begun n None
+          (λ k apart. other-slot script names n k _ (flip n k apart) (all.slots k)) tt tt t);
       entries = rw entries
-          (All-push (BoundedEntry plan names') (completed_calls plan names) e
-          (all-older plan names n (completed_calls plan names) all.entries)
-          (entry-bounded plan names n b r bounded.0 turn));
+          (All-push (BoundedEntry script names') (completed_calls script names) e
+          (all-older script names n (completed_calls script names) all.entries)
+          (entry-bounded script names n b r bounded.0 turn));
     }
 
 -- a thread with no call left has begun none
-pub idle-slot : (plan : Scripted) (world : World) (n : ℕ) → current plan world n ≡ None →
+pub idle-slot : (script : Scripted) (world : World) (n : ℕ) → current script world n ≡ None →
     slice_index_or world.begun n None ≡ None
-idle-slot plan world n = by (slice_index_or world.begun n None)
+idle-slot script world n = by (slice_index_or world.begun n None)
   where
     by : (slot : Option Begun) →
-        current_of plan (λ k. stamps_of k world.entries) world.position n slot ≡ None → slot ≡ None
+        current_of script (λ k. stamps_of k world.entries) world.position n slot ≡ None → slot ≡ None
     by None e = refl
     by (Some b) e = e
 
-step-bounded : (plan : Scripted) (names : List ℕ) (n : ℕ) → IsSound plan → length names ≤ 1000000 →
-    AreBounded plan names → AreBounded plan (names ++ n ∷ [])
-step-bounded plan names n sound few all = by (current plan world n) refl
+step-bounded : (script : Scripted) (names : List ℕ) (n : ℕ) → IsSound script → length names ≤ 1000000 →
+    AreBounded script names → AreBounded script (names ++ n ∷ [])
+step-bounded script names n sound few all = by (current script world n) refl
   where
     world : World
-    world = execution_of plan names
+    world = execution_of script names
 
-    k : Invariant plan world
-    k = always-kept plan names sound few
+    k : Invariant script world
+    k = always-kept script names sound few
 
-    by : (c : Option Begun) → current plan world n ≡ c → AreBounded plan (names ++ n ∷ [])
+    by : (c : Option Begun) → current script world n ≡ c → AreBounded script (names ++ n ∷ [])
     by None e =
-        let now : execution_of plan (names ++ n ∷ []) ≡ stepped world n None =
-        execution_of-more plan names n ∙ ap (stepped world n) e in
+        let now : execution_of script (names ++ n ∷ []) ≡ stepped world n None =
+        execution_of-more script names n ∙ ap (stepped world n) e in
         record {
           slots = λ t. rw (ap (λ (w : World). w.begun) now) (idle t e);
           entries = rw (ap (λ (w : World). w.entries) now)
-              (all-older plan names n (completed_calls plan names) all.entries);
+              (all-older script names n (completed_calls script names) all.entries);
         }
       where
-        idle : (t : ℕ) → current plan world n ≡ None →
-            BoundedSlot plan (names ++ n ∷ []) t (slice_index_or world.begun t None)
+        idle : (t : ℕ) → current script world n ≡ None →
+            BoundedSlot script (names ++ n ∷ []) t (slice_index_or world.begun t None)
         idle t e = on (n == t) refl
           where
             on : (x : Bool) → (n == t) ≡ x →
-                BoundedSlot plan (names ++ n ∷ []) t (slice_index_or world.begun t None)
-            on false apart = other-slot plan names n t _ apart (all.slots t)
+                BoundedSlot script (names ++ n ∷ []) t (slice_index_or world.begun t None)
+            on false apart = other-slot script names n t _ apart (all.slots t)
             on true q =
                 let same : t ≡ n = grind (arith, q) in
                 let none : slice_index_or world.begun t None ≡ None =
-                rw same (idle-slot plan world n e) in
+                rw same (idle-slot script world n e) in
                 rw none tt
     by (Some b) e =
-        let of : IsOf (shape_of plan) (Some b) = current-of plan world n b k sound e in
-        let bounded : BoundedSlot plan names n (Some b) = current-bounded plan names n b all e in
-        let now : execution_of plan (names ++ n ∷ []) ≡ stepped world n (Some b) =
-        execution_of-more plan names n ∙ ap (stepped world n) e in
-        lands-bounded plan names n b (words_after (next_access b.machine) world.words)
+        let of : IsOf (shape_of script) (Some b) = current-of script world n b k sound e in
+        let bounded : BoundedSlot script names n (Some b) = current-bounded script names n b all e in
+        let now : execution_of script (names ++ n ∷ []) ≡ stepped world n (Some b) =
+        execution_of-more script names n ∙ ap (stepped world n) e in
+        lands-bounded script names n b (words_after (next_access b.machine) world.words)
         (after_access b.machine (seen_by (next_access b.machine) world.words)) all bounded now
         (after_same b.machine _)
-        (λ never. turn-bounded plan world b b.machine.phase _ _ k sound of.0 of.1 never refl
+        (λ never. turn-bounded script world b b.machine.phase _ _ k sound of.0 of.1 never refl
         (bounded.1 never))
 
-steps-bounded : (plan : Scripted) (names rest : List ℕ) → IsSound plan →
-    length names + length rest ≤ 1000000 → AreBounded plan names → AreBounded plan (names ++ rest)
-steps-bounded plan names [] sound few all = rw (append-nil names) all
-steps-bounded plan names (n ∷ rest) sound few all =
+steps-bounded : (script : Scripted) (names rest : List ℕ) → IsSound script →
+    length names + length rest ≤ 1000000 → AreBounded script names → AreBounded script (names ++ rest)
+steps-bounded script names [] sound few all = rw (append-nil names) all
+steps-bounded script names (n ∷ rest) sound few all =
     let longer = one_more names n in
     let whole : (names ++ n ∷ []) ++ rest ≡ names ++ n ∷ rest = append_assoc names (n ∷ []) rest in
-    subst (AreBounded plan) whole
-    (steps-bounded plan (names ++ n ∷ []) rest sound (omega (arith, longer, few))
-    (step-bounded plan names n sound (omega (arith, few)) all))
+    subst (AreBounded script) whole
+    (steps-bounded script (names ++ n ∷ []) rest sound (omega (arith, longer, few))
+    (step-bounded script names n sound (omega (arith, few)) all))
 
-none-bounded : (plan : Scripted) → AreBounded plan []
+none-bounded : (script : Scripted) → AreBounded script []
 unfolding execution_of
-none-bounded plan = record {
-  slots = λ t. rw (slot_none (length plan.threads) t) tt;
-  entries = All-nil (BoundedEntry plan []);
+none-bounded script = record {
+  slots = λ t. rw (slot_none (length script.threads) t) tt;
+  entries = All-nil (BoundedEntry script []);
 }
 
 pub steps_are_bounded : StepsBoundedAlways
-steps_are_bounded plan names sound few =
+steps_are_bounded script names sound few =
     λ k d lt never.
-    ((steps-bounded plan [] names sound (omega (arith, few)) (none-bounded plan)).entries k d lt).2
+    ((steps-bounded script [] names sound (omega (arith, few)) (none-bounded script)).entries k d lt).2
     never
 
 -- a call that has begun and not ended
@@ -493,10 +493,10 @@ under-way limits call word own changes (OnRecord job place) kind never bounded =
     cc
 
 pub under_way_bounded : UnderWayBoundedAlways
-under_way_bounded plan names t b sound few at never =
-    let all = steps-bounded plan [] names sound (omega (arith, few)) (none-bounded plan) in
-    let slot : BoundedSlot plan names t (Some b) =
-    subst (BoundedSlot plan names t) at (all.slots t) in
-    let k : Invariant plan (execution_of plan names) = always-kept plan names sound few in
-    let of : IsOf (shape_of plan) (Some b) = subst (IsOf (shape_of plan)) at (k.begun t) in
-    under-way plan.limits b.machine.call _ _ _ b.machine.phase of.1 never (slot.1 never)
+under_way_bounded script names t b sound few at never =
+    let all = steps-bounded script [] names sound (omega (arith, few)) (none-bounded script) in
+    let slot : BoundedSlot script names t (Some b) =
+    subst (BoundedSlot script names t) at (all.slots t) in
+    let k : Invariant script (execution_of script names) = always-kept script names sound few in
+    let of : IsOf (shape_of script) (Some b) = subst (IsOf (shape_of script)) at (k.begun t) in
+    under-way script.limits b.machine.call _ _ _ b.machine.phase of.1 never (slot.1 never)

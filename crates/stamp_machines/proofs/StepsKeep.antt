@@ -85,16 +85,16 @@ record_room : (l : Layout) → 1000000 < (widest l).versions
 record_room l =
     elim (either_layout l) [ inl h ↦ rw h.3 (omega arith) | inr h ↦ rw h.3 (omega arith) ]
 
-going-kept : (plan : Scripted) (world : World) (t : ℕ) (b : Begun) (words : List ℕ)
-    (m : MachineState) → Invariant plan world →
-    IsOf (shape_of plan) (Some (record { machine = m; first = b.first })) →
-    length words ≡ 2 + plan.width → slice_index words 0 ≡ slice_index world.words 0 →
-    RecordKept (record_limits (shape_of plan)) (slice_index words 1) (drop 2 words)
-    (content_in plan world)
+going-kept : (script : Scripted) (world : World) (t : ℕ) (b : Begun) (words : List ℕ)
+    (m : MachineState) → Invariant script world →
+    IsOf (shape_of script) (Some (record { machine = m; first = b.first })) →
+    length words ≡ 2 + script.width → slice_index words 0 ≡ slice_index world.words 0 →
+    RecordKept (record_limits (shape_of script)) (slice_index words 1) (drop 2 words)
+    (content_in script world)
     (map doing_in (slice_set world.begun t (Some (record { machine = m; first = b.first })))) →
-    (counts_at (record_limits (shape_of plan)) (slice_index words 1)).write_count ≤ world.position
-    + 1 → Invariant plan (landed world t b words (machines.Going m))
-going-kept plan world t b words m k o n s r f =
+    (counts_at (record_limits (shape_of script)) (slice_index words 1)).write_count ≤ world.position
+    + 1 → Invariant script (landed world t b words (machines.Going m))
+going-kept script world t b words m k o n s r f =
     record {
       legal = k.legal;
       represented = rw s k.represented;
@@ -102,7 +102,7 @@ going-kept plan world t b words m k o n s r f =
       width = k.width;
       memory = n;
       threads = length-set world.begun t _ ∙ k.threads;
-      begun = each_after_set (IsOf (shape_of plan)) world.begun t
+      begun = each_after_set (IsOf (shape_of script)) world.begun t
           (Some (record { machine = m; first = b.first })) k.begun o;
       few = f;
     }
@@ -112,77 +112,77 @@ pub history_more : (entries : List Entry) (e : Entry) →
 history_more entries e = map-append (λ (x : Entry). (x.call, x.reply)) entries (e ∷ [])
 
 -- what a finished call makes of the history
-pub record Ends (plan : Scripted) (world : World) (call : Call) (r : Reply)
+pub record Ends (script : Scripted) (world : World) (call : Call) (r : Reply)
     (events : List LockEvent) (content : List ℕ) : Type 0 where
-  pub answered : IsReply plan.limits (events_in plan world) (content_in plan world) call r
-  pub events_are : events_in plan world
-      ++ appended_by (transition plan.limits (events_in plan world) call) ≡ events
-  pub content_is : content_next (content_in plan world) call r ≡ content
+  pub answered : IsReply script.limits (events_in script world) (content_in script world) call r
+  pub events_are : events_in script world
+      ++ appended_by (transition script.limits (events_in script world) call) ≡ events
+  pub content_is : content_next (content_in script world) call r ≡ content
 
-done-kept : (plan : Scripted) (world : World) (t : ℕ) (b : Begun) (words : List ℕ) (r : Reply)
-    (events : List LockEvent) (content : List ℕ) → Invariant plan world →
-    Ends plan world b.machine.call r events content →
-    RepresentsAt plan.limits (slice_index words 0) events →
-    RecordKept (record_limits (shape_of plan)) (slice_index words 1) (drop 2 words) content
-    (map doing_in (slice_set world.begun t None)) → length content ≡ plan.width →
-    length words ≡ 2 + plan.width →
-    (counts_at (record_limits (shape_of plan)) (slice_index words 1)).write_count ≤ world.position
-    + 1 → Invariant plan (landed world t b words (machines.Done r))
-done-kept plan world t b words r events content k ends s rk w n f =
+done-kept : (script : Scripted) (world : World) (t : ℕ) (b : Begun) (words : List ℕ) (r : Reply)
+    (events : List LockEvent) (content : List ℕ) → Invariant script world →
+    Ends script world b.machine.call r events content →
+    RepresentsAt script.limits (slice_index words 0) events →
+    RecordKept (record_limits (shape_of script)) (slice_index words 1) (drop 2 words) content
+    (map doing_in (slice_set world.begun t None)) → length content ≡ script.width →
+    length words ≡ 2 + script.width →
+    (counts_at (record_limits (shape_of script)) (slice_index words 1)).write_count ≤ world.position
+    + 1 → Invariant script (landed world t b words (machines.Done r))
+done-kept script world t b words r events content k ends s rk w n f =
     let e : Entry = entry_of world t b r in
-    let events_now : events_of plan.limits (history_of (world.entries ++ e ∷ [])) ≡ events =
-    events_push plan.limits world.entries e ∙ ends.events_are in
-    let content_now : content_after plan.width (history_of (world.entries ++ e ∷ [])) ≡ content =
-    content_push plan.width world.entries e ∙ ends.content_is in
+    let events_now : events_of script.limits (history_of (world.entries ++ e ∷ [])) ≡ events =
+    events_push script.limits world.entries e ∙ ends.events_are in
+    let content_now : content_after script.width (history_of (world.entries ++ e ∷ [])) ≡ content =
+    content_push script.width world.entries e ∙ ends.content_is in
     record {
-      legal = subst (λ (h : History). IsLegal plan.limits plan.width h)
+      legal = subst (λ (h : History). IsLegal script.limits script.width h)
           (sym (history_more world.entries e))
-          (legal_more plan.limits [] (zeros plan.width) (history_of world.entries) (e.call, e.reply)
+          (legal_more script.limits [] (zeros script.width) (history_of world.entries) (e.call, e.reply)
           k.legal ends.answered);
       represented = rw events_now s;
       record_kept = rw content_now rk;
       width = rw content_now w;
       memory = n;
       threads = length-set world.begun t None ∙ k.threads;
-      begun = each_after_set (IsOf (shape_of plan)) world.begun t None k.begun tt;
+      begun = each_after_set (IsOf (shape_of script)) world.begun t None k.begun tt;
       few = f;
     }
 
 -- a call of the lock whose transition was taken
-lock-ends : (plan : Scripted) (world : World) (call : Call) (r : Reply) (taken : Transition) →
-    job_in call ≡ None → transition plan.limits (events_in plan world) call ≡ Some taken →
+lock-ends : (script : Scripted) (world : World) (call : Call) (r : Reply) (taken : Transition) →
+    job_in call ≡ None → transition script.limits (events_in script world) call ≡ Some taken →
     taken.reply ≡ r →
-    Ends plan world call r (events_in plan world ++ taken.appended) (content_in plan world)
-lock-ends plan world call r taken j e q =
+    Ends script world call r (events_in script world ++ taken.appended) (content_in script world)
+lock-ends script world call r taken j e q =
     let of : OfLock call = of_lock call j in
     record {
       answered = rw (of.lock, e) q;
       events_are = rw e refl;
-      content_is = of.content (content_in plan world) r;
+      content_is = of.content (content_in script world) r;
     }
 
 -- a call of the record
-record-ends : (plan : Scripted) (world : World) (call : Call) (job : Job) (r : Reply) →
-    job_in call ≡ Some job → r ≡ reply_to (content_in plan world) job →
-    Ends plan world call r (events_in plan world) (content_with (content_in plan world) job)
-record-ends plan world call job r j e =
+record-ends : (script : Scripted) (world : World) (call : Call) (job : Job) (r : Reply) →
+    job_in call ≡ Some job → r ≡ reply_to (content_in script world) job →
+    Ends script world call r (events_in script world) (content_with (content_in script world) job)
+record-ends script world call job r j e =
     let of : OfRecord call job = of_record call job j in
     rw e (record {
-      answered = of.answered plan.limits (events_in plan world)
-          (content_in plan world);
-      events_are = of.events plan.limits (events_in plan world);
-      content_is = of.content (content_in plan world);
+      answered = of.answered script.limits (events_in script world)
+          (content_in script world);
+      events_are = of.events script.limits (events_in script world);
+      content_is = of.content (content_in script world);
     })
 
 -- a step of a lock call
-lock-step : (plan : Scripted) (world : World) (t : ℕ) (b : Begun) (now : ℕ) (words : List ℕ)
-    (p : PhaseTurn) → Invariant plan world → IsSound plan → b.machine.shape ≡ shape_of plan →
+lock-step : (script : Scripted) (world : World) (t : ℕ) (b : Begun) (now : ℕ) (words : List ℕ)
+    (p : PhaseTurn) → Invariant script world → IsSound script → b.machine.shape ≡ shape_of script →
     job_in b.machine.call ≡ None → doing_in (slice_index_or world.begun t None) ≡ None →
-    words ≡ now ∷ slice_index world.words 1 ∷ drop 2 world.words → length words ≡ 2 + plan.width →
-    PhaseLanded plan.limits b.machine.call (slice_index world.words 0) now p →
-    Invariant plan (landed world t b words (lock_turn b.machine.shape b.machine.call p))
-lock-step plan world t b now words (Still seen) k sound o j z w n l =
-    going-kept plan world t b words (record b.machine { phase = OnLock seen }) k (o, j) n (rw w l)
+    words ≡ now ∷ slice_index world.words 1 ∷ drop 2 world.words → length words ≡ 2 + script.width →
+    PhaseLanded script.limits b.machine.call (slice_index world.words 0) now p →
+    Invariant script (landed world t b words (lock_turn b.machine.shape b.machine.call p))
+lock-step script world t b now words (Still seen) k sound o j z w n l =
+    going-kept script world t b words (record b.machine { phase = OnLock seen }) k (o, j) n (rw w l)
     (rw (
       w,
       map-set doing_in world.begun t
@@ -190,14 +190,14 @@ lock-step plan world t b now words (Still seen) k sound o j z w n l =
       set-none (map doing_in world.begun) t (map-index world.begun t ∙ z),
     ) k.record_kept)
     (rw w (let f = k.few in omega (arith, f)))
-lock-step plan world t b now words (Ended r) k sound o j z w n l =
-    let same = counts-of plan.limits (slice_index world.words 0) (events_in plan world) sound.range
+lock-step script world t b now words (Ended r) k sound o j z w n l =
+    let same = counts-of script.limits (slice_index world.words 0) (events_in script world) sound.range
     k.represented in
-    let e : transition plan.limits (events_in plan world) b.machine.call ≡ Some l.taken =
+    let e : transition script.limits (events_in script world) b.machine.call ≡ Some l.taken =
     rw same at l.transition in
-    done-kept plan world t b words r _ _ k
-    (lock-ends plan world b.machine.call r l.taken j e l.reply)
-    (rw w (l.represented (events_in plan world) k.represented))
+    done-kept script world t b words r _ _ k
+    (lock-ends script world b.machine.call r l.taken j e l.reply)
+    (rw w (l.represented (events_in script world) k.represented))
     (rw (
       w,
       map-set doing_in world.begun t None,
@@ -207,19 +207,19 @@ lock-step plan world t b now words (Ended r) k sound o j z w n l =
     (rw w (let f = k.few in omega (arith, f)))
 
 -- a step of a call of the record
-record-step : (plan : Scripted) (world : World) (t : ℕ) (b : Begun) (job : Job) (place : Place)
-    (lock : ℕ) (items words : List ℕ) (turned : PlaceTurn) → Invariant plan world →
-    t < length world.begun → b.machine.shape ≡ shape_of plan → job_in b.machine.call ≡ Some job →
+record-step : (script : Scripted) (world : World) (t : ℕ) (b : Begun) (job : Job) (place : Place)
+    (lock : ℕ) (items words : List ℕ) (turned : PlaceTurn) → Invariant script world →
+    t < length world.begun → b.machine.shape ≡ shape_of script → job_in b.machine.call ≡ Some job →
     read_in (doing_in (slice_index_or world.begun t None)) ≡ read_by place →
     written_in (doing_in (slice_index_or world.begun t None)) ≡ written_by place →
-    words ≡ slice_index world.words 0 ∷ lock ∷ items → length words ≡ 2 + plan.width →
-    (counts_at (record_limits (shape_of plan)) lock).write_count ≤ world.position + 1 →
-    Steps (record_limits (shape_of plan)) job place (slice_index world.words 1) (drop 2 world.words)
-    (content_in plan world) lock items turned →
-    Invariant plan (landed world t b words (record_turn b.machine.shape b.machine.call job turned))
-record-step plan world t b job place lock items words (record_calls.Going to) k h o j rd wr w n f
+    words ≡ slice_index world.words 0 ∷ lock ∷ items → length words ≡ 2 + script.width →
+    (counts_at (record_limits (shape_of script)) lock).write_count ≤ world.position + 1 →
+    Steps (record_limits (shape_of script)) job place (slice_index world.words 1) (drop 2 world.words)
+    (content_in script world) lock items turned →
+    Invariant script (landed world t b words (record_turn b.machine.shape b.machine.call job turned))
+record-step script world t b job place lock items words (record_calls.Going to) k h o j rd wr w n f
     s =
-    going-kept plan world t b words (record b.machine { phase = OnRecord job to }) k (o, j) n
+    going-kept script world t b words (record b.machine { phase = OnRecord job to }) k (o, j) n
     (rw w refl)
     (rw (
       w,
@@ -233,8 +233,8 @@ record-step plan world t b job place lock items words (record_calls.Going to) k 
     (rw (length-map world.begun) h) (rw (map-index world.begun t) rd)
     (rw (map-index world.begun t) wr) s.0))
     (rw w f)
-record-step plan world t b job place lock items words (record_calls.Done r) k h o j rd wr w n f s =
-    done-kept plan world t b words r _ _ k (record-ends plan world b.machine.call job r j s.1)
+record-step script world t b job place lock items words (record_calls.Done r) k h o j rd wr w n f s =
+    done-kept script world t b words r _ _ k (record-ends script world b.machine.call job r j s.1)
     (rw w k.represented)
     (rw (w, map-set doing_in world.begun t None)
     (moved-kept _ _ _ _ (map doing_in world.begun) t place _ _ _ _ k.record_kept
@@ -261,30 +261,30 @@ at_most_one_more limits before lock lock' items content items' content' (inr e) 
     elim e.2 [ inl p ↦ omega (arith, p) | inr p ↦ omega (arith, p.1) ]
 
 -- what a call of the record may rely on where it stands
-pub record-stands : (plan : Scripted) (world : World) (t : ℕ) (b : Begun) (job : Job)
-    (place : Place) → Invariant plan world → world.position < 1000000 →
-    Ready (record_limits (shape_of plan)) (shape_of plan)
-    (counts_at (record_limits (shape_of plan)) (slice_index world.words 1)).write_count
-    (counts_at (record_limits (shape_of plan)) (slice_index world.words 1)).writers
-    (content_in plan world) (drop 2 world.words) (slice_index_or world.begun t None) b →
+pub record-stands : (script : Scripted) (world : World) (t : ℕ) (b : Begun) (job : Job)
+    (place : Place) → Invariant script world → world.position < 1000000 →
+    Ready (record_limits (shape_of script)) (shape_of script)
+    (counts_at (record_limits (shape_of script)) (slice_index world.words 1)).write_count
+    (counts_at (record_limits (shape_of script)) (slice_index world.words 1)).writers
+    (content_in script world) (drop 2 world.words) (slice_index_or world.begun t None) b →
     b.machine.phase ≡ OnRecord job place →
-    Stands (record_limits (shape_of plan)) job place (slice_index world.words 1)
-    (drop 2 world.words) (content_in plan world)
-record-stands plan world t b job place k room ready e =
-    let limits : Bounds = record_limits (shape_of plan) in
+    Stands (record_limits (shape_of script)) job place (slice_index world.words 1)
+    (drop 2 world.words) (content_in script world)
+record-stands script world t b job place k room ready e =
+    let limits : Bounds = record_limits (shape_of script) in
     let d : doing_at b.machine.phase ≡ Some (record { job = job; place = place }) = ap doing_at e in
     let rd : read_in (doing_in (slice_index_or world.begun t None)) ≡ read_by place =
     ready.reads ∙ ap read_in d in
     let wr : written_in (doing_in (slice_index_or world.begun t None)) ≡ written_by place =
     ready.writes ∙ ap written_in d in
     let f : FitsIn limits (counts_at limits (slice_index world.words 1)).write_count
-    (counts_at limits (slice_index world.words 1)).writers (content_in plan world)
+    (counts_at limits (slice_index world.words 1)).writers (content_in script world)
     (drop 2 world.words) (Some (record { job = job; place = place })) = rw d at ready.fits in
     let rk = k.record_kept in
     record {
-      range = record_range plan.limits.layout;
+      range = record_range script.limits.layout;
       admitted = rk.admitted;
-      room = let v = record_room plan.limits.layout in let few = k.few in omega (arith, v, few);
+      room = let v = record_room script.limits.layout in let few = k.few in omega (arith, v, few);
       width = rk.width;
       some = f.0;
       free = rk.free;
@@ -301,83 +301,83 @@ record-stands plan world t b job place k room ready e =
     }
 
 -- one access of a call
-begun-kept : (plan : Scripted) (world : World) (t : ℕ) (b : Begun) (phase : Phase) →
-    Invariant plan world → IsSound plan → world.position < 1000000 → t < length world.begun →
-    Ready (record_limits (shape_of plan)) (shape_of plan)
-    (counts_at (record_limits (shape_of plan)) (slice_index world.words 1)).write_count
-    (counts_at (record_limits (shape_of plan)) (slice_index world.words 1)).writers
-    (content_in plan world) (drop 2 world.words) (slice_index_or world.begun t None) b →
+begun-kept : (script : Scripted) (world : World) (t : ℕ) (b : Begun) (phase : Phase) →
+    Invariant script world → IsSound script → world.position < 1000000 → t < length world.begun →
+    Ready (record_limits (shape_of script)) (shape_of script)
+    (counts_at (record_limits (shape_of script)) (slice_index world.words 1)).write_count
+    (counts_at (record_limits (shape_of script)) (slice_index world.words 1)).writers
+    (content_in script world) (drop 2 world.words) (slice_index_or world.begun t None) b →
     b.machine.phase ≡ phase →
-    Invariant plan (landed world t b
-    (words_after (next_in (shape_of plan) b.machine.call phase) world.words)
-    (after_in (shape_of plan) b.machine.call
-    (seen_by (next_in (shape_of plan) b.machine.call phase) world.words) phase))
-begun-kept plan world t b (OnLock seen) k sound room h ready e =
-    let a : LocalAccess = phase_next plan.limits b.machine.call seen in
-    let m = lock-moves world.words plan.width a k.memory
-    (phase-to_lock plan.limits b.machine.call seen) in
-    let w : IsAdmittedAt plan.limits (slice_index world.words 0) =
-    record { events = (events_in plan world); represented = k.represented } in
-    let l = phase-landed plan.limits b.machine.call (slice_index world.words 0) [] seen sound.range
+    Invariant script (landed world t b
+    (words_after (next_in (shape_of script) b.machine.call phase) world.words)
+    (after_in (shape_of script) b.machine.call
+    (seen_by (next_in (shape_of script) b.machine.call phase) world.words) phase))
+begun-kept script world t b (OnLock seen) k sound room h ready e =
+    let a : LocalAccess = phase_next script.limits b.machine.call seen in
+    let m = lock-moves world.words script.width a k.memory
+    (phase-to_lock script.limits b.machine.call seen) in
+    let w : IsAdmittedAt script.limits (slice_index world.words 0) =
+    record { events = (events_in script world); represented = k.represented } in
+    let l = phase-landed script.limits b.machine.call (slice_index world.words 0) [] seen sound.range
     w in
     let j : job_in b.machine.call ≡ None = ready.of.1 ∙ ap job_at e in
     let slot : doing_in (slice_index_or world.begun t None) ≡ None = ready.lock (ap doing_at e) in
-    let n : length (words_after (with_lock 0 a) world.words) ≡ 2 + plan.width =
+    let n : length (words_after (with_lock 0 a) world.words) ≡ 2 + script.width =
     length-words_after (with_lock 0 a) world.words ∙ k.memory in
     rw m.seen (subst
-    (λ (s : Shape). Invariant plan
+    (λ (s : Shape). Invariant script
     (landed world t b (words_after (with_lock 0 a) world.words)
     (lock_turn s b.machine.call
-    (phase_after plan.limits b.machine.call seen
+    (phase_after script.limits b.machine.call seen
     (local_seen a (slice_index world.words 0) []))))) ready.of.0
-    (lock-step plan world t b _ _ _ k sound ready.of.0 j slot m.after n l))
-begun-kept plan world t b (OnRecord job place) k sound room h ready e =
-    let limits : Bounds = record_limits (shape_of plan) in
-    let a : LocalAccess = record_calls.next limits plan.width job place in
-    let m = record-moves world.words plan.width a k.memory in
+    (lock-step script world t b _ _ _ k sound ready.of.0 j slot m.after n l))
+begun-kept script world t b (OnRecord job place) k sound room h ready e =
+    let limits : Bounds = record_limits (shape_of script) in
+    let a : LocalAccess = record_calls.next limits script.width job place in
+    let m = record-moves world.words script.width a k.memory in
     let d : doing_at b.machine.phase ≡ Some (record { job = job; place = place }) = ap doing_at e in
     let j : job_in b.machine.call ≡ Some job = ready.of.1 ∙ ap job_at e in
     let rd : read_in (doing_in (slice_index_or world.begun t None)) ≡ read_by place =
     ready.reads ∙ ap read_in d in
     let wr : written_in (doing_in (slice_index_or world.begun t None)) ≡ written_by place =
     ready.writes ∙ ap written_in d in
-    let st = record-stands plan world t b job place k room ready e in
-    let s = own-step limits plan.width job place (slice_index world.words 1) (drop 2 world.words)
-    (content_in plan world) st (sym k.width) in
-    let n : length (words_after (with_lock 1 a) world.words) ≡ 2 + plan.width =
+    let st = record-stands script world t b job place k room ready e in
+    let s = own-step limits script.width job place (slice_index world.words 1) (drop 2 world.words)
+    (content_in script world) st (sym k.width) in
+    let n : length (words_after (with_lock 1 a) world.words) ≡ 2 + script.width =
     length-words_after (with_lock 1 a) world.words ∙ k.memory in
     let few : (counts_at limits (lock_after a (slice_index world.words 1))).write_count
     ≤ world.position + 1 =
     (let one = at_most_one_more limits place (slice_index world.words 1) _ (drop 2 world.words)
-    (content_in plan world) _ _ s.0.effect in let f = k.few in omega (arith, one, f)) in
+    (content_in script world) _ _ s.0.effect in let f = k.few in omega (arith, one, f)) in
     rw m.seen (subst
-    (λ (x : Shape). Invariant plan
+    (λ (x : Shape). Invariant script
     (landed world t b (words_after (with_lock 1 a) world.words)
     (record_turn x b.machine.call job
-    (record_calls.after limits plan.width job place
+    (record_calls.after limits script.width job place
     (local_seen a (slice_index world.words 1) (drop 2 world.words)))))) ready.of.0
-    (record-step plan world t b job place _ _ _ _ k h ready.of.0 j rd wr m.after n few s))
+    (record-step script world t b job place _ _ _ _ k h ready.of.0 j rd wr m.after n few s))
 
 -- a machine of another shape is none of the script's
-of-shape : (plan : Scripted) (world : World) (t : ℕ) (b : Begun) → b.machine.shape ≡ shape_of plan →
-    Invariant plan (landed world t b
-    (words_after (next_in (shape_of plan) b.machine.call b.machine.phase) world.words)
-    (after_in (shape_of plan) b.machine.call
-    (seen_by (next_in (shape_of plan) b.machine.call b.machine.phase) world.words)
+of-shape : (script : Scripted) (world : World) (t : ℕ) (b : Begun) → b.machine.shape ≡ shape_of script →
+    Invariant script (landed world t b
+    (words_after (next_in (shape_of script) b.machine.call b.machine.phase) world.words)
+    (after_in (shape_of script) b.machine.call
+    (seen_by (next_in (shape_of script) b.machine.call b.machine.phase) world.words)
     b.machine.phase)) →
-    Invariant plan (landed world t b (words_after (next_access b.machine) world.words)
+    Invariant script (landed world t b (words_after (next_access b.machine) world.words)
     (after_access b.machine (seen_by (next_access b.machine) world.words)))
-of-shape plan world t b e h =
-    subst (λ (s : Shape). Invariant plan
+of-shape script world t b e h =
+    subst (λ (s : Shape). Invariant script
     (landed world t b (words_after (next_in s b.machine.call b.machine.phase) world.words)
     (after_in s b.machine.call
     (seen_by (next_in s b.machine.call b.machine.phase) world.words) b.machine.phase)))
     (sym e) h
 
-stepped-kept : (plan : Scripted) (world : World) (t : ℕ) (c : Option Begun) → Invariant plan world →
-    IsSound plan → world.position < 1000000 → current plan world t ≡ c →
-    Invariant plan (stepped world t c)
-stepped-kept plan world t None k sound room e =
+stepped-kept : (script : Scripted) (world : World) (t : ℕ) (c : Option Begun) → Invariant script world →
+    IsSound script → world.position < 1000000 → current script world t ≡ c →
+    Invariant script (stepped world t c)
+stepped-kept script world t None k sound room e =
     record {
       legal = k.legal;
       represented = k.represented;
@@ -388,22 +388,22 @@ stepped-kept plan world t None k sound room e =
       begun = k.begun;
       few = (let f = k.few in omega (arith, f));
     }
-stepped-kept plan world t (Some b) k sound room e =
-    let limits : Bounds = record_limits (shape_of plan) in
+stepped-kept script world t (Some b) k sound room e =
+    let limits : Bounds = record_limits (shape_of script) in
     let fits : FitsIn limits (counts_at limits (slice_index world.words 1)).write_count
-    (counts_at limits (slice_index world.words 1)).writers (content_in plan world)
+    (counts_at limits (slice_index world.words 1)).writers (content_in script world)
     (drop 2 world.words) (doing_in (slice_index_or world.begun t None)) =
     rw (map-index world.begun t) at (k.record_kept.fits t) in
-    let r = current-ready limits plan world t _ _ (content_in plan world) (drop 2 world.words)
+    let r = current-ready limits script world t _ _ (content_in script world) (drop 2 world.words)
     (slice_index_or world.begun t None) b sound.suited k.width k.threads refl (k.begun t) fits e
     in
-    of-shape plan world t b r.1.of.0
-    (begun-kept plan world t b b.machine.phase k sound room r.0 r.1 refl)
+    of-shape script world t b r.1.of.0
+    (begun-kept script world t b b.machine.phase k sound room r.0 r.1 refl)
 
-pub step-kept : (plan : Scripted) (world : World) (t : ℕ) → Invariant plan world → IsSound plan →
-    world.position < 1000000 → Invariant plan (step plan world t)
-step-kept plan world t k sound room =
-    stepped-kept plan world t (current plan world t) k sound room refl
+pub step-kept : (script : Scripted) (world : World) (t : ℕ) → Invariant script world → IsSound script →
+    world.position < 1000000 → Invariant script (step script world t)
+step-kept script world t k sound room =
+    stepped-kept script world t (current script world t) k sound room refl
 
 none-begun : (shape : Shape) (n k : ℕ) →
     IsOf shape (slice_index_or (replicate {A = Option Begun} n None) k None)
@@ -428,16 +428,16 @@ none-fits limits k w content items (suc n) (suc t) = none-fits limits k w conten
 opening-shown : (limits : Bounds) → RepresentsAt limits (opening_word limits) []
 opening-shown limits = record { well_formed = well_formed_none; layout = refl; spelled = refl }
 
-pub opening-kept : (plan : Scripted) → IsSound plan → Invariant plan (opening plan)
-opening-kept plan sound =
-    let limits : Bounds = record_limits (shape_of plan) in
-    let range : AreInRange limits = record_range plan.limits.layout in
-    let represented : RepresentsAt limits (opening_word plan.limits) [] = opening-shown limits in
-    let zeros = counts-of limits (opening_word plan.limits) [] range represented in
-    let n : ℕ = length plan.threads in
+pub opening-kept : (script : Scripted) → IsSound script → Invariant script (opening script)
+opening-kept script sound =
+    let limits : Bounds = record_limits (shape_of script) in
+    let range : AreInRange limits = record_range script.limits.layout in
+    let represented : RepresentsAt limits (opening_word script.limits) [] = opening-shown limits in
+    let zeros = counts-of limits (opening_word script.limits) [] range represented in
+    let n : ℕ = length script.threads in
     record {
       legal = tt;
-      represented = opening-shown plan.limits;
+      represented = opening-shown script.limits;
       record_kept = record {
         admitted = record { events = []; represented = represented };
         writers = rw (none-doing n, zeros) (none-summed written_in n refl);
@@ -446,16 +446,16 @@ opening-kept plan sound =
         free = λ _. refl;
         fits = λ t. rw (none-doing n) (none-fits limits _ _ _ _ n t);
       };
-      width = length-replicate {A = ℕ} plan.width 0;
-      memory = (let e = length-replicate {A = ℕ} plan.width 0 in omega (arith, e));
+      width = length-replicate {A = ℕ} script.width 0;
+      memory = (let e = length-replicate {A = ℕ} script.width 0 in omega (arith, e));
       threads = length-replicate {A = Option Begun} n None;
-      begun = none-begun (shape_of plan) n;
+      begun = none-begun (shape_of script) n;
       few = rw zeros (omega arith);
     }
 
-pub position-step : (plan : Scripted) (world : World) (t : ℕ) →
-    (step plan world t).position ≡ world.position + 1
-position-step plan world t = go (current plan world t)
+pub position-step : (script : Scripted) (world : World) (t : ℕ) →
+    (step script world t).position ≡ world.position + 1
+position-step script world t = go (current script world t)
   where
     done : (b : Begun) (words : List ℕ) (turned : MachineTurn) →
         (landed world t b words turned).position ≡ world.position + 1
@@ -466,105 +466,105 @@ position-step plan world t = go (current plan world t)
     go None = refl
     go (Some b) = done b _ _
 
-steps-kept : (plan : Scripted) (world : World) (names : List ℕ) → Invariant plan world → IsSound plan →
-    world.position + length names ≤ 1000000 → Invariant plan (fold (step plan) world names)
-steps-kept plan world [] k sound room = k
-steps-kept plan world (t ∷ names) k sound room =
-    steps-kept plan (step plan world t) names (step-kept plan world t k sound (omega (arith, room)))
-    sound (rw (position-step plan world t) (omega (arith, room)))
+steps-kept : (script : Scripted) (world : World) (names : List ℕ) → Invariant script world → IsSound script →
+    world.position + length names ≤ 1000000 → Invariant script (fold (step script) world names)
+steps-kept script world [] k sound room = k
+steps-kept script world (t ∷ names) k sound room =
+    steps-kept script (step script world t) names (step-kept script world t k sound (omega (arith, room)))
+    sound (rw (position-step script world t) (omega (arith, room)))
 
 -- the headline, of the definitions
-pub always-kept : (plan : Scripted) (names : List ℕ) → IsSound plan → length names ≤ 1000000 →
-    Invariant plan (execution_of plan names)
+pub always-kept : (script : Scripted) (names : List ℕ) → IsSound script → length names ≤ 1000000 →
+    Invariant script (execution_of script names)
 unfolding execution_of
-always-kept plan names sound few =
-    steps-kept plan (opening plan) names (opening-kept plan sound) sound (omega (arith, few))
+always-kept script names sound few =
+    steps-kept script (opening script) names (opening-kept script sound) sound (omega (arith, few))
 
-phase-safe : (plan : Scripted) (world : World) (call : Call) (phase : Phase) → Invariant plan world →
+phase-safe : (script : Scripted) (world : World) (call : Call) (phase : Phase) → Invariant script world →
     world.position < 1000000 →
-    FitsIn (record_limits (shape_of plan))
-    (counts_at (record_limits (shape_of plan)) (slice_index world.words 1)).write_count
-    (counts_at (record_limits (shape_of plan)) (slice_index world.words 1)).writers
-    (content_in plan world) (drop 2 world.words) (doing_at phase) →
-    IsSafeIn (shape_of plan) call phase world.words
-phase-safe plan world call (OnLock seen) k room f =
-    lock-safe (shape_of plan) call seen world.words k.memory
-    (record { events = (events_in plan world); represented = k.represented })
-phase-safe plan world call (OnRecord job place) k room f =
-    record-safe (shape_of plan) call (record_limits (shape_of plan)) _ _ (content_in plan world)
+    FitsIn (record_limits (shape_of script))
+    (counts_at (record_limits (shape_of script)) (slice_index world.words 1)).write_count
+    (counts_at (record_limits (shape_of script)) (slice_index world.words 1)).writers
+    (content_in script world) (drop 2 world.words) (doing_at phase) →
+    IsSafeIn (shape_of script) call phase world.words
+phase-safe script world call (OnLock seen) k room f =
+    lock-safe (shape_of script) call seen world.words k.memory
+    (record { events = (events_in script world); represented = k.represented })
+phase-safe script world call (OnRecord job place) k room f =
+    record-safe (shape_of script) call (record_limits (shape_of script)) _ _ (content_in script world)
     (drop 2 world.words) job place world.words k.memory k.width k.record_kept.admitted
-    (let v = record_room plan.limits.layout in let few = k.few in omega (arith, v, few, room)) f.2
+    (let v = record_room script.limits.layout in let few = k.few in omega (arith, v, few, room)) f.2
 
 -- what a thread's step needs
-pub current-safe : (plan : Scripted) (world : World) (t : ℕ) (b : Begun) → Invariant plan world →
-    IsSound plan → world.position < 1000000 → current plan world t ≡ Some b →
+pub current-safe : (script : Scripted) (world : World) (t : ℕ) (b : Begun) → Invariant script world →
+    IsSound script → world.position < 1000000 → current script world t ≡ Some b →
     IsSafeIn b.machine.shape b.machine.call b.machine.phase world.words
-current-safe plan world t b k sound room e =
-    let limits : Bounds = record_limits (shape_of plan) in
+current-safe script world t b k sound room e =
+    let limits : Bounds = record_limits (shape_of script) in
     let fits : FitsIn limits (counts_at limits (slice_index world.words 1)).write_count
-    (counts_at limits (slice_index world.words 1)).writers (content_in plan world)
+    (counts_at limits (slice_index world.words 1)).writers (content_in script world)
     (drop 2 world.words) (doing_in (slice_index_or world.begun t None)) =
     rw (map-index world.begun t) at (k.record_kept.fits t) in
-    let r = current-ready limits plan world t _ _ (content_in plan world) (drop 2 world.words)
+    let r = current-ready limits script world t _ _ (content_in script world) (drop 2 world.words)
     (slice_index_or world.begun t None) b sound.suited k.width k.threads refl (k.begun t) fits e
     in
     subst (λ (s : Shape). IsSafeIn s b.machine.call b.machine.phase world.words) (sym r.1.of.0)
-    (phase-safe plan world b.machine.call b.machine.phase k room r.1.fits)
+    (phase-safe script world b.machine.call b.machine.phase k room r.1.fits)
 
 -- the exchange that releases finds what it expects
-releases : (plan : Scripted) (world : World) (t : ℕ) (b : Begun) (job : Job) (s : ℕ) (r : Reply) →
-    Invariant plan world → IsSound plan → world.position < 1000000 → current plan world t ≡ Some b →
+releases : (script : Scripted) (world : World) (t : ℕ) (b : Begun) (job : Job) (s : ℕ) (r : Reply) →
+    Invariant script world → IsSound script → world.position < 1000000 → current script world t ≡ Some b →
     b.machine.phase ≡ OnRecord job (record_calls.Releasing s r) →
-    (next_access b.machine ≡ Cas 1 s (s + (units plan.limits).writer))
+    (next_access b.machine ≡ Cas 1 s (s + (units script.limits).writer))
     × (slice_index world.words 1 ≡ s)
-releases plan world t b job s r k sound room e at =
-    let limits : Bounds = record_limits (shape_of plan) in
+releases script world t b job s r k sound room e at =
+    let limits : Bounds = record_limits (shape_of script) in
     let fits : FitsIn limits (counts_at limits (slice_index world.words 1)).write_count
-    (counts_at limits (slice_index world.words 1)).writers (content_in plan world)
+    (counts_at limits (slice_index world.words 1)).writers (content_in script world)
     (drop 2 world.words) (doing_in (slice_index_or world.begun t None)) =
     rw (map-index world.begun t) at (k.record_kept.fits t) in
-    let ready = current-ready limits plan world t _ _ (content_in plan world) (drop 2 world.words)
+    let ready = current-ready limits script world t _ _ (content_in script world) (drop 2 world.words)
     (slice_index_or world.begun t None) b sound.suited k.width k.threads refl (k.begun t) fits e
     in
     let stands =
-    record-stands plan world t b job (record_calls.Releasing s r) k room ready.1 at in (
+    record-stands script world t b job (record_calls.Releasing s r) k room ready.1 at in (
       rw (at, ready.1.of.0) refl,
       releasing-wins limits job s r (slice_index world.words 1) (drop 2 world.words)
-          (content_in plan world) stands,
+          (content_in script world) stands,
     )
 
-position-after : (plan : Scripted) (world : World) (names : List ℕ) →
-    (fold (step plan) world names).position ≡ world.position + length names
-position-after plan world [] = omega arith
-position-after plan world (t ∷ names) = let rest = position-after plan (step plan world t) names in
-    let one = position-step plan world t in omega (arith, rest, one)
+position-after : (script : Scripted) (world : World) (names : List ℕ) →
+    (fold (step script) world names).position ≡ world.position + length names
+position-after script world [] = omega arith
+position-after script world (t ∷ names) = let rest = position-after script (step script world t) names in
+    let one = position-step script world t in omega (arith, rest, one)
 
 pub releases_win : ReleasesWinAlways
 unfolding execution_of
-releases_win plan names t b job s r sound few e at =
-    let here = position-after plan (opening plan) names in
-    releases plan (execution_of plan names) t b job s r
-    (always-kept plan names sound (omega (arith, few))) sound (omega (arith, here, few)) e at
+releases_win script names t b job s r sound few e at =
+    let here = position-after script (opening script) names in
+    releases script (execution_of script names) t b job s r
+    (always-kept script names sound (omega (arith, few))) sound (omega (arith, here, few)) e at
 
-pub execution-position : (plan : Scripted) (names : List ℕ) →
-    (execution_of plan names).position ≡ length names
+pub execution-position : (script : Scripted) (names : List ℕ) →
+    (execution_of script names).position ≡ length names
 unfolding execution_of
-execution-position plan names = let h = position-after plan (opening plan) names in omega (arith, h)
+execution-position script names = let h = position-after script (opening script) names in omega (arith, h)
 
-pub execution_of-more : (plan : Scripted) (names : List ℕ) (t : ℕ) →
-    execution_of plan (names ++ t ∷ []) ≡ step plan (execution_of plan names) t
+pub execution_of-more : (script : Scripted) (names : List ℕ) (t : ℕ) →
+    execution_of script (names ++ t ∷ []) ≡ step script (execution_of script names) t
 unfolding execution_of
-execution_of-more plan names t = fold-append (step plan) (opening plan) names (t ∷ [])
+execution_of-more script names t = fold-append (step script) (opening script) names (t ∷ [])
 
 -- the call that a thread is in is of the script's shape, and its phase is one of its call
-pub current-of : (plan : Scripted) (world : World) (t : ℕ) (b : Begun) → Invariant plan world →
-    IsSound plan → current plan world t ≡ Some b → IsOf (shape_of plan) (Some b)
-current-of plan world t b k sound e =
-    let limits : Bounds = record_limits (shape_of plan) in
+pub current-of : (script : Scripted) (world : World) (t : ℕ) (b : Begun) → Invariant script world →
+    IsSound script → current script world t ≡ Some b → IsOf (shape_of script) (Some b)
+current-of script world t b k sound e =
+    let limits : Bounds = record_limits (shape_of script) in
     let fits : FitsIn limits (counts_at limits (slice_index world.words 1)).write_count
-    (counts_at limits (slice_index world.words 1)).writers (content_in plan world)
+    (counts_at limits (slice_index world.words 1)).writers (content_in script world)
     (drop 2 world.words) (doing_in (slice_index_or world.begun t None)) =
     rw (map-index world.begun t) at (k.record_kept.fits t) in
-    (current-ready limits plan world t _ _ (content_in plan world) (drop 2 world.words)
+    (current-ready limits script world t _ _ (content_in script world) (drop 2 world.words)
     (slice_index_or world.begun t None) b sound.suited k.width k.threads refl (k.begun t) fits
     e).1.of

@@ -1,4 +1,4 @@
--- An access of one worker's call, as all workers see it.
+-- After an access of one worker's call the state is the schedule's.
 use Rattle.std.proofs.Common.{◌≡◌, ℕ, ◌+◌, ◌<◌, List, [], ◌∷◌, ◌++◌, length, zero, suc, Option}
 use Rattle.std.proofs.Common.{Some, None, refl, sym, ◌∙◌, ap, append_assoc, arith}
 use Rattle.std.specs.Prelude.{slice_set, slice_index_or, map, IfSome}
@@ -20,7 +20,7 @@ use Rattle.stamp_machines.specs.declared.running.Stepped.{Stepped}
 use Rattle.stamp_machines.specs.declared.running.Stepped.TheVariants.{Idle, Ended}
 use Rattle.stamp_machines.specs.declared.running.Stepped.TheVariants.{Going as Still}
 use Rattle.stamp_machines.specs.StateFields.{world_at, stamps_at, stamps_in, begun_in}
-use Rattle.stamp_machines.specs.Landed.{Landed, AllLanded, begun_after, stamps_with, told_at}
+use Rattle.stamp_machines.specs.Landed.{Landed, begun_after, stamps_with, told_at}
 use Rattle.stamp_machines.specs.Landed.{entries_with, turn_on}
 use Rattle.stamp_machines.specs.StateLanded.{StateLanded}
 use Rattle.stamp_machines.proofs.WorkerStamps.{stamps_at-index, stamps_at-kept, stamps_at-more}
@@ -36,32 +36,6 @@ stamps-landed : (ws : List Worker) (i t : ℕ) (w : Worker) (turned : Turn) → 
     stamps_at (slice_set ws i w) t ≡ stamps_after t i (stamps_at ws t) turned
 stamps-landed ws i t w (Going m) h e = stamps_at-kept ws i t w h e
 stamps-landed ws i t w (Done r) h e = stamps_at-more ws i t (stamp_in r) w h e
-
-pub all-landed : (ws : List Worker) (i position : ℕ) (d w : Worker) (words : List ℕ)
-    (es : List Entry) (words' : List ℕ) (es' : List Entry) (s : Progress) → i < length ws →
-    IfSome (slice_index_or ws i d).begun
-    (λ b. Landed b i position words (slice_index_or ws i d).stamps.items es words' w.begun
-    w.stamps.items es' s) →
-    IfSome (slice_index_or (map begun_in ws) i None)
-    (λ b. AllLanded b i position words ws es words' (slice_set ws i w) es' s)
-all-landed ws i position d w words es words' es' s h landed =
-    rw (begun_at-index ws i d h) (go (slice_index_or ws i d).begun landed)
-  where
-    go : (o : Option Begun) →
-        IfSome o (λ b. Landed b i position words (slice_index_or ws i d).stamps.items es words'
-        w.begun w.stamps.items es' s) →
-        IfSome o (λ b. AllLanded b i position words ws es words' (slice_set ws i w) es' s)
-    go None l = tt
-    go (Some b) l = record {
-      words_are = l.words_are;
-      begun_are = map-set begun_in ws i w
-          ∙ ap (λ (x : Option Begun). slice_set (map begun_in ws) i x) l.begun_is;
-      stamps_are =
-          λ t. stamps-landed ws i t w (turn_on b words) h
-          (rw (stamps_at-index ws i d h) l.stamps_are);
-      entries_are = l.entries_are;
-      told = l.told;
-    }
 
 -- the state after it is the schedule's world
 world-landed : (world : World) (t : ℕ) (b : Begun) (words : List ℕ) (turned : Turn) →
@@ -85,32 +59,40 @@ gone-before gone entries Idle = refl
 gone-before gone entries Still = refl
 gone-before gone entries (Ended e) = sym (append_assoc gone entries (e ∷ []))
 
-pub state-landed : (gone : List Entry) (old new : State) (t position : ℕ) (words' : List ℕ)
-    (workers' : List Worker) (s : Progress) → new.words.items ≡ words' → new.workers.items ≡ workers' →
-    IfSome (slice_index_or (map begun_in old.workers.items) t None)
-    (λ b. AllLanded b t position old.words.items old.workers.items old.entries.items words' workers'
-    new.entries.items s) →
+pub state-landed : (gone : List Entry) (old new : State) (t position : ℕ) (d w : Worker)
+    (words' : List ℕ) (s : Progress) → t < length old.workers.items → new.words.items ≡ words' →
+    new.workers.items ≡ slice_set old.workers.items t w →
+    IfSome (slice_index_or old.workers.items t d).begun
+    (λ b. Landed b t position old.words.items (slice_index_or old.workers.items t d).stamps.items
+    old.entries.items words' w.begun w.stamps.items new.entries.items s) →
     IfSome (slice_index_or (map begun_in old.workers.items) t None)
     (λ b. StateLanded gone b t position old new s)
-state-landed gone old new t position words' workers' s words workers all =
-    go (slice_index_or (map begun_in old.workers.items) t None) all
+state-landed gone old new t position d w words' s h words workers landed =
+    rw (begun_at-index old.workers.items t d h)
+    (go (slice_index_or old.workers.items t d).begun landed)
   where
     go : (o : Option Begun) →
-        IfSome o (λ b. AllLanded b t position old.words.items old.workers.items old.entries.items
-        words' workers' new.entries.items s) →
+        IfSome o (λ b. Landed b t position old.words.items
+        (slice_index_or old.workers.items t d).stamps.items old.entries.items words' w.begun
+        w.stamps.items new.entries.items s) →
         IfSome o (λ b. StateLanded gone b t position old new s)
     go None l = tt
     go (Some b) l =
         let turned : Turn = turn_on b old.words.items in
-        let w : new.words.items ≡ words_after (next_access b.machine) old.words.items =
+        let now : new.words.items ≡ words_after (next_access b.machine) old.words.items =
         words ∙ l.words_are in
-        let m : map begun_in new.workers.items
+        let begun : map begun_in new.workers.items
         ≡ slice_set (map begun_in old.workers.items) t (begun_after b turned) =
-        ap (λ (ws : List Worker). map begun_in ws) workers ∙ l.begun_are in
+        ap (λ (ws : List Worker). map begun_in ws) workers
+        ∙ map-set begun_in old.workers.items t w
+        ∙ ap (λ (x : Option Begun). slice_set (map begun_in old.workers.items) t x) l.begun_is in
         record {
-          world = rw (w, m, l.entries_are, gone-before)
+          world = rw (now, begun, l.entries_are, gone-before)
               (world-landed (world_at gone old position) t b
               (words_after (next_access b.machine) old.words.items) turned);
-          stamps = λ u. ap (λ (ws : List Worker). stamps_at ws u) workers ∙ l.stamps_are u;
+          stamps =
+              λ u. ap (λ (ws : List Worker). stamps_at ws u) workers
+              ∙ stamps-landed old.workers.items t u w turned h
+              (rw (stamps_at-index old.workers.items t d h) l.stamps_are);
           told_is = l.told ∙ ap progress_of (told-same (world_at gone old position) t b turned);
         }

@@ -7,27 +7,27 @@ use Rattle.stamp_machines.specs.World.{completed_calls}
 
 -- the script, how many of its steps were made, the entry passed on last, and those to come
 pub record Completing : Type 0 where
-  pub plan : Scripted
+  pub script : Scripted
   pub made : ℕ
   pub last : Option Entry
   pub rest : List Entry
 
 -- before the first step
 abbrev pub before_all : Scripted → Completing
-before_all plan =
-    record { plan = plan; made = 0; last = None; rest = completed_calls plan plan.steps }
+before_all script =
+    record { script = script; made = 0; last = None; rest = completed_calls script script.steps }
 
 -- the steps up to the one by which the call of this entry ended, or else all
 abbrev pub steps_until : Scripted → Option Entry → ℕ
-steps_until plan None = length plan.steps
-steps_until plan (Some e) = e.last + 1
+steps_until script None = length script.steps
+steps_until script (Some e) = e.last + 1
 
 -- where the first of those to come has been passed on, if there is one
 abbrev pub after_next : Completing → Completing
 after_next c =
     record {
-      plan = c.plan;
-      made = steps_until c.plan (slice_get c.rest 0);
+      script = c.script;
+      made = steps_until c.script (slice_get c.rest 0);
       last = slice_get c.rest 0;
       rest = drop 1 c.rest;
     }
@@ -36,4 +36,4 @@ after_next c =
 pub record Stopped (old new : Completing) : Type 0 where
   pub same : new ≡ record old { made = new.made; last = None }
   pub onward : old.made ≤ new.made
-  pub left : new.made < length old.plan.steps
+  pub left : new.made < length old.script.steps

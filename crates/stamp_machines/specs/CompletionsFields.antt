@@ -13,44 +13,44 @@ use Rattle.stamp_machines.specs.declared.completions.Completions.TheInside.{Insi
 
 -- what this many of the script's steps finish, and what the later ones do
 abbrev pub calls_until : Scripted → ℕ → List Entry
-calls_until plan made = completed_calls plan (take made plan.steps)
+calls_until script made = completed_calls script (take made script.steps)
 
 abbrev pub calls_after : Scripted → ℕ → List Entry
-calls_after plan made = drop (length (calls_until plan made)) (completed_calls plan plan.steps)
+calls_after script made = drop (length (calls_until script made)) (completed_calls script script.steps)
 
 -- no entry but the last one is kept
 abbrev pub completing_at : Scripted → State → ℕ → Completing
-completing_at plan s made =
+completing_at script s made =
     record {
-      plan = plan;
+      script = script;
       made = made;
       last = slice_get s.entries.items 0;
-      rest = calls_after plan made;
+      rest = calls_after script made;
     }
 
 abbrev pub completing_of : Inside → Completing
 completing_of c = completing_at c.script.now c.state c.made
 
 -- the words and the threads' calls are those of the schedule for the steps made
-pub record IsAfter (plan : Scripted) (s : State) (made : ℕ) : Type 0 where
-  pub world : record (world_at [] s made) { entries = calls_until plan made }
-      ≡ execution_of plan (take made plan.steps)
-  pub few : made ≤ length plan.steps
-  pub workers : vec_len s.workers ≡ length plan.threads
-  pub stamps : (t : ℕ) → stamps_at s.workers.items t ≡ stamps_of t (calls_until plan made)
+pub record IsAfter (script : Scripted) (s : State) (made : ℕ) : Type 0 where
+  pub world : record (world_at [] s made) { entries = calls_until script made }
+      ≡ execution_of script (take made script.steps)
+  pub few : made ≤ length script.steps
+  pub workers : vec_len s.workers ≡ length script.threads
+  pub stamps : (t : ℕ) → stamps_at s.workers.items t ≡ stamps_of t (calls_until script made)
 
 -- what is to come after a step that is reported so
 abbrev pub HandsOn : Scripted → State → ℕ → Progress → Type 0
-HandsOn plan s made Ended =
-    completing_at plan s (made + 1) ≡ after_next (completing_at plan s made)
-HandsOn plan s made Idle =
-    (s.entries.items ≡ []) × (calls_after plan (made + 1) ≡ calls_after plan made)
-HandsOn plan s made Going =
-    (s.entries.items ≡ []) × (calls_after plan (made + 1) ≡ calls_after plan made)
+HandsOn script s made Ended =
+    completing_at script s (made + 1) ≡ after_next (completing_at script s made)
+HandsOn script s made Idle =
+    (s.entries.items ≡ []) × (calls_after script (made + 1) ≡ calls_after script made)
+HandsOn script s made Going =
+    (s.entries.items ≡ []) × (calls_after script (made + 1) ≡ calls_after script made)
 
-pub record StepMade (plan : Scripted) (s : State) (made : ℕ) (p : Progress) : Type 0 where
-  pub after : IsAfter plan s (made + 1)
-  pub hands_on : HandsOn plan s made p
+pub record StepMade (script : Scripted) (s : State) (made : ℕ) (p : Progress) : Type 0 where
+  pub after : IsAfter script s (made + 1)
+  pub hands_on : HandsOn script s made p
 
 abbrev pub IsCompleting : Inside → Type 0
 IsCompleting c = IsAfter c.script.now c.state c.made

@@ -16,23 +16,23 @@ lock_word world = slice_index world.words 0
 
 -- the step of this name is another thread's, and changes the lock's word
 abbrev pub interferes : Scripted → ℕ → World → ℕ → Bool
-interferes plan thread world name =
-    not (name == thread) && not (lock_word (step plan world name) == lock_word world)
+interferes script thread world name =
+    not (name == thread) && not (lock_word (step script world name) == lock_word world)
 
 -- how many of these steps, made from this world on, are another thread's and change the lock's word
 abbrev pub changes_by_others : Scripted → ℕ → World → List ℕ → ℕ
-changes_by_others plan thread world [] = 0
-changes_by_others plan thread world (name ∷ names) =
-    (if interferes plan thread world name then 1 else 0)
-    + changes_by_others plan thread (step plan world name) names
+changes_by_others script thread world [] = 0
+changes_by_others script thread world (name ∷ names) =
+    (if interferes script thread world name then 1 else 0)
+    + changes_by_others script thread (step script world name) names
 
 -- a thread's steps from a position on, and the changes by others since
 abbrev pub own_since : List ℕ → ℕ → ℕ → ℕ
 own_since names thread first = count_by (λ name. name == thread) (drop first names)
 
 abbrev pub changes_since : Scripted → List ℕ → ℕ → ℕ → ℕ
-changes_since plan names thread first =
-    changes_by_others plan thread (execution_of plan (take first names)) (drop first names)
+changes_since script names thread first =
+    changes_by_others script thread (execution_of script (take first names)) (drop first names)
 
 -- the names from the entry's first step to its last
 abbrev pub steps_during : List ℕ → Entry → List ℕ
@@ -42,12 +42,12 @@ abbrev pub own_steps : List ℕ → Entry → ℕ
 own_steps names e = count_by (λ name. name == e.thread) (steps_during names e)
 
 abbrev pub interference : Scripted → List ℕ → Entry → ℕ
-interference plan names e =
-    changes_by_others plan e.thread (execution_of plan (take e.first names)) (steps_during names e)
+interference script names e =
+    changes_by_others script e.thread (execution_of script (take e.first names)) (steps_during names e)
 
 -- both
 abbrev pub cost : Scripted → List ℕ → Entry → ℕ × ℕ
-cost plan names e = (own_steps names e, interference plan names e)
+cost script names e = (own_steps names e, interference script names e)
 
 -- a call of the lock other than the two that may wait
 pub record NeverWaits (call : Call) : Type 0 where
@@ -58,15 +58,15 @@ pub record NeverWaits (call : Call) : Type 0 where
 -- A call that never waits takes at most two steps, and one more for each such step of others.
 abbrev pub StepsBoundedAlways : Type 0
 StepsBoundedAlways =
-    (plan : Scripted) (names : List ℕ) → IsSound plan → length names ≤ 1000000 →
-    All (λ (e : Entry). NeverWaits e.call → own_steps names e ≤ interference plan names e + 2)
-    (completed_calls plan names)
+    (script : Scripted) (names : List ℕ) → IsSound script → length names ≤ 1000000 →
+    All (λ (e : Entry). NeverWaits e.call → own_steps names e ≤ interference script names e + 2)
+    (completed_calls script names)
 
 -- One that is still under way has made fewer than this many, at every position.
 abbrev pub UnderWayBoundedAlways : Type 0
 UnderWayBoundedAlways =
-    (plan : Scripted) (names : List ℕ) (thread : ℕ) (b : Begun) → IsSound plan →
+    (script : Scripted) (names : List ℕ) (thread : ℕ) (b : Begun) → IsSound script →
     length names ≤ 1000000 →
-    slice_index_or (execution_of plan names).begun thread None ≡ Some b →
+    slice_index_or (execution_of script names).begun thread None ≡ Some b →
     NeverWaits b.machine.call →
-    own_since names thread b.first < changes_since plan names thread b.first + 2
+    own_since names thread b.first < changes_since script names thread b.first + 2

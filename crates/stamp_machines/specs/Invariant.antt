@@ -33,23 +33,23 @@ IsOf shape (Some b) = (b.machine.shape ≡ shape) × (job_in b.machine.call ≡ 
 
 -- the events and the content that the finished calls leave
 abbrev pub events_in : Scripted → World → List LockEvent
-events_in plan world = events_of plan.limits (history_of world.entries)
+events_in script world = events_of script.limits (history_of world.entries)
 
 abbrev pub content_in : Scripted → World → List ℕ
-content_in plan world = content_after plan.width (history_of world.entries)
+content_in script world = content_after script.width (history_of world.entries)
 
-pub record Invariant (plan : Scripted) (world : World) : Type 0 where
+pub record Invariant (script : Scripted) (world : World) : Type 0 where
   -- the finished calls are a history of the sequential lock and record, with exactly these replies
-  pub legal : IsLegal plan.limits plan.width (history_of world.entries)
+  pub legal : IsLegal script.limits script.width (history_of world.entries)
   -- the lock word represents the events of this history
-  pub represented : RepresentsAt plan.limits (slice_index world.words 0) (events_in plan world)
+  pub represented : RepresentsAt script.limits (slice_index world.words 0) (events_in script world)
   -- the record's lock and its words are those of the content of this history
-  pub record_kept : RecordKept (record_limits (shape_of plan)) (slice_index world.words 1)
-      (drop 2 world.words) (content_in plan world) (map doing_in world.begun)
-  pub width : length (content_in plan world) ≡ plan.width
-  pub memory : length world.words ≡ 2 + plan.width
-  pub threads : length world.begun ≡ length plan.threads
-  pub begun : (t : ℕ) → IsOf (shape_of plan) (slice_index_or world.begun t None)
+  pub record_kept : RecordKept (record_limits (shape_of script)) (slice_index world.words 1)
+      (drop 2 world.words) (content_in script world) (map doing_in world.begun)
+  pub width : length (content_in script world) ≡ script.width
+  pub memory : length world.words ≡ 2 + script.width
+  pub threads : length world.begun ≡ length script.threads
+  pub begun : (t : ℕ) → IsOf (shape_of script) (slice_index_or world.begun t None)
   -- write mode of the record's lock is got at most once a step
-  pub few : (counts_at (record_limits (shape_of plan)) (slice_index world.words 1)).write_count
+  pub few : (counts_at (record_limits (shape_of script)) (slice_index world.words 1)).write_count
       ≤ world.position

@@ -1,5 +1,5 @@
 -- What an access of a thread's call leaves.
-use Rattle.std.specs.Prelude.{◌≡◌, ◌<◌, ℕ, List, [], ◌∷◌, ◌++◌, length, map, slice_set, Option}
+use Rattle.std.specs.Prelude.{◌≡◌, ◌<◌, ℕ, List, [], ◌∷◌, ◌++◌, length, Option}
 use Rattle.std.specs.Prelude.{Some, None}
 use Rattle.stamp_core.specs.Decision.{stamp_in}
 use Rattle.stamp_core.specs.declared.entry.Entry.{Entry}
@@ -9,8 +9,6 @@ use Rattle.stamp_machines.specs.declared.machine.Turn.{Turn}
 use Rattle.stamp_machines.specs.declared.machine.Turn.TheVariants as turned
 use Rattle.stamp_machines.specs.declared.state.Begun.{Begun}
 use Rattle.stamp_machines.specs.declared.state.Worker.{Worker}
-use Rattle.stamp_machines.specs.World.{stamps_after}
-use Rattle.stamp_machines.specs.StateFields.{begun_in, stamps_at}
 use Rattle.stamp_machines.specs.declared.running.Stepped.{Stepped}
 use Rattle.stamp_machines.specs.declared.running.Stepped.TheVariants.{Idle, Going, Ended}
 use Rattle.stamp_machines.specs.declared.state.Progress.{Progress}
@@ -60,17 +58,5 @@ pub record Landed (b : Begun) (thread position : ℕ) (words stamps : List ℕ) 
   pub words_are : words' ≡ words_after (next_access b.machine) words
   pub begun_is : begun' ≡ begun_after b (turn_on b words)
   pub stamps_are : stamps' ≡ stamps_with stamps (turn_on b words)
-  pub entries_are : entries' ≡ entries_with entries (told_at thread position b (turn_on b words))
-  pub told : progress ≡ progress_of (told_at thread position b (turn_on b words))
-
--- the same for all workers
-pub record AllLanded (b : Begun) (thread position : ℕ) (words : List ℕ) (workers : List Worker)
-    (entries : List Entry) (words' : List ℕ) (workers' : List Worker) (entries' : List Entry)
-    (progress : Progress) : Type 0 where
-  pub words_are : words' ≡ words_after (next_access b.machine) words
-  pub begun_are : map begun_in workers'
-      ≡ slice_set (map begun_in workers) thread (begun_after b (turn_on b words))
-  pub stamps_are : (t : ℕ) → stamps_at workers' t
-      ≡ stamps_after t thread (stamps_at workers t) (turn_on b words)
   pub entries_are : entries' ≡ entries_with entries (told_at thread position b (turn_on b words))
   pub told : progress ≡ progress_of (told_at thread position b (turn_on b words))

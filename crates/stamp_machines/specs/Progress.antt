@@ -11,11 +11,11 @@ use Rattle.stamp_machines.specs.declared.state.Progress.TheVariants.{Idle, Going
 
 -- idle where the thread has no call left, ended where an entry was appended, and else going
 abbrev pub HasReport : Scripted → World → ℕ → Progress → Type 0
-HasReport plan world thread Idle = current plan world thread ≡ None
-HasReport plan world thread Going =
-    IsSome (current plan world thread) × ((step plan world thread).entries ≡ world.entries)
-HasReport plan world thread Ended =
-    (e : Entry) × ((step plan world thread).entries ≡ world.entries ++ e ∷ [])
+HasReport script world thread Idle = current script world thread ≡ None
+HasReport script world thread Going =
+    IsSome (current script world thread) × ((step script world thread).entries ≡ world.entries)
+HasReport script world thread Ended =
+    (e : Entry) × ((step script world thread).entries ≡ world.entries ++ e ∷ [])
 
 abbrev pub progress_of : Stepped → Progress
 progress_of stepped.Idle = Idle

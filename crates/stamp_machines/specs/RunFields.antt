@@ -7,7 +7,7 @@ use Rattle.stamp_machines.specs.World.{execution_of, stamps_of}
 use Rattle.stamp_machines.specs.StateFields.{world_at, stamps_at}
 
 abbrev pub course_of : Inside → RunView
-course_of r = record { plan = r.script.now; names = r.steps.items }
+course_of r = record { script = r.script.now; names = r.steps.items }
 
 -- the words, the threads' calls and the entries are those of the schedule for the names so far
 pub record IsAt (r : Inside) : Type 0 where

@@ -7,10 +7,10 @@ use Rattle.stamp_machines.specs.World.{completed_calls}
 
 -- the finished calls, in the order of their last steps
 abbrev pub run_record : Scripted → Recorded
-run_record plan = recorded plan.limits plan.width (completed_calls plan plan.steps) []
+run_record script = recorded script.limits script.width (completed_calls script script.steps) []
 
 -- and what each of them cost
 abbrev pub reported_record : Scripted → Recorded
-reported_record plan =
-    let entries = completed_calls plan plan.steps in
-    recorded plan.limits plan.width entries (map (cost plan plan.steps) entries)
+reported_record script =
+    let entries = completed_calls script script.steps in
+    recorded script.limits script.width entries (map (cost script script.steps) entries)

@@ -3,5 +3,5 @@ use Rattle.std.specs.Prelude.{ℕ, List}
 use Rattle.stamp_machines.specs.Script.{Scripted}
 
 pub record RunView : Type 0 where
-  pub plan : Scripted
+  pub script : Scripted
   pub names : List ℕ

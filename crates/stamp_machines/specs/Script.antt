@@ -12,7 +12,7 @@ pub record Scripted : Type 0 where
   pub steps : List ℕ
 
 abbrev pub calls_of : Scripted → ℕ → List ScriptCall
-calls_of plan thread = slice_index_or plan.threads thread []
+calls_of script thread = slice_index_or script.threads thread []
 
 -- a call of the record has the record's width, which is not 0
 abbrev pub Suits : ℕ → ScriptCall → Type 0
@@ -22,9 +22,9 @@ Suits width (PutIf a b) = (0 < width) × (length a ≡ width) × (length b ≡ w
 Suits width _ = Unit {0}
 
 -- what each script keeps to
-pub record IsSound (plan : Scripted) : Type 0 where
-  pub range : AreInRange plan.limits
-  pub width : plan.width ≤ 16
-  pub threads : length plan.threads ≤ 64
-  pub short : All (λ calls. length calls ≤ 10000) plan.threads
-  pub suited : All (λ calls. All (Suits plan.width) calls) plan.threads
+pub record IsSound (script : Scripted) : Type 0 where
+  pub range : AreInRange script.limits
+  pub width : script.width ≤ 16
+  pub threads : length script.threads ≤ 64
+  pub short : All (λ calls. length calls ≤ 10000) script.threads
+  pub suited : All (λ calls. All (Suits script.width) calls) script.threads

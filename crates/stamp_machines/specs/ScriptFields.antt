@@ -1,4 +1,4 @@
--- How a script's fields are read as a plan, and what each script keeps to.
+-- How a script's fields are read as a script, and what each script keeps to.
 use Rattle.std.specs.Prelude.{map}
 use Rattle.stamp_machines.specs.Script.{Scripted}
 use Rattle.stamp_machines.specs.ScriptFault.{calls_in, IsGood}

@@ -10,10 +10,10 @@ use Rattle.stamp_machines.specs.declared.running.Stepped.TheVariants.{Idle, Goin
 
 -- idle where the thread has no call left, ended with the entry that was appended, and else going
 abbrev pub Reports : Scripted → World → ℕ → Stepped → Type 0
-Reports plan world thread Idle = current plan world thread ≡ None
-Reports plan world thread Going =
-    IsSome (current plan world thread) × ((step plan world thread).entries ≡ world.entries)
-Reports plan world thread (Ended e) = (step plan world thread).entries ≡ world.entries ++ e ∷ []
+Reports script world thread Idle = current script world thread ≡ None
+Reports script world thread Going =
+    IsSome (current script world thread) × ((step script world thread).entries ≡ world.entries)
+Reports script world thread (Ended e) = (step script world thread).entries ≡ world.entries ++ e ∷ []
 
 abbrev pub told : World → ℕ → Begun → Turn → Stepped
 told world thread b (turned.Going machine) = Going

@@ -50,17 +50,17 @@ tally_after s thread change (Ended e) =
 
 -- the meter of a thread that is in this call, or in none
 abbrev pub IsMetered : Scripted → List ℕ → ℕ → ℕ → Option Begun → Meter → Type 0
-IsMetered plan names changes t None m = m ≡ idle_meter
-IsMetered plan names changes t (Some b) m =
+IsMetered script names changes t None m = m ≡ idle_meter
+IsMetered script names changes t (Some b) m =
     (1 ≤ m.steps) × (m.steps ≡ own_since names t b.first)
-    × (m.before + changes_since plan names t b.first ≡ changes) × (b.first ≤ length names)
+    × (m.before + changes_since script names t b.first ≡ changes) × (b.first ≤ length names)
 
 -- the meters are those of the calls that have begun, and the report is the cost of the finished
 -- ones
-pub record IsTallied (plan : Scripted) (names : List ℕ) (s : TallyState) : Type 0 where
+pub record IsTallied (script : Scripted) (names : List ℕ) (s : TallyState) : Type 0 where
   pub meters : (t : ℕ) →
-      IsMetered plan names s.changes t (slice_index_or (execution_of plan names).begun t None)
+      IsMetered script names s.changes t (slice_index_or (execution_of script names).begun t None)
       (meter_at s.meters t)
   pub few : s.changes ≤ length names
-  pub threads : length s.meters ≡ length plan.threads
-  pub report : s.report ≡ map (cost plan names) (completed_calls plan names)
+  pub threads : length s.meters ≡ length script.threads
+  pub report : s.report ≡ map (cost script names) (completed_calls script names)

@@ -55,7 +55,7 @@ opening_of limits width threads =
     }
 
 abbrev pub opening : Scripted → World
-opening plan = opening_of plan.limits plan.width (length plan.threads)
+opening script = opening_of script.limits script.width (length script.threads)
 
 abbrev pub is_of : ℕ → Entry → Bool
 is_of thread e = thread == e.thread
@@ -97,22 +97,22 @@ begin shape stamps position (Some c) =
     Some (record { machine = start shape (call_of stamps c); first = position })
 
 abbrev pub shape_of : Scripted → Shape
-shape_of plan = record { limits = plan.limits; width = plan.width }
+shape_of script = record { limits = script.limits; width = script.width }
 
 -- the call after a thread's finished calls, which begins at this position
 abbrev pub next_call : Scripted → (ℕ → List ℕ) → ℕ → ℕ → Option Begun
-next_call plan stamps position thread =
-    begin (shape_of plan) stamps position
-    (slice_get (calls_of plan thread) (length (stamps thread)))
+next_call script stamps position thread =
+    begin (shape_of script) stamps position
+    (slice_get (calls_of script thread) (length (stamps thread)))
 
 abbrev pub current_of : Scripted → (ℕ → List ℕ) → ℕ → ℕ → Option Begun → Option Begun
-current_of plan stamps position thread (Some b) = Some b
-current_of plan stamps position thread None = next_call plan stamps position thread
+current_of script stamps position thread (Some b) = Some b
+current_of script stamps position thread None = next_call script stamps position thread
 
 -- the call that a thread is in: the one that it has begun, or else its next one
 abbrev pub current : Scripted → World → ℕ → Option Begun
-current plan world thread =
-    current_of plan (λ t. stamps_of t world.entries) world.position thread
+current script world thread =
+    current_of script (λ t. stamps_of t world.entries) world.position thread
     (slice_index_or world.begun thread None)
 
 -- the world in which the thread is in this call, or is left as it is
@@ -160,12 +160,12 @@ stepped world thread (Some b) =
     (after_access b.machine (seen_by (next_access b.machine) world.words))
 
 abbrev pub step : Scripted → World → ℕ → World
-step plan world thread = stepped world thread (current plan world thread)
+step script world thread = stepped world thread (current script world thread)
 
 -- what a schedule of these names does
 unfoldable pub execution_of : Scripted → List ℕ → World
-execution_of plan names = fold (step plan) (opening plan) names
+execution_of script names = fold (step script) (opening script) names
 
 -- one entry for each call that they finish, by rising last step
 abbrev pub completed_calls : Scripted → List ℕ → List Entry
-completed_calls plan names = (execution_of plan names).entries
+completed_calls script names = (execution_of script names).entries

@@ -91,7 +91,7 @@ impl<'a> Completions<'a> {
         ensures ok { OnOk result (self.new ≡ after_next self.old) }
         ensures err { OnErr result (Stopped self.old self.new) }
         ensures memory { OnErr result (result ≡ Err RunError.Memory) }
-        ensures left { OnErr result (self.old.made < length self.old.plan.steps) }
+        ensures left { OnErr result (self.old.made < length self.old.script.steps) }
     {
         self.state.entries.clear();
         run_on(self.script, &mut self.state, &mut self.made)?;

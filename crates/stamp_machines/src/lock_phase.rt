@@ -24,7 +24,7 @@ pub enum PhaseNext {
 /// The next access of a lock call, on the word `at`.
 #[inline(always)]
 pub(crate) fn planned(at: usize, limits: Limits, call: &Call, seen: Option<u64>) -> Access
-    requires lock { IsTrue (is_lock_call call.now) }
+    requires lock_call { IsTrue (is_lock_call call.now) }
     requires seen { IsChanging limits call.now seen }
     ensures next { result ≡ with_lock at (phase_next limits call.now seen) }
     ensures plans { Plans (record { at = at; limits = limits; call = call.now; seen = seen })
@@ -39,7 +39,7 @@ pub(crate) fn planned(at: usize, limits: Limits, call: &Call, seen: Option<u64>)
 /// The exchange of the word seen for the one that the call changes it to.
 #[inline(always)]
 fn exchange(at: usize, limits: Limits, call: &Call, old: u64) -> Access
-    requires lock { IsTrue (is_lock_call call.now) }
+    requires lock_call { IsTrue (is_lock_call call.now) }
     requires seen { IsChanging limits call.now (Some old) }
     ensures next { result ≡ with_lock at (phase_next limits call.now (Some old)) }
     ensures plans { Plans (record { at = at; limits = limits; call = call.now; seen = Some old })
@@ -61,7 +61,7 @@ fn tried(
     found: u64,
     answer: &mut Reply,
 ) -> (u64, PhaseNext)
-    requires lock { IsTrue (is_lock_call call.now) }
+    requires lock_call { IsTrue (is_lock_call call.now) }
     requires seen { IsChanging limits call.now seen }
     requires word { IsAdmitted limits (word_at limits found) }
     ensures word { result.0 ≡ lock_after (phase_next limits call.now seen) found }
@@ -98,7 +98,7 @@ pub(crate) fn passed(
     found: u64,
     answer: &mut Reply,
 ) -> PhaseNext
-    requires lock { IsTrue (is_lock_call call.now) }
+    requires lock_call { IsTrue (is_lock_call call.now) }
     requires seen { IsChanging limits call.now seen }
     requires word { IsAdmitted limits (word_at limits found) }
     ensures passage { phase_turn result answer.new ≡ phase_after limits call.now seen found }
@@ -123,7 +123,7 @@ pub(crate) fn accessed(
     answer: &mut Reply,
 ) -> PhaseNext
     requires memory { at < length words.old }
-    requires lock { IsTrue (is_lock_call call.now) }
+    requires lock_call { IsTrue (is_lock_call call.now) }
     requires seen { IsChanging limits call.now seen }
     requires word { IsAdmitted limits (word_at limits (slice_index words.old at)) }
     ensures words { words.new

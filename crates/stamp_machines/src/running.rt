@@ -89,7 +89,7 @@ impl<'a> Run<'a> {
 
     /// The run before its first step. It refuses as 6 `Memory` alone.
     pub fn start(alloc: Global, script: &'a Script) -> Result<Run<'a>, RunError>
-        ensures ok { IfOk result (λ r. r ≡ record { plan = script.now; names = [] }) }
+        ensures ok { IfOk result (λ r. r ≡ record { script = script.now; names = [] }) }
         ensures memory { OnErr result (result ≡ Err RunError.Memory) }
     {
         let state = State::new(alloc, script.shape(), script.thread_count())?;
@@ -104,11 +104,11 @@ impl<'a> Run<'a> {
     /// steps were made, and as 6 `Memory`; a refused step leaves the run as it was, and can be made
     /// again.
     pub fn step(&mut self, thread: u64) -> Result<Stepped, RunError>
-        requires { thread < length self.old.plan.threads }
+        requires { thread < length self.old.script.threads }
         ensures ok { OnOk result
             (self.new ≡ record self.old { names = self.old.names ++ thread ∷ [] }) }
         ensures report { IfOk result
-            (Reports self.old.plan (execution_of self.old.plan self.old.names) thread) }
+            (Reports self.old.script (execution_of self.old.script self.old.names) thread) }
         ensures err { OnErr result (self.new ≡ self.old) }
         ensures full { (result ≡ Err RunError.TooManySteps) ↔ (length self.old.names ≡ 1000000) }
     {
@@ -119,11 +119,11 @@ impl<'a> Run<'a> {
     /// One access, reported without the entry of the call that has ended by it: it is the last one.
     #[inline(always)]
     fn moved(&mut self, thread: u64) -> Result<Progress, RunError>
-        requires { thread < length self.old.plan.threads }
+        requires { thread < length self.old.script.threads }
         ensures ok { OnOk result
             (self.new ≡ record self.old { names = self.old.names ++ thread ∷ [] }) }
         ensures report { IfOk result
-            (HasReport self.old.plan (execution_of self.old.plan self.old.names) thread) }
+            (HasReport self.old.script (execution_of self.old.script self.old.names) thread) }
         ensures err { OnErr result (self.new ≡ self.old) }
         ensures full { (result ≡ Err RunError.TooManySteps) ↔ (length self.old.names ≡ 1000000) }
     {
@@ -140,7 +140,7 @@ impl<'a> Run<'a> {
 
     /// What a step did, with the entry of the call that has ended by it.
     fn told(&self, progress: Progress) -> Stepped
-        ensures { result ≡ told_by (completed_calls self.now.plan self.now.names) progress }
+        ensures { result ≡ told_by (completed_calls self.now.script self.now.names) progress }
     {
         self.state.told(progress)
     }
@@ -148,7 +148,7 @@ impl<'a> Run<'a> {
     /// One access, of which only the refusal is reported.
     #[inline(always)]
     pub(crate) fn advance(&mut self, thread: u64) -> Result<(), RunError>
-        requires { thread < length self.old.plan.threads }
+        requires { thread < length self.old.script.threads }
         ensures ok { OnOk result
             (self.new ≡ record self.old { names = self.old.names ++ thread ∷ [] }) }
         ensures full { (result ≡ Err RunError.TooManySteps) ↔ (length self.old.names ≡ 1000000) }
@@ -159,7 +159,7 @@ impl<'a> Run<'a> {
 
     /// What each run keeps to.
     fn known(&self)
-        ensures sound { IsSound self.now.plan }
+        ensures sound { IsSound self.now.script }
         ensures few { length self.now.names ≤ 1000000 }
     {
         let _ = &self.script;
@@ -167,12 +167,12 @@ impl<'a> Run<'a> {
 
     /// One access, which is counted.
     pub(crate) fn step_counted(&mut self, thread: u64, tally: &mut Tally) -> Result<(), RunError>
-        requires thread { thread < length self.old.plan.threads }
-        requires tallied { IsTallied self.old.plan self.old.names (tally_of tally.old) }
+        requires thread { thread < length self.old.script.threads }
+        requires tallied { IsTallied self.old.script self.old.names (tally_of tally.old) }
         ensures ok { OnOk result
             (self.new ≡ record self.old { names = self.old.names ++ thread ∷ [] }) }
         ensures tallied { OnOk result
-            (IsTallied self.new.plan self.new.names (tally_of tally.new)) }
+            (IsTallied self.new.script self.new.names (tally_of tally.new)) }
         ensures full { (result ≡ Err RunError.TooManySteps) → (length self.old.names ≡ 1000000) }
     {
         self.known();
@@ -191,7 +191,7 @@ impl<'a> Run<'a> {
     /// The names stepped so far.
     pub fn steps(&self) -> &[u64]
         ensures names { result.now ≡ self.now.names }
-        ensures sound { IsSound self.now.plan }
+        ensures sound { IsSound self.now.script }
         ensures few { length self.now.names ≤ 1000000 }
     {
         self.known();
@@ -200,19 +200,19 @@ impl<'a> Run<'a> {
 
     /// The finished calls, in the order of their last steps.
     pub fn finished(&self) -> &[Entry]
-        ensures entries { result.now ≡ completed_calls self.now.plan self.now.names }
-        ensures linearized { AreLinearized self.now.plan.limits self.now.plan.width result.now }
+        ensures entries { result.now ≡ completed_calls self.now.script self.now.names }
+        ensures linearized { AreLinearized self.now.script.limits self.now.script.width result.now }
     {
         &self.state.entries
     }
 
     /// The lock's word.
     pub fn word(&self) -> Word
-        ensures word { result ≡ word_at self.now.plan.limits
-            (slice_index (execution_of self.now.plan self.now.names).words 0) }
-        ensures represented { Represents self.now.plan.limits result
-            (events_of self.now.plan.limits
-            (history_of (completed_calls self.now.plan self.now.names))) }
+        ensures word { result ≡ word_at self.now.script.limits
+            (slice_index (execution_of self.now.script self.now.names).words 0) }
+        ensures represented { Represents self.now.script.limits result
+            (events_of self.now.script.limits
+            (history_of (completed_calls self.now.script self.now.names))) }
     {
         self.script.limits().word(self.state.words[0])
     }
@@ -225,9 +225,9 @@ impl<'a> Run<'a> {
     /// The finished calls as a record, with no report.
     pub(crate) fn into_record(self) -> Record
         ensures record { result ≡ record {
-          limits = self.entry.plan.limits;
-          width = self.entry.plan.width;
-          entries = completed_calls self.entry.plan self.entry.names;
+          limits = self.entry.script.limits;
+          width = self.entry.script.width;
+          entries = completed_calls self.entry.script self.entry.names;
           report = [];
         } }
         ensures linearized { IsLinearized result }
@@ -248,11 +248,11 @@ impl<'a> Run<'a> {
 
     /// The finished calls as a record, with a report that has a pair for each.
     pub(crate) fn into_reported(self, report: Vec<(u64, u64)>) -> Record
-        requires { length report.items ≡ length (completed_calls self.plan self.names) }
+        requires { length report.items ≡ length (completed_calls self.script self.names) }
         ensures record { result ≡ record {
-          limits = self.entry.plan.limits;
-          width = self.entry.plan.width;
-          entries = completed_calls self.entry.plan self.entry.names;
+          limits = self.entry.script.limits;
+          width = self.entry.script.width;
+          entries = completed_calls self.entry.script self.entry.names;
           report = report.items;
         } }
         ensures linearized { IsLinearized result }

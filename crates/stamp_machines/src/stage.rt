@@ -129,7 +129,7 @@ pub(crate) fn new_word(call: &Call, i: usize) -> u64
 #[inline(always)]
 pub(crate) fn call_for(lock_step: LockStep) -> Call
     ensures call { (loaded : List ℕ) → result ≡ call_for (lock_step_in loaded lock_step) }
-    ensures lock { IsTrue (is_lock_call result) }
+    ensures lock_call { IsTrue (is_lock_call result) }
 {
     match lock_step {
         LockStep::Share => Call::ReadLock,

@@ -47,7 +47,7 @@ pub(crate) enum Progress {
 ghost use Rattle.stamp_core.specs.declared.entry.Entry.{Entry};
 ghost use Rattle.stamp_machines.specs.StateFields.{stamps_at, begun_in, HasRoom};
 ghost use Rattle.stamp_machines.specs.World.{number_of, call_of, next_call, opening_word};
-ghost use Rattle.stamp_machines.specs.Landed.{IsSafeOn, AllLanded};
+ghost use Rattle.stamp_machines.specs.Landed.{IsSafeOn};
 
 fn number(workers: &[Worker], arg: Arg) -> u64
     ensures { result ≡ number_of (stamps_at workers.now) arg }
@@ -177,7 +177,7 @@ impl Worker {
     /// Makes the next access of the call that the thread is in. Where it ends by it, its entry comes
     /// after the others; there is room for it.
     #[inline(always)]
-    fn access(
+    fn land(
         &mut self,
         thread: usize,
         words: &mut [u64],
@@ -232,28 +232,6 @@ fn keep(entries: &mut Vec<Entry>, begun: &Begun, thread: usize, answer: &Reply, 
     let entry = &begun.ended(thread, answer, position);
     let (_call, _reply): (Call, Reply) = (entry.call, entry.reply);
     let _ = entries.push(*entry);
-}
-
-/// Makes the next access of the call that the thread is in.
-#[inline(always)]
-fn access(
-    workers: &mut [Worker],
-    thread: usize,
-    words: &mut [u64],
-    answer: &mut Reply,
-    entries: &mut Vec<Entry>,
-    position: u64,
-) -> Progress
-    requires thread { thread < length workers.old }
-    requires room { HasRoom (slice_get workers.old thread) }
-    requires entries { vec_len entries.old < vec_capacity entries.old }
-    requires safe { IfSome (slice_index_or (map begun_in workers.old) thread None)
-        (λ b. IsSafeOn b words.old) }
-    ensures landed { IfSome (slice_index_or (map begun_in workers.old) thread None)
-        (λ b. AllLanded b thread position words.old workers.old entries.old.items words.new
-        workers.new entries.new.items result) }
-{
-    workers[thread].access(thread, words, answer, entries, position)
 }
 
 fn opening_words(alloc: Global, shape: &Shape) -> Result<Vec<u64>, AllocError>
@@ -338,31 +316,9 @@ impl State {
             HasRoom (slice_get self.new.workers.items thread) }
         ensures entries { self.new.entries ≡ self.old.entries }
     {
-        is_in_call(&self.workers, thread) || self.begin_next(script, thread, position)
-    }
-
-    /// Begins the next call of a thread that is in none. Tells whether it is in one then.
-    #[inline(never)]
-    fn begin_next(&mut self, script: &Script, thread: usize, position: u64) -> bool
-        ghost gone: { List Entry }
-        requires none { is_some (slice_index_or (map begun_in self.old.workers.items) thread None)
-            ≡ false }
-        requires thread { thread < vec_len self.old.workers }
-        requires workers { vec_len self.old.workers ≡ length script.now.threads }
-        requires stamps { (t : ℕ) → stamps_at self.old.workers.items t
-            ≡ stamps_of t (gone ++ self.old.entries.items) }
-        ensures begun { result ≡ is_some
-            (current script.now (world_at gone self.old position) thread) }
-        ensures world { world_at gone self.new position
-            ≡ begun_with (world_at gone self.old position) thread
-            (current script.now (world_at gone self.old position) thread) }
-        ensures stamps { (t : ℕ) → stamps_at self.new.workers.items t
-            ≡ stamps_at self.old.workers.items t }
-        ensures workers { vec_len self.new.workers ≡ vec_len self.old.workers }
-        ensures room { HasRoom (slice_get self.old.workers.items thread) →
-            HasRoom (slice_get self.new.workers.items thread) }
-        ensures entries { self.new.entries ≡ self.old.entries }
-    {
+        if is_in_call(&self.workers, thread) {
+            return true;
+        }
         let Some(begun) = next_call(script, &self.workers, thread, position) else {
             return false;
         };
@@ -383,8 +339,7 @@ impl State {
             (λ b. StateLanded gone b thread position self.old self.new result) }
         ensures workers { vec_len self.new.workers ≡ vec_len self.old.workers }
     {
-        access(
-            &mut self.workers,
+        self.workers[thread].land(
             thread,
             &mut self.words,
             &mut self.answer,

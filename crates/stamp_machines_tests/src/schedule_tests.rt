@@ -16,7 +16,7 @@ fn stepped_through<'a>(
     script: &'a Script,
     told: &mut Vec<Entry>,
 ) -> Result<Run<'a>, Fail>
-    ensures { IfOk result (λ run. run.plan ≡ script.now) }
+    ensures { IfOk result (λ run. run.script ≡ script.now) }
 {
     let mut run = Run::start(alloc, script)?;
     for name in script.steps() {

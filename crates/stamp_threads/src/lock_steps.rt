@@ -26,7 +26,7 @@ pub type LockSeat = Seat<(), Passes>;
 #[inline(always)]
 pub fn load<C: StepFor>(table: &LockTable, seat: &mut LockSeat, call: &Call) -> u64
     requires step { (C.limits ≡ table.now.key.limits) × (C.call ≡ call.now) }
-    requires lock { IsTrue (is_lock_call call.now) }
+    requires lock_call { IsTrue (is_lock_call call.now) }
     requires table { (seat.old.table_id ≡ table.now.table_id) × (table.now.table_id.words ≡ 1) }
     requires alone { seat.old.me ≡ alone (first_of seat.old.me.0) }
     ensures table { seat.new.table_id ≡ seat.old.table_id }
@@ -48,7 +48,7 @@ pub fn exchange<C: StepFor>(
     new: u64,
 ) -> u64
     requires step { (C.limits ≡ table.now.key.limits) × (C.call ≡ call.now) }
-    requires lock { IsTrue (is_lock_call call.now) }
+    requires lock_call { IsTrue (is_lock_call call.now) }
     requires table { (seat.old.table_id ≡ table.now.table_id) × (table.now.table_id.words ≡ 1) }
     requires alone { seat.old.me ≡ alone (first_of seat.old.me.0) }
     requires changes { let limits = table.now.key.limits in

@@ -49,7 +49,7 @@ impl Error for LockError {}
 #[inline(always)]
 fn try_form(call: &Call) -> Call
     ensures form { result ≡ try_form call.now }
-    ensures lock { IsTrue (is_lock_call call.now) → IsTrue (is_lock_call result) }
+    ensures lock_call { IsTrue (is_lock_call call.now) → IsTrue (is_lock_call result) }
     ensures never { IsWaiting result → ⊥ }
 {
     match call {

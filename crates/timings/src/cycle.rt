@@ -12,7 +12,7 @@ pub const TURNS: u64 = 20;
 pub fn call_at(turn: u64, stamp: u64) -> Call
     requires { turn < TURNS }
     ensures call { slice_get (cycle stamp) turn ≡ Some result }
-    ensures lock { IsTrue (is_lock_call result) }
+    ensures lock_call { IsTrue (is_lock_call result) }
 {
     match turn {
         0 => Call::Optimistic,

@@ -15,7 +15,7 @@ fn ended(stepped: &Stepped) -> Option<Call> {
 
 /// One step, of which only the refusal is reported.
 fn advance(run: &mut Run<'_>, thread: u64) -> Result<(), RunError>
-    requires { thread < length run.old.plan.threads }
+    requires { thread < length run.old.script.threads }
     ensures { OnOk result (run.new ≡ record run.old { names = run.old.names ++ thread ∷ [] }) }
 {
     match run.step(thread) {
@@ -29,7 +29,7 @@ fn advance(run: &mut Run<'_>, thread: u64) -> Result<(), RunError>
 
 /// Runs a script to its end, one step after the other.
 pub fn run_of(alloc: Global, script: &Script) -> Result<Run<'_>, RunError>
-    ensures { IfOk result (λ r. r ≡ record { plan = script.now; names = script.now.steps }) }
+    ensures { IfOk result (λ r. r ≡ record { script = script.now; names = script.now.steps }) }
 {
     let mut run = Run::start(alloc, script)?;
     for name in script.steps() {

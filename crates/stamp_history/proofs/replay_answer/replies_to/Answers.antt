@@ -7,5 +7,5 @@ loop-index-preserved c =
     let there = call_at_index c.args.calls.now c.loop-index.index _ c.call.result c.loop-index-test.true
     c.call.ensures.call in
     goes_on c.args.limits c.args.calls.now c.loop-index.index c.call.result c.loop-index.word _ _ _ _ _ there
-    c.call.ensures.lock c.in_ok-reply_value.ensures c.in_ok-push.ensures.items c.loop-index.invariant
+    c.call.ensures.lock_call c.in_ok-reply_value.ensures c.in_ok-push.ensures.items c.loop-index.invariant
     c.in-Some.ensures

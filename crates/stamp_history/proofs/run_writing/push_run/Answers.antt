@@ -16,15 +16,15 @@ use Rattle.stamp_history.proofs.run_writing.push_run.Goals as goal
 pub returns : goal.returns
 unfolding serde_json_on_literals
 returns c =
-    let plan : Scripted = c.args.script.now in
+    let script : Scripted = c.args.script.now in
     let started : Completing = c.in_ok-completions.completions in
-    let before : started ≡ before_all plan =
+    let before : started ≡ before_all script =
     grind (arith, common_steps, c.start.ensures.ok, c.map_err.ensures.cases, c.in_ok-completions.was) in
     let written : List Entry = started.rest in
-    let all : written ≡ completed_calls plan plan.steps = ap (λ (d : Completing). d.rest) before in
+    let all : written ≡ completed_calls script script.steps = ap (λ (d : Completing). d.rest) before in
     let r : Recorded = record { limits = c.limits.result; width = c.width.result; entries = written; report = [] } in
-    let same : r ≡ run_record plan =
-    same_record (run_record plan) _ _ _ _ c.limits.ensures.limits c.width.ensures.width all refl in
+    let same : r ≡ run_record script =
+    same_record (run_record script) _ _ _ _ c.limits.ensures.limits c.width.ensures.width all refl in
     let entries = compact_text (entries_data written) in
     let rest = members_text true (after_entries r.limits r.width []) in
     onto _ (codes "{\"entries\":") (entries ++ rest) c.in_ok-push_text.ensures

@@ -14,42 +14,42 @@ use Rattle.stamp_machines.proofs.completions.make_step.Goals as goal
 
 pub step-requires : goal.step-requires
 step-requires c =
-    let plan : Scripted = c.args.script.now in
+    let script : Scripted = c.args.script.now in
     let made : ℕ = c.args.made in
     let old : State = c.reserve.new.self in
     let same = c.reserve.ensures.same in
     let room = c.in_ok-reserve.ensures in
-    let after : IsAfter plan old made =
-    after-reserved plan c.args.state.now old made same c.requires.after in
+    let after : IsAfter script old made =
+    after-reserved script c.args.state.now old made same c.requires.after in
     let none : old.entries.items ≡ [] = same.entries ∙ c.requires.none in
     let few : made < 1000000 = omega (arith, c.requires.few, c.steps.ensures.few) in
-    let named : get_or plan.steps made 0 < length plan.threads =
-    All-get_or (λ (n : ℕ). n < length plan.threads) plan.steps made 0 c.requires.few
+    let named : get_or script.steps made 0 < length script.threads =
+    All-get_or (λ (n : ℕ). n < length script.threads) script.steps made 0 c.requires.few
     c.steps.ensures.named in
     let thread : get_or c.steps.result.now made 0 < vec_len old.workers =
     rw (c.steps.ensures.steps, after.workers) named in
     let stamps : (t : ℕ) → stamps_at old.workers.items t
-    ≡ stamps_of t (calls_until plan made ++ old.entries.items) =
+    ≡ stamps_of t (calls_until script made ++ old.entries.items) =
     λ t. after.stamps t ∙ ap (λ (es : List Entry). stamps_of t es)
-    (sym (append-nil (calls_until plan made))
-    ∙ ap (λ (es : List Entry). calls_until plan made ++ es) (sym none)) in (
+    (sym (append-nil (calls_until script made))
+    ∙ ap (λ (es : List Entry). calls_until script made ++ es) (sym none)) in (
       c.steps.ensures.sound,
       (
-        kept-after plan old made c.steps.ensures.sound c.steps.ensures.few after none,
+        kept-after script old made c.steps.ensures.sound c.steps.ensures.few after none,
         (few, (thread, (after.workers, (stamps, (room.room, room.entries))))),
       ),
     )
 
 pub returns-clause-ok : goal.returns-clause-ok
 returns-clause-ok c =
-    let plan : Scripted = c.args.script.now in
+    let script : Scripted = c.args.script.now in
     let made : ℕ = c.args.made in
     let old : State = c.reserve.new.self in
     let same = c.reserve.ensures.same in
-    let names : take (made + 1) plan.steps
-    ≡ take made plan.steps ++ get_or c.steps.result.now made 0 ∷ [] =
-    rw c.steps.ensures.steps (take_more plan.steps made 0 c.requires.few) in
-    step-made plan old c.step.new.self made (get_or c.steps.result.now made 0) c.step.result
-    (after-reserved plan c.args.state.now old made same c.requires.after) c.requires.few
+    let names : take (made + 1) script.steps
+    ≡ take made script.steps ++ get_or c.steps.result.now made 0 ∷ [] =
+    rw c.steps.ensures.steps (take_more script.steps made 0 c.requires.few) in
+    step-made script old c.step.new.self made (get_or c.steps.result.now made 0) c.step.result
+    (after-reserved script c.args.state.now old made same c.requires.after) c.requires.few
     (same.entries ∙ c.requires.none) names c.step.ensures.world c.step.ensures.workers
     c.step.ensures.stamps c.step.ensures.report

@@ -8,19 +8,19 @@ use Rattle.stamp_machines.proofs.completions.Completions.start.Goals as goal
 
 pub invariant_of-result : goal.invariant_of-result
 invariant_of-result c =
-    let plan : Scripted = c.args.script.now in
-    let world : world_at [] c.in_ok-state.state 0 ≡ opening plan =
+    let script : Scripted = c.args.script.now in
+    let world : world_at [] c.in_ok-state.state 0 ≡ opening script =
     c.in_ok-state.ensures.world
     ∙ ap (λ (s : Shape). opening_of s.limits s.width c.thread_count.result) c.shape.ensures.shape
-    ∙ ap (λ (n : ℕ). opening_of plan.limits plan.width n) c.thread_count.ensures.count in
-    opening-after plan c.in_ok-state.state world
+    ∙ ap (λ (n : ℕ). opening_of script.limits script.width n) c.thread_count.ensures.count in
+    opening-after script c.in_ok-state.state world
     (c.in_ok-state.ensures.workers ∙ c.thread_count.ensures.count) c.in_ok-state.ensures.stamps
 
 pub returns-clause-ok : goal.returns-clause-ok
 returns-clause-ok c =
-    let plan : Scripted = c.args.script.now in
-    let world : world_at [] c.in_ok-state.state 0 ≡ opening plan =
+    let script : Scripted = c.args.script.now in
+    let world : world_at [] c.in_ok-state.state 0 ≡ opening script =
     c.in_ok-state.ensures.world
     ∙ ap (λ (s : Shape). opening_of s.limits s.width c.thread_count.result) c.shape.ensures.shape
-    ∙ ap (λ (n : ℕ). opening_of plan.limits plan.width n) c.thread_count.ensures.count in
-    opening-completing plan c.in_ok-state.state world
+    ∙ ap (λ (n : ℕ). opening_of script.limits script.width n) c.thread_count.ensures.count in
+    opening-completing script c.in_ok-state.state world

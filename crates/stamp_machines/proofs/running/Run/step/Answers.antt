@@ -7,12 +7,12 @@ use Rattle.stamp_machines.proofs.running.Run.step.Goals as goal
 
 pub returns-clause-report : goal.returns-clause-report
 returns-clause-report c =
-    let world : World = execution_of c.args.self.now.plan c.args.self.now.names in
-    let entries : completed_calls c.moved.new.self.plan c.moved.new.self.names
-    ≡ (step c.args.self.now.plan world c.args.thread).entries =
-    ap (λ (r : RunView). completed_calls r.plan r.names) c.in_ok-progress.ensures.ok
+    let world : World = execution_of c.args.self.now.script c.args.self.now.names in
+    let entries : completed_calls c.moved.new.self.script c.moved.new.self.names
+    ≡ (step c.args.self.now.script world c.args.thread).entries =
+    ap (λ (r : RunView). completed_calls r.script r.names) c.in_ok-progress.ensures.ok
     ∙ ap (λ (w : World). w.entries)
-    (execution_of-more c.args.self.now.plan c.args.self.now.names c.args.thread) in
+    (execution_of-more c.args.self.now.script c.args.self.now.names c.args.thread) in
     rw c.told.ensures
-    (told-reports c.args.self.now.plan world c.args.thread c.in_ok-progress.progress _ entries
+    (told-reports c.args.self.now.script world c.args.thread c.in_ok-progress.progress _ entries
     c.in_ok-progress.ensures.report)

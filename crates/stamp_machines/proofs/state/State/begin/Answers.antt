@@ -8,21 +8,22 @@ use Rattle.stamp_machines.specs.declared.state.Worker.{Worker}
 use Rattle.stamp_machines.specs.World.{World, current, begun_with}
 use Rattle.stamp_machines.specs.StateFields.{stamps_at, begun_in, world_at}
 use Rattle.stamp_machines.proofs.StateSteps.{begun-next}
-use Rattle.stamp_machines.proofs.state.State.begin_next.Goals as goal
+use Rattle.stamp_machines.proofs.state.State.begin.Goals as goal
 
 pub returns-clause-world : goal.returns-clause-world
 returns-clause-world g c =
-    let now : c.deref.result.now ≡ c.args.self.now.workers.items = grind (arith, common_steps) in
+    let first : c.deref.result.now ≡ c.args.self.now.workers.items = grind (arith, common_steps) in
+    let now : c.deref-2.result.now ≡ c.args.self.now.workers.items = grind (arith, common_steps) in
     let before : c.deref_mut.result.now ≡ c.args.self.now.workers.items =
     grind (arith, common_steps) in
     let none : is_some
     (slice_index_or (map begun_in c.args.self.now.workers.items) c.args.thread None) ≡ false =
-    c.requires.0 in
+    rw (← first) (sym c.is_in_call.ensures ∙ c.if-is_in_call.false) in
     let is : current c.args.script.now (world_at g.gone c.args.self.now c.args.position)
     c.args.thread ≡ Some c.in-Some.begun =
     begun-next c.args.script.now (world_at g.gone c.args.self.now c.args.position)
-    (stamps_at c.deref.result.now) c.args.thread c.in-Some.begun none
-    (λ t. ap (λ (ws : List Worker). stamps_at ws t) now ∙ c.requires.1.1.1 t) c.in-Some.ensures in
+    (stamps_at c.deref-2.result.now) c.args.thread c.in-Some.begun none
+    (λ t. ap (λ (ws : List Worker). stamps_at ws t) now ∙ c.requires.1.1 t) c.in-Some.ensures in
     let set : map begun_in c.set_begun.new.workers
     ≡ slice_set (map begun_in c.args.self.now.workers.items) c.args.thread
     (Some c.in-Some.begun) = rw before at c.set_begun.ensures.begun in

@@ -1,4 +1,4 @@
--- The first fault of a script's plan.
+-- The first fault of a script, after those of its fields.
 use Rattle.std.specs.Prelude.{ℕ, ◌==◌, ◌&&◌, not, nat_le, nat_lt, List, length, position, Bool}
 use Rattle.std.specs.Prelude.{true, Option, Some, None, if◌then◌else◌}
 use Rattle.std.specs.List.{list_all}
@@ -32,12 +32,13 @@ abbrev pub first_unknown : ℕ → List ℕ → Option ℕ
 first_unknown threads steps = position (λ name. nat_le threads name) steps
 
 abbrev pub width_fault : Scripted → Option ScriptError
-width_fault plan = if nat_le plan.width 16 && are_suited plan.width plan.threads then None else Some RecordWidth
+width_fault script = if nat_le script.width 16 && are_suited script.width script.threads then None else Some RecordWidth
 
 -- more than 64 threads, 10,000 calls of one or 1,000,000 steps; then a step of no thread; then the width
-unfoldable pub plan_fault : Scripted → Option ScriptError
-plan_fault plan =
-    if nat_lt 64 (length plan.threads) then Some TooManyThreads
-    else if not (are_short plan.threads) then Some TooManyCalls
-    else if nat_lt 1000000 (length plan.steps) then Some TooManySteps
-    else option_map_or (λ i. Some (NoSuchThread i)) (first_unknown (length plan.threads) plan.steps) (width_fault plan)
+unfoldable pub first_fault : Scripted → Option ScriptError
+first_fault script =
+    if nat_lt 64 (length script.threads) then Some TooManyThreads
+    else if not (are_short script.threads) then Some TooManyCalls
+    else if nat_lt 1000000 (length script.steps) then Some TooManySteps
+    else option_map_or (λ i. Some (NoSuchThread i)) (first_unknown (length script.threads) script.steps)
+        (width_fault script)

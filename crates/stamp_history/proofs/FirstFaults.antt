@@ -1,4 +1,4 @@
--- A fault that was found in the parts of a script is the first fault of its plan.
+-- A fault that was found in the parts of a script is the first fault of that script.
 use Rattle.std.proofs.Common.{◌≡◌, ℕ, ◌<◌, ◌≤◌, List, length, take, get_or, map, Vec, Bool, true}
 use Rattle.std.proofs.Common.{false, Some, None, refl, ap, arith, ◌⊎◌, inl, inr}
 use Rattle.std.specs.Prelude.{◌&&◌, nat_le, nat_lt, All, Decides}
@@ -21,7 +21,7 @@ use Rattle.stamp_machines.specs.ScriptFault.{calls_in, AreShort, AreSuited, AreN
 use Rattle.stamp_machines.specs.ScriptFault.{IsFirstUnknown, IsFirstFault, IsGood}
 use Rattle.stamp_machines.specs.declared.script.ScriptCall.{ScriptCall}
 use Rattle.stamp_machines.specs.declared.script.ScriptCall.TheVariants.{Get, Put, PutIf}
-use Rattle.stamp_history.specs.PlanFault.{suits, are_short, are_suited, first_unknown, plan_fault}
+use Rattle.stamp_history.specs.FirstFault.{suits, are_short, are_suited, first_unknown, first_fault}
 
 -- a test that fails, of what does not hold
 fails : {P : Type 0} (b : Bool) → Decides b P → (P → ⊥) → b ≡ false
@@ -87,9 +87,9 @@ unsuited width threads (inl wide) = let test : nat_le width 16 ≡ false = grind
 unsuited width threads (inr not_all) = rw (fails (are_suited width (map calls_in threads))
     (suited width threads) not_all) (and-false (nat_le width 16))
 
--- the plan of the parts of a script
-abbrev pub plan_of : Bounds → ℕ → List (Vec ScriptCall Global) → List ℕ → Scripted
-plan_of limits width threads steps = record {
+-- the script that these parts make
+abbrev pub given_script : Bounds → ℕ → List (Vec ScriptCall Global) → List ℕ → Scripted
+given_script limits width threads steps = record {
   limits = limits;
   width = width;
   threads = map calls_in threads;
@@ -103,8 +103,8 @@ above_most : (n most : ℕ) → most < n → nat_lt most n ≡ true
 above_most n most lt = grind (arith, nat_tests)
 
 pub no_fault : (limits : Bounds) (width : ℕ) (threads : List (Vec ScriptCall Global)) (steps : List ℕ) →
-    IsGood width threads steps → plan_fault (plan_of limits width threads steps) ≡ None
-unfolding plan_fault
+    IsGood width threads steps → first_fault (given_script limits width threads steps) ≡ None
+unfolding first_fault
 no_fault limits width threads steps good = rw (
   length-map threads calls_in,
   below_most (length threads) 64 good.0,
@@ -115,26 +115,26 @@ no_fault limits width threads steps good = rw (
   (suited width threads).1 good.5,
 ) refl
 
-pub first_fault : (limits : Bounds) (width : ℕ) (threads : List (Vec ScriptCall Global)) (steps : List ℕ)
+pub is_first_fault : (limits : Bounds) (width : ℕ) (threads : List (Vec ScriptCall Global)) (steps : List ℕ)
     (fault : ScriptError) → IsFirstFault width threads steps fault →
-    plan_fault (plan_of limits width threads steps) ≡ Some fault
-unfolding plan_fault
-first_fault limits width threads steps TooManyThreads first =
+    first_fault (given_script limits width threads steps) ≡ Some fault
+unfolding first_fault
+is_first_fault limits width threads steps TooManyThreads first =
     rw (length-map threads calls_in, above_most (length threads) 64 first) refl
-first_fault limits width threads steps TooManyCalls first =
+is_first_fault limits width threads steps TooManyCalls first =
     rw (
       length-map threads calls_in,
       below_most (length threads) 64 first.0,
       fails (are_short (map calls_in threads)) (short threads) first.1,
     ) refl
-first_fault limits width threads steps TooManySteps first =
+is_first_fault limits width threads steps TooManySteps first =
     rw (
       length-map threads calls_in,
       below_most (length threads) 64 first.0,
       (short threads).1 first.1,
       above_most (length steps) 1000000 first.2,
     ) refl
-first_fault limits width threads steps (NoSuchThread i) first =
+is_first_fault limits width threads steps (NoSuchThread i) first =
     rw (
       length-map threads calls_in,
       below_most (length threads) 64 first.0,
@@ -142,7 +142,7 @@ first_fault limits width threads steps (NoSuchThread i) first =
       below_most (length steps) 1000000 first.2,
       unknown_at (length threads) steps i first.3,
     ) refl
-first_fault limits width threads steps RecordWidth first =
+is_first_fault limits width threads steps RecordWidth first =
     rw (
       length-map threads calls_in,
       below_most (length threads) 64 first.0,
