@@ -41,4 +41,4 @@ first_fault script =
     else if not (are_short script.threads) then Some TooManyCalls
     else if nat_lt 1000000 (length script.steps) then Some TooManySteps
     else option_map_or (λ i. Some (NoSuchThread i)) (first_unknown (length script.threads) script.steps)
-        (width_fault script)
+    (width_fault script)
