@@ -1,0 +1,65 @@
+-- What the exported functions answer.
+use Rattle.std.specs.Prelude.{ℕ, ◌≡◌, [], Result, Ok, Err, MatchOption}
+use Rattle.stamp_core.specs.Layout.{units_of}
+use Rattle.stamp_core.specs.Limits.{Bounds}
+use Rattle.stamp_core.specs.Word.{LockWord, Represents, word_in}
+use Rattle.stamp_core.specs.Decision.{Decides}
+use Rattle.stamp_core.specs.LockDecision.{decision_as}
+use Rattle.stamp_core.specs.StampKind.{HasKind}
+use Rattle.stamp_core.specs.declared.layout.Layout.{Layout}
+use Rattle.stamp_core.specs.declared.call.Call.{Call}
+use Rattle.stamp_core.specs.declared.lock_decision.LockDecision.{LockDecision}
+use Rattle.stamp_core.specs.declared.stamps.StampKind.{StampKind}
+use Rattle.stamped_c.specs.declared.fault.Fault.{Fault}
+use Rattle.stamped_c.specs.declared.found.CLimits.{CLimits}
+use Rattle.stamped_c.specs.declared.found.CDecision.{CDecision}
+use Rattle.stamped_c.specs.declared.found.CKind.{CKind}
+use Rattle.stamped_c.specs.Codes.{layout_of, fault_in_c, decision_in_c, kind_in_c}
+use Rattle.stamped_c.specs.Checks.{Then, IsLayoutOf, AreLimitsOf, IsWordOf, IsWordUnder, IsCallOf}
+
+-- the core's decision, and no fault
+abbrev pub IsDecision : Bounds → LockWord → Call → Result LockDecision Fault → Type 0
+IsDecision limits word call (Ok decision) = Decides limits word call (decision_as decision)
+IsDecision limits word call (Err fault) = ⊥
+
+-- first the call, then the decision
+abbrev pub IsDecidedOn : Bounds → LockWord → ℕ → ℕ → Result LockDecision Fault → Type 0
+IsDecidedOn limits word code stamp = Then (IsCallOf code stamp) (λ call. IsDecision limits word call)
+
+-- first the limits, then the word under them, then the call and the decision
+abbrev pub IsDecided : CLimits → ℕ → ℕ → ℕ → Result LockDecision Fault → Type 0
+IsDecided given number code stamp =
+    Then (AreLimitsOf given) (λ limits.
+    Then (IsWordUnder limits number) (λ word. IsDecidedOn limits word code stamp))
+
+-- the core's kind, and no fault
+abbrev pub IsKind : Layout → ℕ → Result StampKind Fault → Type 0
+IsKind layout stamp (Ok kind) = HasKind (units_of layout) stamp kind
+IsKind layout stamp (Err fault) = ⊥
+
+abbrev pub IsKindOf : ℕ → ℕ → Result StampKind Fault → Type 0
+IsKindOf number stamp = Then (IsLayoutOf number) (λ layout. IsKind layout stamp)
+
+-- the word that represents no events, under all limits of the layout
+abbrev pub IsOpening : Layout → LockWord → Type 0
+IsOpening layout word = (limits : Bounds) → limits.layout ≡ layout → Represents limits word []
+
+-- the opening word's number; 0 where the number names no layout
+abbrev pub AnswersOpening : ℕ → ℕ → Type 0
+AnswersOpening number opening =
+    MatchOption (layout_of number) (opening ≡ 0) (λ layout. IsOpening layout (word_in layout opening))
+
+-- the facts above, as C gets them
+abbrev pub AnswersLimits : CLimits → ℕ → Type 0
+AnswersLimits given code = (limits : Result Bounds Fault) × AreLimitsOf given limits × (code ≡ fault_in_c limits)
+
+abbrev pub AnswersWord : CLimits → ℕ → ℕ → Type 0
+AnswersWord given number code = (word : Result LockWord Fault) × IsWordOf given number word × (code ≡ fault_in_c word)
+
+abbrev pub AnswersDecision : CLimits → ℕ → ℕ → ℕ → CDecision → Type 0
+AnswersDecision given number code stamp made = (decided : Result LockDecision Fault) ×
+    IsDecided given number code stamp decided × (made ≡ decision_in_c number decided)
+
+abbrev pub AnswersKind : ℕ → ℕ → CKind → Type 0
+AnswersKind number stamp found = (kind : Result StampKind Fault) × IsKindOf number stamp kind ×
+    (found ≡ kind_in_c kind)

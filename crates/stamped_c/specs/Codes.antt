@@ -1,0 +1,100 @@
+-- The numbers by which C programs name layouts, calls, faults, effects, replies and kinds of stamps.
+use Rattle.std.specs.Prelude.{ℕ, ◌==◌, Option, Some, None, Result, Ok, Err, if◌then◌else◌}
+use Rattle.stamp_core.specs.declared.layout.Layout.{Layout}
+use Rattle.stamp_core.specs.declared.layout.Layout.TheVariants.{One, Two}
+use Rattle.stamp_core.specs.declared.call.Call.{Call}
+use Rattle.stamp_core.specs.declared.call.Call.TheVariants.{TryWrite, TryRead, WriteLock, ReadLock}
+use Rattle.stamp_core.specs.declared.call.Call.TheVariants.{Optimistic, Validate, UnlockWrite}
+use Rattle.stamp_core.specs.declared.call.Call.TheVariants.{UnlockRead, Unlock, ToWrite, ToRead}
+use Rattle.stamp_core.specs.declared.call.Call.TheVariants.{ToOptimistic, TryUnlockWrite}
+use Rattle.stamp_core.specs.declared.call.Call.TheVariants.{TryUnlockRead, IsWriteLocked}
+use Rattle.stamp_core.specs.declared.call.Call.TheVariants.{IsReadLocked, ReadCount}
+use Rattle.stamp_core.specs.declared.lock_decision.LockReply.{LockReply}
+use Rattle.stamp_core.specs.declared.lock_decision.LockReply.TheVariants.{Stamp, Yes, No, Done, Mismatch, Count}
+use Rattle.stamp_core.specs.declared.lock_decision.LockDecision.{LockDecision}
+use Rattle.stamp_core.specs.declared.lock_decision.LockDecision.TheVariants.{Answer, Change, Wait}
+use Rattle.stamp_core.specs.declared.stamps.StampKind.{StampKind}
+use Rattle.stamp_core.specs.declared.stamps.StampKind.TheVariants as kind
+use Rattle.stamped_c.specs.declared.fault.Fault.{Fault}
+use Rattle.stamped_c.specs.declared.fault.Fault.TheVariants.{UnknownLayout, LimitsOutOfRange, NoWord}
+use Rattle.stamped_c.specs.declared.fault.Fault.TheVariants.{BeyondLimits, UnknownCall}
+use Rattle.stamped_c.specs.declared.found.CDecision.{CDecision}
+use Rattle.stamped_c.specs.declared.found.CKind.{CKind}
+
+abbrev pub layout_of : ℕ → Option Layout
+layout_of n = if n == 1 then Some One else if n == 2 then Some Two else None
+
+-- the call of this number, with this stamp where it takes one
+abbrev pub call_of : ℕ → ℕ → Option Call
+call_of n s =
+    if n == 1 then Some TryWrite
+    else if n == 2 then Some TryRead
+    else if n == 3 then Some WriteLock
+    else if n == 4 then Some ReadLock
+    else if n == 5 then Some Optimistic
+    else if n == 6 then Some (Validate s)
+    else if n == 7 then Some (UnlockWrite s)
+    else if n == 8 then Some (UnlockRead s)
+    else if n == 9 then Some (Unlock s)
+    else if n == 10 then Some (ToWrite s)
+    else if n == 11 then Some (ToRead s)
+    else if n == 12 then Some (ToOptimistic s)
+    else if n == 13 then Some TryUnlockWrite
+    else if n == 14 then Some TryUnlockRead
+    else if n == 15 then Some IsWriteLocked
+    else if n == 16 then Some IsReadLocked
+    else if n == 17 then Some ReadCount
+    else None
+
+-- 0 is no fault, and what is no fault has a number from 16 on
+abbrev pub fault_code : Fault → ℕ
+fault_code UnknownLayout = 1
+fault_code LimitsOutOfRange = 2
+fault_code NoWord = 3
+fault_code BeyondLimits = 4
+fault_code UnknownCall = 5
+
+abbrev pub reply_code : LockReply → ℕ
+reply_code (Stamp s) = 1
+reply_code Yes = 2
+reply_code No = 3
+reply_code Done = 4
+reply_code Mismatch = 5
+reply_code (Count n) = 6
+
+-- the stamp or the count in a reply
+abbrev pub reply_number : LockReply → ℕ
+reply_number (Stamp s) = s
+reply_number (Count n) = n
+reply_number _ = 0
+
+abbrev pub replied_in_c : ℕ → ℕ → LockReply → CDecision
+replied_in_c effect word reply =
+    record { effect = effect; reply = reply_code reply; word = word; number = reply_number reply }
+
+abbrev pub unreplied_in_c : ℕ → ℕ → CDecision
+unreplied_in_c effect word = record { effect = effect; reply = 0; word = word; number = 0 }
+
+-- a decision on the word of this number: the word stays unless it changes
+abbrev pub made_in_c : ℕ → LockDecision → CDecision
+made_in_c word (Answer reply) = replied_in_c 16 word reply
+made_in_c word (Change next reply) = replied_in_c 17 next.bits reply
+made_in_c word Wait = unreplied_in_c 18 word
+
+-- the same, or a fault
+abbrev pub decision_in_c : ℕ → Result LockDecision Fault → CDecision
+decision_in_c word (Ok decision) = made_in_c word decision
+decision_in_c word (Err fault) = unreplied_in_c (fault_code fault) word
+
+-- a kind of stamp, or a fault, as C gets it
+abbrev pub kind_in_c : Result StampKind Fault → CKind
+kind_in_c (Ok kind.Neither) = record { kind = 16; version = 0; readers = 0 }
+kind_in_c (Ok (kind.Write k)) = record { kind = 17; version = k; readers = 0 }
+kind_in_c (Ok (kind.Read k c)) = record { kind = 18; version = k; readers = c }
+kind_in_c (Ok (kind.Optimistic k)) = record { kind = 19; version = k; readers = 0 }
+kind_in_c (Err fault) = record { kind = fault_code fault; version = 0; readers = 0 }
+
+-- 0, or the fault
+abbrev pub fault_in_c : {A : Type 0} → Result A Fault → ℕ
+fault_in_c (Ok _) = 0
+fault_in_c (Err fault) = fault_code fault

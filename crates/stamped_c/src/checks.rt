@@ -1,0 +1,63 @@
+//! Tests of the numbers that a C program gives, each of which names its fault.
+ghost use Rattle.stamped_c.specs.Checks.{IsLayoutOf, AreLimitsIn, AreLimitsOf, IsWordUnder, IsCallOf};
+
+use crate::codes::{call_of, layout_of};
+use crate::fault::Fault;
+use crate::found::CLimits;
+use stamp_core::{Call, Layout, Limits, Word};
+
+/// The layout that a number names.
+pub(crate) fn checked_layout(number: u32) -> Result<Layout, Fault>
+    ensures { IsLayoutOf number result }
+{
+    match layout_of(number) {
+        Some(layout) => Ok(layout),
+        None => Err(Fault::UnknownLayout),
+    }
+}
+
+fn limits_in(layout: Layout, readers: u64, versions: u64) -> Result<Limits, Fault>
+    ensures { AreLimitsIn layout readers versions result }
+{
+    match Limits::in_layout(layout, readers, versions) {
+        Ok(limits) => Ok(limits),
+        Err(_) => Err(Fault::LimitsOutOfRange),
+    }
+}
+
+/// The limits that were given.
+#[inline(always)]
+pub(crate) fn checked_limits(given: CLimits) -> Result<Limits, Fault>
+    ensures { AreLimitsOf given result }
+{
+    let layout = checked_layout(given.layout)?;
+    limits_in(layout, given.readers, given.versions)
+}
+
+/// The word of this number, of a lock with these limits.
+#[inline(always)]
+pub(crate) fn checked_word(limits: Limits, number: u64) -> Result<Word, Fault>
+    ensures { IsWordUnder limits number result }
+{
+    match Word::from_bits_in(limits.layout(), number) {
+        Some(word) => {
+            if limits.admits(word) {
+                Ok(word)
+            } else {
+                Err(Fault::BeyondLimits)
+            }
+        }
+        None => Err(Fault::NoWord),
+    }
+}
+
+/// The call that a number names, with its stamp.
+#[inline(always)]
+pub(crate) fn checked_call(code: u32, stamp: u64) -> Result<Call, Fault>
+    ensures { IsCallOf code stamp result }
+{
+    match call_of(code, stamp) {
+        Some(call) => Ok(call),
+        None => Err(Fault::UnknownCall),
+    }
+}

@@ -1,0 +1,129 @@
+//! The structs that C passes and gets, and how results are written into them.
+ghost use Rattle.std.specs.Prelude.{◌≡◌};
+ghost use Rattle.stamped_c.specs.Codes.{reply_code, reply_number, replied_in_c, unreplied_in_c, made_in_c, decision_in_c, kind_in_c};
+
+use crate::fault::Fault;
+use stamp_core::{LockDecision, LockReply, StampKind};
+
+/// A lock's layout and limits, as C gives them (`struct stamped_limits`).
+#[repr(C)]
+#[derive(Clone, Copy)]
+pub struct CLimits {
+    pub layout: u32,
+    pub readers: u64,
+    pub versions: u64,
+}
+
+/// What a call is to do (`struct stamped_decision`).
+#[repr(C)]
+#[derive(Clone, Copy)]
+pub struct CDecision {
+    /// An effect, or a fault.
+    pub effect: u32,
+    /// The kind of the reply; 0 where there is none.
+    pub reply: u32,
+    /// The number of the word afterwards: the one that was given, unless it is to change.
+    pub word: u64,
+    /// The stamp or the count in the reply; 0 where there is none.
+    pub number: u64,
+}
+
+/// What a number is as a stamp (`struct stamped_kind`).
+#[repr(C)]
+#[derive(Clone, Copy)]
+pub struct CKind {
+    /// A kind, or a fault.
+    pub kind: u32,
+    /// How many write acquisitions came before it was issued, its own included.
+    pub version: u64,
+    /// Of a read stamp, the number of readers with the one who got it.
+    pub readers: u64,
+}
+
+fn reply_code(reply: LockReply) -> u32
+    ensures { result ≡ reply_code reply }
+{
+    match reply {
+        LockReply::Stamp(_) => 1,
+        LockReply::Yes => 2,
+        LockReply::No => 3,
+        LockReply::Done => 4,
+        LockReply::Mismatch => 5,
+        LockReply::Count(_) => 6,
+    }
+}
+
+fn reply_number(reply: LockReply) -> u64
+    ensures { result ≡ reply_number reply }
+{
+    match reply {
+        LockReply::Stamp(number) | LockReply::Count(number) => number,
+        _ => 0,
+    }
+}
+
+impl CDecision {
+    /// The decision on the word of this number, or the fault of what was given.
+    #[inline(always)]
+    pub(crate) fn of(word: u64, decided: Result<LockDecision, Fault>) -> CDecision
+        ensures { result ≡ decision_in_c word decided }
+    {
+        match decided {
+            Ok(decision) => CDecision::made(word, decision),
+            Err(fault) => CDecision::unreplied(fault.code(), word),
+        }
+    }
+
+    #[inline(always)]
+    fn made(word: u64, decision: LockDecision) -> CDecision
+        ensures { result ≡ made_in_c word decision }
+    {
+        match decision {
+            LockDecision::Answer(reply) => CDecision::replied(16, word, reply),
+            LockDecision::Change(next, reply) => CDecision::replied(17, next.bits(), reply),
+            LockDecision::Wait => CDecision::unreplied(18, word),
+        }
+    }
+
+    fn replied(effect: u32, word: u64, reply: LockReply) -> CDecision
+        ensures { result ≡ replied_in_c effect word reply }
+    {
+        CDecision {
+            effect,
+            reply: reply_code(reply),
+            word,
+            number: reply_number(reply),
+        }
+    }
+
+    fn unreplied(effect: u32, word: u64) -> CDecision
+        ensures { result ≡ unreplied_in_c effect word }
+    {
+        CDecision {
+            effect,
+            reply: 0,
+            word,
+            number: 0,
+        }
+    }
+}
+
+impl CKind {
+    /// The kind of a stamp, or the fault of what was given.
+    pub(crate) fn of(kind: Result<StampKind, Fault>) -> CKind
+        ensures { result ≡ kind_in_c kind }
+    {
+        let (kind, version, readers) = match kind {
+            Ok(StampKind::Neither) => (16, 0, 0),
+            Ok(StampKind::Write(version)) => (17, version, 0),
+            Ok(StampKind::Read(version, readers)) => (18, version, readers),
+            Ok(StampKind::Optimistic(version)) => (19, version, 0),
+            Err(fault) => (fault.code(), 0, 0),
+        };
+        CKind {
+            kind,
+            version,
+            readers,
+        }
+    }
+}

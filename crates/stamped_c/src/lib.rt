@@ -1,0 +1,15 @@
+//! The lock's decision for programs in other languages: a static library of functions over plain
+//! numbers, which test all that they are given. `include/stamped.h` declares them for C.
+#![tactic(auto)]
+
+mod checks;
+mod codes;
+mod exports;
+mod fault;
+mod found;
+
+pub use exports::{
+    stamped_check_limits, stamped_check_word, stamped_decide, stamped_kind_of, stamped_opening,
+};
+pub use fault::Fault;
+pub use found::{CDecision, CKind, CLimits};
