@@ -1,0 +1,134 @@
+/* stamped.h - what a call of a stamped lock does to the lock's word.
+ *
+ * The lock is that of Java's java.util.concurrent.locks.StampedLock: write, read and optimistic modes,
+ * with stamps. Its whole state is one 64-bit number, the word. The functions below have no state of
+ * their own: they take the word as a number, and return what the call does with it. You keep the
+ * word, usually in an _Atomic uint64_t, and put the new one in its place by compare-and-exchange.
+ *
+ * The functions allocate nothing, take no pointers, take no locks, start no threads and call nothing.
+ * Any thread may call them at any time, also a signal handler. They test every number that they are
+ * given, and return an error for what they don't know.
+ *
+ * Every code below 16 is an error, or 0 for none; what is no error is 16 or more.
+ */
+#ifndef STAMPED_H
+#define STAMPED_H
+
+#include <stdint.h>
+
+#ifdef __cplusplus
+extern "C" {
+#endif
+
+/* Errors. Where several fit, the first one in this order is returned. */
+enum {
+    STAMPED_OK = 0,
+    STAMPED_UNKNOWN_LAYOUT = 1,      /* the layout isn't 1 or 2 */
+    STAMPED_LIMITS_OUT_OF_RANGE = 2, /* no reader, or more readers or versions than the layout has room for */
+    STAMPED_NO_WORD = 3,             /* no lock of the layout ever has this word */
+    STAMPED_BEYOND_LIMITS = 4,       /* a word of the layout, with more readers or versions than the limits */
+    STAMPED_UNKNOWN_CALL = 5         /* no code of a call */
+};
+
+/* The layout of a lock and its limits. They stay the same for the life of the lock. */
+struct stamped_limits {
+    uint32_t layout;   /* 1 or 2 */
+    uint64_t readers;  /* how many may hold read mode at a time: 1 to 127, in layout 2 to 65,535 */
+    uint64_t versions; /* how often write mode may be acquired in all, from 0 */
+};
+
+/* The widest limits of each layout. */
+#define STAMPED_READERS_1 UINT64_C(127)
+#define STAMPED_VERSIONS_1 UINT64_C(36028797018963966)
+#define STAMPED_READERS_2 UINT64_C(65535)
+#define STAMPED_VERSIONS_2 UINT64_C(70368744177662)
+
+/* Calls, with the methods of Java's StampedLock. Where "stamp" stands, the call takes one. */
+enum {
+    STAMPED_TRY_WRITE = 1,        /* tryWriteLock() */
+    STAMPED_TRY_READ = 2,         /* tryReadLock() */
+    STAMPED_WRITE_LOCK = 3,       /* writeLock(): may have to wait */
+    STAMPED_READ_LOCK = 4,        /* readLock(): may have to wait */
+    STAMPED_OPTIMISTIC = 5,       /* tryOptimisticRead() */
+    STAMPED_VALIDATE = 6,         /* validate(stamp) */
+    STAMPED_UNLOCK_WRITE = 7,     /* unlockWrite(stamp) */
+    STAMPED_UNLOCK_READ = 8,      /* unlockRead(stamp) */
+    STAMPED_UNLOCK = 9,           /* unlock(stamp) */
+    STAMPED_TO_WRITE = 10,        /* tryConvertToWriteLock(stamp) */
+    STAMPED_TO_READ = 11,         /* tryConvertToReadLock(stamp) */
+    STAMPED_TO_OPTIMISTIC = 12,   /* tryConvertToOptimisticRead(stamp) */
+    STAMPED_TRY_UNLOCK_WRITE = 13, /* tryUnlockWrite() */
+    STAMPED_TRY_UNLOCK_READ = 14, /* tryUnlockRead() */
+    STAMPED_IS_WRITE_LOCKED = 15, /* isWriteLocked() */
+    STAMPED_IS_READ_LOCKED = 16,  /* isReadLocked() */
+    STAMPED_READ_COUNT = 17       /* getReadLockCount() */
+};
+
+/* Effects: what a call is to do with the word that it found. */
+enum {
+    STAMPED_ANSWER = 16, /* leave the word; the call is answered */
+    STAMPED_CHANGE = 17, /* put the new word in the place of the one found; then the call is answered */
+    STAMPED_WAIT = 18    /* look again later; STAMPED_WRITE_LOCK and STAMPED_READ_LOCK alone */
+};
+
+/* Replies: what a call is answered. */
+enum {
+    STAMPED_NO_REPLY = 0, /* of a wait or an error */
+    STAMPED_STAMP = 1,    /* a stamp, in `number`; 0 where the mode was not acquired */
+    STAMPED_YES = 2,
+    STAMPED_NO = 3,
+    STAMPED_DONE = 4,     /* the mode was released */
+    STAMPED_MISMATCH = 5, /* nothing was released: the stamp matches no held mode
+                             (IllegalMonitorStateException in Java) */
+    STAMPED_COUNT = 6     /* how many hold read mode, in `number` */
+};
+
+/* What a call does with the word that it found. */
+struct stamped_decision {
+    uint32_t effect; /* an effect, or an error */
+    uint32_t reply;
+    uint64_t word;   /* the new word; unless the effect is STAMPED_CHANGE, the one that was given */
+    uint64_t number; /* the stamp or the count of the reply; otherwise 0 */
+};
+
+/* Kinds of stamps. */
+enum {
+    STAMPED_NEITHER = 16,        /* no stamp */
+    STAMPED_WRITE_STAMP = 17,    /* of a hold of write mode */
+    STAMPED_READ_STAMP = 18,     /* of a hold of read mode */
+    STAMPED_OPTIMISTIC_STAMP = 19 /* of an optimistic read */
+};
+
+/* What a number is as a stamp. */
+struct stamped_kind {
+    uint32_t kind;    /* a kind, or an error */
+    uint64_t version; /* how often write mode had been acquired, with the hold that a write stamp is of */
+    uint64_t readers; /* of a read stamp, how many held read mode, with the one who got it; otherwise 0 */
+};
+
+/* The word of a new lock. 0, which is no word, where the layout isn't 1 or 2. */
+uint64_t stamped_opening(uint32_t layout);
+
+/* Whether the limits are in range. Returns STAMPED_OK, STAMPED_UNKNOWN_LAYOUT or
+   STAMPED_LIMITS_OUT_OF_RANGE. */
+uint32_t stamped_check_limits(struct stamped_limits limits);
+
+/* Whether some lock with these limits has this word. Returns STAMPED_OK, an error of
+   stamped_check_limits, STAMPED_NO_WORD or STAMPED_BEYOND_LIMITS. */
+uint32_t stamped_check_word(struct stamped_limits limits, uint64_t word);
+
+/* What a call does on this word. A call that takes no stamp ignores `stamp`; any number may be given.
+   Errors are in `effect`: one of stamped_check_word, or STAMPED_UNKNOWN_CALL.
+
+   After STAMPED_CHANGE the call is made only once you have exchanged the very `word` that you gave
+   for the new one, in one atomic step. If another word is there by then, decide again on that. */
+struct stamped_decision stamped_decide(struct stamped_limits limits, uint64_t word, uint32_t call, uint64_t stamp);
+
+/* What a number is as a stamp of a layout, by its value alone. The error is STAMPED_UNKNOWN_LAYOUT. */
+struct stamped_kind stamped_kind_of(uint32_t layout, uint64_t stamp);
+
+#ifdef __cplusplus
+}
+#endif
+
+#endif

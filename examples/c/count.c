@@ -1,0 +1,51 @@
+/* Four threads read a plain number in read mode and add to it in write mode. Prints the sum, 40000. */
+#include "lock.h"
+#include <inttypes.h>
+#include <pthread.h>
+#include <stdio.h>
+#include <stdlib.h>
+
+enum { THREADS = 4, EACH = 10000 };
+
+static struct lock lock = {{1, STAMPED_READERS_1, STAMPED_VERSIONS_1}, 0};
+static uint64_t sum;
+
+static uint64_t acquire(uint32_t call) {
+    struct stamped_decision made = call_lock(&lock, call, 0);
+    if (made.reply != STAMPED_STAMP || made.number == 0) abort();
+    return made.number;
+}
+
+static void release(uint64_t stamp) {
+    if (call_lock(&lock, STAMPED_UNLOCK, stamp).reply != STAMPED_DONE) abort();
+}
+
+static uint64_t sum_now(void) {
+    uint64_t stamp = acquire(STAMPED_READ_LOCK);
+    uint64_t read = sum;
+    release(stamp);
+    return read;
+}
+
+static void *count(void *unused) {
+    (void)unused;
+    for (int i = 0; i < EACH; i++) {
+        uint64_t before = sum_now();
+        uint64_t stamp = acquire(STAMPED_WRITE_LOCK);
+        if (sum < before) abort();
+        sum++;
+        release(stamp);
+    }
+    return NULL;
+}
+
+int main(void) {
+    pthread_t threads[THREADS];
+    atomic_init(&lock.word, stamped_opening(lock.limits.layout));
+    for (int i = 0; i < THREADS; i++) {
+        if (pthread_create(&threads[i], NULL, count, NULL)) abort();
+    }
+    for (int i = 0; i < THREADS; i++) pthread_join(threads[i], NULL);
+    printf("%" PRIu64 "\n", sum_now());
+    return 0;
+}

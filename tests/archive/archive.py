@@ -1,0 +1,278 @@
+"""Compares the static library with the program `stamped`, and builds and runs the examples over it.
+
+    archive.py ARCHIVE STAMPED
+
+Run at the top of the repository, with libstamped_c.a and the program. `calls.c` calls the library's functions.
+
+    walks    random calls from the opening on, in both layouts, with stamps that were issued, their
+             neighbours and other numbers: the replies and the last word are those of `stamped replay`,
+             and a call that waits is one that `stamped replay` says would wait
+    numbers  random words of any version, and what is wrong with numbers, limits and codes, beside the
+             plain functions below and the call table in python (bench/common/call_table.py)
+    stamps   what numbers are as stamps, beside `stamped stamp`
+"""
+import json
+import os
+import random
+import shutil
+import subprocess
+import sys
+import tempfile
+
+sys.path.insert(0, "bench/common")
+import call_table  # noqa: E402 (a file of bench/common)
+
+WALKS, LENGTH = 220, 500
+WORDS, STAMPS, SEED = 20000, 60, 1
+INCLUDE = "crates/stamped_c/include"
+C_FLAGS = ["-O2", "-Wall", "-Wextra", "-pedantic", "-Werror", "-I", INCLUDE]
+
+# The names of calls in JSON, in the order of their codes, from 1 on.
+NAMES = ["try_write", "try_read", "write_lock", "read_lock", "optimistic", "validate", "unlock_write", "unlock_read",
+         "unlock", "to_write", "to_read", "to_optimistic", "try_unlock_write", "try_unlock_read", "is_write_locked",
+         "is_read_locked", "read_count"]
+BARE = {name for name in NAMES if name.startswith("try_") or name.startswith("is_")} | {
+    "write_lock", "read_lock", "optimistic", "read_count"}
+ANSWER, CHANGE, WAIT = 16, 17, 18
+KINDS = {16: "none", 17: "write", 18: "read", 19: "optimistic"}
+# What a version adds, the writer's unit, and the widest limits.
+LAYOUTS = {1: (256, 128, 127, 2**55 - 2), 2: (131072, 65536, 65535, 2**46 - 2)}
+
+
+class Library:
+    """The functions of the archive, called by lines."""
+
+    def __init__(self, program):
+        self.process = subprocess.Popen([program], stdin=subprocess.PIPE, stdout=subprocess.PIPE, text=True, bufsize=1)
+
+    def ask(self, *numbers):
+        self.process.stdin.write(" ".join(map(str, numbers)) + "\n")
+        self.process.stdin.flush()
+        return [int(number) for number in self.process.stdout.readline().split()]
+
+
+def fail(text):
+    sys.exit(f"archive.py: {text}")
+
+
+def same(what, ours, wanted):
+    if ours != wanted:
+        fail(f"{what}: {ours}, and not {wanted}")
+
+
+def reply_of(kind, number):
+    """A reply as `stamped replay` writes it."""
+    texts = {2: "yes", 3: "no", 4: "done", 5: "mismatch"}
+    if kind == 1:
+        return number
+    return {"count": number} if kind == 6 else texts[kind]
+
+
+def drawn_stamp(layout, issued, word):
+    """A stamp that was issued, or the word, or one near it; or any number."""
+    version, writer, _, _ = LAYOUTS[layout]
+    base = random.choice([*issued[-4:], random.choice(issued), word])
+    by = random.choice([0, 0, 0, 0, 1, -1, writer, -writer, version, -version])
+    number = random.getrandbits(random.choice([9, 18, 64])) if random.random() < 0.05 else base + by
+    return number % 2**64
+
+
+def walk(library, layout, limits):
+    """The calls that were made, their replies, the last word, and the calls made before each one that waits."""
+    (word,) = library.ask("o", layout)
+    calls, replies, issued, waits = [], [], [word], []
+    for _ in range(LENGTH):
+        name = random.choice(NAMES)
+        stamp = drawn_stamp(layout, issued, word)
+        effect, kind, new, number = library.ask("d", layout, *limits, word, NAMES.index(name) + 1, stamp)
+        call = [name] if name in BARE else [name, stamp]
+        if effect == WAIT:
+            same(f"{call} on {word}", (kind, new, number), (0, word, 0))
+            waits.append((len(calls), call))
+            continue
+        if effect not in (ANSWER, CHANGE) or (effect == CHANGE) != (new != word):
+            fail(f"{call} on {word} of layout {layout}: effect {effect}, word {new}")
+        calls.append(call)
+        replies.append(reply_of(kind, number))
+        if kind == 1:
+            issued.append(number)
+        word = new
+    return calls, replies, word, waits
+
+
+def replayed(stamped, layout, limits, calls):
+    text = json.dumps({"calls": calls, "layout": layout, "readers": limits[0], "versions": limits[1]})
+    return subprocess.run([stamped, "replay"], input=text, capture_output=True, text=True, check=False)
+
+
+def compare_walk(library, stamped, layout, limits):
+    calls, replies, word, waits = walk(library, layout, limits)
+    run = replayed(stamped, layout, limits, calls)
+    if run.returncode:
+        fail(f"stamped refuses the calls of a walk under {limits}: {run.stderr}")
+    told = json.loads(run.stdout)
+    for call, ours, wanted in zip(calls, replies, told["replies"], strict=True):
+        same(f"{call} in a walk of layout {layout} under {limits}", ours, wanted)
+    same(f"the last word of a walk of layout {layout}", word, told["word"])
+    for before, call in waits[:1]:
+        run = replayed(stamped, layout, limits, [*calls[:before], call])
+        if run.returncode != 1 or f"call {before}" not in run.stderr:
+            fail(f"{call} doesn't wait in stamped: {run.stdout}{run.stderr}")
+    return len(calls), len(waits)
+
+
+def compare_walks(library, stamped):
+    made = waited = 0
+    for turn in range(WALKS):
+        layout = 1 + turn % 2
+        most, versions = LAYOUTS[layout][2:]
+        limits = random.choice([(most, versions), (1, versions), (3, 20), (most, 0), (2, random.randrange(1, 100))])
+        calls, waits = compare_walk(library, stamped, layout, limits)
+        made, waited = made + calls, waited + waits
+    print(f"walks: {made} replies as those of stamped replay, {waited} calls that wait")
+    if made < 100000:
+        fail("too few calls were made")
+
+
+def error_of(layout, readers, versions, word=None):
+    """The error of limits, and of a word under them."""
+    if layout not in LAYOUTS:
+        return 1
+    version, writer, most_readers, most_versions = LAYOUTS[layout]
+    if not 1 <= readers <= most_readers or versions > most_versions:
+        return 2
+    if word is None:
+        return 0
+    count, holders = divmod(word, version)
+    if count == 0 or holders > writer or word + writer >= 2**63:
+        return 3
+    if holders == writer:
+        return 4 if count > versions else 0
+    return 4 if holders > readers or count - 1 > versions else 0
+
+
+def decision_of(layout, readers, versions, word, code, stamp):
+    """What the library is to answer, by the call table in python."""
+    error = error_of(layout, readers, versions, word)
+    if error or not 1 <= code <= len(NAMES):
+        return [error or 5, 0, word, 0]
+    call_table.VERSION, call_table.WRITER = LAYOUTS[layout][:2]
+    decided = call_table.TABLE[NAMES[code - 1]]((readers, versions), word, stamp)
+    if decided is None:
+        return [WAIT, 0, word, 0]
+    new, reply = decided
+    kinds = {"yes": 2, "no": 3, "done": 4, "mismatch": 5}
+    kind, number = (6, reply["count"]) if isinstance(reply, dict) else (
+        (kinds[reply], 0) if isinstance(reply, str) else (1, reply))
+    return [ANSWER if new is None else CHANGE, kind, word if new is None else new, number]
+
+
+def edges(layout):
+    """Limits and words at the edges of a layout, and beyond them."""
+    version, writer, readers, versions = LAYOUTS.get(layout, LAYOUTS[1])
+    limits = [(most, count) for most in (0, 1, 2, readers - 1, readers, readers + 1, 2**64 - 1)
+              for count in (0, 1, 2, versions - 1, versions, versions + 1, 2**64 - 1)]
+    words = [0, 1, writer, version - 1, 2**63 - 1, 2**63, 2**64 - 1, 2**63 - writer, 2**63 - writer - 1]
+    words += [version * count + holders for count in (1, 2, 3, versions, versions + 1)
+              for holders in (0, 1, 2, 3, writer - 1, writer, writer + 1, version - 1)]
+    return limits, words
+
+
+def compare_edges(library):
+    compared = 0
+    for layout in (0, 1, 2, 3, 2**32 - 1):
+        same(f"opening of layout {layout}", library.ask("o", layout), [LAYOUTS.get(layout, (0,))[0]])
+        limits, words = edges(layout)
+        for given in limits:
+            same(f"limits {layout} {given}", library.ask("l", layout, *given), [error_of(layout, *given)])
+            for word in words:
+                case = (layout, *given, word)
+                same(f"word {case}", library.ask("w", *case), [error_of(*case)])
+                code = random.choice([0, 18, 2**32 - 1, *range(1, 18)])
+                case += (code, word)
+                same(f"decision {case}", library.ask("d", *case), decision_of(*case))
+                compared += 3
+    print(f"edges: {compared} words, decisions and limits as expected")
+
+
+def compare_words(library):
+    """Random words of any version, each with every call."""
+    found = set()
+    for _ in range(WORDS // len(NAMES) + 1):
+        layout = random.choice([1, 2])
+        version, writer, readers, versions = LAYOUTS[layout]
+        limits = random.choice([(readers, versions), (random.randint(1, readers), random.randint(0, versions))])
+        count = min(random.getrandbits(random.randint(1, 55)), random.choice([limits[1], versions]))
+        holders = random.choice([0, 1, writer, random.randint(0, limits[0])])
+        word = version * (count + (holders != writer)) + holders
+        for code in range(1, len(NAMES) + 1):
+            stamp = drawn_stamp(layout, [version * (count + 1), word], word)
+            case = (layout, *limits, word, code, stamp)
+            made = library.ask("d", *case)
+            same(f"decision {case}", made, decision_of(*case))
+            found.add((code, made[0]))
+    print(f"words: {len(NAMES) * (WORDS // len(NAMES) + 1)} decisions as the call table's, {len(found)} kinds")
+
+
+def compare_stamps(library, stamped):
+    for _ in range(STAMPS):
+        layout = random.choice([1, 2])
+        stamp = drawn_stamp(layout, [random.getrandbits(random.randint(1, 63))], random.getrandbits(18))
+        kind, version, readers = library.ask("k", layout, stamp)
+        told = " ".join(map(str, [KINDS.get(kind), version, readers][:{16: 1, 18: 3}.get(kind, 2)]))
+        run = subprocess.run([stamped, "stamp", "--layout", str(layout), str(stamp)], capture_output=True, text=True,
+                             check=True)
+        same(f"stamp {stamp} of layout {layout}", told, run.stdout.strip())
+    same("a stamp of no layout", library.ask("k", 3, 256), [1, 0, 0])
+    print(f"stamps: {STAMPS} kinds as those of stamped stamp")
+
+
+def build_and_run(name, command):
+    done = subprocess.run(command, capture_output=True, text=True, check=False)
+    if done.returncode:
+        fail(f"{name} doesn't compile:\n{done.stdout}{done.stderr}")
+    run = subprocess.run([command[command.index("-o") + 1]], capture_output=True, text=True, timeout=120, check=False)
+    same(f"{name}: status and output", (run.returncode, run.stdout), (0, "40000\n"))
+    print(f"{name}: built without a warning, and prints 40000")
+
+
+def try_header(room):
+    """The header alone, as C11 and as C++17."""
+    for compiler, standard, suffix in (("cc", "c11", "c"), ("c++", "c++17", "cpp")):
+        if not shutil.which(compiler):
+            print(f"header: no {compiler}, so {standard} is left out")
+            continue
+        path = os.path.join(room, f"header.{suffix}")
+        with open(path, "w", encoding="utf-8") as file:
+            file.write('#include "stamped.h"\nint main(void) { return (int)stamped_opening(0); }\n')
+        subprocess.run([compiler, f"-std={standard}", *C_FLAGS, "-c", "-o", path + ".o", path], check=True)
+        print(f"header: {standard} without a warning")
+
+
+def try_examples(archive, room):
+    count = os.path.join(room, "count")
+    build_and_run("examples/c", ["cc", "-std=c11", "-pthread", *C_FLAGS, "-o", count, "examples/c/count.c", archive])
+    if not shutil.which("rustc"):
+        print("examples/rust: no rustc, so it is left out")
+        return
+    shutil.copy(archive, os.path.join(room, "libstamped_c.a"))
+    build_and_run("examples/rust", ["rustc", "--edition", "2024", "-O", "-D", "warnings", "-L", f"native={room}",
+                                    "-l", "static=stamped_c", "-o", count + "_rs", "examples/rust/count.rs"])
+
+
+def main():
+    archive, stamped = (os.path.abspath(path) for path in sys.argv[1:])
+    random.seed(SEED)
+    with tempfile.TemporaryDirectory() as room:
+        calls = os.path.join(room, "calls")
+        subprocess.run(["cc", "-std=c11", *C_FLAGS, "-o", calls, "tests/archive/calls.c", archive], check=True)
+        library = Library(calls)
+        compare_edges(library)
+        compare_words(library)
+        compare_stamps(library, stamped)
+        compare_walks(library, stamped)
+        try_header(room)
+        try_examples(archive, room)
+
+
+main()
