@@ -15,7 +15,7 @@ use Rattle.stamped_c.specs.declared.found.CLimits.{CLimits}
 use Rattle.stamped_c.specs.declared.found.CDecision.{CDecision}
 use Rattle.stamped_c.specs.declared.found.CKind.{CKind}
 use Rattle.stamped_c.specs.Codes.{layout_of, fault_in_c, decision_in_c, kind_in_c}
-use Rattle.stamped_c.specs.Checks.{Then, IsLayoutOf, AreLimitsOf, IsWordOf, IsWordUnder, IsCallOf}
+use Rattle.stamped_c.specs.Checks.{Then, IsLayoutOf, AreLimitsIn, AreLimitsOf, IsWordOf, IsWordUnder, IsCallOf}
 
 -- the core's decision, and no fault
 abbrev pub IsDecision : Bounds → LockWord → Call → Result LockDecision Fault → Type 0
@@ -26,11 +26,19 @@ IsDecision limits word call (Err fault) = ⊥
 abbrev pub IsDecidedOn : Bounds → LockWord → ℕ → ℕ → Result LockDecision Fault → Type 0
 IsDecidedOn limits word code stamp = Then (IsCallOf code stamp) (λ call. IsDecision limits word call)
 
--- first the limits, then the word under them, then the call and the decision
+-- first the word, then the call
+abbrev pub IsDecidedUnder : Bounds → ℕ → ℕ → ℕ → Result LockDecision Fault → Type 0
+IsDecidedUnder limits number code stamp = Then (IsWordUnder limits number) (λ word. IsDecidedOn limits word code stamp)
+
+-- first the limits, then the word
+abbrev pub IsDecidedIn : Layout → CLimits → ℕ → ℕ → ℕ → Result LockDecision Fault → Type 0
+IsDecidedIn layout given number code stamp = Then (AreLimitsIn layout given.readers given.versions)
+    (λ limits. IsDecidedUnder limits number code stamp)
+
+-- first the layout
 abbrev pub IsDecided : CLimits → ℕ → ℕ → ℕ → Result LockDecision Fault → Type 0
-IsDecided given number code stamp =
-    Then (AreLimitsOf given) (λ limits.
-    Then (IsWordUnder limits number) (λ word. IsDecidedOn limits word code stamp))
+IsDecided given number code stamp = Then (IsLayoutOf given.layout) (λ layout.
+    IsDecidedIn layout given number code stamp)
 
 -- the core's kind, and no fault
 abbrev pub IsKind : Layout → ℕ → Result StampKind Fault → Type 0

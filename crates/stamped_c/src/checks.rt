@@ -16,7 +16,9 @@ pub(crate) fn checked_layout(number: u32) -> Result<Layout, Fault>
     }
 }
 
-fn limits_in(layout: Layout, readers: u64, versions: u64) -> Result<Limits, Fault>
+/// Limits of a layout.
+#[inline(always)]
+pub(crate) fn limits_in(layout: Layout, readers: u64, versions: u64) -> Result<Limits, Fault>
     ensures { AreLimitsIn layout readers versions result }
 {
     match Limits::in_layout(layout, readers, versions) {
