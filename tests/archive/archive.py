@@ -260,6 +260,15 @@ def try_examples(archive, room):
                                     "-l", "static=stamped_c", "-o", count + "_rs", "examples/rust/count.rs"])
 
 
+def try_page():
+    """The lock on docs/C.md stands in examples/c."""
+    with open("docs/C.md", encoding="utf-8") as page, open("examples/c/lock.h", encoding="utf-8") as source:
+        quoted = page.read().split("```c\n")[1].split("```")[0]
+        if quoted not in source.read():
+            fail("the lock on docs/C.md isn't that of examples/c/lock.h")
+    print("docs/C.md: quotes examples/c/lock.h")
+
+
 def main():
     archive, stamped = (os.path.abspath(path) for path in sys.argv[1:])
     random.seed(SEED)
@@ -271,6 +280,7 @@ def main():
         compare_words(library)
         compare_stamps(library, stamped)
         compare_walks(library, stamped)
+        try_page()
         try_header(room)
         try_examples(archive, room)
 

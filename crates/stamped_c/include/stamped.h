@@ -6,8 +6,8 @@
  * word, usually in an _Atomic uint64_t, and put the new one in its place by compare-and-exchange.
  *
  * The functions allocate nothing, take no pointers, take no locks, start no threads and call nothing.
- * Any thread may call them at any time, also a signal handler. They test every number that they are
- * given, and return an error for what they don't know.
+ * Any thread may call them at any time. They test every number that they are given, and return an error
+ * for what they don't know.
  *
  * Every code below 16 is an error, or 0 for none; what is no error is 16 or more.
  */
