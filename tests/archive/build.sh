@@ -25,7 +25,7 @@ awk '$0 == "## Build and link" { below = 1 } /^## Is / { below = 0 } below && /^
 [ "$(wc -l < lines)" = 4 ] || fail "docs/C.md has no two commands, with a run and its output, under its first heading"
 head -n 2 lines > commands
 bash -eu commands > told 2>&1 || { cat told >&2; fail "a command of docs/C.md failed"; }
-[ "\$ $(sed -n '3s/^\$ //p' lines)" = "\$ ./count" ] || fail "docs/C.md runs something else"
+[ "$(sed -n 3p lines)" = '$ ./count' ] || fail "docs/C.md runs something else"
 [ "$(./count)" = "$(sed -n 4p lines)" ] || fail "count doesn't print what docs/C.md says"
 [ -z "$(nm --undefined-only --no-sort crates/stamped_c/out/libstamped_c.a | grep ' U ')" ] ||
     fail "the archive needs other libraries"
