@@ -1,0 +1,193 @@
+-- An order is found one call at a time, each no sooner than a return asks for it.
+use Rattle.std.proofs.Common.{◌≡◌, ◌≢◌, ◌⊎◌, ℕ, List, [], ◌∷◌, get_or, sym, ◌∙◌, ap, subst, inl, inr, Some}
+use Rattle.std.specs.Prelude.{slice_get}
+use Rattle.std.specs.List.{All, Contains}
+use Rattle.std.proofs.lemmas.List.Elements.{All-nil, All-cons, All-head, All-tail, All-weaker}
+use Rattle.stamp_core.specs.declared.call.Call.{Call}
+use Rattle.stamp_core.specs.declared.reply.Reply.{Reply}
+use Rattle.stamp_explain.specs.declared.observed.Observation.{Observation}
+use Rattle.stamp_explain.specs.Observed.{IsBefore}
+use Rattle.stamp_explain.specs.Explained.{Effect, IsEffectOf, indices_of, AreApart, RespectsBefore}
+use Rattle.stamp_explain.specs.Search.{IsCompletedBy, MayTake}
+use Rattle.stamp_explain.proofs.Lists.{none_in_empty, contains_cases, contains_first, contains_rest, pairs_head}
+use Rattle.stamp_explain.proofs.Lists.{pairs_tail, pairs_cons, pairs_none}
+
+-- with no return to come nothing is left to do
+pub completed_by_none : {S : Type 0} (step : S → Call × Reply → S →
+    Type 0) (entries : List Observation) (s : S) (taken : List ℕ) → IsCompletedBy step entries [] s taken []
+completed_by_none step entries s taken = record {
+  effects = All-nil (IsEffectOf entries);
+  once = pairs_none AreApart;
+  fresh = All-nil (λ (x : Effect). ¬ Contains taken x.index);
+  returned = All-nil (λ (i : ℕ). Contains taken i ⊎ Contains (indices_of []) i);
+  ordered = pairs_none RespectsBefore;
+  runs = tt;
+}
+
+-- a call in effect may return
+pub past_return : {S : Type 0} (step : S → Call × Reply → S →
+    Type 0) (entries : List Observation) (i : ℕ) (returns : List ℕ) (s : S) (taken : List ℕ) (rest : List Effect) →
+    IsCompletedBy step entries (i ∷ returns) s taken rest → IsCompletedBy step entries returns s taken rest
+past_return step entries i returns s taken rest by = record {
+  effects = by.effects;
+  once = by.once;
+  fresh = by.fresh;
+  returned = All-tail (λ (j : ℕ). Contains taken j ⊎ Contains (indices_of rest) j) i returns by.returned;
+  ordered = by.ordered;
+  runs = by.runs;
+}
+
+pub before_return : {S : Type 0} (step : S → Call × Reply → S →
+    Type 0) (entries : List Observation) (i : ℕ) (returns : List ℕ) (s : S) (taken : List ℕ) (rest : List Effect) →
+    Contains taken i → IsCompletedBy step entries returns s taken rest →
+    IsCompletedBy step entries (i ∷ returns) s taken rest
+before_return step entries i returns s taken rest has by = record {
+  effects = by.effects;
+  once = by.once;
+  fresh = by.fresh;
+  returned = All-cons (λ (j : ℕ). Contains taken j ⊎ Contains (indices_of rest) j) i returns (inl has) by.returned;
+  ordered = by.ordered;
+  runs = by.runs;
+}
+
+-- one entry stands at a place
+some_inj : {X : Type 0} (x y : X) → Some x ≡ Some y → x ≡ y
+some_inj x y e = cc
+
+pub same_entry : (entries : List Observation) (x : Effect) (i : ℕ) (a : Observation) → IsEffectOf entries x →
+    x.index ≡ i → slice_get entries i ≡ Some a → x.entry ≡ a
+same_entry entries x i a is e at = some_inj x.entry a (sym is.is_entry ∙ ap (λ (k : ℕ). slice_get entries k) e ∙ at)
+
+-- what comes later of an order had not returned when an earlier call of it began
+later_of : (entries : List Observation) (i : ℕ) (a e : Observation) (rest : List Effect) →
+    slice_get entries i ≡ Some a → All (IsEffectOf entries) rest → All (λ (y : Effect). ¬ IsBefore y.entry e) rest →
+    Contains (indices_of rest) i → ¬ IsBefore a e
+later_of entries i a e [] at effects after has = absurd (none_in_empty i has)
+later_of entries i a e (y ∷ rest) at effects after has =
+    by (contains_cases y.index (indices_of rest) i has) (later_of entries i a e rest at
+    (All-tail (IsEffectOf entries) y rest effects) (All-tail (λ (z : Effect). ¬ IsBefore z.entry e) y rest after))
+  where
+    by : (y.index ≡ i) ⊎ Contains (indices_of rest) i → (Contains (indices_of rest) i → ¬ IsBefore a e) →
+        ¬ IsBefore a e
+    by (inl same) later =
+        let it : y.entry ≡ a = same_entry entries y i a (All-head (IsEffectOf entries) y rest effects) same at in
+        subst (λ (o : Observation). ¬ IsBefore o e) it (All-head (λ (z : Effect). ¬ IsBefore z.entry e) y rest after)
+    by (inr found) later = later found
+
+-- a return that is awaited: which, and that it ends no sooner than it began
+pub record IsAwaited (entries : List Observation) (i : ℕ) (a : Observation) : Type 0 where
+  pub is_entry : slice_get entries i ≡ Some a
+  pub begun : ¬ IsBefore a a
+
+-- the first call of an order may take effect, and the others complete what it leaves
+pub takes_first : {S : Type 0} (step : S → Call × Reply → S →
+    Type 0) (entries : List Observation) (i : ℕ) (a : Observation) (returns : List ℕ) (s : S) (taken : List ℕ)
+    (x : Effect) (rest : List Effect) → IsAwaited entries i a → ¬ Contains taken i →
+    IsCompletedBy step entries (i ∷ returns) s taken (x ∷ rest) →
+    (t : S) × (MayTake step entries a s taken x t × IsCompletedBy step entries (i ∷ returns) t (x.index ∷ taken) rest)
+takes_first {S} step entries i a returns s taken x rest awaited not_yet by = (by.runs.0, (may, left))
+  where
+    first : IsEffectOf entries x
+    first = All-head (IsEffectOf entries) x rest by.effects
+
+    others : All (IsEffectOf entries) rest
+    others = All-tail (IsEffectOf entries) x rest by.effects
+
+    begun_by : Contains taken i ⊎ Contains (x.index ∷ indices_of rest) i → ¬ IsBefore a x.entry
+    begun_by (inl has) = absurd (not_yet has)
+    begun_by (inr has) = which (contains_cases x.index (indices_of rest) i has)
+      where
+        which : (x.index ≡ i) ⊎ Contains (indices_of rest) i → ¬ IsBefore a x.entry
+        which (inl same) = subst (λ (o : Observation). ¬ IsBefore a o)
+            (sym (same_entry entries x i a first same awaited.is_entry)) awaited.begun
+        which (inr has) = later_of entries i a x.entry rest awaited.is_entry others
+            (pairs_head RespectsBefore x rest by.ordered) has
+
+    may : MayTake step entries a s taken x by.runs.0
+    may = record {
+      effect = first;
+      fresh = All-head (λ (y : Effect). ¬ Contains taken y.index) x rest by.fresh;
+      begun = begun_by (All-head (λ (j : ℕ). Contains taken j ⊎ Contains (x.index ∷ indices_of rest) j) i returns
+          by.returned);
+      steps = by.runs.1.0;
+    }
+
+    still_fresh : (y : Effect) → x.index ≢ y.index → ¬ Contains taken y.index → ¬ Contains (x.index ∷ taken) y.index
+    still_fresh y apart misses has = neither (contains_cases x.index taken y.index has)
+      where
+        neither : (x.index ≡ y.index) ⊎ Contains taken y.index → ⊥
+        neither (inl e) = apart e
+        neither (inr has) = misses has
+
+    moved : (j : ℕ) → Contains taken j ⊎ Contains (x.index ∷ indices_of rest) j →
+        Contains (x.index ∷ taken) j ⊎ Contains (indices_of rest) j
+    moved j (inl has) = inl (contains_rest x.index taken j has)
+    moved j (inr has) = which (contains_cases x.index (indices_of rest) j has)
+      where
+        which : (x.index ≡ j) ⊎ Contains (indices_of rest) j →
+            Contains (x.index ∷ taken) j ⊎ Contains (indices_of rest) j
+        which (inl e) = inl (contains_first x.index taken j e)
+        which (inr has) = inr has
+
+    left : IsCompletedBy step entries (i ∷ returns) by.runs.0 (x.index ∷ taken) rest
+    left = record {
+      effects = others;
+      once = pairs_tail AreApart x rest by.once;
+      fresh = λ k d lt. still_fresh (get_or rest k d) (pairs_head AreApart x rest by.once k d lt)
+          (All-tail (λ (y : Effect). ¬ Contains taken y.index) x rest by.fresh k d lt);
+      returned = All-weaker (λ (j : ℕ). Contains taken j ⊎ Contains (x.index ∷ indices_of rest) j)
+          (λ (j : ℕ). Contains (x.index ∷ taken) j ⊎ Contains (indices_of rest) j) moved (i ∷ returns) by.returned;
+      ordered = pairs_tail RespectsBefore x rest by.ordered;
+      runs = by.runs.1.1;
+    }
+
+-- nothing is left to take effect only where the return is not awaited
+pub never_empty : {S : Type 0} (step : S → Call × Reply → S →
+    Type 0) (entries : List Observation) (i : ℕ) (returns : List ℕ) (s : S) (taken : List ℕ) → ¬ Contains taken i →
+    ¬ IsCompletedBy step entries (i ∷ returns) s taken []
+never_empty step entries i returns s taken not_yet by = neither
+    (All-head (λ (j : ℕ). Contains taken j ⊎ Contains (indices_of []) j) i returns by.returned)
+  where
+    neither : Contains taken i ⊎ Contains (indices_of []) i → ⊥
+    neither (inl has) = not_yet has
+    neither (inr has) = none_in_empty i has
+
+-- of the calls that have not taken effect this one returned first: what another had returned before, it had too
+abbrev pub IsFirstReturn : List Observation → List ℕ → Observation → Type 0
+IsFirstReturn entries taken a = (j : ℕ) (e x : Observation) → slice_get entries j ≡ Some e → ¬ Contains taken j →
+    IsBefore e x → IsBefore a x
+
+-- and conversely: a call that may take effect, and an order that completes what it leaves, make an order
+pub puts_first : {S : Type 0} (step : S → Call × Reply → S →
+    Type 0) (entries : List Observation) (a : Observation) (returns : List ℕ) (s t : S) (taken : List ℕ) (x : Effect)
+    (rest : List Effect) → IsFirstReturn entries taken a → MayTake step entries a s taken x t →
+    IsCompletedBy step entries returns t (x.index ∷ taken) rest → IsCompletedBy step entries returns s taken (x ∷ rest)
+puts_first {S} step entries a returns s t taken x rest first may by = record {
+  effects = All-cons (IsEffectOf entries) x rest may.effect by.effects;
+  once = pairs_cons AreApart x rest (λ k d lt. apart (get_or rest k d) (by.fresh k d lt)) by.once;
+  fresh = All-cons (λ (y : Effect). ¬ Contains taken y.index) x rest may.fresh
+      (λ k d lt. fresh (get_or rest k d) (by.fresh k d lt));
+  returned = All-weaker (λ (j : ℕ). Contains (x.index ∷ taken) j ⊎ Contains (indices_of rest) j)
+      (λ (j : ℕ). Contains taken j ⊎ Contains (x.index ∷ indices_of rest) j) moved returns by.returned;
+  ordered = pairs_cons RespectsBefore x rest (λ k d lt. respects (get_or rest k d) (by.effects k d lt)
+      (by.fresh k d lt)) by.ordered;
+  runs = (t, (may.steps, by.runs));
+}
+  where
+    apart : (y : Effect) → ¬ Contains (x.index ∷ taken) y.index → x.index ≢ y.index
+    apart y misses e = misses (contains_first x.index taken y.index e)
+
+    fresh : (y : Effect) → ¬ Contains (x.index ∷ taken) y.index → ¬ Contains taken y.index
+    fresh y misses has = misses (contains_rest x.index taken y.index has)
+
+    respects : (y : Effect) → IsEffectOf entries y → ¬ Contains (x.index ∷ taken) y.index → RespectsBefore x y
+    respects y is misses before = may.begun (first y.index y.entry x.entry is.is_entry (fresh y misses) before)
+
+    moved : (j : ℕ) → Contains (x.index ∷ taken) j ⊎ Contains (indices_of rest) j →
+        Contains taken j ⊎ Contains (x.index ∷ indices_of rest) j
+    moved j (inl has) = which (contains_cases x.index taken j has)
+      where
+        which : (x.index ≡ j) ⊎ Contains taken j → Contains taken j ⊎ Contains (x.index ∷ indices_of rest) j
+        which (inl e) = inr (contains_first x.index (indices_of rest) j e)
+        which (inr has) = inl has
+    moved j (inr has) = inr (contains_rest x.index (indices_of rest) j has)

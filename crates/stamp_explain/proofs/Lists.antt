@@ -1,0 +1,48 @@
+-- Lists by their first element.
+use Rattle.std.proofs.Common.{◌≡◌, ◌≢◌, ◌⊎◌, ℕ, ◌<◌, zero, suc, List, [], ◌∷◌, length, inl, inr, arith}
+use Rattle.std.specs.List.{All, AllPairs, Contains}
+
+pub none_in_empty : {X : Type 0} (x : X) → ¬ Contains [] x
+none_in_empty x (k, lt, e) = absurd (omega arith)
+
+pub contains_cases : {X : Type 0} (x : X) (xs : List X) (y : X) → Contains (x ∷ xs) y → (x ≡ y) ⊎ Contains xs y
+contains_cases x xs y (zero, lt, e) = inl e
+contains_cases x xs y (suc k, lt, e) = let less : k < length xs = omega arith in inr (k, less, e)
+
+pub contains_first : {X : Type 0} (x : X) (xs : List X) (y : X) → x ≡ y → Contains (x ∷ xs) y
+contains_first x xs y e = let lt : 0 < length (x ∷ xs) = omega arith in (0, lt, e)
+
+pub contains_rest : {X : Type 0} (x : X) (xs : List X) (y : X) → Contains xs y → Contains (x ∷ xs) y
+contains_rest x xs y (k, lt, e) = let less : suc k < length (x ∷ xs) = omega arith in (suc k, less, e)
+
+pub pairs_head : {X : Type 0} (R : X → X → Type 0) (x : X) (xs : List X) → AllPairs R (x ∷ xs) → All (R x) xs
+pairs_head R x xs all k d lt = all 0 (suc k) d (omega arith) (omega arith)
+
+pub pairs_tail : {X : Type 0} (R : X → X → Type 0) (x : X) (xs : List X) → AllPairs R (x ∷ xs) → AllPairs R xs
+pairs_tail R x xs all i j d lt within = all (suc i) (suc j) d (omega arith) (omega arith)
+
+pub pairs_cons : {X : Type 0} (R : X → X → Type 0) (x : X) (xs : List X) → All (R x) xs → AllPairs R xs →
+    AllPairs R (x ∷ xs)
+pairs_cons R x xs first all i zero d lt within = absurd (omega arith)
+pairs_cons R x xs first all zero (suc j) d lt within = first j d (omega arith)
+pairs_cons R x xs first all (suc i) (suc j) d lt within = all i j d (omega arith) (omega arith)
+
+pub pairs_none : {X : Type 0} (R : X → X → Type 0) → AllPairs R []
+pairs_none R i j d lt within = absurd (omega arith)
+
+-- whether a number is in a list
+pub either_in : (xs : List ℕ) (i : ℕ) → Contains xs i ⊎ (¬ Contains xs i)
+either_in [] i = inr (none_in_empty i)
+either_in (x ∷ xs) i = by (same x i) (either_in xs i)
+  where
+    same : (x i : ℕ) → (x ≡ i) ⊎ (x ≢ i)
+    same x i = grind arith
+
+    by : (x ≡ i) ⊎ (x ≢ i) → Contains xs i ⊎ (¬ Contains xs i) → Contains (x ∷ xs) i ⊎ (¬ Contains (x ∷ xs) i)
+    by (inl e) _ = inl (contains_first x xs i e)
+    by (inr ne) (inl has) = inl (contains_rest x xs i has)
+    by (inr ne) (inr misses) = inr (λ has. neither (contains_cases x xs i has))
+      where
+        neither : (x ≡ i) ⊎ Contains xs i → ⊥
+        neither (inl e) = ne e
+        neither (inr has) = misses has

@@ -1,0 +1,390 @@
+-- Orders of the lock's calls and of the record's are merged by their beginnings.
+use Rattle.std.proofs.Common.{◌≡◌, ◌≢◌, ◌⊎◌, ℕ, ◌+◌, ◌<◌, ◌≤◌, zero, suc, Bool, true, false, List, [], ◌∷◌}
+use Rattle.std.proofs.Common.{◌++◌, length, get_or, refl, sym, ◌∙◌, ap, subst, inl, inr, arith, Option, None}
+use Rattle.std.proofs.Common.{Some}
+use Rattle.std.specs.Prelude.{slice_get, MatchOption}
+use Rattle.std.specs.Bool.{MatchBool}
+use Rattle.std.specs.List.{All, AllPairs, Contains}
+use Rattle.std.proofs.lemmas.List.{append-nil}
+use Rattle.std.proofs.lemmas.List.Elements.{All-nil, All-cons, All-head, All-tail, All-weaker, All-contains}
+use Rattle.std.proofs.lemmas.Option.{get_or_from_slice_get, slice_get_within, same_Some}
+use Rattle.std.proofs.lemmas.Bool.{cases_lt, cases_Bool, true≢false}
+use Rattle.stamp_core.specs.LockEvent.{LockEvent}
+use Rattle.stamp_core.specs.Limits.{Bounds}
+use Rattle.stamp_core.specs.Call.{is_lock_call}
+use Rattle.stamp_core.specs.Content.{zeros, content_next, RecordReplies}
+use Rattle.stamp_core.specs.Transition.{transition}
+use Rattle.stamp_core.specs.History.{Replies, IsLegalFrom, appended_by}
+use Rattle.stamp_core.specs.declared.call.Call.{Call}
+use Rattle.stamp_core.specs.declared.call.Call.TheVariants.{Get, Put, PutIf}
+use Rattle.stamp_core.specs.declared.reply.Reply.{Reply}
+use Rattle.stamp_explain.specs.declared.observed.Observation.{Observation}
+use Rattle.stamp_explain.specs.declared.observed.Returned.{Returned}
+use Rattle.stamp_explain.specs.Observed.{Observed, IsBefore, HasReturned, IsInterval, IsObserved}
+use Rattle.stamp_explain.specs.Explained.{Effect, IsEffectOf, history_of, indices_of, AreApart, RespectsBefore}
+use Rattle.stamp_explain.specs.Explained.{IsExplained}
+use Rattle.stamp_explain.specs.Search.{Runs, IsCompletedBy, CanComplete, IsReturnOf, LockAlone, RecordAlone}
+use Rattle.stamp_explain.specs.ExplainLaws.{Locality}
+use Rattle.stamp_explain.proofs.Lists.{none_in_empty, contains_cases, contains_first, contains_rest, pairs_cons}
+use Rattle.stamp_explain.proofs.Lists.{pairs_head, pairs_tail}
+
+-- the third list is the first two, each in its order
+data IsMerge : List Effect → List Effect → List Effect → Type 0 where
+  none : IsMerge [] [] []
+  left : {x : Effect} {xs ys zs : List Effect} → IsMerge xs ys zs → IsMerge (x ∷ xs) ys (x ∷ zs)
+  right : {y : Effect} {xs ys zs : List Effect} → IsMerge xs ys zs → IsMerge xs (y ∷ ys) (y ∷ zs)
+
+merge_all : (P : Effect → Type 0) {xs ys zs : List Effect} → IsMerge xs ys zs → All P xs → All P ys → All P zs
+merge_all P none a b = a
+merge_all P (left {x} {xs} {ys} {zs} m) a b = All-cons P x zs (All-head P x xs a) (merge_all P m (All-tail P x xs a) b)
+merge_all P (right {y} {xs} {ys} {zs} m) a b = All-cons P y zs (All-head P y ys b)
+    (merge_all P m a (All-tail P y ys b))
+
+left_all : (P : Effect → Type 0) {xs ys zs : List Effect} → IsMerge xs ys zs → All P zs → All P xs
+left_all P none all = all
+left_all P (left {x} {xs} {ys} {zs} m) all = All-cons P x xs (All-head P x zs all) (left_all P m (All-tail P x zs all))
+left_all P (right {y} {xs} {ys} {zs} m) all = left_all P m (All-tail P y zs all)
+
+flipped : {xs ys zs : List Effect} → IsMerge xs ys zs → IsMerge ys xs zs
+flipped none = none
+flipped (left m) = right (flipped m)
+flipped (right m) = left (flipped m)
+
+left_pairs : (R : Effect → Effect → Type 0) {xs ys zs : List Effect} → IsMerge xs ys zs → AllPairs R zs → AllPairs R xs
+left_pairs R none all = all
+left_pairs R (left {x} {xs} {ys} {zs} m) all = pairs_cons R x xs (left_all (R x) m (pairs_head R x zs all))
+    (left_pairs R m (pairs_tail R x zs all))
+left_pairs R (right {y} {xs} {ys} {zs} m) all = left_pairs R m (pairs_tail R y zs all)
+
+merge_apart : {xs ys zs : List Effect} → IsMerge xs ys zs → AllPairs AreApart xs → AllPairs AreApart ys →
+    All (λ (x : Effect). All (AreApart x) ys) xs → AllPairs AreApart zs
+merge_apart none a b across = a
+merge_apart (left {x} {xs} {ys} {zs} m) a b across =
+    pairs_cons AreApart x zs (merge_all (AreApart x) m (pairs_head AreApart x xs a)
+    (All-head (λ (x : Effect). All (AreApart x) ys) x xs across))
+    (merge_apart m (pairs_tail AreApart x xs a) b (All-tail (λ (x : Effect). All (AreApart x) ys) x xs across))
+merge_apart (right {y} {xs} {ys} {zs} m) a b across =
+    pairs_cons AreApart y zs
+    (merge_all (AreApart y) m (All-weaker (λ (x : Effect). All (AreApart x) (y ∷ ys)) (AreApart y)
+    (λ x each e. All-head (AreApart x) y ys each (sym e)) xs across) (pairs_head AreApart y ys b))
+    (merge_apart m a (pairs_tail AreApart y ys b) (All-weaker (λ (x : Effect). All (AreApart x) (y ∷ ys))
+    (λ (x : Effect). All (AreApart x) ys) (λ x each. All-tail (AreApart x) y ys each) xs across))
+
+left_index : (i : ℕ) {xs ys zs : List Effect} → IsMerge xs ys zs → Contains (indices_of xs) i →
+    Contains (indices_of zs) i
+left_index i none has = has
+left_index i (left {x} {xs} {ys} {zs} m) has = by (contains_cases x.index (indices_of xs) i has) (left_index i m)
+  where
+    by : (x.index ≡ i) ⊎ Contains (indices_of xs) i → (Contains (indices_of xs) i → Contains (indices_of zs) i) →
+        Contains (x.index ∷ indices_of zs) i
+    by (inl e) again = contains_first x.index (indices_of zs) i e
+    by (inr found) again = contains_rest x.index (indices_of zs) i (again found)
+left_index i (right {y} {xs} {ys} {zs} m) has = contains_rest y.index (indices_of zs) i (left_index i m has)
+
+-- merged by their beginnings, both keep what is before
+record Merges (xs ys : List Effect) : Type 0 where
+  order : List Effect
+  merge : IsMerge xs ys order
+  ordered : AllPairs RespectsBefore order
+
+abbrev IsSound : Effect → Type 0
+IsSound x = IsInterval x.entry
+
+-- none of a list that begins no sooner had returned when this one began
+respects_all : (x y : Effect) (ys : List Effect) → x.entry.first ≤ y.entry.first → IsSound y →
+    All (RespectsBefore y) ys → All (RespectsBefore x) (y ∷ ys)
+respects_all x y ys le sound all = All-cons (RespectsBefore x) y ys (not_yet y.entry sound le)
+    (All-weaker (RespectsBefore y) (RespectsBefore x) (λ z respects before. respects (sooner z.entry le before)) ys
+    all)
+  where
+    not_yet : (e : Observation) → IsInterval e → x.entry.first ≤ e.first → ¬ IsBefore e x.entry
+    not_yet e sound le before = by e.returned sound before
+      where
+        by : (o : Option Returned) → MatchOption o (Unit {0}) (λ (r : Returned). e.first ≤ r.last) →
+            MatchOption o ⊥ (λ (r : Returned). r.last < x.entry.first) → ⊥
+        by None sound before = before
+        by (Some r) sound before = omega arith
+
+    sooner : (e : Observation) → x.entry.first ≤ y.entry.first → IsBefore e x.entry → IsBefore e y.entry
+    sooner e le before = by e.returned before
+      where
+        by : (o : Option Returned) → MatchOption o ⊥ (λ (r : Returned). r.last < x.entry.first) →
+            MatchOption o ⊥ (λ (r : Returned). r.last < y.entry.first)
+        by None before = before
+        by (Some r) before = omega arith
+
+all_left : (xs : List Effect) → IsMerge xs [] xs
+all_left [] = none
+all_left (x ∷ xs) = left (all_left xs)
+
+all_right : (ys : List Effect) → IsMerge [] ys ys
+all_right [] = none
+all_right (y ∷ ys) = right (all_right ys)
+
+merges : (n : ℕ) (xs ys : List Effect) → length xs + length ys ≤ n → All IsSound xs → All IsSound ys →
+    AllPairs RespectsBefore xs → AllPairs RespectsBefore ys → Merges xs ys
+merges n [] ys few a b p q = record { order = ys; merge = all_right ys; ordered = q }
+merges n (x ∷ xs) [] few a b p q = record { order = x ∷ xs; merge = all_left (x ∷ xs); ordered = p }
+merges zero (x ∷ xs) (y ∷ ys) few a b p q = absurd (omega arith)
+merges (suc n) (x ∷ xs) (y ∷ ys) few a b p q =
+    by (cases_lt y.entry.first x.entry.first)
+    (λ _. merges n xs (y ∷ ys) (omega arith) (All-tail IsSound x xs a) b (pairs_tail RespectsBefore x xs p) q)
+    (λ _. merges n (x ∷ xs) ys (omega arith) a (All-tail IsSound y ys b) p (pairs_tail RespectsBefore y ys q))
+  where
+    by : (y.entry.first < x.entry.first) ⊎ (x.entry.first ≤ y.entry.first) → (Unit {0} → Merges xs (y ∷ ys)) →
+        (Unit {0} → Merges (x ∷ xs) ys) → Merges (x ∷ xs) (y ∷ ys)
+    by (inl less) on_left on_right =
+        let m : Merges (x ∷ xs) ys = on_right tt in
+        record {
+          order = y ∷ m.order;
+          merge = right m.merge;
+          ordered = pairs_cons RespectsBefore y m.order (merge_all (RespectsBefore y) m.merge
+              (respects_all y x xs (omega arith) (All-head IsSound x xs a) (pairs_head RespectsBefore x xs p))
+              (pairs_head RespectsBefore y ys q)) m.ordered;
+        }
+    by (inr le) on_left on_right =
+        let m : Merges xs (y ∷ ys) = on_left tt in
+        record {
+          order = x ∷ m.order;
+          merge = left m.merge;
+          ordered = pairs_cons RespectsBefore x m.order (merge_all (RespectsBefore x) m.merge
+              (pairs_head RespectsBefore x xs p) (respects_all x y ys le (All-head IsSound y ys b)
+              (pairs_head RespectsBefore y ys q))) m.ordered;
+        }
+
+-- lock and record do not touch one another
+lock_leaves : (content : List ℕ) (call : Call) (reply : Reply) → is_lock_call call ≡ true →
+    content_next content call reply ≡ content
+lock_leaves content Get reply lock = refl
+lock_leaves content (Put words) reply lock = absurd (true≢false (sym lock))
+lock_leaves content (PutIf expected words) reply lock = absurd (true≢false (sym lock))
+lock_leaves content _ reply lock = refl
+
+record_appends : (limits : Bounds) (events : List LockEvent) (call : Call) → is_lock_call call ≡ false →
+    events ++ appended_by (transition limits events call) ≡ events
+record_appends limits events Get guarded = append-nil events
+record_appends limits events (Put words) guarded = append-nil events
+record_appends limits events (PutIf expected words) guarded = append-nil events
+record_appends limits events _ guarded = absurd (true≢false guarded)
+
+merge_legal : (limits : Bounds) (events : List LockEvent) (content : List ℕ) {xs ys zs : List Effect} →
+    IsMerge xs ys zs → Runs (LockAlone limits) events (history_of xs) → Runs RecordAlone content (history_of ys) →
+    IsLegalFrom limits events content (history_of zs)
+merge_legal limits events content none a b = tt
+merge_legal limits events content (left {x} {xs} {ys} {zs} m) a b =
+    let is = a.1.0 in (
+      subst (λ (t : Bool). MatchBool t (Replies (transition limits events x.entry.call) x.reply)
+          (RecordReplies content x.entry.call x.reply)) (sym is.lock) is.replies,
+      subst (λ (c : List ℕ). IsLegalFrom limits (events ++ appended_by (transition limits events x.entry.call)) c
+          (history_of zs)) (sym (lock_leaves content x.entry.call x.reply is.lock))
+          (merge_legal limits (events ++ appended_by (transition limits events x.entry.call)) content m
+          (subst (λ (t : List LockEvent). Runs (LockAlone limits) t (history_of xs)) is.appends a.1.1) b),
+    )
+merge_legal limits events content (right {y} {xs} {ys} {zs} m) a b =
+    let is = b.1.0 in (
+      subst (λ (t : Bool). MatchBool t (Replies (transition limits events y.entry.call) y.reply)
+          (RecordReplies content y.entry.call y.reply)) (sym is.guarded) is.replies,
+      subst (λ (t : List LockEvent). IsLegalFrom limits t (content_next content y.entry.call y.reply) (history_of zs))
+          (sym (record_appends limits events y.entry.call is.guarded))
+          (merge_legal limits events (content_next content y.entry.call y.reply) m a
+          (subst (λ (c : List ℕ). Runs RecordAlone c (history_of ys)) is.leaves b.1.1)),
+    )
+
+-- and the other way round
+record Splits (limits : Bounds) (events : List LockEvent) (content : List ℕ) (zs : List Effect) : Type 0 where
+  locks : List Effect
+  records : List Effect
+  merge : IsMerge locks records zs
+  lock_runs : Runs (LockAlone limits) events (history_of locks)
+  record_runs : Runs RecordAlone content (history_of records)
+
+splits : (limits : Bounds) (events : List LockEvent) (content : List ℕ) (zs : List Effect) →
+    IsLegalFrom limits events content (history_of zs) → Splits limits events content zs
+splits limits events content [] legal = record {
+  locks = [];
+  records = [];
+  merge = none;
+  lock_runs = tt;
+  record_runs =
+      tt;
+}
+splits limits events content (z ∷ zs) legal =
+    by (cases_Bool (is_lock_call z.entry.call)) (splits limits
+    (events ++ appended_by (transition limits events z.entry.call)) (content_next content z.entry.call z.reply) zs
+    legal.1)
+  where
+    by : (is_lock_call z.entry.call ≡ true) ⊎ (is_lock_call z.entry.call ≡ false) →
+        Splits limits (events ++ appended_by (transition limits events z.entry.call))
+        (content_next content z.entry.call z.reply) zs → Splits limits events content (z ∷ zs)
+    by (inl lock) s = record {
+      locks = z ∷ s.locks;
+      records = s.records;
+      merge = left s.merge;
+      lock_runs = (
+        events ++ appended_by (transition limits events z.entry.call),
+        (
+          record {
+            lock = lock;
+            replies = subst (λ (t : Bool). MatchBool t
+                (Replies (transition limits events z.entry.call) z.reply) (RecordReplies content z.entry.call z.reply)) lock
+                legal.0;
+            appends = refl;
+          },
+          s.lock_runs,
+        ),
+      );
+      record_runs = subst (λ (c : List ℕ). Runs RecordAlone c (history_of s.records))
+          (lock_leaves content z.entry.call z.reply lock) s.record_runs;
+    }
+    by (inr guarded) s = record {
+      locks = s.locks;
+      records = z ∷ s.records;
+      merge = right s.merge;
+      lock_runs = subst (λ (t : List LockEvent). Runs (LockAlone limits) t (history_of s.locks))
+          (record_appends limits events z.entry.call guarded) s.lock_runs;
+      record_runs = (
+        content_next content z.entry.call z.reply,
+        (
+          record {
+            guarded = guarded;
+            replies = subst (λ (t : Bool). MatchBool t
+                (Replies (transition limits events z.entry.call) z.reply) (RecordReplies content z.entry.call z.reply))
+                guarded legal.0;
+            leaves = refl;
+          },
+          s.record_runs,
+        ),
+      );
+    }
+
+all_locks : (limits : Bounds) (events : List LockEvent) (xs : List Effect) →
+    Runs (LockAlone limits) events (history_of xs) → All (λ (x : Effect). is_lock_call x.entry.call ≡ true) xs
+all_locks limits events [] runs = All-nil (λ (x : Effect). is_lock_call x.entry.call ≡ true)
+all_locks limits events (x ∷ xs) runs = All-cons (λ (x : Effect). is_lock_call x.entry.call ≡ true) x xs runs.1.0.lock
+    (all_locks limits runs.0 xs runs.1.1)
+
+all_records : (content : List ℕ) (xs : List Effect) → Runs RecordAlone content (history_of xs) →
+    All (λ (x : Effect). is_lock_call x.entry.call ≡ false) xs
+all_records content [] runs = All-nil (λ (x : Effect). is_lock_call x.entry.call ≡ false)
+all_records content (x ∷ xs) runs = All-cons (λ (x : Effect). is_lock_call x.entry.call ≡ false) x xs runs.1.0.guarded
+    (all_records runs.0 xs runs.1.1)
+
+-- the index of a merged order whose entry is of the other kind is of the other list
+left_only : (hs : List Observation) (i : ℕ) (e : Observation) (b c : Bool) → slice_get hs i ≡ Some e →
+    is_lock_call e.call ≡ b → b ≢ c → {xs ys zs : List Effect} → IsMerge xs ys zs → All (IsEffectOf hs) ys →
+    All (λ (y : Effect). is_lock_call y.entry.call ≡ c) ys → Contains (indices_of zs) i → Contains (indices_of xs) i
+left_only hs i e b c at kind differ none effects kinds has = has
+left_only hs i e b c at kind differ (left {x} {xs} {ys} {zs} m) effects kinds has =
+    by (contains_cases x.index (indices_of zs) i has) (left_only hs i e b c at kind differ m effects kinds)
+  where
+    by : (x.index ≡ i) ⊎ Contains (indices_of zs) i → (Contains (indices_of zs) i → Contains (indices_of xs) i) →
+        Contains (x.index ∷ indices_of xs) i
+    by (inl same) again = contains_first x.index (indices_of xs) i same
+    by (inr found) again = contains_rest x.index (indices_of xs) i (again found)
+left_only hs i e b c at kind differ (right {y} {xs} {ys} {zs} m) effects kinds has =
+    by (contains_cases y.index (indices_of zs) i has) (left_only hs i e b c at kind differ m
+    (All-tail (IsEffectOf hs) y ys effects) (All-tail (λ (y : Effect). is_lock_call y.entry.call ≡ c) y ys kinds))
+  where
+    by : (y.index ≡ i) ⊎ Contains (indices_of zs) i → (Contains (indices_of zs) i → Contains (indices_of xs) i) →
+        Contains (indices_of xs) i
+    by (inl same) again =
+        let it : y.entry ≡ e = same_Some y.entry e (sym (All-head (IsEffectOf hs) y ys effects).is_entry ∙
+        ap (λ (k : ℕ). slice_get hs k) same ∙ at) in
+        absurd (differ (sym kind ∙ ap (λ (o : Observation). is_lock_call o.call) (sym it) ∙
+        All-head (λ (y : Effect). is_lock_call y.entry.call ≡ c) y ys kinds))
+    by (inr found) again = again found
+
+other_kind : (hs : List Observation) (x y : Effect) → IsEffectOf hs x → IsEffectOf hs y →
+    is_lock_call x.entry.call ≡ true → is_lock_call y.entry.call ≡ false → AreApart x y
+other_kind hs x y x_is y_is lock guarded same =
+    let it : x.entry ≡ y.entry = same_Some x.entry y.entry (sym x_is.is_entry ∙ ap (λ (k : ℕ). slice_get hs k) same ∙
+    y_is.is_entry) in
+    true≢false (sym lock ∙ ap (λ (o : Observation). is_lock_call o.call) it ∙ guarded)
+
+sound_of : (h : Observed) (xs : List Effect) → IsObserved h → All (IsEffectOf h.entries) xs → All IsSound xs
+sound_of h xs observed all = All-weaker (IsEffectOf h.entries) IsSound
+    (λ x is. subst IsInterval (get_or_from_slice_get h.entries x.index x.entry x.entry is.is_entry)
+    (observed.intervals x.index x.entry (slice_get_within h.entries x.index x.entry is.is_entry))) xs all
+
+pub locality : Locality
+locality h locks records observed are_locks are_records = (apart, together)
+  where
+    apart : IsExplained h → CanComplete (LockAlone h.limits) h.entries locks [] [] ×
+        CanComplete RecordAlone h.entries records (zeros h.width) []
+    apart explained = (record { rest = s.locks; by = on_locks }, record { rest = s.records; by = on_records })
+      where
+        s : Splits h.limits [] (zeros h.width) explained.order
+        s = splits h.limits [] (zeros h.width) explained.order explained.by.legal
+
+        flip : IsMerge s.records s.locks explained.order
+        flip = flipped s.merge
+
+        lock_effects : All (IsEffectOf h.entries) s.locks
+        lock_effects = left_all (IsEffectOf h.entries) s.merge explained.by.effects
+
+        record_effects : All (IsEffectOf h.entries) s.records
+        record_effects = left_all (IsEffectOf h.entries) flip explained.by.effects
+
+        on_locks : IsCompletedBy (LockAlone h.limits) h.entries locks [] [] s.locks
+        on_locks = record {
+          effects = lock_effects;
+          once = left_pairs AreApart s.merge explained.by.once;
+          fresh = λ k d lt. none_in_empty (get_or s.locks k d).index;
+          returned = All-weaker (IsReturnOf h.entries true) (λ (i : ℕ). Contains [] i ⊎
+              Contains (indices_of s.locks) i)
+              (λ i r. inr (left_only h.entries i r.entry true false r.is_entry r.kind true≢false s.merge
+              record_effects (all_records (zeros h.width) s.records s.record_runs)
+              (explained.by.returned i r.entry r.is_entry r.returned))) locks are_locks.each;
+          ordered = left_pairs RespectsBefore s.merge explained.by.ordered;
+          runs = s.lock_runs;
+        }
+
+        on_records : IsCompletedBy RecordAlone h.entries records (zeros h.width) [] s.records
+        on_records = record {
+          effects = record_effects;
+          once = left_pairs AreApart flip explained.by.once;
+          fresh = λ k d lt. none_in_empty (get_or s.records k d).index;
+          returned = All-weaker (IsReturnOf h.entries false) (λ (i : ℕ). Contains [] i ⊎
+              Contains (indices_of s.records) i)
+              (λ i r. inr (left_only h.entries i r.entry false true r.is_entry r.kind (λ e. true≢false (sym e)) flip
+              lock_effects (all_locks h.limits [] s.locks s.lock_runs)
+              (explained.by.returned i r.entry r.is_entry r.returned))) records are_records.each;
+          ordered = left_pairs RespectsBefore flip explained.by.ordered;
+          runs = s.record_runs;
+        }
+
+    together : CanComplete (LockAlone h.limits) h.entries locks [] [] ×
+        CanComplete RecordAlone h.entries records (zeros h.width) [] → IsExplained h
+    together both = record {
+      order = m.order;
+      by = record {
+        effects = merge_all (IsEffectOf h.entries) m.merge both.0.by.effects both.1.by.effects;
+        once = merge_apart m.merge both.0.by.once both.1.by.once
+            (λ k d lt j c less. other_kind h.entries (get_or both.0.rest k d) (get_or both.1.rest j c)
+            (both.0.by.effects k d lt) (both.1.by.effects j c less)
+            (all_locks h.limits [] both.0.rest both.0.by.runs k d lt)
+            (all_records (zeros h.width) both.1.rest both.1.by.runs j c less));
+        returned = λ i e at returned. which i e at returned (cases_Bool (is_lock_call e.call));
+        ordered = m.ordered;
+        legal = merge_legal h.limits [] (zeros h.width) m.merge both.0.by.runs both.1.by.runs;
+      };
+    }
+      where
+        m : Merges both.0.rest both.1.rest
+        m = merges (length both.0.rest + length both.1.rest) both.0.rest both.1.rest (omega arith)
+            (sound_of h both.0.rest observed both.0.by.effects) (sound_of h both.1.rest observed both.1.by.effects)
+            both.0.by.ordered both.1.by.ordered
+
+        only : (xs : List ℕ) (i : ℕ) → Contains [] i ⊎ Contains xs i → Contains xs i
+        only xs i (inl has) = absurd (none_in_empty i has)
+        only xs i (inr has) = has
+
+        which : (i : ℕ) (e : Observation) → slice_get h.entries i ≡ Some e → HasReturned e →
+            (is_lock_call e.call ≡ true) ⊎ (is_lock_call e.call ≡ false) → Contains (indices_of m.order) i
+        which i e at returned (inl lock) = left_index i m.merge
+            (only (indices_of both.0.rest) i (All-contains (λ (j : ℕ). Contains [] j ⊎
+            Contains (indices_of both.0.rest) j) locks i both.0.by.returned (are_locks.whole i e at returned lock)))
+        which i e at returned (inr guarded) = left_index i (flipped m.merge)
+            (only (indices_of both.1.rest) i (All-contains (λ (j : ℕ). Contains [] j ⊎
+            Contains (indices_of both.1.rest) j) records i both.1.by.returned
+            (are_records.whole i e at returned guarded)))

@@ -1,0 +1,150 @@
+-- What a search with a store of nodes that it has seen keeps: nothing is lost while some node waits.
+use Rattle.std.proofs.Common.{◌≡◌, ◌⊎◌, ℕ, ◌+◌, ◌<◌, ◌≤◌, zero, suc, List, [], ◌∷◌, length, refl, subst, inl}
+use Rattle.std.proofs.Common.{inr, arith}
+use Rattle.std.specs.List.{Contains}
+use Rattle.stamp_core.specs.declared.call.Call.{Call}
+use Rattle.stamp_core.specs.declared.reply.Reply.{Reply}
+use Rattle.stamp_explain.specs.declared.observed.Observation.{Observation}
+use Rattle.stamp_explain.specs.Explained.{Effect}
+use Rattle.stamp_explain.specs.Search.{IsCompletedBy, MayTake}
+use Rattle.stamp_explain.proofs.Lists.{either_in}
+use Rattle.stamp_explain.proofs.Completing.{IsAwaited, past_return, takes_first, never_empty}
+
+-- an order completes it, in so many steps: returns and calls that take effect
+pub record CompletesIn {S : Type 0} (step : S → Call × Reply → S →
+    Type 0) (entries : List Observation) (to_come : List ℕ) (s : S) (taken : List ℕ) (n : ℕ) : Type 0 where
+  pub rest : List Effect
+  pub by : IsCompletedBy step entries to_come s taken rest
+  pub steps : length to_come + length rest ≡ n
+
+-- the return is past, and the rest takes a step less
+pub record GoesPast {S : Type 0} (step : S → Call × Reply → S →
+    Type 0) (entries : List Observation) (i : ℕ) (to_come : List ℕ) (s : S) (taken : List ℕ) (n : ℕ) : Type 0 where
+  pub in_effect : Contains taken i
+  pub left : ℕ
+  pub fewer : n ≡ suc left
+  pub completes : CompletesIn step entries to_come s taken left
+
+-- a call takes effect, and the rest takes a step less
+pub record GoesOnBy {S : Type 0} (step : S → Call × Reply → S →
+    Type 0) (entries : List Observation) (i : ℕ) (a : Observation) (to_come : List ℕ) (s : S) (taken : List ℕ)
+    (n : ℕ) : Type 0 where
+  pub awaited : ¬ Contains taken i
+  pub effect : Effect
+  pub state : S
+  pub may : MayTake step entries a s taken effect state
+  pub left : ℕ
+  pub fewer : n ≡ suc left
+  pub completes : CompletesIn step entries (i ∷ to_come) state (effect.index ∷ taken) left
+
+-- what can be completed goes on by one step of these two
+pub goes_on : {S : Type 0} (step : S → Call × Reply → S → Type 0) (entries : List Observation) (i : ℕ)
+    (a : Observation) (to_come : List ℕ) (s : S) (taken : List ℕ) (n : ℕ) → IsAwaited entries i a →
+    CompletesIn step entries (i ∷ to_come) s taken n → GoesPast step entries i to_come s taken n ⊎
+    GoesOnBy step entries i a to_come s taken n
+goes_on {S} step entries i a to_come s taken n awaited can = which can.rest can.by can.steps (either_in taken i)
+  where
+    which : (rest : List Effect) → IsCompletedBy step entries (i ∷ to_come) s taken rest →
+        length (i ∷ to_come) + length rest ≡ n → Contains taken i ⊎ (¬ Contains taken i) →
+        GoesPast step entries i to_come s taken n ⊎ GoesOnBy step entries i a to_come s taken n
+    which rest by steps (inl has) = inl (record {
+      in_effect = has;
+      left = length to_come + length rest;
+      fewer = omega arith;
+      completes = record { rest = rest; by = past_return step entries i to_come s taken rest by; steps = refl };
+    })
+    which [] by steps (inr not_yet) = absurd (never_empty step entries i to_come s taken not_yet by)
+    which (x ∷ rest) by steps (inr not_yet) =
+        let first = takes_first step entries i a to_come s taken x rest awaited not_yet by in
+        inr (record {
+          awaited = not_yet;
+          effect = x;
+          state = first.0;
+          may = first.1.0;
+          left = length (i ∷ to_come) + length rest;
+          fewer = omega arith;
+          completes = record { rest = rest; by = first.1.1; steps = refl };
+        })
+
+-- a waiting node that can be completed, in no more steps
+pub record Waits {N : Type 0} (Hope : N → ℕ → Type 0) (Waiting : N → Type 0) (n : ℕ) : Type 0 where
+  pub node : N
+  pub steps : ℕ
+  pub waiting : Waiting node
+  pub no_more : steps ≤ n
+  pub hope : Hope node steps
+
+-- a node that comes next
+pub record Follows {N : Type 0} (Hope : N → ℕ → Type 0) (Next : N → Type 0) (n : ℕ) : Type 0 where
+  pub node : N
+  pub steps : ℕ
+  pub next : Next node
+  pub fewer : suc steps ≤ n
+  pub hope : Hope node steps
+
+-- of each node that was seen and can be completed some waiting node can, in no more steps
+pub record LosesNothing {N : Type 0} (Hope : N → ℕ → Type 0) (Seen Waiting : N → Type 0) : Type 0 where
+  pub kept : (u : N) (n : ℕ) → Seen u → Hope u n → Waits Hope Waiting n
+
+-- A node is taken from those that wait, and those that come next and were not seen are added to both. Steps
+-- fall, so a next node that was seen leads to another than the one taken
+pub node_kept : {N : Type 0} (Hope : N → ℕ → Type 0) (Seen Waiting Next New : N → Type 0) (v : N) →
+    LosesNothing Hope Seen (λ (w : N). (w ≡ v) ⊎ Waiting w) →
+    ((n : ℕ) → Hope v n → Follows Hope Next n) →
+    ((w : N) → Next w → Seen w ⊎ New w) →
+    LosesNothing Hope (λ (w : N). Seen w ⊎ New w) (λ (w : N). New w ⊎ Waiting w)
+node_kept {N} Hope Seen Waiting Next New v before expands known = record { kept = all }
+  where
+    bounded : (most : ℕ) (u : N) (n : ℕ) → n < most → Seen u → Hope u n → Waits Hope (λ (w : N). New w ⊎ Waiting w) n
+    bounded zero u n few seen hope = absurd (omega arith)
+    bounded (suc most) u n few seen hope = by (before.kept u n seen hope) (bounded most)
+      where
+        by : Waits Hope (λ (w : N). (w ≡ v) ⊎ Waiting w) n →
+            ((u : N) (n : ℕ) → n < most → Seen u → Hope u n → Waits Hope (λ (w : N). New w ⊎ Waiting w) n) →
+            Waits Hope (λ (w : N). New w ⊎ Waiting w) n
+        by waits again = which waits.waiting
+          where
+            after : (f : Follows Hope Next waits.steps) → Seen f.node ⊎ New f.node →
+                Waits Hope (λ (w : N). New w ⊎ Waiting w) n
+            after f (inr new) = record {
+              node = f.node;
+              steps = f.steps;
+              waiting = inl new;
+              no_more =
+                  omega (arith, f.fewer, waits.no_more);
+              hope = f.hope;
+            }
+            after f (inl seen) =
+                let w : Waits Hope (λ (w : N). New w ⊎ Waiting w) f.steps =
+                again f.node f.steps (omega (arith, f.fewer, waits.no_more)) seen f.hope in
+                record {
+                  node = w.node;
+                  steps = w.steps;
+                  waiting = w.waiting;
+                  no_more =
+                      omega (arith, w.no_more, f.fewer, waits.no_more);
+                  hope = w.hope;
+                }
+
+            which : (waits.node ≡ v) ⊎ Waiting waits.node → Waits Hope (λ (w : N). New w ⊎ Waiting w) n
+            which (inl same) =
+                let f : Follows Hope Next waits.steps = expands waits.steps
+                (subst (λ (w : N). Hope w waits.steps) same waits.hope) in
+                after f (known f.node f.next)
+            which (inr waiting) = record {
+              node = waits.node;
+              steps = waits.steps;
+              waiting = inr waiting;
+              no_more =
+                  waits.no_more;
+              hope = waits.hope;
+            }
+
+    all : (u : N) (n : ℕ) → Seen u ⊎ New u → Hope u n → Waits Hope (λ (w : N). New w ⊎ Waiting w) n
+    all u n (inl seen) hope = bounded (suc n) u n (omega arith) seen hope
+    all u n (inr new) hope = record { node = u; steps = n; waiting = inl new; no_more = omega arith; hope = hope }
+
+-- where none waits, none that was seen can be completed
+pub none_left : {N : Type 0} (Hope : N → ℕ → Type 0) (Seen Waiting : N → Type 0) → LosesNothing Hope Seen Waiting →
+    ((w : N) → ¬ Waiting w) → (u : N) (n : ℕ) → Seen u → ¬ Hope u n
+none_left Hope Seen Waiting keeps none u n seen hope = let w = keeps.kept u n seen hope in none w.node w.waiting

@@ -1,0 +1,41 @@
+-- What is known of a history at one of its returns, and the first return at which it is no longer explained.
+use Rattle.std.specs.Prelude.{ℕ, ◌≡◌, ◌+◌, ◌==◌, ◌&&◌, ◌||◌, nat_lt, Bool, false, List, [], ◌∷◌, slice_get}
+use Rattle.std.specs.Prelude.{Option, Some, None, if◌then◌else◌}
+use Rattle.stamp_explain.specs.declared.observed.Observation.{Observation}
+use Rattle.stamp_explain.specs.declared.observed.Returned.{Returned}
+use Rattle.stamp_explain.specs.Observed.{Observed}
+use Rattle.stamp_explain.specs.Explained.{IsExplained}
+
+-- entry i returned before this position, or at it and i is below the bound
+abbrev pub returned_by : ℕ → ℕ → ℕ → Option Returned → Bool
+returned_by last bound i None = false
+returned_by last bound i (Some r) = nat_lt r.last last || ((r.last == last) && nat_lt i bound)
+
+-- what returned later is still under way
+abbrev pub known_of : ℕ → ℕ → ℕ → Observation → Observation
+known_of last bound i e = if returned_by last bound i e.returned then e else record e { returned = None }
+
+abbrev pub known_from : ℕ → ℕ → ℕ → List Observation → List Observation
+known_from last bound i [] = []
+known_from last bound i (e ∷ es) = known_of last bound i e ∷ known_from last bound (i + 1) es
+
+-- the history as it is known then. A call that begins later is under way here too, which explains no more:
+-- all that returned is before it
+abbrev pub cut : ℕ → ℕ → Observed → Observed
+cut last bound h = record h { entries = known_from last bound 0 h.entries }
+
+-- as it is known when this entry has returned, and just before
+abbrev pub cut_after : Returned → ℕ → Observed → Observed
+cut_after r i h = cut r.last (i + 1) h
+
+abbrev pub cut_before : Returned → ℕ → Observed → Observed
+cut_before r i h = cut r.last i h
+
+-- the history is explained until this entry returns, and no longer
+pub record IsStuck (h : Observed) (i : ℕ) : Type 0 where
+  pub entry : Observation
+  pub return : Returned
+  pub is_entry : slice_get h.entries i ≡ Some entry
+  pub returned : entry.returned ≡ Some return
+  pub explained : IsExplained (cut_before return i h)
+  pub stuck : ¬ IsExplained (cut_after return i h)

@@ -1,0 +1,66 @@
+-- The laws of observed histories, over the definitions alone.
+use Rattle.std.specs.Prelude.{ℕ, ◌≡◌, ◌↔◌, true, false, List, [], ◌∷◌}
+use Rattle.stamp_core.specs.Limits.{Bounds}
+use Rattle.stamp_core.specs.declared.call.Call.{Call}
+use Rattle.stamp_core.specs.declared.reply.Reply.{Reply}
+use Rattle.stamp_explain.specs.declared.observed.Observation.{Observation}
+use Rattle.stamp_explain.specs.Observed.{Observed, IsObserved, HasReturned}
+use Rattle.stamp_explain.specs.Explained.{Effect, IsExplained}
+use Rattle.stamp_core.specs.Record.{Recorded}
+use Rattle.stamp_core.specs.Linearized.{IsLinearized}
+use Rattle.stamp_explain.specs.Points.{IsRecordOf}
+use Rattle.stamp_explain.specs.Cut.{cut, IsStuck}
+use Rattle.stamp_explain.specs.Search.{LockState, FindsOrder, CanComplete, MayTake, AreReturns, AreReturnsOf}
+use Rattle.stamp_explain.specs.Search.{LockSteps, LockAlone, RecordAlone, opening}
+use Rattle.stamp_core.specs.Content.{zeros}
+use Rattle.stamp_explain.specs.Observer.{changes_nothing}
+
+-- Each cut of an explained history is explained.
+abbrev pub CutsStayExplained : Type 0
+CutsStayExplained = (h : Observed) (last bound : ℕ) → IsExplained h → IsExplained (cut last bound h)
+
+-- What is explained is stuck nowhere.
+abbrev pub ExplainedIsNotStuck : Type 0
+ExplainedIsNotStuck = (h : Observed) (i : ℕ) → IsExplained h → ¬ IsStuck h i
+
+-- A history is stuck at one return at most.
+abbrev pub OneStuck : Type 0
+OneStuck = (h : Observed) (i j : ℕ) → IsStuck h i → IsStuck h j → i ≡ j
+
+-- Where each call takes effect no sooner than a return asks for it, an order is found exactly where there is one.
+abbrev pub JustInTime : Type 0
+JustInTime =
+    (h : Observed) (returns : List ℕ) → IsObserved h → AreReturns h.entries returns →
+    IsExplained h ↔ FindsOrder (LockSteps h.limits) h.entries returns (opening h.width) []
+
+-- A call whose reply tells that it changes nothing changes nothing.
+abbrev pub ObserversChangeNothing : Type 0
+ObserversChangeNothing =
+    (limits : Bounds) (call : Call) (reply : Reply) (s t : LockState) →
+    changes_nothing call reply ≡ true → LockSteps limits s (call, reply) t → t ≡ s
+
+-- So once it may take effect, nothing is lost if it does.
+abbrev pub ObserversAtOnce : Type 0
+ObserversAtOnce =
+    (limits : Bounds) (entries : List Observation) (awaited : Observation) (to_come : List ℕ) (s t : LockState)
+    (taken : List ℕ) (x : Effect) →
+    MayTake (LockSteps limits) entries awaited s taken x t → HasReturned x.entry →
+    changes_nothing x.entry.call x.reply ≡ true →
+    CanComplete (LockSteps limits) entries to_come s taken →
+    CanComplete (LockSteps limits) entries to_come s (x.index ∷ taken)
+
+-- A record of an observed history that is linearized explains it.
+abbrev pub PointsExplain : Type 0
+PointsExplain = (h : Observed) (r : Recorded) → IsRecordOf h r → IsLinearized r → IsExplained h
+
+-- And each one that is explained has such a record.
+abbrev pub ExplainedHasPoints : Type 0
+ExplainedHasPoints = (h : Observed) → IsObserved h → IsExplained h → (r : Recorded) × (IsRecordOf h r × IsLinearized r)
+
+-- Lock and record may be judged apart: linearizability is local.
+abbrev pub Locality : Type 0
+Locality =
+    (h : Observed) (locks records : List ℕ) → IsObserved h → AreReturnsOf h.entries true locks →
+    AreReturnsOf h.entries false records →
+    IsExplained h ↔ (CanComplete (LockAlone h.limits) h.entries locks [] [] ×
+    CanComplete RecordAlone h.entries records (zeros h.width) [])

@@ -1,0 +1,40 @@
+-- Observed histories: what each call was, when it began and, unless it is under way, when it returned and what.
+use Rattle.std.specs.Prelude.{ℕ, ◌≡◌, ◌≤◌, ◌<◌, ◌⊎◌, List, Some, MatchOption, IsTrue}
+use Rattle.std.specs.List.{All, AllPairs}
+use Rattle.stamp_core.specs.Call.{call_suits}
+use Rattle.stamp_core.specs.Limits.{Bounds}
+use Rattle.stamp_core.specs.declared.reply.Reply.{Reply}
+use Rattle.stamp_explain.specs.declared.observed.Observation.{Observation}
+use Rattle.stamp_explain.specs.declared.observed.Returned.{Returned}
+
+pub record Observed : Type 0 where
+  pub limits : Bounds
+  pub width : ℕ
+  pub entries : List Observation
+
+-- the one had returned when the other began
+abbrev pub IsBefore : Observation → Observation → Type 0
+IsBefore a b = MatchOption a.returned ⊥ (λ (r : Returned). r.last < b.first)
+
+-- the reply is that of the return; a call that is under way may have any
+abbrev pub MayReply : Observation → Reply → Type 0
+MayReply e reply = MatchOption e.returned (Unit {0}) (λ (r : Returned). r.reply ≡ reply)
+
+abbrev pub HasReturned : Observation → Type 0
+HasReturned e = (r : Returned) × (e.returned ≡ Some r)
+
+-- a call is not over before it began
+abbrev pub IsInterval : Observation → Type 0
+IsInterval e = MatchOption e.returned (Unit {0}) (λ (r : Returned). e.first ≤ r.last)
+
+-- calls of one thread do not overlap, in whichever order they are listed; so one that is under way is its
+-- thread's last
+abbrev pub DoNotOverlap : Observation → Observation → Type 0
+DoNotOverlap a b = a.thread ≡ b.thread → IsBefore a b ⊎ IsBefore b a
+
+-- what an observer may tell
+pub record IsObserved (h : Observed) : Type 0 where
+  pub intervals : All IsInterval h.entries
+  pub apart : AllPairs DoNotOverlap h.entries
+  pub threads : All (λ (e : Observation). e.thread < 64) h.entries
+  pub suit : All (λ (e : Observation). IsTrue (call_suits h.width e.call)) h.entries

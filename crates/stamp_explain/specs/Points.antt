@@ -1,0 +1,31 @@
+-- Which records, with a point for each call, are of an observed history. A position p becomes the moments 64
+-- p to 64 p + 63:
+-- a call begins at the first moment of its position and ends at the last of its, and points stand between
+use Rattle.std.specs.Prelude.{ℕ, ◌≡◌, ◌≢◌, ◌+◌, ◌*◌, List, [], slice_get, Some, MatchOption}
+use Rattle.std.specs.List.{AllPairs, AllZip, Contains}
+use Rattle.stamp_core.specs.Record.{Recorded}
+use Rattle.stamp_core.specs.declared.entry.Entry.{Entry}
+use Rattle.stamp_explain.specs.declared.observed.Observation.{Observation}
+use Rattle.stamp_explain.specs.declared.observed.Returned.{Returned}
+use Rattle.stamp_explain.specs.Observed.{Observed, HasReturned}
+
+-- an entry of a record, and the observed call of this index; one that is under way may end at any moment,
+-- with any reply
+pub record IsEntryOf (entries : List Observation) (i : ℕ) (e : Entry) : Type 0 where
+  pub observed : Observation
+  pub is_entry : slice_get entries i ≡ Some observed
+  pub thread : e.thread ≡ observed.thread
+  pub call : e.call ≡ observed.call
+  pub first : e.first ≡ 64 * observed.first
+  pub returned : MatchOption observed.returned (Unit {0}) (λ (r : Returned). (e.reply ≡ r.reply) ×
+      (e.last ≡ 64 * r.last + 63))
+
+-- a record of the returned calls, and of some under way
+pub record IsRecordOf (h : Observed) (r : Recorded) : Type 0 where
+  pub limits : r.limits ≡ h.limits
+  pub width : r.width ≡ h.width
+  pub report : r.report ≡ []
+  pub indices : List ℕ
+  pub entries : AllZip (IsEntryOf h.entries) indices r.entries
+  pub once : AllPairs (λ (i j : ℕ). i ≢ j) indices
+  pub returned : (i : ℕ) (e : Observation) → slice_get h.entries i ≡ Some e → HasReturned e → Contains indices i
