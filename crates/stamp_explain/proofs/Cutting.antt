@@ -11,7 +11,7 @@ use Rattle.stamp_core.specs.declared.call.Call.{Call}
 use Rattle.stamp_core.specs.declared.reply.Reply.{Reply}
 use Rattle.stamp_explain.specs.declared.observed.Observation.{Observation}
 use Rattle.stamp_explain.specs.declared.observed.Returned.{Returned}
-use Rattle.stamp_explain.specs.Observed.{Observed, IsBefore, MayReply}
+use Rattle.stamp_explain.specs.Observed.{ObservedHistory, IsBefore, MayReply}
 use Rattle.stamp_explain.specs.Explained.{Effect, IsEffectOf, history_of, indices_of, AreApart, RespectsBefore}
 use Rattle.stamp_explain.specs.Explained.{IsExplainedBy, IsExplained}
 use Rattle.stamp_explain.specs.Cut.{returned_by, known_from, cut, IsStuck}
@@ -110,7 +110,7 @@ same_history ks (x ∷ xs) each =
     ap (λ (h : History). (x.entry.call, x.reply) ∷ h) (same_history ks xs (All-tail (AreRelaxed ks) x xs each)) ∙
     ap (λ (o : Call). (o, x.reply) ∷ history_of (map (relaxed ks) xs)) (sym c)
 
-less_known : (h : Observed) (ks : List Observation) → AllZip IsLessKnown h.entries ks → IsExplained h →
+less_known : (h : ObservedHistory) (ks : List Observation) → AllZip IsLessKnown h.entries ks → IsExplained h →
     IsExplained (record h { entries = ks })
 unfolding relaxed
 less_known h ks all explained = record {
@@ -197,12 +197,12 @@ cuts_stay_explained h last bound explained = less_known h (known_from last bound
 pub explained_is_not_stuck : ExplainedIsNotStuck
 explained_is_not_stuck h i explained stuck = stuck.stuck (cuts_stay_explained h stuck.return.last (i + 1) explained)
 
-sooner_explained : (h : Observed) (l b m c : ℕ) → IsSooner l b m c → IsExplained (cut m c h) → IsExplained (cut l b h)
+sooner_explained : (h : ObservedHistory) (l b m c : ℕ) → IsSooner l b m c → IsExplained (cut m c h) → IsExplained (cut l b h)
 sooner_explained h l b m c sooner explained = less_known (cut m c h) (known_from l b 0 h.entries)
     (cuts_less l b m c 0 h.entries sooner) explained
 
 -- a return before one that is stuck isn't
-not_sooner : (h : Observed) (i j : ℕ) (a : IsStuck h i) (b : IsStuck h j) →
+not_sooner : (h : ObservedHistory) (i j : ℕ) (a : IsStuck h i) (b : IsStuck h j) →
     ¬ IsSooner a.return.last (i + 1) b.return.last j
 not_sooner h i j a b sooner = a.stuck (sooner_explained h a.return.last (i + 1) b.return.last j sooner b.explained)
 

@@ -14,13 +14,13 @@ use Rattle.stamp_core.specs.declared.call.Call.{Call}
 use Rattle.stamp_core.specs.declared.reply.Reply.{Reply}
 use Rattle.stamp_explain.specs.declared.observed.Observation.{Observation}
 use Rattle.stamp_explain.specs.declared.observed.Returned.{Returned}
-use Rattle.stamp_explain.specs.Observed.{Observed, IsBefore, HasReturned, IsInterval, IsObserved}
+use Rattle.stamp_explain.specs.Observed.{ObservedHistory, IsBefore, HasReturned, IsInterval, IsObserved}
 use Rattle.stamp_explain.specs.Explained.{Effect, history_of, indices_of, IsExplained}
 use Rattle.stamp_explain.specs.Search.{Runs, IsCompletedBy, CanComplete, FindsOrder, ReturnsNoLater, AreInOrder}
 use Rattle.stamp_explain.specs.Search.{IsReturnAt, LockState, opening, after_call, LockSteps}
 use Rattle.stamp_explain.specs.Search.FindsOrder.{at_end, returns, takes}
 use Rattle.stamp_explain.specs.ExplainLaws.{JustInTime}
-use Rattle.stamp_explain.proofs.Lists.{none_in_empty, contains_cases, pairs_head, pairs_tail, either_in}
+use Rattle.stamp_explain.proofs.Lists.{none_in_empty, contains_cases, contains_rest, pairs_head, pairs_tail, either_in}
 use Rattle.stamp_explain.proofs.Completing.{IsAwaited, IsFirstReturn, completed_by_none, past_return}
 use Rattle.stamp_explain.proofs.Completing.{before_return, takes_first, never_empty, puts_first}
 
@@ -64,7 +64,7 @@ pub record ArePending (entries : List Observation) (to_come : List ℕ) (taken :
       Contains to_come j
   pub in_order : AllPairs (AreInOrder entries) to_come
 
-no_later : (a b x : Observation) → ReturnsNoLater a b → IsBefore b x → IsBefore a x
+pub no_later : (a b x : Observation) → ReturnsNoLater a b → IsBefore b x → IsBefore a x
 no_later a b x le before = by a.returned b.returned le before
   where
     by : (q r : Option Returned) → MatchOption q ⊥ (λ (q : Returned). MatchOption r (Unit {0})
@@ -74,7 +74,7 @@ no_later a b x le before = by a.returned b.returned le before
     by (Some q) None le before = absurd before
     by (Some q) (Some r) le before = omega arith
 
-has_returned : (e x : Observation) → IsBefore e x → HasReturned e
+pub has_returned : (e x : Observation) → IsBefore e x → HasReturned e
 has_returned e x before = by e.returned refl before
   where
     by : (o : Option Returned) → e.returned ≡ o → MatchOption o ⊥ (λ (r : Returned). r.last < x.first) → HasReturned e
@@ -84,7 +84,7 @@ has_returned e x before = by e.returned refl before
 same_some : {X : Type 0} (x y : X) → Some x ≡ Some y → x ≡ y
 same_some x y e = cc
 
-first_of_pending : (entries : List Observation) (i : ℕ) (a : Observation) (to_come taken : List ℕ) →
+pub first_of_pending : (entries : List Observation) (i : ℕ) (a : Observation) (to_come taken : List ℕ) →
     slice_get entries i ≡ Some a → ArePending entries (i ∷ to_come) taken → IsFirstReturn entries taken a
 first_of_pending entries i a to_come taken at pending j e x at_j not_yet before =
     by (contains_cases i to_come j (pending.whole j e at_j (has_returned e x before) not_yet))
@@ -94,6 +94,24 @@ first_of_pending entries i a to_come taken at pending j e x at_j not_yet before 
         (same_some e a (sym at_j ∙ ap (λ (k : ℕ). slice_get entries k) (sym same) ∙ at)) before
     by (inr has) = no_later a e x (All-contains (AreInOrder entries i) to_come j
         (pairs_head (AreInOrder entries) i to_come pending.in_order) has a e at at_j) before
+
+pub past_pending : (entries : List Observation) (i : ℕ) (to_come taken : List ℕ) → Contains taken i →
+    ArePending entries (i ∷ to_come) taken → ArePending entries to_come taken
+past_pending entries i to_come taken has pending = record {
+  whole = λ j e at back not_yet. other (contains_cases i to_come j (pending.whole j e at back not_yet)) not_yet;
+  in_order = pairs_tail (AreInOrder entries) i to_come pending.in_order;
+}
+  where
+    other : {j : ℕ} → (i ≡ j) ⊎ Contains to_come j → ¬ Contains taken j → Contains to_come j
+    other (inl e) not_yet = absurd (not_yet (subst (λ (k : ℕ). Contains taken k) e has))
+    other (inr found) not_yet = found
+
+pub taken_pending : (entries : List Observation) (to_come taken : List ℕ) (x : ℕ) → ArePending entries to_come taken →
+    ArePending entries to_come (x ∷ taken)
+taken_pending entries to_come taken x pending = record {
+  whole = λ j e at back misses. pending.whole j e at back (λ has. misses (contains_rest x taken j has));
+  in_order = pending.in_order;
+}
 
 -- what is found completes
 pub completes : {S : Type 0} (step : S → Call × Reply → S → Type 0) (entries : List Observation) {to_come : List ℕ}
@@ -149,7 +167,7 @@ legal_runs limits events content (x ∷ xs) runs = (
 )
 
 -- an interval does not end before it begins
-not_before_itself : (e : Observation) → IsInterval e → ¬ IsBefore e e
+pub not_before_itself : (e : Observation) → IsInterval e → ¬ IsBefore e e
 not_before_itself e le before = by e.returned le before
   where
     by : (o : Option Returned) → MatchOption o (Unit {0}) (λ (r : Returned). e.first ≤ r.last) →
@@ -157,7 +175,7 @@ not_before_itself e le before = by e.returned le before
     by None le before = before
     by (Some r) le before = omega arith
 
-sound_return : (h : Observed) (i : ℕ) → IsObserved h → IsReturnAt h.entries i → IsSoundReturn h.entries i
+pub sound_return : (h : ObservedHistory) (i : ℕ) → IsObserved h → IsReturnAt h.entries i → IsSoundReturn h.entries i
 sound_return h i observed r = record {
   entry = r.entry;
   awaited = record {

@@ -20,7 +20,7 @@ use Rattle.stamp_core.specs.declared.call.Call.TheVariants.{Get, Put, PutIf}
 use Rattle.stamp_core.specs.declared.reply.Reply.{Reply}
 use Rattle.stamp_explain.specs.declared.observed.Observation.{Observation}
 use Rattle.stamp_explain.specs.declared.observed.Returned.{Returned}
-use Rattle.stamp_explain.specs.Observed.{Observed, IsBefore, HasReturned, IsInterval, IsObserved}
+use Rattle.stamp_explain.specs.Observed.{ObservedHistory, IsBefore, HasReturned, IsInterval, IsObserved}
 use Rattle.stamp_explain.specs.Explained.{Effect, IsEffectOf, history_of, indices_of, AreApart, RespectsBefore}
 use Rattle.stamp_explain.specs.Explained.{IsExplained}
 use Rattle.stamp_explain.specs.Search.{Runs, IsCompletedBy, CanComplete, IsReturnOf, LockAlone, RecordAlone}
@@ -153,14 +153,14 @@ merges (suc n) (x ∷ xs) (y ∷ ys) few a b p q =
         }
 
 -- lock and record do not touch one another
-lock_leaves : (content : List ℕ) (call : Call) (reply : Reply) → is_lock_call call ≡ true →
+pub lock_leaves : (content : List ℕ) (call : Call) (reply : Reply) → is_lock_call call ≡ true →
     content_next content call reply ≡ content
 lock_leaves content Get reply lock = refl
 lock_leaves content (Put words) reply lock = absurd (true≢false (sym lock))
 lock_leaves content (PutIf expected words) reply lock = absurd (true≢false (sym lock))
 lock_leaves content _ reply lock = refl
 
-record_appends : (limits : Bounds) (events : List LockEvent) (call : Call) → is_lock_call call ≡ false →
+pub record_appends : (limits : Bounds) (events : List LockEvent) (call : Call) → is_lock_call call ≡ false →
     events ++ appended_by (transition limits events call) ≡ events
 record_appends limits events Get guarded = append-nil events
 record_appends limits events (Put words) guarded = append-nil events
@@ -301,7 +301,7 @@ other_kind hs x y x_is y_is lock guarded same =
     y_is.is_entry) in
     true≢false (sym lock ∙ ap (λ (o : Observation). is_lock_call o.call) it ∙ guarded)
 
-sound_of : (h : Observed) (xs : List Effect) → IsObserved h → All (IsEffectOf h.entries) xs → All IsSound xs
+sound_of : (h : ObservedHistory) (xs : List Effect) → IsObserved h → All (IsEffectOf h.entries) xs → All IsSound xs
 sound_of h xs observed all = All-weaker (IsEffectOf h.entries) IsSound
     (λ x is. subst IsInterval (get_or_from_slice_get h.entries x.index x.entry x.entry is.is_entry)
     (observed.intervals x.index x.entry (slice_get_within h.entries x.index x.entry is.is_entry))) xs all

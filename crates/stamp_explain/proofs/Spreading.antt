@@ -16,7 +16,7 @@ use Rattle.stamp_core.specs.declared.call.Call.{Call}
 use Rattle.stamp_core.specs.declared.reply.Reply.{Reply}
 use Rattle.stamp_explain.specs.declared.observed.Observation.{Observation}
 use Rattle.stamp_explain.specs.declared.observed.Returned.{Returned}
-use Rattle.stamp_explain.specs.Observed.{Observed, IsBefore, IsInterval, DoNotOverlap, IsObserved}
+use Rattle.stamp_explain.specs.Observed.{ObservedHistory, IsBefore, IsInterval, DoNotOverlap, IsObserved}
 use Rattle.stamp_explain.specs.Explained.{Effect, IsEffectOf, history_of, indices_of, AreApart, RespectsBefore}
 use Rattle.stamp_explain.specs.Explained.{IsExplainedBy}
 use Rattle.stamp_explain.specs.Points.{IsEntryOf, IsRecordOf}
@@ -276,7 +276,7 @@ apart_indices (x ∷ xs) once = pairs_cons (λ (i j : ℕ). i ≢ j) x.index (in
     (apart_indices xs (pairs_tail AreApart x xs once))
 
 -- the entries of two effects do not overlap
-overlaps : (h : Observed) (x y : Effect) → IsObserved h → IsEffectOf h.entries x → IsEffectOf h.entries y →
+overlaps : (h : ObservedHistory) (x y : Effect) → IsObserved h → IsEffectOf h.entries x → IsEffectOf h.entries y →
     AreApart x y → DoNotOverlap x.entry y.entry
 overlaps h x y observed x_is y_is apart = by (cases_order x.index y.index)
   where
@@ -299,7 +299,7 @@ overlaps h x y observed x_is y_is apart = by (cases_order x.index y.index)
     by (inr (inl less)) = in_order x y x_is y_is less
     by (inr (inr less)) = λ thread. swap (in_order y x y_is x_is less (sym thread))
 
-known_of : (h : Observed) (x : Effect) → IsObserved h → IsEffectOf h.entries x → IsKnown x
+known_of : (h : ObservedHistory) (x : Effect) → IsObserved h → IsEffectOf h.entries x → IsKnown x
 known_of h x observed is =
     let lt : x.index < length h.entries = slice_get_within h.entries x.index x.entry is.is_entry in
     let same : get_or h.entries x.index x.entry ≡ x.entry = get_or_from_slice_get h.entries x.index x.entry x.entry

@@ -3,7 +3,7 @@ use Rattle.std.specs.Prelude.{ℕ, ◌≡◌, ◌+◌, ◌==◌, ◌&&◌, ◌||
 use Rattle.std.specs.Prelude.{Option, Some, None, if◌then◌else◌}
 use Rattle.stamp_explain.specs.declared.observed.Observation.{Observation}
 use Rattle.stamp_explain.specs.declared.observed.Returned.{Returned}
-use Rattle.stamp_explain.specs.Observed.{Observed}
+use Rattle.stamp_explain.specs.Observed.{ObservedHistory}
 use Rattle.stamp_explain.specs.Explained.{IsExplained}
 
 -- entry i returned before this position, or at it and i is below the bound
@@ -21,18 +21,18 @@ known_from last bound i (e ∷ es) = known_of last bound i e ∷ known_from last
 
 -- the history as it is known then. A call that begins later is under way here too, which explains no more:
 -- all that returned is before it
-abbrev pub cut : ℕ → ℕ → Observed → Observed
+abbrev pub cut : ℕ → ℕ → ObservedHistory → ObservedHistory
 cut last bound h = record h { entries = known_from last bound 0 h.entries }
 
 -- as it is known when this entry has returned, and just before
-abbrev pub cut_after : Returned → ℕ → Observed → Observed
+abbrev pub cut_after : Returned → ℕ → ObservedHistory → ObservedHistory
 cut_after r i h = cut r.last (i + 1) h
 
-abbrev pub cut_before : Returned → ℕ → Observed → Observed
+abbrev pub cut_before : Returned → ℕ → ObservedHistory → ObservedHistory
 cut_before r i h = cut r.last i h
 
 -- the history is explained until this entry returns, and no longer
-pub record IsStuck (h : Observed) (i : ℕ) : Type 0 where
+pub record IsStuck (h : ObservedHistory) (i : ℕ) : Type 0 where
   pub entry : Observation
   pub return : Returned
   pub is_entry : slice_get h.entries i ≡ Some entry

@@ -4,7 +4,7 @@ use Rattle.stamp_core.specs.Limits.{Bounds}
 use Rattle.stamp_core.specs.declared.call.Call.{Call}
 use Rattle.stamp_core.specs.declared.reply.Reply.{Reply}
 use Rattle.stamp_explain.specs.declared.observed.Observation.{Observation}
-use Rattle.stamp_explain.specs.Observed.{Observed, IsObserved, HasReturned}
+use Rattle.stamp_explain.specs.Observed.{ObservedHistory, IsObserved, HasReturned}
 use Rattle.stamp_explain.specs.Explained.{Effect, IsExplained}
 use Rattle.stamp_core.specs.Record.{Recorded}
 use Rattle.stamp_core.specs.Linearized.{IsLinearized}
@@ -17,20 +17,20 @@ use Rattle.stamp_explain.specs.Observer.{changes_nothing}
 
 -- Each cut of an explained history is explained.
 abbrev pub CutsStayExplained : Type 0
-CutsStayExplained = (h : Observed) (last bound : ℕ) → IsExplained h → IsExplained (cut last bound h)
+CutsStayExplained = (h : ObservedHistory) (last bound : ℕ) → IsExplained h → IsExplained (cut last bound h)
 
 -- What is explained is stuck nowhere.
 abbrev pub ExplainedIsNotStuck : Type 0
-ExplainedIsNotStuck = (h : Observed) (i : ℕ) → IsExplained h → ¬ IsStuck h i
+ExplainedIsNotStuck = (h : ObservedHistory) (i : ℕ) → IsExplained h → ¬ IsStuck h i
 
 -- A history is stuck at one return at most.
 abbrev pub OneStuck : Type 0
-OneStuck = (h : Observed) (i j : ℕ) → IsStuck h i → IsStuck h j → i ≡ j
+OneStuck = (h : ObservedHistory) (i j : ℕ) → IsStuck h i → IsStuck h j → i ≡ j
 
 -- Where each call takes effect no sooner than a return asks for it, an order is found exactly where there is one.
 abbrev pub JustInTime : Type 0
 JustInTime =
-    (h : Observed) (returns : List ℕ) → IsObserved h → AreReturns h.entries returns →
+    (h : ObservedHistory) (returns : List ℕ) → IsObserved h → AreReturns h.entries returns →
     IsExplained h ↔ FindsOrder (LockSteps h.limits) h.entries returns (opening h.width) []
 
 -- A call whose reply tells that it changes nothing changes nothing.
@@ -51,16 +51,16 @@ ObserversAtOnce =
 
 -- A record of an observed history that is linearized explains it.
 abbrev pub PointsExplain : Type 0
-PointsExplain = (h : Observed) (r : Recorded) → IsRecordOf h r → IsLinearized r → IsExplained h
+PointsExplain = (h : ObservedHistory) (r : Recorded) → IsRecordOf h r → IsLinearized r → IsExplained h
 
 -- And each one that is explained has such a record.
 abbrev pub ExplainedHasPoints : Type 0
-ExplainedHasPoints = (h : Observed) → IsObserved h → IsExplained h → (r : Recorded) × (IsRecordOf h r × IsLinearized r)
+ExplainedHasPoints = (h : ObservedHistory) → IsObserved h → IsExplained h → (r : Recorded) × (IsRecordOf h r × IsLinearized r)
 
 -- Lock and record may be judged apart: linearizability is local.
 abbrev pub Locality : Type 0
 Locality =
-    (h : Observed) (locks records : List ℕ) → IsObserved h → AreReturnsOf h.entries true locks →
+    (h : ObservedHistory) (locks records : List ℕ) → IsObserved h → AreReturnsOf h.entries true locks →
     AreReturnsOf h.entries false records →
     IsExplained h ↔ (CanComplete (LockAlone h.limits) h.entries locks [] [] ×
     CanComplete RecordAlone h.entries records (zeros h.width) [])

@@ -5,7 +5,7 @@ use Rattle.std.specs.List.{All, AllPairs, Contains}
 use Rattle.stamp_core.specs.History.{History, IsLegal}
 use Rattle.stamp_core.specs.declared.reply.Reply.{Reply}
 use Rattle.stamp_explain.specs.declared.observed.Observation.{Observation}
-use Rattle.stamp_explain.specs.Observed.{Observed, IsBefore, MayReply, HasReturned}
+use Rattle.stamp_explain.specs.Observed.{ObservedHistory, IsBefore, MayReply, HasReturned}
 
 -- a call that takes effect: where it stands in the history, and its reply
 pub record Effect : Type 0 where
@@ -32,7 +32,7 @@ RespectsBefore earlier later = ¬ IsBefore later.entry earlier.entry
 
 -- each call takes effect once at most, and each that returned does; what had returned before another began
 -- comes before it; the history in this order is legal
-pub record IsExplainedBy (h : Observed) (order : List Effect) : Type 0 where
+pub record IsExplainedBy (h : ObservedHistory) (order : List Effect) : Type 0 where
   pub effects : All (IsEffectOf h.entries) order
   pub once : AllPairs AreApart order
   pub returned : (i : ℕ) (e : Observation) → slice_get h.entries i ≡ Some e → HasReturned e →
@@ -40,6 +40,6 @@ pub record IsExplainedBy (h : Observed) (order : List Effect) : Type 0 where
   pub ordered : AllPairs RespectsBefore order
   pub legal : IsLegal h.limits h.width (history_of order)
 
-pub record IsExplained (h : Observed) : Type 0 where
+pub record IsExplained (h : ObservedHistory) : Type 0 where
   pub order : List Effect
   pub by : IsExplainedBy h order

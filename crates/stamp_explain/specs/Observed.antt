@@ -1,5 +1,5 @@
--- Observed histories: what each call was, when it began and, unless it is under way, when it returned and what.
-use Rattle.std.specs.Prelude.{ℕ, ◌≡◌, ◌≤◌, ◌<◌, ◌⊎◌, List, Some, MatchOption, IsTrue}
+-- ObservedHistory histories: what each call was, when it began and, unless it is under way, when it returned and what.
+use Rattle.std.specs.Prelude.{ℕ, ◌≡◌, ◌≤◌, ◌<◌, ◌⊎◌, List, length, Some, MatchOption, IsTrue}
 use Rattle.std.specs.List.{All, AllPairs}
 use Rattle.stamp_core.specs.Call.{call_suits}
 use Rattle.stamp_core.specs.Limits.{Bounds}
@@ -7,10 +7,18 @@ use Rattle.stamp_core.specs.declared.reply.Reply.{Reply}
 use Rattle.stamp_explain.specs.declared.observed.Observation.{Observation}
 use Rattle.stamp_explain.specs.declared.observed.Returned.{Returned}
 
-pub record Observed : Type 0 where
+pub record ObservedHistory : Type 0 where
   pub limits : Bounds
   pub width : ℕ
   pub entries : List Observation
+
+abbrev pub observed_as : Bounds → ℕ → List Observation → ObservedHistory
+observed_as limits width entries = record { limits = limits; width = width; entries = entries }
+
+-- at most 640,000 calls, beside a record of at most 16 words
+pub record IsSmall (h : ObservedHistory) : Type 0 where
+  pub width : h.width ≤ 16
+  pub entries : length h.entries ≤ 640000
 
 -- the one had returned when the other began
 abbrev pub IsBefore : Observation → Observation → Type 0
@@ -33,7 +41,7 @@ abbrev pub DoNotOverlap : Observation → Observation → Type 0
 DoNotOverlap a b = a.thread ≡ b.thread → IsBefore a b ⊎ IsBefore b a
 
 -- what an observer may tell
-pub record IsObserved (h : Observed) : Type 0 where
+pub record IsObserved (h : ObservedHistory) : Type 0 where
   pub intervals : All IsInterval h.entries
   pub apart : AllPairs DoNotOverlap h.entries
   pub threads : All (λ (e : Observation). e.thread < 64) h.entries

@@ -7,7 +7,7 @@ use Rattle.stamp_core.specs.Record.{Recorded}
 use Rattle.stamp_core.specs.declared.entry.Entry.{Entry}
 use Rattle.stamp_explain.specs.declared.observed.Observation.{Observation}
 use Rattle.stamp_explain.specs.declared.observed.Returned.{Returned}
-use Rattle.stamp_explain.specs.Observed.{Observed, HasReturned}
+use Rattle.stamp_explain.specs.Observed.{ObservedHistory, HasReturned}
 
 -- an entry of a record, and the observed call of this index; one that is under way may end at any moment,
 -- with any reply
@@ -21,7 +21,7 @@ pub record IsEntryOf (entries : List Observation) (i : ℕ) (e : Entry) : Type 0
       (e.last ≡ 64 * r.last + 63))
 
 -- a record of the returned calls, and of some under way
-pub record IsRecordOf (h : Observed) (r : Recorded) : Type 0 where
+pub record IsRecordOf (h : ObservedHistory) (r : Recorded) : Type 0 where
   pub limits : r.limits ≡ h.limits
   pub width : r.width ≡ h.width
   pub report : r.report ≡ []

@@ -1,0 +1,21 @@
+//! Where a search for an order is.
+
+use stamp_core::Reply;
+
+/// A configuration: how many returns are past, the number of the lock's word, the entry whose words
+/// the record holds (none: zeros), and as bits the threads whose open call has taken effect.
+#[derive(Clone, Copy, Debug, PartialEq, Eq)]
+pub(crate) struct Node {
+    pub(crate) past: usize,
+    pub(crate) bits: u64,
+    pub(crate) writer: Option<usize>,
+    pub(crate) threads: u64,
+}
+
+/// What a call does: the number of the word and the writer afterwards, and the reply.
+#[derive(Clone, Copy, Debug, PartialEq, Eq)]
+pub(crate) struct Step {
+    pub(crate) bits: u64,
+    pub(crate) writer: Option<usize>,
+    pub(crate) reply: Reply,
+}

@@ -1,0 +1,122 @@
+//! What lock and record do at one call.
+ghost use Rattle.std.specs.Prelude.{◌≡◌, ◌<◌, ◌≤◌, ◌↔◌, IsTrue, MatchOption, Some, false, slice_get, length};
+ghost use Rattle.stamp_core.specs.Word.{IsAdmitted, word_at};
+ghost use Rattle.stamp_core.specs.Call.{is_lock_call, call_suits};
+ghost use Rattle.stamp_explain.specs.Observed.{MayReply};
+ghost use Rattle.stamp_explain.specs.Stepping.{LockGoes, RecordGoes};
+ghost use Rattle.stamp_explain.specs.Node.{content_by, HasGone, IsAt};
+ghost use Rattle.stamp_explain.specs.Search.{LockState};
+
+use crate::node::Step;
+use crate::observed::{Observation, Observed};
+use stamp_core::{Call, Limits, Reply, Words, step};
+
+/// Whether the observation allows this reply.
+fn may_reply(entry: &Observation, reply: &Reply) -> bool
+    ensures { IsTrue result ↔ MayReply entry.now reply.now }
+{
+    match &entry.returned {
+        None => true,
+        Some(returned) => returned.reply.is_same(reply),
+    }
+}
+
+/// The number of the word after a call of the lock, and the reply, where the observation allows it.
+fn lock_step(limits: Limits, bits: u64, entry: &Observation) -> Option<(u64, Reply)>
+    requires admitted { IsAdmitted limits (word_at limits bits) }
+    requires lock { IsTrue (is_lock_call entry.now.call) }
+    ensures { LockGoes limits bits entry.now result }
+{
+    let (next, reply) = step(limits, limits.word(bits), entry.call)?;
+    if may_reply(entry, &reply) {
+        Some((next.bits(), reply))
+    } else {
+        None
+    }
+}
+
+/// The words that the record holds after the put of this entry; zeros after none.
+fn content_of(observed: &Observed, writer: Option<usize>) -> Words
+    requires { 0 < observed.now.width }
+    ensures { result ≡ content_by observed.now.width observed.now.entries writer }
+{
+    let zeros = Words::zeros(observed.width() as usize);
+    let Some(i) = writer else {
+        return zeros;
+    };
+    match observed.entries().get(i) {
+        None => zeros,
+        Some(entry) => match entry.call {
+            Call::Put(words) => words,
+            Call::PutIf(_, words) => words,
+            _ => zeros,
+        },
+    }
+}
+
+/// Whose words the record holds after a call of it, and the reply, where the observation allows it.
+fn record_step(
+    observed: &Observed,
+    writer: Option<usize>,
+    i: usize,
+    entry: &Observation,
+) -> Option<(Option<usize>, Reply)>
+    requires some { 0 < observed.now.width }
+    requires entry { slice_get observed.now.entries i ≡ Some entry.now }
+    ensures { RecordGoes observed.now.width observed.now.entries writer entry.now result }
+{
+    let content = content_of(observed, writer);
+    let (next, reply) = match entry.call {
+        Call::Get => (writer, Reply::Content(content)),
+        Call::Put(_) => (Some(i), Reply::Done),
+        Call::PutIf(expected, _) => {
+            if content.is_same(&expected) {
+                (Some(i), Reply::Yes)
+            } else {
+                (writer, Reply::No)
+            }
+        }
+        _ => return None,
+    };
+    if may_reply(entry, &reply) {
+        Some((next, reply))
+    } else {
+        None
+    }
+}
+
+/// What the call of entry `i` does, where the observation allows its reply.
+pub(crate) fn step_of(
+    observed: &Observed,
+    bits: u64,
+    writer: Option<usize>,
+    i: usize,
+) -> Option<Step>
+    requires admitted { IsAdmitted observed.now.limits (word_at observed.now.limits bits) }
+    requires inside { i < length observed.now.entries }
+    requires suits { (e : Observation) → slice_get observed.now.entries i ≡ Some e
+        → IsTrue (call_suits observed.now.width e.call) }
+    ensures { (e : Observation) (s : LockState) → slice_get observed.now.entries i ≡ Some e
+        → IsAt observed.now bits writer s → HasGone observed.now e s result }
+{
+    let entry = &observed.entries()[i];
+    if entry.call.is_lock_call() {
+        match lock_step(observed.limits(), bits, entry) {
+            Some((next, reply)) => Some(Step {
+                bits: next,
+                writer,
+                reply,
+            }),
+            None => None,
+        }
+    } else {
+        match record_step(observed, writer, i, entry) {
+            Some((next, reply)) => Some(Step {
+                bits,
+                writer: next,
+                reply,
+            }),
+            None => None,
+        }
+    }
+}

@@ -1,0 +1,44 @@
+//! The configurations that a search has seen.
+ghost use Rattle.std.specs.Prelude.{◌≡◌, [], IfOk};
+ghost use Rattle.stamp_explain.specs.Store.{Keeps, IsStored, key_of};
+
+use crate::node::Node;
+use std::alloc::{AllocError, Global};
+use std::collections::HashSet;
+
+/// The nodes in the order in which they were seen, and the same as a set.
+#[derive(Drop)]
+pub(crate) struct Store {
+    pub(crate) nodes: Vec<Node>,
+    pub(crate) known: HashSet<(usize, u64, Option<usize>, u64)>,
+}
+
+fn key(node: Node) -> (usize, u64, Option<usize>, u64)
+    ensures { result ≡ key_of node }
+{
+    (node.past, node.bits, node.writer, node.threads)
+}
+
+impl Store {
+    pub(crate) fn new(alloc: Global) -> Store
+        ensures nodes { result.nodes.items ≡ [] }
+        ensures keeps { Keeps result }
+    {
+        Store {
+            nodes: Vec::new(alloc),
+            known: HashSet::new(alloc),
+        }
+    }
+
+    /// Adds a node, unless it is there: whether it was added.
+    pub(crate) fn add(&mut self, node: Node) -> Result<bool, AllocError>
+        requires { Keeps self.old }
+        ensures { IfOk result (λ added. IsStored self.old self.new node added) }
+    {
+        if !self.known.insert(key(node))? {
+            return Ok(false);
+        }
+        self.nodes.push(node)?;
+        Ok(true)
+    }
+}
