@@ -197,7 +197,8 @@ cuts_stay_explained h last bound explained = less_known h (known_from last bound
 pub explained_is_not_stuck : ExplainedIsNotStuck
 explained_is_not_stuck h i explained stuck = stuck.stuck (cuts_stay_explained h stuck.return.last (i + 1) explained)
 
-sooner_explained : (h : ObservedHistory) (l b m c : ℕ) → IsSooner l b m c → IsExplained (cut m c h) → IsExplained (cut l b h)
+sooner_explained : (h : ObservedHistory) (l b m c : ℕ) → IsSooner l b m c → IsExplained (cut m c h) →
+    IsExplained (cut l b h)
 sooner_explained h l b m c sooner explained = less_known (cut m c h) (known_from l b 0 h.entries)
     (cuts_less l b m c 0 h.entries sooner) explained
 

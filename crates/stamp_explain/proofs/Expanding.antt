@@ -1,5 +1,7 @@
 -- How a search goes on from a node.
-use Rattle.std.proofs.Common.{◌≡◌, ◌≢◌, ◌⊎◌, ℕ, ◌+◌, ◌<◌, ◌≤◌, zero, suc, Bool, true, false, List, [], ◌∷◌, ◌++◌, length, get_or, refl, sym, ◌∙◌, ap, subst, inl, inr, arith, Option, None, Some, if◌then◌else◌}
+use Rattle.std.proofs.Common.{◌≡◌, ◌≢◌, ◌⊎◌, ℕ, ◌+◌, ◌<◌, ◌≤◌, zero, suc, Bool, true, false, List, [], ◌∷◌}
+use Rattle.std.proofs.Common.{◌++◌, length, get_or, refl, sym, ◌∙◌, ap, subst, inl, inr, arith, Option, None}
+use Rattle.std.proofs.Common.{Some, if◌then◌else◌}
 use Rattle.std.specs.Prelude.{slice_get, slice_index, take, drop, MatchOption}
 use Rattle.std.specs.Bool.{MatchBool}
 use Rattle.std.specs.List.{All, AllPairs, Contains}
@@ -31,7 +33,8 @@ use Rattle.stamp_explain.proofs.Finding.{no_later, has_returned, not_before_itse
 use Rattle.stamp_explain.proofs.Standing.{AreOrderly, one_next, taken_by_bit, taken_more}
 
 -- what holds of each holds of the one at a place
-pub at_place : (P : Observation → Type 0) (es : List Observation) (i : ℕ) (e : Observation) → All P es → slice_get es i ≡ Some e → P e
+pub at_place : (P : Observation → Type 0) (es : List Observation) (i : ℕ) (e : Observation) → All P es →
+    slice_get es i ≡ Some e → P e
 at_place P es i e all at = subst P (get_or_from_slice_get es i e e at) (all i e (slice_get_within es i e at))
 
 pub orderly : (h : ObservedHistory) → IsObserved h → AreOrderly h.entries
@@ -44,23 +47,27 @@ orderly h observed = record {
     sides : (i j : ℕ) → i ≢ j → (i < j) ⊎ (j < i)
     sides i j other = grind arith
 
-    pair : (i j : ℕ) (e f : Observation) → slice_get h.entries i ≡ Some e → slice_get h.entries j ≡ Some f → i < j → DoNotOverlap e f
+    pair : (i j : ℕ) (e f : Observation) → slice_get h.entries i ≡ Some e → slice_get h.entries j ≡ Some f → i < j →
+        DoNotOverlap e f
     pair i j e f at_i at_j lt =
         subst (λ (o : Observation). DoNotOverlap o f) (get_or_from_slice_get h.entries i e e at_i)
-        (subst (λ (o : Observation). DoNotOverlap (get_or h.entries i e) o) (get_or_from_slice_get h.entries j f e at_j)
+        (subst (λ (o : Observation). DoNotOverlap (get_or h.entries i e) o)
+        (get_or_from_slice_get h.entries j f e at_j)
         (observed.apart i j e lt (slice_get_within h.entries j f at_j)))
 
     turned : {A B : Type 0} → A ⊎ B → B ⊎ A
     turned (inl a) = inr a
     turned (inr b) = inl b
 
-    which : (i j : ℕ) (e f : Observation) → slice_get h.entries i ≡ Some e → slice_get h.entries j ≡ Some f → (i < j) ⊎ (j < i) → e.thread ≡ f.thread → IsBefore e f ⊎ IsBefore f e
+    which : (i j : ℕ) (e f : Observation) → slice_get h.entries i ≡ Some e → slice_get h.entries j ≡ Some f →
+        (i < j) ⊎ (j < i) → e.thread ≡ f.thread → IsBefore e f ⊎ IsBefore f e
     which i j e f at_i at_j (inl lt) same = pair i j e f at_i at_j lt same
     which i j e f at_i at_j (inr lt) same = turned (pair j i f e at_j at_i lt (sym same))
 
 -- the element read does not depend on what would be read past the end
 same_read : (xs : List ℕ) (k d e : ℕ) → k < length xs → get_or xs k d ≡ get_or xs k e
-same_read xs k d e lt = same_Some (get_or xs k d) (get_or xs k e) (sym (slice_get-get_or xs k d lt) ∙ slice_get-get_or xs k e lt)
+same_read xs k d e lt = same_Some (get_or xs k d) (get_or xs k e) (sym (slice_get-get_or xs k d lt) ∙
+    slice_get-get_or xs k e lt)
 
 pub in_take : (xs : List ℕ) (n k j : ℕ) → k < n → n ≤ length xs → get_or xs k j ≡ j → Contains (take n xs) j
 in_take xs n k j lt le is =
@@ -68,7 +75,10 @@ in_take xs n k j lt le is =
     (k, lt_take, get_or-take n xs k j lt ∙ is)
 
 -- a call that had returned before another began, which the awaited one had not, is past
-pub sooner_past : (entries : List Observation) (returns : List ℕ) (past : ℕ) (a : Observation) → AreReturns entries returns → past < length returns → slice_get entries (get_or returns past 0) ≡ Some a → (j : ℕ) (f x : Observation) → slice_get entries j ≡ Some f → IsBefore f x → ¬ IsBefore a x → Contains (take past returns) j
+pub sooner_past : (entries : List Observation) (returns : List ℕ) (past : ℕ) (a : Observation) →
+    AreReturns entries returns → past < length returns → slice_get entries (get_or returns past 0) ≡ Some a →
+    (j : ℕ) (f x : Observation) → slice_get entries j ≡ Some f → IsBefore f x → ¬ IsBefore a x →
+    Contains (take past returns) j
 sooner_past entries returns past a are lt at j f x at_j before not = by (are.whole j f at_j (has_returned f x before))
   where
     by : Contains returns j → Contains (take past returns) j
@@ -80,32 +90,45 @@ sooner_past entries returns past a are lt at j f x at_j before not = by (are.who
         which : (k < past) ⊎ ((k ≡ past) ⊎ (past < k)) → Contains (take past returns) j
         which (inl less) = let le : past ≤ length returns = omega arith in in_take returns past k j less le is
         which (inr (inl same)) =
-            let here : get_or returns past 0 ≡ j = same_read returns past 0 j lt ∙ ap (λ (n : ℕ). get_or returns n j) (sym same) ∙ is in
+            let here : get_or returns past 0 ≡ j = same_read returns past 0 j lt ∙
+            ap (λ (n : ℕ). get_or returns n j) (sym same) ∙ is in
             let both : a ≡ f = same_Some a f (sym at ∙ ap (λ (n : ℕ). slice_get entries n) here ∙ at_j) in
             absurd (not (subst (λ (o : Observation). IsBefore o x) (sym both) before))
         which (inr (inr more)) =
-            let first : slice_get entries (get_or returns past j) ≡ Some a = ap (λ (n : ℕ). slice_get entries n) (same_read returns past j 0 lt) ∙ at in
-            let second : slice_get entries (get_or returns k j) ≡ Some f = ap (λ (n : ℕ). slice_get entries n) is ∙ at_j in
+            let first : slice_get entries (get_or returns past j) ≡ Some a =
+            ap (λ (n : ℕ). slice_get entries n) (same_read returns past j 0 lt) ∙ at in
+            let second : slice_get entries (get_or returns k j) ≡ Some f = ap (λ (n : ℕ). slice_get entries n) is ∙
+            at_j in
             absurd (not (no_later a f x (are.in_order past k j more within a f first second) before))
 
 -- a call that may take effect is the next of its thread
-pub next_may : (h : ObservedHistory) (returns : List ℕ) (past threads : ℕ) (a : Observation) (s u : LockState) (taken : List ℕ) (x : Effect) → IsObserved h → AreReturns h.entries returns → past < length returns → slice_get h.entries (get_or returns past 0) ≡ Some a → AreTaken h.entries (take past returns) threads taken → MayTake (LockSteps h.limits) h.entries a s taken x u → IsNext h.entries (take past returns) x.index x.entry
+pub next_may : (h : ObservedHistory) (returns : List ℕ) (past threads : ℕ) (a : Observation) (s u : LockState)
+    (taken : List ℕ) (x : Effect) → IsObserved h → AreReturns h.entries returns → past < length returns →
+    slice_get h.entries (get_or returns past 0) ≡ Some a → AreTaken h.entries (take past returns) threads taken →
+    MayTake (LockSteps h.limits) h.entries a s taken x u → IsNext h.entries (take past returns) x.index x.entry
 next_may h returns past threads a s u taken x observed are lt at in_effect may = record {
   is_entry = may.effect.is_entry;
   still = λ found. may.fresh (in_effect.all_past x.index found);
-  first = λ j f at_j same misses other. by j f at_j misses ((orderly h observed).apart x.index j x.entry f may.effect.is_entry at_j (λ e. other (sym e)) (sym same));
+  first = λ j f at_j same misses other. by j f at_j misses ((orderly h observed).apart x.index j x.entry f
+      may.effect.is_entry at_j (λ e. other (sym e)) (sym same));
 }
   where
-    by : (j : ℕ) (f : Observation) → slice_get h.entries j ≡ Some f → ¬ Contains (take past returns) j → IsBefore x.entry f ⊎ IsBefore f x.entry → IsBefore x.entry f
+    by : (j : ℕ) (f : Observation) → slice_get h.entries j ≡ Some f → ¬ Contains (take past returns) j →
+        IsBefore x.entry f ⊎ IsBefore f x.entry → IsBefore x.entry f
     by j f at_j misses (inl before) = before
-    by j f at_j misses (inr before) = absurd (misses (sooner_past h.entries returns past a are lt at j f x.entry at_j before may.begun))
+    by j f at_j misses (inr before) = absurd (misses (sooner_past h.entries returns past a are lt at j f x.entry
+        at_j before may.begun))
 
 -- and so is the awaited one
-pub next_awaited : (h : ObservedHistory) (returns : List ℕ) (past : ℕ) (a : Observation) → IsObserved h → AreReturns h.entries returns → AllPairs (λ (i j : ℕ). i ≢ j) returns → past < length returns → slice_get h.entries (get_or returns past 0) ≡ Some a → IsNext h.entries (take past returns) (get_or returns past 0) a
+pub next_awaited : (h : ObservedHistory) (returns : List ℕ) (past : ℕ) (a : Observation) → IsObserved h →
+    AreReturns h.entries returns → AllPairs (λ (i j : ℕ). i ≢ j) returns → past < length returns →
+    slice_get h.entries (get_or returns past 0) ≡ Some a → IsNext h.entries (take past returns)
+    (get_or returns past 0) a
 next_awaited h returns past a observed are once lt at = record {
   is_entry = at;
   still = still;
-  first = λ j f at_j same misses other. by j f at_j misses ((orderly h observed).apart (get_or returns past 0) j a f at at_j (λ e. other (sym e)) (sym same));
+  first = λ j f at_j same misses other. by j f at_j misses ((orderly h observed).apart (get_or returns past 0) j a f
+      at at_j (λ e. other (sym e)) (sym same));
 }
   where
     still : Contains (take past returns) (get_or returns past 0) → ⊥
@@ -113,9 +136,11 @@ next_awaited h returns past a observed are once lt at = record {
         let le : past ≤ length returns = omega arith in
         let less : k < past = omega (arith, length-take-le past returns le) in
         once k past (get_or returns past 0) less lt
-        (sym (get_or-take past returns k (get_or returns past 0) less) ∙ is ∙ same_read returns past 0 (get_or returns past 0) lt)
+        (sym (get_or-take past returns k (get_or returns past 0) less) ∙ is ∙
+        same_read returns past 0 (get_or returns past 0) lt)
 
-    by : (j : ℕ) (f : Observation) → slice_get h.entries j ≡ Some f → ¬ Contains (take past returns) j → IsBefore a f ⊎ IsBefore f a → IsBefore a f
+    by : (j : ℕ) (f : Observation) → slice_get h.entries j ≡ Some f → ¬ Contains (take past returns) j →
+        IsBefore a f ⊎ IsBefore f a → IsBefore a f
     by j f at_j misses (inl before) = before
     by j f at_j misses (inr before) =
         absurd (misses (sooner_past h.entries returns past a are lt at j f a at_j before
@@ -126,77 +151,117 @@ one_of_lock : (o : Option Transition) (p q : Reply) → Replies o p → Replies 
 one_of_lock None p q is also = absurd is
 one_of_lock (Some t) p q is also = sym is ∙ also
 
-one_of_record : (content : List ℕ) (call : Call) (p q : Reply) → RecordReplies content call p → RecordReplies content call q → p ≡ q
+one_of_record : (content : List ℕ) (call : Call) (p q : Reply) → RecordReplies content call p →
+    RecordReplies content call q → p ≡ q
 one_of_record content Get p q is also = is ∙ sym also
 one_of_record content (Put words) p q is also = is ∙ sym also
 one_of_record content (PutIf expected words) p q is also = is ∙ sym also
 one_of_record content _ p q is also = absurd is
 
-pub one_reply : (limits : Bounds) (events : List LockEvent) (content : List ℕ) (call : Call) (p q : Reply) → IsReply limits events content call p → IsReply limits events content call q → p ≡ q
+pub one_reply : (limits : Bounds) (events : List LockEvent) (content : List ℕ) (call : Call) (p q : Reply) →
+    IsReply limits events content call p → IsReply limits events content call q → p ≡ q
 one_reply limits events content call p q is also = by (is_lock_call call) is also
   where
-    by : (b : Bool) → MatchBool b (Replies (transition limits events call) p) (RecordReplies content call p) → MatchBool b (Replies (transition limits events call) q) (RecordReplies content call q) → p ≡ q
+    by : (b : Bool) → MatchBool b (Replies (transition limits events call) p) (RecordReplies content call p) →
+        MatchBool b (Replies (transition limits events call) q) (RecordReplies content call q) → p ≡ q
     by true is also = one_of_lock (transition limits events call) p q is also
     by false is also = one_of_record content call p q is also
 
 -- what is known where a thread's call is tried
-pub record Trying (h : ObservedHistory) (returns : List ℕ) (node : Node) (a : Observation) (thread : ℕ) (s : LockState) (taken : List ℕ) : Type 0 where
+pub record Trying (h : ObservedHistory) (returns : List ℕ) (node : Node) (a : Observation) (thread : ℕ)
+    (s : LockState) (taken : List ℕ) : Type 0 where
   pub observed : IsObserved h
   pub are : AreReturns h.entries returns
   pub inside : node.past < length returns
   pub at : slice_get h.entries (get_or returns node.past 0) ≡ Some a
   pub stands : StandsFor h returns node s taken
 
-next_of : (h : ObservedHistory) (returns : List ℕ) (node : Node) (a : Observation) (thread : ℕ) (s u : LockState) (taken : List ℕ) (x : Effect) → Trying h returns node a thread s taken → MayTake (LockSteps h.limits) h.entries a s taken x u → IsNext h.entries (take node.past returns) x.index x.entry
-next_of h returns node a thread s u taken x is may = next_may h returns node.past node.threads a s u taken x is.observed is.are is.inside is.at is.stands.in_effect may
+next_of : (h : ObservedHistory) (returns : List ℕ) (node : Node) (a : Observation) (thread : ℕ) (s u : LockState)
+    (taken : List ℕ) (x : Effect) → Trying h returns node a thread s taken →
+    MayTake (LockSteps h.limits) h.entries a s taken x u → IsNext h.entries (take node.past returns) x.index x.entry
+next_of h returns node a thread s u taken x is may = next_may h returns node.past node.threads a s u taken x
+    is.observed is.are is.inside is.at is.stands.in_effect may
 
 -- a call of the thread is in effect
-pub none_by_bit : (h : ObservedHistory) (returns : List ℕ) (node : Node) (a : Observation) (thread : ℕ) (s : LockState) (taken : List ℕ) → Trying h returns node a thread s taken → bit_at node.threads thread ≡ 1 → Takes h returns node a thread s taken None
+pub none_by_bit : (h : ObservedHistory) (returns : List ℕ) (node : Node) (a : Observation) (thread : ℕ)
+    (s : LockState) (taken : List ℕ) → Trying h returns node a thread s taken → bit_at node.threads thread ≡ 1 →
+    Takes h returns node a thread s taken None
 none_by_bit h returns node a thread s taken is bit x u may same =
-    may.fresh (is.stands.in_effect.each_next x.index x.entry (next_of h returns node a thread s u taken x is may) (ap (λ (t : ℕ). bit_at node.threads t) same ∙ bit))
+    may.fresh (is.stands.in_effect.each_next x.index x.entry (next_of h returns node a thread s u taken x is may)
+    (ap (λ (t : ℕ). bit_at node.threads t) same ∙ bit))
 
 -- all of its calls are past
-pub none_by_past : (h : ObservedHistory) (returns : List ℕ) (node : Node) (a : Observation) (thread : ℕ) (s : LockState) (taken : List ℕ) → Trying h returns node a thread s taken → IsNextOf h.entries (take node.past returns) thread None → Takes h returns node a thread s taken None
+pub none_by_past : (h : ObservedHistory) (returns : List ℕ) (node : Node) (a : Observation) (thread : ℕ)
+    (s : LockState) (taken : List ℕ) → Trying h returns node a thread s taken →
+    IsNextOf h.entries (take node.past returns) thread None → Takes h returns node a thread s taken None
 none_by_past h returns node a thread s taken is none x u may same =
     may.fresh (is.stands.in_effect.all_past x.index (none x.index x.entry may.effect.is_entry same))
 
 -- its next call begins later
-pub none_by_begin : (h : ObservedHistory) (returns : List ℕ) (node : Node) (a : Observation) (thread : ℕ) (s : LockState) (taken : List ℕ) (i first last : ℕ) → Trying h returns node a thread s taken → IsAwaitedAt h returns node.past last a → IsNextOf h.entries (take node.past returns) thread (Some (i, first)) → last < first → Takes h returns node a thread s taken None
+pub none_by_begin : (h : ObservedHistory) (returns : List ℕ) (node : Node) (a : Observation) (thread : ℕ)
+    (s : LockState) (taken : List ℕ) (i first last : ℕ) → Trying h returns node a thread s taken →
+    IsAwaitedAt h returns node.past last a → IsNextOf h.entries (take node.past returns) thread (Some (i, first)) →
+    last < first → Takes h returns node a thread s taken None
 none_by_begin h returns node a thread s taken i first last is awaited (e, (own, (begins, next))) later x u may same =
-    let index : x.index ≡ i = one_next h.entries (take node.past returns) x.index i x.entry e (orderly h is.observed) (next_of h returns node a thread s u taken x is may) next (same ∙ sym own) in
-    let entry : x.entry ≡ e = same_Some x.entry e (sym may.effect.is_entry ∙ ap (λ (k : ℕ). slice_get h.entries k) index ∙ next.is_entry) in
+    let index : x.index ≡ i = one_next h.entries (take node.past returns) x.index i x.entry e
+    (orderly h is.observed) (next_of h returns node a thread s u taken x is may) next (same ∙ sym own) in
+    let entry : x.entry ≡ e = same_Some x.entry e (sym may.effect.is_entry ∙
+    ap (λ (k : ℕ). slice_get h.entries k) index ∙ next.is_entry) in
     let then_first : x.entry.first ≡ first = ap (λ (o : Observation). o.first) entry ∙ begins in
     let less : awaited.returned.last < x.entry.first = omega (arith, then_first, awaited.at, later) in
-    may.begun (subst (λ (o : Option Returned). MatchOption o ⊥ (λ (r : Returned). r.last < x.entry.first)) (sym awaited.has) less)
+    may.begun (subst (λ (o : Option Returned). MatchOption o ⊥ (λ (r : Returned). r.last < x.entry.first))
+    (sym awaited.has) less)
 
 -- it gives another reply
-pub none_by_reply : (h : ObservedHistory) (returns : List ℕ) (node : Node) (a : Observation) (thread : ℕ) (s : LockState) (taken : List ℕ) (i first : ℕ) → Trying h returns node a thread s taken → IsNextOf h.entries (take node.past returns) thread (Some (i, first)) → ((e : Observation) → slice_get h.entries i ≡ Some e → HasGone h e s None) → Takes h returns node a thread s taken None
+pub none_by_reply : (h : ObservedHistory) (returns : List ℕ) (node : Node) (a : Observation) (thread : ℕ)
+    (s : LockState) (taken : List ℕ) (i first : ℕ) → Trying h returns node a thread s taken →
+    IsNextOf h.entries (take node.past returns) thread (Some (i, first)) →
+    ((e : Observation) → slice_get h.entries i ≡ Some e → HasGone h e s None) →
+    Takes h returns node a thread s taken None
 none_by_reply h returns node a thread s taken i first is (e, (own, (begins, next))) gone x u may same =
-    let index : x.index ≡ i = one_next h.entries (take node.past returns) x.index i x.entry e (orderly h is.observed) (next_of h returns node a thread s u taken x is may) next (same ∙ sym own) in
-    gone x.entry (ap (λ (k : ℕ). slice_get h.entries k) (sym index) ∙ may.effect.is_entry) x.reply u may.effect.replies may.steps
+    let index : x.index ≡ i = one_next h.entries (take node.past returns) x.index i x.entry e
+    (orderly h is.observed) (next_of h returns node a thread s u taken x is may) next (same ∙ sym own) in
+    gone x.entry (ap (λ (k : ℕ). slice_get h.entries k) (sym index) ∙ may.effect.is_entry) x.reply u
+    may.effect.replies may.steps
 
 -- it takes effect
-pub taken_to : (h : ObservedHistory) (returns : List ℕ) (node : Node) (a : Observation) (thread : ℕ) (s : LockState) (taken : List ℕ) (i first last threads : ℕ) (step : Step) → Trying h returns node a thread s taken → IsAwaitedAt h returns node.past last a → bit_at node.threads thread ≢ 1 → IsNextOf h.entries (take node.past returns) thread (Some (i, first)) → ¬ (last < first) → ((e : Observation) → slice_get h.entries i ≡ Some e → HasGone h e s (Some step)) → SetsBit node.threads threads thread → Takes h returns node a thread s taken (Some (record { past = node.past; bits = step.bits; writer = step.writer; threads = threads }))
-taken_to h returns node a thread s taken i first last threads step is awaited bit (e, (own, (begins, next))) begun gone sets = record {
-  past = refl;
-  effect = effect;
-  state = after_call h.limits s (e.call, step.reply);
-  may = record {
-    effect = record { is_entry = next.is_entry; replies = went.may };
-    fresh = λ has. bit (ap (λ (t : ℕ). bit_at node.threads t) (sym own) ∙ (taken_by_bit h.entries (take node.past returns) node.threads taken i e is.stands.in_effect next.is_entry next.still has).0);
-    begun = λ before. begun (later (subst (λ (o : Option Returned). MatchOption o ⊥ (λ (r : Returned). r.last < e.first)) awaited.has before));
-    steps = went.steps;
-  };
-  stands = stands i next.is_entry;
-  only = λ x u may same.
-      let index : x.index ≡ i = one_next h.entries (take node.past returns) x.index i x.entry e (orderly h is.observed) (next_of h returns node a thread s u taken x is may) next (same ∙ sym own) in
-      let entry : x.entry ≡ e = same_Some x.entry e (sym may.effect.is_entry ∙ ap (λ (k : ℕ). slice_get h.entries k) index ∙ next.is_entry) in
-      let steps : LockSteps h.limits s (e.call, x.reply) u = subst (λ (o : Observation). LockSteps h.limits s (o.call, x.reply) u) entry may.steps in
-      let reply : step.reply ≡ x.reply = one_reply h.limits s.0 s.1 e.call step.reply x.reply went.steps.replies steps.replies in
-      let state : after_call h.limits s (e.call, step.reply) ≡ u = ap (λ (r : Reply). after_call h.limits s (e.call, r)) reply ∙ sym steps.next in
-      subst (λ (t : LockState). StandsFor h returns made t (x.index ∷ taken)) state
-      (subst (λ (k : ℕ). StandsFor h returns made (after_call h.limits s (e.call, step.reply)) (k ∷ taken)) (sym index) (stands i next.is_entry));
-}
+pub taken_to : (h : ObservedHistory) (returns : List ℕ) (node : Node) (a : Observation) (thread : ℕ) (s : LockState)
+    (taken : List ℕ) (i first last threads : ℕ) (step : Step) → Trying h returns node a thread s taken →
+    IsAwaitedAt h returns node.past last a → bit_at node.threads thread ≢ 1 →
+    IsNextOf h.entries (take node.past returns) thread (Some (i, first)) → ¬ (last < first) →
+    ((e : Observation) → slice_get h.entries i ≡ Some e → HasGone h e s (Some step)) →
+    SetsBit node.threads threads thread → Takes h returns node a thread s taken
+    (Some (record { past = node.past; bits = step.bits; writer = step.writer; threads = threads }))
+taken_to h returns node a thread s taken i first last threads step is awaited bit (e, (own, (begins, next))) begun
+    gone sets = record {
+      past = refl;
+      effect = effect;
+      state = after_call h.limits s (e.call, step.reply);
+      may = record {
+        effect = record { is_entry = next.is_entry; replies = went.may };
+        fresh = λ has. bit (ap (λ (t : ℕ). bit_at node.threads t) (sym own) ∙
+            (taken_by_bit h.entries (take node.past returns) node.threads taken i e is.stands.in_effect next.is_entry
+            next.still has).0);
+        begun = λ before. begun (later (subst (λ (o : Option Returned). MatchOption o ⊥
+            (λ (r : Returned). r.last < e.first)) awaited.has before));
+        steps = went.steps;
+      };
+      stands = stands i next.is_entry;
+      only = λ x u may same.
+          let index : x.index ≡ i = one_next h.entries (take node.past returns) x.index i x.entry e
+          (orderly h is.observed) (next_of h returns node a thread s u taken x is may) next (same ∙ sym own) in
+          let entry : x.entry ≡ e = same_Some x.entry e (sym may.effect.is_entry ∙
+          ap (λ (k : ℕ). slice_get h.entries k) index ∙ next.is_entry) in
+          let steps : LockSteps h.limits s (e.call, x.reply) u =
+          subst (λ (o : Observation). LockSteps h.limits s (o.call, x.reply) u) entry may.steps in
+          let reply : step.reply ≡ x.reply = one_reply h.limits s.0 s.1 e.call step.reply x.reply went.steps.replies
+          steps.replies in
+          let state : after_call h.limits s (e.call, step.reply) ≡ u =
+          ap (λ (r : Reply). after_call h.limits s (e.call, r)) reply ∙ sym steps.next in
+          subst (λ (t : LockState). StandsFor h returns made t (x.index ∷ taken)) state
+          (subst (λ (k : ℕ). StandsFor h returns made (after_call h.limits s (e.call, step.reply)) (k ∷ taken))
+          (sym index) (stands i next.is_entry));
+    }
   where
     went : Goes h e s step
     went = gone e next.is_entry
@@ -210,8 +275,11 @@ taken_to h returns node a thread s taken i first last threads step is awaited bi
     later : awaited.returned.last < e.first → last < first
     later lt = omega (arith, awaited.at, begins, lt)
 
-    stands : (k : ℕ) → slice_get h.entries i ≡ Some e → StandsFor h returns made (after_call h.limits s (e.call, step.reply)) (i ∷ taken)
+    stands : (k : ℕ) → slice_get h.entries i ≡ Some e → StandsFor h returns made
+        (after_call h.limits s (e.call, step.reply)) (i ∷ taken)
     stands k at = record {
       at = went.at;
-      in_effect = taken_more h.entries (take node.past returns) node.threads threads taken i e (orderly h is.observed) is.stands.in_effect next (subst (λ (t : ℕ). SetsBit node.threads threads t) (sym own) sets);
+      in_effect = taken_more h.entries (take node.past returns) node.threads threads taken i e
+          (orderly h is.observed) is.stands.in_effect next (subst (λ (t : ℕ). SetsBit node.threads threads t)
+          (sym own) sets);
     }

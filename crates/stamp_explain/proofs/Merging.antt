@@ -226,7 +226,8 @@ splits limits events content (z ∷ zs) legal =
           record {
             lock = lock;
             replies = subst (λ (t : Bool). MatchBool t
-                (Replies (transition limits events z.entry.call) z.reply) (RecordReplies content z.entry.call z.reply)) lock
+                (Replies (transition limits events z.entry.call) z.reply)
+                (RecordReplies content z.entry.call z.reply)) lock
                 legal.0;
             appends = refl;
           },

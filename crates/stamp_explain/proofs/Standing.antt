@@ -1,5 +1,6 @@
 -- What a node stands for, and how it goes on: calls in effect by their threads.
-use Rattle.std.proofs.Common.{◌≡◌, ◌≢◌, ◌⊎◌, ℕ, ◌+◌, ◌<◌, ◌≤◌, zero, suc, List, [], ◌∷◌, ◌++◌, length, get_or, refl, sym, ◌∙◌, ap, subst, inl, inr, arith, Option, None, Some}
+use Rattle.std.proofs.Common.{◌≡◌, ◌≢◌, ◌⊎◌, ℕ, ◌+◌, ◌<◌, ◌≤◌, zero, suc, List, [], ◌∷◌, ◌++◌, length, get_or}
+use Rattle.std.proofs.Common.{refl, sym, ◌∙◌, ap, subst, inl, inr, arith, Option, None, Some}
 use Rattle.std.specs.Prelude.{slice_get, take, drop, MatchOption}
 use Rattle.std.specs.List.{All, AllPairs, Contains}
 use Rattle.std.specs.Int.{bit_at}
@@ -16,13 +17,17 @@ use Rattle.stamp_explain.proofs.Lists.{none_in_empty, contains_cases, contains_f
 pub record AreOrderly (entries : List Observation) : Type 0 where
   pub interval : (i : ℕ) (e : Observation) → slice_get entries i ≡ Some e → IsInterval e
   pub thread : (i : ℕ) (e : Observation) → slice_get entries i ≡ Some e → e.thread < 64
-  pub apart : (i j : ℕ) (e f : Observation) → slice_get entries i ≡ Some e → slice_get entries j ≡ Some f → i ≢ j → e.thread ≡ f.thread → IsBefore e f ⊎ IsBefore f e
+  pub apart : (i j : ℕ) (e f : Observation) → slice_get entries i ≡ Some e → slice_get entries j ≡ Some f → i ≢ j →
+      e.thread ≡ f.thread → IsBefore e f ⊎ IsBefore f e
 
 -- two calls are not each before the other
 pub not_both : (e f : Observation) → IsInterval e → IsInterval f → IsBefore e f → ¬ IsBefore f e
 not_both e f ie if_ ef fe = by e.returned f.returned ie if_ ef fe
   where
-    by : (p q : Option Returned) → MatchOption p (Unit {0}) (λ (r : Returned). e.first ≤ r.last) → MatchOption q (Unit {0}) (λ (r : Returned). f.first ≤ r.last) → MatchOption p ⊥ (λ (r : Returned). r.last < f.first) → MatchOption q ⊥ (λ (r : Returned). r.last < e.first) → ⊥
+    by : (p q : Option Returned) → MatchOption p (Unit {0}) (λ (r : Returned). e.first ≤ r.last) →
+        MatchOption q (Unit {0}) (λ (r : Returned). f.first ≤ r.last) →
+        MatchOption p ⊥ (λ (r : Returned). r.last < f.first) →
+        MatchOption q ⊥ (λ (r : Returned). r.last < e.first) → ⊥
     by None q ie if_ ef fe = ef
     by (Some p) None ie if_ ef fe = fe
     by (Some p) (Some q) ie if_ ef fe = omega arith
@@ -31,7 +36,8 @@ same_or_not : (i j : ℕ) → (i ≡ j) ⊎ (i ≢ j)
 same_or_not i j = grind arith
 
 -- a thread has one next call
-pub one_next : (entries : List Observation) (past : List ℕ) (i j : ℕ) (e f : Observation) → AreOrderly entries → IsNext entries past i e → IsNext entries past j f → e.thread ≡ f.thread → i ≡ j
+pub one_next : (entries : List Observation) (past : List ℕ) (i j : ℕ) (e f : Observation) → AreOrderly entries →
+    IsNext entries past i e → IsNext entries past j f → e.thread ≡ f.thread → i ≡ j
 one_next entries past i j e f orderly one other same = which (same_or_not i j)
   where
     which : (i ≡ j) ⊎ (i ≢ j) → i ≡ j
@@ -42,28 +48,39 @@ one_next entries past i j e f orderly one other same = which (same_or_not i j)
         (other.first i e one.is_entry same one.still ne))
 
 -- a call of the thread that is in effect and not past is the next one
-pub taken_by_bit : (entries : List Observation) (past : List ℕ) (threads : ℕ) (taken : List ℕ) (i : ℕ) (e : Observation) → AreTaken entries past threads taken → slice_get entries i ≡ Some e → ¬ Contains past i → Contains taken i → (bit_at threads e.thread ≡ 1) × IsNext entries past i e
+pub taken_by_bit : (entries : List Observation) (past : List ℕ) (threads : ℕ) (taken : List ℕ) (i : ℕ)
+    (e : Observation) → AreTaken entries past threads taken → slice_get entries i ≡ Some e → ¬ Contains past i →
+    Contains taken i → (bit_at threads e.thread ≡ 1) × IsNext entries past i e
 taken_by_bit entries past threads taken i e are at still has = which (are.only i e at has)
   where
-    which : Contains past i ⊎ ((bit_at threads e.thread ≡ 1) × IsNext entries past i e) → (bit_at threads e.thread ≡ 1) × IsNext entries past i e
+    which : Contains past i ⊎ ((bit_at threads e.thread ≡ 1) × IsNext entries past i e) →
+        (bit_at threads e.thread ≡ 1) × IsNext entries past i e
     which (inl is_past) = absurd (still is_past)
     which (inr both) = both
 
 -- the call that may take effect is in it now
-pub taken_more : (entries : List Observation) (past : List ℕ) (old new : ℕ) (taken : List ℕ) (i : ℕ) (e : Observation) → AreOrderly entries → AreTaken entries past old taken → IsNext entries past i e → SetsBit old new e.thread → AreTaken entries past new (i ∷ taken)
+pub taken_more : (entries : List Observation) (past : List ℕ) (old new : ℕ) (taken : List ℕ) (i : ℕ)
+    (e : Observation) → AreOrderly entries → AreTaken entries past old taken → IsNext entries past i e →
+    SetsBit old new e.thread → AreTaken entries past new (i ∷ taken)
 taken_more entries past old new taken i e orderly are next sets = record {
   only = λ j f at has. only j f at (contains_cases i taken j has);
   all_past = λ j has. contains_rest i taken j (are.all_past j has);
   each_next = λ j f is bit. each j f is bit (same_or_not f.thread e.thread);
 }
   where
-    only : (j : ℕ) (f : Observation) → slice_get entries j ≡ Some f → (i ≡ j) ⊎ Contains taken j → Contains past j ⊎ ((bit_at new f.thread ≡ 1) × IsNext entries past j f)
+    only : (j : ℕ) (f : Observation) → slice_get entries j ≡ Some f → (i ≡ j) ⊎ Contains taken j →
+        Contains past j ⊎ ((bit_at new f.thread ≡ 1) × IsNext entries past j f)
     only j f at (inl same) =
         let here : e ≡ f = same_Some e f (sym next.is_entry ∙ ap (λ (k : ℕ). slice_get entries k) same ∙ at) in
-        inr (ap (λ (o : Observation). bit_at new o.thread) (sym here) ∙ sets.here, subst (λ (k : ℕ). IsNext entries past k f) same (subst (λ (o : Observation). IsNext entries past i o) here next))
+        inr (
+          ap (λ (o : Observation). bit_at new o.thread) (sym here) ∙ sets.here,
+          subst (λ (k : ℕ). IsNext entries past k f) same
+              (subst (λ (o : Observation). IsNext entries past i o) here next),
+        )
     only j f at (inr has) = was (are.only j f at has)
       where
-        was : Contains past j ⊎ ((bit_at old f.thread ≡ 1) × IsNext entries past j f) → Contains past j ⊎ ((bit_at new f.thread ≡ 1) × IsNext entries past j f)
+        was : Contains past j ⊎ ((bit_at old f.thread ≡ 1) × IsNext entries past j f) →
+            Contains past j ⊎ ((bit_at new f.thread ≡ 1) × IsNext entries past j f)
         was (inl is_past) = inl is_past
         was (inr both) = inr (bit (same_or_not f.thread e.thread), both.1)
           where
@@ -71,12 +88,16 @@ taken_more entries past old new taken i e orderly are next sets = record {
             bit (inl same) = ap (λ (k : ℕ). bit_at new k) same ∙ sets.here
             bit (inr other) = sets.others f.thread (orderly.thread j f at) other ∙ both.0
 
-    each : (j : ℕ) (f : Observation) → IsNext entries past j f → bit_at new f.thread ≡ 1 → (f.thread ≡ e.thread) ⊎ (f.thread ≢ e.thread) → Contains (i ∷ taken) j
+    each : (j : ℕ) (f : Observation) → IsNext entries past j f → bit_at new f.thread ≡ 1 →
+        (f.thread ≡ e.thread) ⊎ (f.thread ≢ e.thread) → Contains (i ∷ taken) j
     each j f is bit (inl same) = contains_first i taken j (one_next entries past i j e f orderly next is (sym same))
-    each j f is bit (inr other) = contains_rest i taken j (are.each_next j f is (sym (sets.others f.thread (orderly.thread j f is.is_entry) other) ∙ bit))
+    each j f is bit (inr other) = contains_rest i taken j (are.each_next j f is
+        (sym (sets.others f.thread (orderly.thread j f is.is_entry) other) ∙ bit))
 
 -- a call in effect has returned
-pub taken_past : (entries : List Observation) (past : List ℕ) (old new : ℕ) (taken : List ℕ) (i : ℕ) (e : Observation) → AreOrderly entries → AreTaken entries past old taken → IsNext entries past i e → Contains taken i → ClearsBit old new e.thread → AreTaken entries (past ++ i ∷ []) new taken
+pub taken_past : (entries : List Observation) (past : List ℕ) (old new : ℕ) (taken : List ℕ) (i : ℕ)
+    (e : Observation) → AreOrderly entries → AreTaken entries past old taken → IsNext entries past i e →
+    Contains taken i → ClearsBit old new e.thread → AreTaken entries (past ++ i ∷ []) new taken
 taken_past entries past old new taken i e orderly are next has clears = record {
   only = λ j f at in_effect. only j f at (are.only j f at in_effect);
   all_past = λ j found. was (Contains-push_cases past i j found);
@@ -87,42 +108,54 @@ taken_past entries past old new taken i e orderly are next has clears = record {
     was {j} (inl is_past) = are.all_past j is_past
     was (inr same) = subst (λ (k : ℕ). Contains taken k) same has
 
-    later : (j : ℕ) (f : Observation) → f.thread ≢ e.thread → IsNext entries past j f → IsNext entries (past ++ i ∷ []) j f
+    later : (j : ℕ) (f : Observation) → f.thread ≢ e.thread → IsNext entries past j f →
+        IsNext entries (past ++ i ∷ []) j f
     later j f other is = record {
       is_entry = is.is_entry;
       still = λ found. not_yet (Contains-push_cases past i j found);
-      first = λ k g at same misses apart. is.first k g at same (λ found. misses (Contains-append_left past (i ∷ []) k found)) apart;
+      first = λ k g at same misses apart. is.first k g at same
+          (λ found. misses (Contains-append_left past (i ∷ []) k found)) apart;
     }
       where
         not_yet : Contains past j ⊎ (i ≡ j) → ⊥
         not_yet (inl found) = is.still found
         not_yet (inr same) =
-            let here : e ≡ f = same_Some e f (sym next.is_entry ∙ ap (λ (k : ℕ). slice_get entries k) same ∙ is.is_entry) in
+            let here : e ≡ f = same_Some e f (sym next.is_entry ∙ ap (λ (k : ℕ). slice_get entries k) same ∙
+            is.is_entry) in
             other (ap (λ (o : Observation). o.thread) (sym here))
 
-    sooner : (j : ℕ) (f : Observation) → f.thread ≢ e.thread → IsNext entries (past ++ i ∷ []) j f → IsNext entries past j f
+    sooner : (j : ℕ) (f : Observation) → f.thread ≢ e.thread → IsNext entries (past ++ i ∷ []) j f →
+        IsNext entries past j f
     sooner j f other is = record {
       is_entry = is.is_entry;
       still = λ found. is.still (Contains-append_left past (i ∷ []) j found);
-      first = λ k g at same misses apart. is.first k g at same (λ found. neither k g at same misses (Contains-push_cases past i k found)) apart;
+      first = λ k g at same misses apart. is.first k g at same
+          (λ found. neither k g at same misses (Contains-push_cases past i k found)) apart;
     }
       where
-        neither : (k : ℕ) (g : Observation) → slice_get entries k ≡ Some g → g.thread ≡ f.thread → ¬ Contains past k → Contains past k ⊎ (i ≡ k) → ⊥
+        neither : (k : ℕ) (g : Observation) → slice_get entries k ≡ Some g → g.thread ≡ f.thread →
+            ¬ Contains past k → Contains past k ⊎ (i ≡ k) → ⊥
         neither k g at same misses (inl found) = misses found
         neither k g at same misses (inr eq) =
             let here : e ≡ g = same_Some e g (sym next.is_entry ∙ ap (λ (m : ℕ). slice_get entries m) eq ∙ at) in
             other (sym same ∙ ap (λ (o : Observation). o.thread) (sym here))
 
-    only : (j : ℕ) (f : Observation) → slice_get entries j ≡ Some f → Contains past j ⊎ ((bit_at old f.thread ≡ 1) × IsNext entries past j f) → Contains (past ++ i ∷ []) j ⊎ ((bit_at new f.thread ≡ 1) × IsNext entries (past ++ i ∷ []) j f)
+    only : (j : ℕ) (f : Observation) → slice_get entries j ≡ Some f →
+        Contains past j ⊎ ((bit_at old f.thread ≡ 1) × IsNext entries past j f) →
+        Contains (past ++ i ∷ []) j ⊎ ((bit_at new f.thread ≡ 1) × IsNext entries (past ++ i ∷ []) j f)
     only j f at (inl is_past) = inl (Contains-append_left past (i ∷ []) j is_past)
     only j f at (inr both) = which (same_or_not f.thread e.thread)
       where
-        which : (f.thread ≡ e.thread) ⊎ (f.thread ≢ e.thread) → Contains (past ++ i ∷ []) j ⊎ ((bit_at new f.thread ≡ 1) × IsNext entries (past ++ i ∷ []) j f)
-        which (inl same) = inl (subst (λ (k : ℕ). Contains (past ++ i ∷ []) k) (one_next entries past i j e f orderly next both.1 (sym same)) (Contains-push past i))
+        which : (f.thread ≡ e.thread) ⊎ (f.thread ≢ e.thread) →
+            Contains (past ++ i ∷ []) j ⊎ ((bit_at new f.thread ≡ 1) × IsNext entries (past ++ i ∷ []) j f)
+        which (inl same) = inl (subst (λ (k : ℕ). Contains (past ++ i ∷ []) k)
+            (one_next entries past i j e f orderly next both.1 (sym same)) (Contains-push past i))
         which (inr other) = inr (clears.others f.thread (orderly.thread j f at) other ∙ both.0, later j f other both.1)
 
-    each : (j : ℕ) (f : Observation) → IsNext entries (past ++ i ∷ []) j f → bit_at new f.thread ≡ 1 → (f.thread ≡ e.thread) ⊎ (f.thread ≢ e.thread) → Contains taken j
+    each : (j : ℕ) (f : Observation) → IsNext entries (past ++ i ∷ []) j f → bit_at new f.thread ≡ 1 →
+        (f.thread ≡ e.thread) ⊎ (f.thread ≢ e.thread) → Contains taken j
     each j f is bit (inl same) =
         let zero_is : bit_at new f.thread ≡ 0 = ap (λ (k : ℕ). bit_at new k) same ∙ clears.here in
         absurd (omega (arith, zero_is, bit))
-    each j f is bit (inr other) = are.each_next j f (sooner j f other is) (sym (clears.others f.thread (orderly.thread j f is.is_entry) other) ∙ bit)
+    each j f is bit (inr other) = are.each_next j f (sooner j f other is)
+        (sym (clears.others f.thread (orderly.thread j f is.is_entry) other) ∙ bit)

@@ -1,5 +1,6 @@
 -- A set of nodes and the list of them.
-use Rattle.std.proofs.Common.{◌≡◌, ◌≢◌, ◌⊎◌, ℕ, ◌<◌, zero, suc, Bool, true, false, List, [], ◌∷◌, ◌++◌, length, get_or, refl, sym, ◌∙◌, ap, subst, inl, inr, arith, Option, None, Some}
+use Rattle.std.proofs.Common.{◌≡◌, ◌≢◌, ◌⊎◌, ℕ, ◌<◌, zero, suc, Bool, true, false, List, [], ◌∷◌, ◌++◌, length}
+use Rattle.std.proofs.Common.{get_or, refl, sym, ◌∙◌, ap, subst, inl, inr, arith, Option, None, Some}
 use Rattle.std.specs.Prelude.{◌&&◌, ◌==◌, nat_eq, not}
 use Rattle.std.specs.Cmp.{IsEquivalence}
 use Rattle.std.specs.Option.{option_eq}
@@ -40,7 +41,8 @@ exact_key a b h =
     let e1 : a.1 ≡ b.1 = same_number a.1 b.1 two.1 in
     let e2 : a.2 ≡ b.2 = same_option a.2 b.2 third.1 in
     let e3 : a.3 ≡ b.3 = same_number a.3 b.3 last.1 in
-    ap (λ (x : ℕ). (x, a.1, a.2, a.3)) e0 ∙ ap (λ (x : ℕ). (b.0, x, a.2, a.3)) e1 ∙ ap (λ (x : Option ℕ). (b.0, b.1, x, a.3)) e2 ∙ ap (λ (x : ℕ). (b.0, b.1, b.2, x)) e3
+    ap (λ (x : ℕ). (x, a.1, a.2, a.3)) e0 ∙ ap (λ (x : ℕ). (b.0, x, a.2, a.3)) e1 ∙
+    ap (λ (x : Option ℕ). (b.0, b.1, x, a.3)) e2 ∙ ap (λ (x : ℕ). (b.0, b.1, b.2, x)) e3
 
 back_option : (a : Option ℕ) → option_eq nat_eq a a ≡ true
 back_option None = refl
@@ -67,7 +69,8 @@ same_tests false false there back = refl
 same_key_laws : IsEquivalence same_key
 same_key_laws = record {
   refl = λ a. back_key a a refl;
-  symm = λ a b. same_tests (same_key a b) (same_key b a) (λ h. back_key b a (sym (exact_key a b h))) (λ h. back_key a b (sym (exact_key b a h)));
+  symm = λ a b. same_tests (same_key a b) (same_key b a) (λ h. back_key b a (sym (exact_key a b h)))
+      (λ h. back_key a b (sym (exact_key b a h)));
   congr = λ a b c h. ap (λ (k : Key). same_key k c) (exact_key a b h);
 }
 
@@ -77,32 +80,60 @@ exact_node v w h =
     let e1 : v.bits ≡ w.bits = ap (λ (k : Key). k.1) h in
     let e2 : v.writer ≡ w.writer = ap (λ (k : Key). k.2) h in
     let e3 : v.threads ≡ w.threads = ap (λ (k : Key). k.3) h in
-    ap (λ (x : ℕ). record v { past = x }) e0 ∙ ap (λ (x : ℕ). record { past = w.past; bits = x; writer = v.writer; threads = v.threads }) e1 ∙ ap (λ (x : Option ℕ). record { past = w.past; bits = w.bits; writer = x; threads = v.threads }) e2 ∙ ap (λ (x : ℕ). record { past = w.past; bits = w.bits; writer = w.writer; threads = x }) e3
+    ap (λ (x : ℕ). record v { past = x }) e0 ∙ ap (λ (x : ℕ). record {
+      past = w.past;
+      bits = x;
+      writer = v.writer;
+      threads = v.threads;
+    }) e1 ∙ ap (λ (x : Option ℕ). record {
+      past = w.past;
+      bits = w.bits;
+      writer = x;
+      threads = v.threads;
+    }) e2 ∙ ap (λ (x : ℕ). record {
+      past = w.past;
+      bits = w.bits;
+      writer = w.writer;
+      threads = x;
+    }) e3
 
-pub stored : (old new : Store) (node : Node) → Keeps old → new.nodes.items ≡ old.nodes.items ++ node ∷ [] → IsPermutation (key_of node ∷ old.known.keys) new.known.keys → ¬ Contains old.known.keys (key_of node) → IsStored old new node true
+pub stored : (old new : Store) (node : Node) → Keeps old → new.nodes.items ≡ old.nodes.items ++ node ∷ [] →
+    IsPermutation (key_of node ∷ old.known.keys) new.known.keys → ¬ Contains old.known.keys (key_of node) →
+    IsStored old new node true
 stored old new node keeps is moved misses = record {
   keeps = record {
-    listed = λ w has. subst (λ (ws : List Node). Contains ws w) (sym is) (listed w (contains_cases (key_of node) old.known.keys (key_of w) (Contains-permutation new.known.keys (key_of node ∷ old.known.keys) (key_of w) (IsPermutation-sym (key_of node ∷ old.known.keys) new.known.keys moved) has)));
-    known = λ w has. Contains-permutation (key_of node ∷ old.known.keys) new.known.keys (key_of w) moved (known w (Contains-push_cases old.nodes.items node w (subst (λ (ws : List Node). Contains ws w) is has)));
-    different = subst (AllPairs (λ (v w : Node). v ≢ w)) (sym is) (all_pairs_push (λ (v w : Node). v ≢ w) old.nodes.items node keeps.different
-        (λ k d lt same. misses (subst (λ (w : Node). Contains old.known.keys (key_of w)) same (keeps.known (get_or old.nodes.items k d) (Contains-get_or old.nodes.items k d lt)))));
+    listed = λ w has. subst (λ (ws : List Node). Contains ws w) (sym is)
+        (listed w (contains_cases (key_of node) old.known.keys (key_of w)
+        (Contains-permutation new.known.keys (key_of node ∷ old.known.keys) (key_of w)
+        (IsPermutation-sym (key_of node ∷ old.known.keys) new.known.keys moved) has)));
+    known = λ w has. Contains-permutation (key_of node ∷ old.known.keys) new.known.keys (key_of w) moved
+        (known w (Contains-push_cases old.nodes.items node w (subst (λ (ws : List Node). Contains ws w) is has)));
+    different = subst (AllPairs (λ (v w : Node). v ≢ w)) (sym is)
+        (all_pairs_push (λ (v w : Node). v ≢ w) old.nodes.items node keeps.different
+        (λ k d lt same. misses (subst (λ (w : Node). Contains old.known.keys (key_of w)) same
+        (keeps.known (get_or old.nodes.items k d) (Contains-get_or old.nodes.items k d lt)))));
   };
   nodes = is;
 }
   where
-    listed : (w : Node) → (key_of node ≡ key_of w) ⊎ Contains old.known.keys (key_of w) → Contains (old.nodes.items ++ node ∷ []) w
-    listed w (inl same) = subst (λ (v : Node). Contains (old.nodes.items ++ node ∷ []) v) (exact_node node w same) (Contains-push old.nodes.items node)
+    listed : (w : Node) → (key_of node ≡ key_of w) ⊎ Contains old.known.keys (key_of w) →
+        Contains (old.nodes.items ++ node ∷ []) w
+    listed w (inl same) = subst (λ (v : Node). Contains (old.nodes.items ++ node ∷ []) v) (exact_node node w same)
+        (Contains-push old.nodes.items node)
     listed w (inr has) = Contains-append_left old.nodes.items (node ∷ []) w (keeps.listed w has)
 
     known : (w : Node) → Contains old.nodes.items w ⊎ (node ≡ w) → Contains (key_of node ∷ old.known.keys) (key_of w)
     known w (inl has) = contains_rest (key_of node) old.known.keys (key_of w) (keeps.known w has)
     known w (inr same) = contains_first (key_of node) old.known.keys (key_of w) (ap key_of same)
 
-pub not_stored : (old new : Store) (node : Node) → Keeps old → new.nodes.items ≡ old.nodes.items → new.known.keys ≡ old.known.keys → Contains old.known.keys (key_of node) → IsStored old new node false
+pub not_stored : (old new : Store) (node : Node) → Keeps old → new.nodes.items ≡ old.nodes.items →
+    new.known.keys ≡ old.known.keys → Contains old.known.keys (key_of node) → IsStored old new node false
 not_stored old new node keeps is same has = record {
   keeps = record {
-    listed = λ w found. subst (λ (ws : List Node). Contains ws w) (sym is) (keeps.listed w (subst (λ (ks : List Key). Contains ks (key_of w)) same found));
-    known = λ w found. subst (λ (ks : List Key). Contains ks (key_of w)) (sym same) (keeps.known w (subst (λ (ws : List Node). Contains ws w) is found));
+    listed = λ w found. subst (λ (ws : List Node). Contains ws w) (sym is)
+        (keeps.listed w (subst (λ (ks : List Key). Contains ks (key_of w)) same found));
+    known = λ w found. subst (λ (ks : List Key). Contains ks (key_of w)) (sym same)
+        (keeps.known w (subst (λ (ws : List Node). Contains ws w) is found));
     different = subst (AllPairs (λ (v w : Node). v ≢ w)) (sym is) keeps.different;
   };
   nodes = (is, keeps.listed node has);

@@ -1,5 +1,7 @@
 -- The nodes that come next.
-use Rattle.std.proofs.Common.{◌≡◌, ◌≢◌, ◌⊎◌, ℕ, ◌+◌, ◌<◌, ◌≤◌, zero, suc, Bool, true, false, List, [], ◌∷◌, ◌++◌, length, get_or, refl, sym, ◌∙◌, ap, subst, inl, inr, arith, Option, None, Some}
+use Rattle.std.proofs.Common.{◌≡◌, ◌≢◌, ◌⊎◌, ℕ, ◌+◌, ◌<◌, ◌≤◌, zero, suc, Bool, true, false, List, [], ◌∷◌}
+use Rattle.std.proofs.Common.{◌++◌, length, get_or, refl, sym, ◌∙◌, ap, subst, inl, inr, arith, Option, None}
+use Rattle.std.proofs.Common.{Some}
 use Rattle.std.specs.Prelude.{slice_get, slice_index, take, drop, MatchOption}
 use Rattle.std.specs.List.{All, AllPairs, Contains}
 use Rattle.std.specs.Int.{bit_at}
@@ -31,37 +33,68 @@ pub record Tries (h : ObservedHistory) (returns : List ℕ) (node : Node) (last 
       Tried h returns node a s taken k nexts
 
 pub none_tried : (h : ObservedHistory) (returns : List ℕ) (node : Node) (last : ℕ) → Tries h returns node last 0 []
-none_tried h returns node last = record { tried = λ a s taken awaited not_yet stands. record {
-  each = λ w has. absurd (none_in_empty w has);
-  whole = λ x u may lt. absurd (omega (arith, lt));
-} }
+none_tried h returns node last = record {
+  tried = λ a s taken awaited not_yet stands. record {
+    each = λ w has. absurd (none_in_empty w has);
+    whole = λ x u may lt. absurd (omega (arith, lt));
+  };
+}
 
 last_or_less : (n k : ℕ) → n < k + 1 → (n < k) ⊎ (n ≡ k)
 last_or_less n k lt = grind arith
 
-pub tried_none : (h : ObservedHistory) (returns : List ℕ) (node : Node) (last k : ℕ) (nexts : List Node) → Tries h returns node last k nexts → ((a : Observation) (s : LockState) (taken : List ℕ) → IsAwaitedAt h returns node.past last a → ¬ Contains taken (slice_index returns node.past) → StandsFor h returns node s taken → Takes h returns node a k s taken None) → Tries h returns node last (k + 1) nexts
-tried_none h returns node last k nexts tries takes = record { tried = λ a s taken awaited not_yet stands. record {
-  each = (tries.tried a s taken awaited not_yet stands).each;
-  whole = λ x u may lt. by a s taken (tries.tried a s taken awaited not_yet stands) (takes a s taken awaited not_yet stands) x u may (last_or_less x.entry.thread k lt);
-} }
+pub tried_none : (h : ObservedHistory) (returns : List ℕ) (node : Node) (last k : ℕ) (nexts : List Node) →
+    Tries h returns node last k nexts → ((a : Observation) (s : LockState) (taken : List ℕ) →
+    IsAwaitedAt h returns node.past last a → ¬ Contains taken (slice_index returns node.past) →
+    StandsFor h returns node s taken → Takes h returns node a k s taken None) →
+    Tries h returns node last (k + 1) nexts
+tried_none h returns node last k nexts tries takes = record {
+  tried = λ a s taken awaited not_yet stands. record {
+    each = (tries.tried a s taken awaited not_yet stands).each;
+    whole = λ x u may lt. by a s taken (tries.tried a s taken awaited not_yet stands)
+        (takes a s taken awaited not_yet stands) x u may (last_or_less x.entry.thread k lt);
+  };
+}
   where
-    by : (a : Observation) (s : LockState) (taken : List ℕ) → Tried h returns node a s taken k nexts → Takes h returns node a k s taken None → (x : Effect) (u : LockState) → MayTake (LockSteps h.limits) h.entries a s taken x u → (x.entry.thread < k) ⊎ (x.entry.thread ≡ k) → (w : Node) × (Contains nexts w × ((w.past ≡ node.past) × StandsFor h returns w u (x.index ∷ taken)))
+    by : (a : Observation) (s : LockState) (taken : List ℕ) → Tried h returns node a s taken k nexts →
+        Takes h returns node a k s taken None → (x : Effect) (u : LockState) →
+        MayTake (LockSteps h.limits) h.entries a s taken x u → (x.entry.thread < k) ⊎ (x.entry.thread ≡ k) →
+        (w : Node) × (Contains nexts w × ((w.past ≡ node.past) × StandsFor h returns w u (x.index ∷ taken)))
     by a s taken tried none x u may (inl less) = tried.whole x u may less
     by a s taken tried none x u may (inr same) = absurd (none x u may same)
 
-pub tried_some : (h : ObservedHistory) (returns : List ℕ) (node : Node) (last k : ℕ) (nexts : List Node) (w : Node) → Tries h returns node last k nexts → ((a : Observation) (s : LockState) (taken : List ℕ) → IsAwaitedAt h returns node.past last a → ¬ Contains taken (slice_index returns node.past) → StandsFor h returns node s taken → Takes h returns node a k s taken (Some w)) → Tries h returns node last (k + 1) (nexts ++ w ∷ [])
-tried_some h returns node last k nexts w tries takes = record { tried = λ a s taken awaited not_yet stands. record {
-  each = λ v has. each a s taken (tries.tried a s taken awaited not_yet stands) (takes a s taken awaited not_yet stands) v (Contains-push_cases nexts w v has);
-  whole = λ x u may lt. by a s taken (tries.tried a s taken awaited not_yet stands) (takes a s taken awaited not_yet stands) x u may (last_or_less x.entry.thread k lt);
-} }
+pub tried_some : (h : ObservedHistory) (returns : List ℕ) (node : Node) (last k : ℕ) (nexts : List Node) (w : Node)
+    → Tries h returns node last k nexts → ((a : Observation) (s : LockState) (taken : List ℕ) →
+    IsAwaitedAt h returns node.past last a → ¬ Contains taken (slice_index returns node.past) →
+    StandsFor h returns node s taken → Takes h returns node a k s taken (Some w)) →
+    Tries h returns node last (k + 1) (nexts ++ w ∷ [])
+tried_some h returns node last k nexts w tries takes = record {
+  tried = λ a s taken awaited not_yet stands. record {
+    each = λ v has. each a s taken (tries.tried a s taken awaited not_yet stands)
+        (takes a s taken awaited not_yet stands) v (Contains-push_cases nexts w v has);
+    whole = λ x u may lt. by a s taken (tries.tried a s taken awaited not_yet stands)
+        (takes a s taken awaited not_yet stands) x u may (last_or_less x.entry.thread k lt);
+  };
+}
   where
-    each : (a : Observation) (s : LockState) (taken : List ℕ) → Tried h returns node a s taken k nexts → IsTakenTo h returns node a k s taken w → (v : Node) → Contains nexts v ⊎ (w ≡ v) → (t : ℕ) × IsTakenTo h returns node a t s taken v
+    each : (a : Observation) (s : LockState) (taken : List ℕ) → Tried h returns node a s taken k nexts →
+        IsTakenTo h returns node a k s taken w → (v : Node) → Contains nexts v ⊎ (w ≡ v) →
+        (t : ℕ) × IsTakenTo h returns node a t s taken v
     each a s taken tried some v (inl has) = tried.each v has
-    each a s taken tried some v (inr same) = (k, subst (λ (n : Node). IsTakenTo h returns node a k s taken n) same some)
+    each a s taken tried some v (inr same) = (
+      k,
+      subst (λ (n : Node). IsTakenTo h returns node a k s taken n) same
+          some,
+    )
 
-    by : (a : Observation) (s : LockState) (taken : List ℕ) → Tried h returns node a s taken k nexts → IsTakenTo h returns node a k s taken w → (x : Effect) (u : LockState) → MayTake (LockSteps h.limits) h.entries a s taken x u → (x.entry.thread < k) ⊎ (x.entry.thread ≡ k) → (v : Node) × (Contains (nexts ++ w ∷ []) v × ((v.past ≡ node.past) × StandsFor h returns v u (x.index ∷ taken)))
+    by : (a : Observation) (s : LockState) (taken : List ℕ) → Tried h returns node a s taken k nexts →
+        IsTakenTo h returns node a k s taken w → (x : Effect) (u : LockState) →
+        MayTake (LockSteps h.limits) h.entries a s taken x u → (x.entry.thread < k) ⊎ (x.entry.thread ≡ k) →
+        (v : Node) × (Contains (nexts ++ w ∷ []) v × ((v.past ≡ node.past) ×
+        StandsFor h returns v u (x.index ∷ taken)))
     by a s taken tried some x u may (inl less) =
-        let found : (v : Node) × (Contains nexts v × ((v.past ≡ node.past) × StandsFor h returns v u (x.index ∷ taken))) = tried.whole x u may less in
+        let found : (v : Node) × (Contains nexts v × ((v.past ≡ node.past) ×
+        StandsFor h returns v u (x.index ∷ taken))) = tried.whole x u may less in
         (found.0, (Contains-append_left nexts (w ∷ []) found.0 found.1.0, found.1.1))
     by a s taken tried some x u may (inr same) = (w, (Contains-push nexts w, (some.past, some.only x u may same)))
 
@@ -72,28 +105,44 @@ pub record Awaits (h : ObservedHistory) (plan : Plan) (node : Node) (a : Observa
   pub inside : node.past < length plan.returns.items
   pub at : slice_get h.entries (get_or plan.returns.items node.past 0) ≡ Some a
 
-the_next : (h : ObservedHistory) (plan : Plan) (node : Node) (a : Observation) → Awaits h plan node a → IsNext h.entries (take node.past plan.returns.items) (get_or plan.returns.items node.past 0) a
-the_next h plan node a is = next_awaited h plan.returns.items node.past a is.observed is.plan_is.are is.plan_is.once is.inside is.at
+the_next : (h : ObservedHistory) (plan : Plan) (node : Node) (a : Observation) → Awaits h plan node a →
+    IsNext h.entries (take node.past plan.returns.items) (get_or plan.returns.items node.past 0) a
+the_next h plan node a is = next_awaited h plan.returns.items node.past a is.observed is.plan_is.are is.plan_is.once
+    is.inside is.at
 
-left_of : (h : ObservedHistory) (plan : Plan) (node : Node) (a : Observation) → Awaits h plan node a → drop node.past plan.returns.items ≡ get_or plan.returns.items node.past 0 ∷ drop (suc node.past) plan.returns.items
+left_of : (h : ObservedHistory) (plan : Plan) (node : Node) (a : Observation) → Awaits h plan node a →
+    drop node.past plan.returns.items ≡ get_or plan.returns.items node.past 0 ∷ drop (suc node.past)
+    plan.returns.items
 left_of h plan node a is = drop-cons plan.returns.items node.past 0 is.inside
 
 -- a hope at an awaited return, as the search's steps have it
-steps_of : (h : ObservedHistory) (plan : Plan) (node : Node) (a : Observation) (n : ℕ) → (is : Awaits h plan node a) → (hope : Hope h plan.returns.items node n) → CompletesIn (LockSteps h.limits) h.entries (get_or plan.returns.items node.past 0 ∷ drop (suc node.past) plan.returns.items) hope.state hope.taken n
+steps_of : (h : ObservedHistory) (plan : Plan) (node : Node) (a : Observation) (n : ℕ) →
+    (is : Awaits h plan node a) → (hope : Hope h plan.returns.items node n) →
+    CompletesIn (LockSteps h.limits) h.entries (get_or plan.returns.items node.past 0 ∷ drop (suc node.past)
+    plan.returns.items) hope.state hope.taken n
 steps_of h plan node a n is hope =
-    let P : List ℕ → Type 0 = λ (to_come : List ℕ). CompletesIn (LockSteps h.limits) h.entries to_come hope.state hope.taken n in
+    let P : List ℕ → Type 0 = λ (to_come : List ℕ). CompletesIn (LockSteps h.limits) h.entries to_come hope.state
+    hope.taken n in
     subst P (left_of h plan node a is) (record { rest = hope.rest; by = hope.by; steps = hope.steps })
 
 -- where the call is in effect, its return is past
-pub expands_past : (h : ObservedHistory) (plan : Plan) (node : Node) (a : Observation) (threads : ℕ) (nexts : List Node) → Awaits h plan node a → bit_at node.threads a.thread ≡ 1 → ClearsBit node.threads threads a.thread → IsReached h plan.returns.items node → nexts ≡ record { past = node.past + 1; bits = node.bits; writer = node.writer; threads = threads } ∷ [] → Expands h plan.returns.items node nexts
+pub expands_past : (h : ObservedHistory) (plan : Plan) (node : Node) (a : Observation) (threads : ℕ)
+    (nexts : List Node) → Awaits h plan node a → bit_at node.threads a.thread ≡ 1 →
+    ClearsBit node.threads threads a.thread → IsReached h plan.returns.items node →
+    nexts ≡ record { past = node.past + 1; bits = node.bits; writer = node.writer; threads = threads } ∷ [] →
+    Expands h plan.returns.items node nexts
 expands_past h plan node a threads nexts is bit clears reached made = record {
-  reached = λ w has. subst (λ (v : Node). IsReached h plan.returns.items v) (only w (subst (λ (ns : List Node). Contains ns w) made has)) (record {
-    state = reached.state;
-    taken = reached.taken;
-    stands = stands reached.state reached.taken reached.stands;
-    way = goes_past (subst (λ (to_come : List ℕ). Reaches h plan.returns.items to_come reached.state reached.taken) (left_of h plan node a is ∙ ap (λ (rest : List ℕ). i ∷ rest) next_left) reached.way) (in_effect reached.state reached.taken reached.stands);
-  });
-  whole = λ n hope. goes n hope (goes_on (LockSteps h.limits) h.entries i a (drop (suc node.past) plan.returns.items) hope.state hope.taken n awaited (steps_of h plan node a n is hope));
+  reached = λ w has. subst (λ (v : Node). IsReached h plan.returns.items v)
+      (only w (subst (λ (ns : List Node). Contains ns w) made has)) (record {
+        state = reached.state;
+        taken = reached.taken;
+        stands = stands reached.state reached.taken reached.stands;
+        way = goes_past (subst (λ (to_come : List ℕ). Reaches h plan.returns.items to_come reached.state reached.taken)
+            (left_of h plan node a is ∙ ap (λ (rest : List ℕ). i ∷ rest) next_left) reached.way)
+            (in_effect reached.state reached.taken reached.stands);
+      });
+  whole = λ n hope. goes n hope (goes_on (LockSteps h.limits) h.entries i a
+      (drop (suc node.past) plan.returns.items) hope.state hope.taken n awaited (steps_of h plan node a n is hope));
 }
   where
     i : ℕ
@@ -118,33 +167,54 @@ expands_past h plan node a threads nexts is bit clears reached made = record {
     in_effect : (s : LockState) (taken : List ℕ) → StandsFor h plan.returns.items node s taken → Contains taken i
     in_effect s taken stands = stands.in_effect.each_next i a (the_next h plan node a is) bit
 
-    stands : (s : LockState) (taken : List ℕ) → StandsFor h plan.returns.items node s taken → StandsFor h plan.returns.items it s taken
+    stands : (s : LockState) (taken : List ℕ) → StandsFor h plan.returns.items node s taken →
+        StandsFor h plan.returns.items it s taken
     stands s taken stands_for = record {
       at = stands_for.at;
       in_effect = subst (λ (past : List ℕ). AreTaken h.entries past threads taken)
-          (sym (take-suc plan.returns.items node.past 0 is.inside) ∙ ap (λ (n : ℕ). take n plan.returns.items) one_more)
-          (taken_past h.entries (take node.past plan.returns.items) node.threads threads taken i a (orderly h is.observed) stands_for.in_effect (the_next h plan node a is) (in_effect s taken stands_for) clears);
+          (sym (take-suc plan.returns.items node.past 0 is.inside) ∙
+          ap (λ (n : ℕ). take n plan.returns.items) one_more)
+          (taken_past h.entries (take node.past plan.returns.items) node.threads threads taken i a
+          (orderly h is.observed) stands_for.in_effect (the_next h plan node a is)
+          (in_effect s taken stands_for) clears);
     }
 
-    goes : (n : ℕ) (hope : Hope h plan.returns.items node n) → GoesPast (LockSteps h.limits) h.entries i (drop (suc node.past) plan.returns.items) hope.state hope.taken n ⊎ GoesOnBy (LockSteps h.limits) h.entries i a (drop (suc node.past) plan.returns.items) hope.state hope.taken n → GoesOn h plan.returns.items nexts n
+    goes : (n : ℕ) (hope : Hope h plan.returns.items node n) →
+        GoesPast (LockSteps h.limits) h.entries i (drop (suc node.past) plan.returns.items) hope.state hope.taken n
+        ⊎ GoesOnBy (LockSteps h.limits) h.entries i a (drop (suc node.past) plan.returns.items) hope.state
+        hope.taken n → GoesOn h plan.returns.items nexts n
     goes n hope (inl past) =
-        let P : List ℕ → Type 0 = λ (to_come : List ℕ). CompletesIn (LockSteps h.limits) h.entries to_come hope.state hope.taken past.left in
-        let left : CompletesIn (LockSteps h.limits) h.entries (drop it.past plan.returns.items) hope.state hope.taken past.left = subst P next_left past.completes in
+        let P : List ℕ → Type 0 = λ (to_come : List ℕ). CompletesIn (LockSteps h.limits) h.entries to_come
+        hope.state hope.taken past.left in
+        let left : CompletesIn (LockSteps h.limits) h.entries (drop it.past plan.returns.items) hope.state
+        hope.taken past.left = subst P next_left past.completes in
         let none : 0 < length (it ∷ []) = omega arith in
         record {
           node = it;
           left = past.left;
           among = subst (λ (ns : List Node). Contains ns it) (sym made) (0, none, refl);
           fewer = omega (arith, past.fewer);
-          hope = record { state = hope.state; taken = hope.taken; stands = stands hope.state hope.taken hope.stands; rest = left.rest; by = left.by; steps = left.steps };
+          hope = record {
+            state = hope.state;
+            taken = hope.taken;
+            stands = stands hope.state hope.taken hope.stands;
+            rest = left.rest;
+            by = left.by;
+            steps = left.steps;
+          };
         }
     goes n hope (inr on) = absurd (on.awaited (in_effect hope.state hope.taken hope.stands))
 
 -- else an open call takes effect
-pub expands_taken : (h : ObservedHistory) (plan : Plan) (node : Node) (a : Observation) (last : ℕ) (nexts : List Node) → Awaits h plan node a → IsAwaitedAt h plan.returns.items node.past last a → bit_at node.threads a.thread ≢ 1 → IsReached h plan.returns.items node → Tries h plan.returns.items node last 64 nexts → Expands h plan.returns.items node nexts
+pub expands_taken : (h : ObservedHistory) (plan : Plan) (node : Node) (a : Observation) (last : ℕ)
+    (nexts : List Node) → Awaits h plan node a → IsAwaitedAt h plan.returns.items node.past last a →
+    bit_at node.threads a.thread ≢ 1 → IsReached h plan.returns.items node →
+    Tries h plan.returns.items node last 64 nexts → Expands h plan.returns.items node nexts
 expands_taken h plan node a last nexts is awaited_at bit reached tries = record {
-  reached = λ w has. to w ((tries.tried a reached.state reached.taken awaited_at (not_yet reached.state reached.taken reached.stands) reached.stands).each w has);
-  whole = λ n hope. goes n hope (goes_on (LockSteps h.limits) h.entries i a (drop (suc node.past) plan.returns.items) hope.state hope.taken n awaited (steps_of h plan node a n is hope));
+  reached = λ w has. to w ((tries.tried a reached.state reached.taken awaited_at
+      (not_yet reached.state reached.taken reached.stands) reached.stands).each w has);
+  whole = λ n hope. goes n hope (goes_on (LockSteps h.limits) h.entries i a
+      (drop (suc node.past) plan.returns.items) hope.state hope.taken n awaited (steps_of h plan node a n is hope));
 }
   where
     i : ℕ
@@ -154,57 +224,89 @@ expands_taken h plan node a last nexts is awaited_at bit reached tries = record 
     awaited = record { is_entry = is.at; begun = not_before_itself a ((orderly h is.observed).interval i a is.at) }
 
     not_yet : (s : LockState) (taken : List ℕ) → StandsFor h plan.returns.items node s taken → ¬ Contains taken i
-    not_yet s taken stands has = bit (taken_by_bit h.entries (take node.past plan.returns.items) node.threads taken i a stands.in_effect is.at (the_next h plan node a is).still has).0
+    not_yet s taken stands has = bit (taken_by_bit h.entries (take node.past plan.returns.items) node.threads taken
+        i a stands.in_effect is.at (the_next h plan node a is).still has).0
 
-    same_left : (w : Node) → w.past ≡ node.past → i ∷ drop (suc node.past) plan.returns.items ≡ drop w.past plan.returns.items
+    same_left : (w : Node) → w.past ≡ node.past → i ∷ drop (suc node.past) plan.returns.items ≡ drop w.past
+        plan.returns.items
     same_left w same = sym (left_of h plan node a is) ∙ ap (λ (n : ℕ). drop n plan.returns.items) (sym same)
 
-    to : (w : Node) → (t : ℕ) × IsTakenTo h plan.returns.items node a t reached.state reached.taken w → IsReached h plan.returns.items w
+    to : (w : Node) → (t : ℕ) × IsTakenTo h plan.returns.items node a t reached.state reached.taken w →
+        IsReached h plan.returns.items w
     to w (t, taken) = record {
       state = taken.state;
       taken = taken.effect.index ∷ reached.taken;
       stands = taken.stands;
-      way = subst (λ (to_come : List ℕ). Reaches h plan.returns.items to_come taken.state (taken.effect.index ∷ reached.taken)) (same_left w taken.past)
-          (goes_on_by (subst (λ (to_come : List ℕ). Reaches h plan.returns.items to_come reached.state reached.taken) (left_of h plan node a is) reached.way) a taken.effect taken.state is.at (not_yet reached.state reached.taken reached.stands) taken.may);
+      way = subst (λ (to_come : List ℕ). Reaches h plan.returns.items to_come taken.state
+          (taken.effect.index ∷ reached.taken)) (same_left w taken.past)
+          (goes_on_by (subst (λ (to_come : List ℕ). Reaches h plan.returns.items to_come reached.state
+          reached.taken) (left_of h plan node a is) reached.way) a taken.effect taken.state is.at
+          (not_yet reached.state reached.taken reached.stands) taken.may);
     }
 
-    goes : (n : ℕ) (hope : Hope h plan.returns.items node n) → GoesPast (LockSteps h.limits) h.entries i (drop (suc node.past) plan.returns.items) hope.state hope.taken n ⊎ GoesOnBy (LockSteps h.limits) h.entries i a (drop (suc node.past) plan.returns.items) hope.state hope.taken n → GoesOn h plan.returns.items nexts n
+    goes : (n : ℕ) (hope : Hope h plan.returns.items node n) →
+        GoesPast (LockSteps h.limits) h.entries i (drop (suc node.past) plan.returns.items) hope.state hope.taken n
+        ⊎ GoesOnBy (LockSteps h.limits) h.entries i a (drop (suc node.past) plan.returns.items) hope.state
+        hope.taken n → GoesOn h plan.returns.items nexts n
     goes n hope (inl past) = absurd (not_yet hope.state hope.taken hope.stands past.in_effect)
     goes n hope (inr on) =
-        let few : on.effect.entry.thread < 64 = (orderly h is.observed).thread on.effect.index on.effect.entry on.may.effect.is_entry in
-        let found : (w : Node) × (Contains nexts w × ((w.past ≡ node.past) × StandsFor h plan.returns.items w on.state (on.effect.index ∷ hope.taken))) = (tries.tried a hope.state hope.taken awaited_at (not_yet hope.state hope.taken hope.stands) hope.stands).whole on.effect on.state on.may few in
-        let P : List ℕ → Type 0 = λ (to_come : List ℕ). CompletesIn (LockSteps h.limits) h.entries to_come on.state (on.effect.index ∷ hope.taken) on.left in
-        let left : CompletesIn (LockSteps h.limits) h.entries (drop found.0.past plan.returns.items) on.state (on.effect.index ∷ hope.taken) on.left = subst P (same_left found.0 found.1.1.0) on.completes in
+        let few : on.effect.entry.thread < 64 = (orderly h is.observed).thread on.effect.index on.effect.entry
+        on.may.effect.is_entry in
+        let found : (w : Node) × (Contains nexts w × ((w.past ≡ node.past) ×
+        StandsFor h plan.returns.items w on.state (on.effect.index ∷ hope.taken))) =
+        (tries.tried a hope.state hope.taken awaited_at (not_yet hope.state hope.taken hope.stands)
+        hope.stands).whole on.effect on.state on.may few in
+        let P : List ℕ → Type 0 = λ (to_come : List ℕ). CompletesIn (LockSteps h.limits) h.entries to_come on.state
+        (on.effect.index ∷ hope.taken) on.left in
+        let left : CompletesIn (LockSteps h.limits) h.entries (drop found.0.past plan.returns.items) on.state
+        (on.effect.index ∷ hope.taken) on.left = subst P (same_left found.0 found.1.1.0) on.completes in
         record {
           node = found.0;
           left = on.left;
           among = found.1.0;
           fewer = omega (arith, on.fewer);
-          hope = record { state = on.state; taken = on.effect.index ∷ hope.taken; stands = found.1.1.1; rest = left.rest; by = left.by; steps = left.steps };
+          hope = record {
+            state = on.state;
+            taken = on.effect.index ∷ hope.taken;
+            stands = found.1.1.1;
+            rest =
+                left.rest;
+            by = left.by;
+            steps = left.steps;
+          };
         }
 
 -- the entry that is read at the awaited return
-pub awaits_of : (h : ObservedHistory) (plan : Plan) (node : Node) (i : ℕ) (read : List Observation) (e : Observation) → IsObserved h → IsPlan h plan → node.past < length plan.returns.items → i ≡ get_or plan.returns.items node.past i → e ≡ get_or read i e → read ≡ h.entries → Awaits h plan node e
+pub awaits_of : (h : ObservedHistory) (plan : Plan) (node : Node) (i : ℕ) (read : List Observation)
+    (e : Observation) → IsObserved h → IsPlan h plan → node.past < length plan.returns.items →
+    i ≡ get_or plan.returns.items node.past i → e ≡ get_or read i e → read ≡ h.entries → Awaits h plan node e
 awaits_of h plan node i read e observed is inside index entry same = record {
   observed = observed;
   plan_is = is;
   inside = inside;
-  at = ap (λ (k : ℕ). slice_get h.entries k) here ∙ slice_get_read h.entries (length h.entries) i e refl within (entry ∙ ap (λ (es : List Observation). get_or es i e) same);
+  at = ap (λ (k : ℕ). slice_get h.entries k) here ∙ slice_get_read h.entries (length h.entries) i e refl within
+      (entry ∙ ap (λ (es : List Observation). get_or es i e) same);
 }
   where
     there : IsReturnAt h.entries (get_or plan.returns.items node.past 0)
     there = is.are.each node.past 0 inside
 
     here : get_or plan.returns.items node.past 0 ≡ i
-    here = same_Some (get_or plan.returns.items node.past 0) i (sym (slice_get-get_or plan.returns.items node.past 0 inside) ∙ slice_get_read plan.returns.items (length plan.returns.items) node.past i refl inside index)
+    here = same_Some (get_or plan.returns.items node.past 0) i
+        (sym (slice_get-get_or plan.returns.items node.past 0 inside) ∙
+        slice_get_read plan.returns.items (length plan.returns.items) node.past i refl inside index)
 
     within : i < length h.entries
-    within = subst (λ (k : ℕ). k < length h.entries) here (slice_get_within h.entries (get_or plan.returns.items node.past 0) there.entry there.is_entry)
+    within = subst (λ (k : ℕ). k < length h.entries) here (slice_get_within h.entries
+        (get_or plan.returns.items node.past 0) there.entry there.is_entry)
 
-pub awaited_returned : (h : ObservedHistory) (plan : Plan) (node : Node) (e : Observation) → Awaits h plan node e → HasReturned e
+pub awaited_returned : (h : ObservedHistory) (plan : Plan) (node : Node) (e : Observation) → Awaits h plan node e →
+    HasReturned e
 awaited_returned h plan node e is =
-    let there : IsReturnAt h.entries (get_or plan.returns.items node.past 0) = is.plan_is.are.each node.past 0 is.inside in
+    let there : IsReturnAt h.entries (get_or plan.returns.items node.past 0) =
+    is.plan_is.are.each node.past 0 is.inside in
     subst HasReturned (same_Some there.entry e (sym there.is_entry ∙ is.at)) there.returned
 
-pub awaited_at : (h : ObservedHistory) (plan : Plan) (node : Node) (e : Observation) (r : Returned) → Awaits h plan node e → e.returned ≡ Some r → IsAwaitedAt h plan.returns.items node.past r.last e
+pub awaited_at : (h : ObservedHistory) (plan : Plan) (node : Node) (e : Observation) (r : Returned) →
+    Awaits h plan node e → e.returned ≡ Some r → IsAwaitedAt h plan.returns.items node.past r.last e
 awaited_at h plan node e r is has = record { inside = is.inside; is_entry = is.at; returned = r; has = has; at = refl }

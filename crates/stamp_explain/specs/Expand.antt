@@ -1,5 +1,6 @@
 -- How a search goes on from a node, and what it finds.
-use Rattle.std.specs.Prelude.{ℕ, ◌≡◌, ◌≢◌, ◌<◌, ◌≤◌, ◌⊎◌, ◌++◌, ◌+◌, List, [], ◌∷◌, length, take, drop, slice_get, Option, Some, None}
+use Rattle.std.specs.Prelude.{ℕ, ◌≡◌, ◌≢◌, ◌<◌, ◌≤◌, ◌⊎◌, ◌++◌, ◌+◌, List, [], ◌∷◌, length, take, drop}
+use Rattle.std.specs.Prelude.{slice_get, Option, Some, None}
 use Rattle.std.specs.List.{All, Contains}
 use Rattle.stamp_explain.specs.declared.observed.Observation.{Observation}
 use Rattle.stamp_explain.specs.declared.node.Node.{Node}
@@ -35,7 +36,8 @@ pub record Expands (h : ObservedHistory) (returns : List ℕ) (node : Node) (nex
   pub whole : (n : ℕ) → Hope h returns node n → GoesOn h returns nexts n
 
 -- what becomes of a node, where the open call of a thread takes effect
-pub record IsTakenTo (h : ObservedHistory) (returns : List ℕ) (node : Node) (a : Observation) (thread : ℕ) (s : LockState) (taken : List ℕ) (w : Node) : Type 0 where
+pub record IsTakenTo (h : ObservedHistory) (returns : List ℕ) (node : Node) (a : Observation) (thread : ℕ)
+    (s : LockState) (taken : List ℕ) (w : Node) : Type 0 where
   pub past : w.past ≡ node.past
   pub effect : Effect
   pub state : LockState

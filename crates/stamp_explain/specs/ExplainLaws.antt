@@ -55,7 +55,8 @@ PointsExplain = (h : ObservedHistory) (r : Recorded) → IsRecordOf h r → IsLi
 
 -- And each one that is explained has such a record.
 abbrev pub ExplainedHasPoints : Type 0
-ExplainedHasPoints = (h : ObservedHistory) → IsObserved h → IsExplained h → (r : Recorded) × (IsRecordOf h r × IsLinearized r)
+ExplainedHasPoints = (h : ObservedHistory) → IsObserved h → IsExplained h →
+    (r : Recorded) × (IsRecordOf h r × IsLinearized r)
 
 -- Lock and record may be judged apart: linearizability is local.
 abbrev pub Locality : Type 0

@@ -1,5 +1,6 @@
 -- Where a search for an order is, and what a node of it stands for.
-use Rattle.std.specs.Prelude.{ℕ, ◌≡◌, ◌≢◌, ◌≤◌, ◌<◌, ◌⊎◌, List, [], ◌∷◌, length, take, drop, slice_get, Option, Some, None}
+use Rattle.std.specs.Prelude.{ℕ, ◌≡◌, ◌≢◌, ◌≤◌, ◌<◌, ◌⊎◌, List, [], ◌∷◌, length, take, drop, slice_get, Option}
+use Rattle.std.specs.Prelude.{Some, None}
 use Rattle.std.specs.List.{All, AllPairs, Contains}
 use Rattle.std.specs.Int.{bit_at}
 use Rattle.stamp_core.specs.Limits.{Bounds}
@@ -50,7 +51,8 @@ pub record IsAt (h : ObservedHistory) (bits : ℕ) (writer : Option ℕ) (s : Lo
   pub content : content_by h.width h.entries writer ≡ s.1
 
 -- the state and the calls in effect that a node stands for
-pub record StandsFor (h : ObservedHistory) (returns : List ℕ) (node : Node) (s : LockState) (taken : List ℕ) : Type 0 where
+pub record StandsFor (h : ObservedHistory) (returns : List ℕ) (node : Node) (s : LockState) (taken : List ℕ) : Type
+    0 where
   pub at : IsAt h node.bits node.writer s
   pub in_effect : AreTaken h.entries (take node.past returns) node.threads taken
 

@@ -1,5 +1,6 @@
 -- What a search is given of a history: its returns in order, and the calls of each thread.
-use Rattle.std.specs.Prelude.{ℕ, ◌≡◌, ◌≢◌, ◌≤◌, ◌<◌, ◌↔◌, List, length, take, slice_get, slice_index, Option, Some, None, Vec}
+use Rattle.std.specs.Prelude.{ℕ, ◌≡◌, ◌≢◌, ◌≤◌, ◌<◌, ◌↔◌, List, length, take, slice_get, slice_index, Option}
+use Rattle.std.specs.Prelude.{Some, None, Vec}
 use Rattle.std.specs.List.{All, AllPairs, Contains}
 use Rattle.std.specs.Int.{bit_at}
 use Rattle.std.specs.Global.{Global}
@@ -28,7 +29,8 @@ pub record IsPlan (h : ObservedHistory) (plan : Plan) : Type 0 where
   pub once : AllPairs (λ (i j : ℕ). i ≢ j) plan.returns.items
   pub ranks : AreRanks h.entries plan.returns.items plan.ranks.items
   pub threads : length plan.calls.items ≡ 64
-  pub calls : (t : ℕ) (calls : Vec ℕ Global) → slice_get plan.calls.items t ≡ Some calls → AreCallsOf h.entries t calls.items
+  pub calls : (t : ℕ) (calls : Vec ℕ Global) → slice_get plan.calls.items t ≡ Some calls →
+      AreCallsOf h.entries t calls.items
 
 -- the next call of a thread and where it began, or that all of its calls are past
 abbrev pub IsNextOf : List Observation → List ℕ → ℕ → Option (ℕ × ℕ) → Type 0

@@ -14,7 +14,8 @@ use Rattle.stamp_explain.specs.Node.{content_by}
 -- after these events the lock gives no reply that the observation allows; or this one, and the word represents
 -- what it leaves
 abbrev pub LockGoesAfter : Bounds → List LockEvent → Observation → Option (ℕ × Reply) → Type 0
-LockGoesAfter limits events e None = (reply : Reply) → MayReply e reply → ¬ Replies (transition limits events e.call) reply
+LockGoesAfter limits events e None = (reply : Reply) → MayReply e reply →
+    ¬ Replies (transition limits events e.call) reply
 LockGoesAfter limits events e (Some x) = MayReply e x.1 × (Replies (transition limits events e.call) x.1 ×
     Represents limits (word_at limits x.0) (events ++ appended_by (transition limits events e.call)))
 
@@ -27,5 +28,6 @@ pub record LockGoes (limits : Bounds) (bits : ℕ) (e : Observation) (found : Op
 abbrev pub RecordGoes : ℕ → List Observation → Option ℕ → Observation → Option (Option ℕ × Reply) → Type 0
 RecordGoes width entries writer e None =
     (reply : Reply) → MayReply e reply → ¬ RecordReplies (content_by width entries writer) e.call reply
-RecordGoes width entries writer e (Some x) = MayReply e x.1 × (RecordReplies (content_by width entries writer) e.call x.1 ×
+RecordGoes width entries writer e (Some x) = MayReply e x.1 ×
+    (RecordReplies (content_by width entries writer) e.call x.1 ×
     (content_by width entries x.0 ≡ content_next (content_by width entries writer) e.call x.1))

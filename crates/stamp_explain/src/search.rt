@@ -43,13 +43,7 @@ fn enter(store: &mut Store, waiting: &mut Vec<Node>, nexts: &[Node]) -> Result<(
 
 /// What becomes of a node if the next call of this thread takes effect; nothing where it can't before
 /// the awaited call returns.
-fn take_of(
-    observed: &Observed,
-    plan: &Plan,
-    node: &Node,
-    thread: u64,
-    last: u64,
-) -> Option<Node>
+fn take_of(observed: &Observed, plan: &Plan, node: &Node, thread: u64, last: u64) -> Option<Node>
     requires observed { IsObserved observed.now }
     requires plan { IsPlan observed.now plan.now }
     requires admitted { IsAdmitted observed.now.limits (word_at observed.now.limits node.now.bits) }

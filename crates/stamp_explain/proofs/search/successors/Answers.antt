@@ -1,26 +1,41 @@
-use Rattle.std.proofs.Common.{◌+◌, ◌≡◌, ◌<◌, ◌∷◌, ◌++◌, [], ℕ, List, Bool, true, false, length, refl, sym, ◌∙◌, ap, subst, arith, Some, None, Vec, Global}
+use Rattle.std.proofs.Common.{◌+◌, ◌≡◌, ◌<◌, ◌∷◌, ◌++◌, [], ℕ, List, Bool, true, false, length, refl, sym, ◌∙◌}
+use Rattle.std.proofs.Common.{ap, subst, arith, Some, None, Vec, Global}
 use Rattle.std.proofs.lemmas.Option.{none-some}
 use Rattle.stamp_explain.specs.declared.node.Node.{Node}
 use Rattle.stamp_explain.specs.Observed.{HasReturned}
-use Rattle.stamp_explain.proofs.Succeeding.{Awaits, Tries, awaits_of, awaited_returned, awaited_at, tried_none, tried_some, expands_past, expands_taken}
+use Rattle.stamp_explain.proofs.Succeeding.{Awaits, Tries, awaits_of, awaited_returned, awaited_at, tried_none}
+use Rattle.stamp_explain.proofs.Succeeding.{tried_some, expands_past, expands_taken}
 use Rattle.stamp_explain.proofs.search.successors.Goals as goal
 use Rattle.stamp_explain.proofs.search.successors.Goals.{in-Some-take_of+in_ok-push-2, in_default-take_of}
 
 pub returns-then-has_bit : goal.returns-then-has_bit
 returns-then-has_bit c =
     let is : Awaits c.args.observed.now c.args.plan.now c.args.node.now c.index-entries-index.result =
-    awaits_of c.args.observed.now c.args.plan.now c.args.node.now c.index.result.now c.entries.result.now c.index-entries-index.result
-    c.requires.observed c.requires.plan c.requires.past c.index.ensures c.index-entries-index.is c.entries.ensures.entries in
-    expands_past c.args.observed.now c.args.plan.now c.args.node.now c.index-entries-index.result c.without_bit.result c.push.new.self.items is
+    awaits_of c.args.observed.now c.args.plan.now c.args.node.now c.index.result.now c.entries.result.now
+    c.index-entries-index.result
+    c.requires.observed c.requires.plan c.requires.past c.index.ensures c.index-entries-index.is
+    c.entries.ensures.entries in
+    expands_past c.args.observed.now c.args.plan.now c.args.node.now c.index-entries-index.result
+    c.without_bit.result c.push.new.self.items is
     (c.has_bit.ensures.0 c.if-has_bit.true) c.without_bit.ensures c.requires.reached
-    (c.in_ok-push.ensures.items ∙ ap (λ (ns : List Node). ns ++ record { past = c.args.node.now.past + 1; bits = c.args.node.now.bits; writer = c.args.node.now.writer; threads = c.without_bit.result } ∷ []) c.new-nexts.ensures.items)
+    (c.in_ok-push.ensures.items ∙ ap (λ (ns : List Node). ns ++ record {
+      past = c.args.node.now.past + 1;
+      bits =
+          c.args.node.now.bits;
+      writer = c.args.node.now.writer;
+      threads = c.without_bit.result;
+    } ∷ [])
+    c.new-nexts.ensures.items)
 
 pub unreachable-requires : goal.unreachable-requires
 unreachable-requires c =
     let is : Awaits c.args.observed.now c.args.plan.now c.args.node.now c.index-entries-index.result =
-    awaits_of c.args.observed.now c.args.plan.now c.args.node.now c.index.result.now c.entries.result.now c.index-entries-index.result
-    c.requires.observed c.requires.plan c.requires.past c.index.ensures c.index-entries-index.is c.entries.ensures.entries in
-    let has : HasReturned c.index-entries-index.result = awaited_returned c.args.observed.now c.args.plan.now c.args.node.now c.index-entries-index.result is in
+    awaits_of c.args.observed.now c.args.plan.now c.args.node.now c.index.result.now c.entries.result.now
+    c.index-entries-index.result
+    c.requires.observed c.requires.plan c.requires.past c.index.ensures c.index-entries-index.is
+    c.entries.ensures.entries in
+    let has : HasReturned c.index-entries-index.result = awaited_returned c.args.observed.now c.args.plan.now
+    c.args.node.now c.index-entries-index.result is in
     none-some has.0 (sym c.in_default.is ∙ has.1)
 
 pub loop-thread-preserved : goal.loop-thread-preserved
@@ -32,24 +47,34 @@ loop-thread-preserved c =
       | in-Some-take_of+in_ok-push-2 w ↦
           let same : c.match-take_of.nexts.items ≡ c.loop-thread.nexts.items ++ w.in-Some-take_of.next ∷ [] =
           ap (λ (v : Vec Node Global). v.items) w.nexts-is ∙ w.in_ok-push-2.ensures.items in
-          subst (λ (ns : List Node). Tries h returns node c.in-Some.returned.last (c.loop-thread.thread + 1) ns) (sym same)
-          (tried_some h returns node c.in-Some.returned.last c.loop-thread.thread c.loop-thread.nexts.items w.in-Some-take_of.next c.loop-thread.invariant w.in-Some-take_of.ensures)
+          subst (λ (ns : List Node). Tries h returns node c.in-Some.returned.last (c.loop-thread.thread + 1) ns)
+          (sym same)
+          (tried_some h returns node c.in-Some.returned.last c.loop-thread.thread c.loop-thread.nexts.items
+          w.in-Some-take_of.next c.loop-thread.invariant w.in-Some-take_of.ensures)
       | in_default-take_of w ↦
-          let same : c.match-take_of.nexts.items ≡ c.loop-thread.nexts.items = ap (λ (v : Vec Node Global). v.items) w.nexts-is in
-          subst (λ (ns : List Node). Tries h returns node c.in-Some.returned.last (c.loop-thread.thread + 1) ns) (sym same)
-          (tried_none h returns node c.in-Some.returned.last c.loop-thread.thread c.loop-thread.nexts.items c.loop-thread.invariant w.in_default-take_of.ensures)
+          let same : c.match-take_of.nexts.items ≡ c.loop-thread.nexts.items =
+          ap (λ (v : Vec Node Global). v.items) w.nexts-is in
+          subst (λ (ns : List Node). Tries h returns node c.in-Some.returned.last (c.loop-thread.thread + 1) ns)
+          (sym same)
+          (tried_none h returns node c.in-Some.returned.last c.loop-thread.thread c.loop-thread.nexts.items
+          c.loop-thread.invariant w.in_default-take_of.ensures)
     ]
 
 pub returns : goal.returns
 returns c =
     let is : Awaits c.args.observed.now c.args.plan.now c.args.node.now c.index-entries-index.result =
-    awaits_of c.args.observed.now c.args.plan.now c.args.node.now c.index.result.now c.entries.result.now c.index-entries-index.result
-    c.requires.observed c.requires.plan c.requires.past c.index.ensures c.index-entries-index.is c.entries.ensures.entries in
+    awaits_of c.args.observed.now c.args.plan.now c.args.node.now c.index.result.now c.entries.result.now
+    c.index-entries-index.result
+    c.requires.observed c.requires.plan c.requires.past c.index.ensures c.index-entries-index.is
+    c.entries.ensures.entries in
     let all : c.loop-thread.thread ≡ 64 = omega (arith, c.loop-thread-test.false, c.loop-thread.auto) in
-    expands_taken c.args.observed.now c.args.plan.now c.args.node.now c.index-entries-index.result c.in-Some.returned.last c.loop-thread.nexts.items is
-    (awaited_at c.args.observed.now c.args.plan.now c.args.node.now c.index-entries-index.result c.in-Some.returned is c.in-Some.is)
+    expands_taken c.args.observed.now c.args.plan.now c.args.node.now c.index-entries-index.result
+    c.in-Some.returned.last c.loop-thread.nexts.items is
+    (awaited_at c.args.observed.now c.args.plan.now c.args.node.now c.index-entries-index.result c.in-Some.returned
+    is c.in-Some.is)
     (λ bit. false_true (sym c.if-has_bit.false ∙ c.has_bit.ensures.1 bit)) c.requires.reached
-    (subst (λ (k : ℕ). Tries c.args.observed.now c.args.plan.now.returns.items c.args.node.now c.in-Some.returned.last k c.loop-thread.nexts.items) all c.loop-thread.invariant)
+    (subst (λ (k : ℕ). Tries c.args.observed.now c.args.plan.now.returns.items c.args.node.now
+    c.in-Some.returned.last k c.loop-thread.nexts.items) all c.loop-thread.invariant)
   where
     false_true : false ≡ true → ⊥
     false_true h = cc
