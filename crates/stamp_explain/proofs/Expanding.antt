@@ -65,7 +65,7 @@ orderly h observed = record {
     which i j e f at_i at_j (inr lt) same = turned (pair j i f e at_j at_i lt (sym same))
 
 -- the element read does not depend on what would be read past the end
-same_read : (xs : List ℕ) (k d e : ℕ) → k < length xs → get_or xs k d ≡ get_or xs k e
+pub same_read : (xs : List ℕ) (k d e : ℕ) → k < length xs → get_or xs k d ≡ get_or xs k e
 same_read xs k d e lt = same_Some (get_or xs k d) (get_or xs k e) (sym (slice_get-get_or xs k d lt) ∙
     slice_get-get_or xs k e lt)
 

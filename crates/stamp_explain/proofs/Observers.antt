@@ -1,0 +1,75 @@
+-- What an observer may tell, entry by entry.
+use Rattle.std.proofs.Common.{◌≡◌, ◌⊎◌, ℕ, ◌+◌, ◌<◌, ◌≤◌, List, length, get_or, sym, ◌∙◌, subst, inl, inr, arith, Bool, true, false, length-take-le}
+use Rattle.std.specs.Prelude.{take, IsTrue}
+use Rattle.std.specs.List.{All, AllPairs}
+use Rattle.std.proofs.lemmas.List.{get_or-take}
+use Rattle.std.proofs.lemmas.Option.{same_Some, slice_get-get_or}
+use Rattle.stamp_explain.specs.declared.observed.Observation.{Observation}
+use Rattle.stamp_explain.specs.Observed.{ObservedHistory, IsObserved, IsSound, DoNotOverlap}
+
+-- of each entry below k
+pub record AreSoundBelow (h : ObservedHistory) (k : ℕ) : Type 0 where
+  pub alone : (i : ℕ) (d : Observation) → i < k → IsSound h.width (get_or h.entries i d)
+  pub apart : (i j : ℕ) (d : Observation) → i < j → j < k → DoNotOverlap (get_or h.entries i d) (get_or h.entries j d)
+
+pub none_below : (h : ObservedHistory) → AreSoundBelow h 0
+none_below h = record { alone = λ i d lt. absurd (omega arith); apart = λ i j d lt less. absurd (omega arith) }
+
+same_read : (xs : List Observation) (k : ℕ) (d e : Observation) → k < length xs → get_or xs k d ≡ get_or xs k e
+same_read xs k d e lt =
+    same_Some (get_or xs k d) (get_or xs k e) (sym (slice_get-get_or xs k d lt) ∙ slice_get-get_or xs k e lt)
+
+pub one_below : (h : ObservedHistory) (k : ℕ) (e : Observation) → k < length h.entries → e ≡ get_or h.entries k e →
+    AreSoundBelow h k → IsSound h.width e → All (λ (other : Observation). DoNotOverlap other e) (take k h.entries) →
+    AreSoundBelow h (k + 1)
+one_below h k e within read below sound apart = record {
+  alone = λ i d lt. alone i d (cases i lt);
+  apart = λ i j d lt less. pair i j d lt (cases j less);
+}
+  where
+    cases : (i : ℕ) → i < k + 1 → (i < k) ⊎ (i ≡ k)
+    cases i lt = grind arith
+
+    here : (d : Observation) → e ≡ get_or h.entries k d
+    here d = read ∙ same_read h.entries k e d within
+
+    alone : (i : ℕ) (d : Observation) → (i < k) ⊎ (i ≡ k) → IsSound h.width (get_or h.entries i d)
+    alone i d (inl less) = below.alone i d less
+    alone i d (inr same) =
+        subst (λ (n : ℕ). IsSound h.width (get_or h.entries n d)) (sym same) (subst (IsSound h.width) (here d) sound)
+
+    pair : (i j : ℕ) (d : Observation) → i < j → (j < k) ⊎ (j ≡ k) →
+        DoNotOverlap (get_or h.entries i d) (get_or h.entries j d)
+    pair i j d lt (inl less) = below.apart i j d lt less
+    pair i j d lt (inr same) =
+        let sooner : i < k = omega (arith, lt, same) in
+        let le : k ≤ length h.entries = omega (arith, within) in
+        let taken : i < length (take k h.entries) = omega (arith, sooner, length-take-le k h.entries le) in
+        subst (λ (n : ℕ). DoNotOverlap (get_or h.entries i d) (get_or h.entries n d)) (sym same)
+        (subst (λ (o : Observation). DoNotOverlap (get_or h.entries i d) o) (here d)
+        (subst (λ (o : Observation). DoNotOverlap o e) (get_or-take k h.entries i d sooner) (apart i d taken)))
+
+pub all_below : (h : ObservedHistory) (k : ℕ) → length h.entries ≤ k → AreSoundBelow h k → IsObserved h
+all_below h k all below = record {
+  intervals = λ i d lt. (below.alone i d (omega arith)).interval;
+  apart = λ i j d lt within. below.apart i j d lt (omega arith);
+  threads = λ i d lt. (below.alone i d (omega arith)).thread;
+  suit = λ i d lt. (below.alone i d (omega arith)).suits;
+}
+
+-- an entry that breaks something
+pub not_alone : (h : ObservedHistory) (k : ℕ) (e : Observation) → k < length h.entries → e ≡ get_or h.entries k e →
+    ¬ IsSound h.width e → ¬ IsObserved h
+not_alone h k e within read refuted is = refuted (subst (λ (o : Observation). IsSound h.width o) (sym read) both)
+  where
+    both : IsSound h.width (get_or h.entries k e)
+    both = record { interval = is.intervals k e within; thread = is.threads k e within; suits = is.suit k e within }
+
+pub not_apart : (h : ObservedHistory) (k : ℕ) (e : Observation) → k < length h.entries → e ≡ get_or h.entries k e →
+    ¬ All (λ (other : Observation). DoNotOverlap other e) (take k h.entries) → ¬ IsObserved h
+not_apart h k e within read refuted is = refuted (λ i d lt.
+    let le : k ≤ length h.entries = omega (arith, within) in
+    let sooner : i < k = omega (arith, lt, length-take-le k h.entries le) in
+    subst (λ (o : Observation). DoNotOverlap o e) (sym (get_or-take k h.entries i d sooner))
+    (subst (λ (o : Observation). DoNotOverlap (get_or h.entries i d) o) (sym (read ∙ same_read h.entries k e d within))
+    (is.apart i k d sooner within)))
