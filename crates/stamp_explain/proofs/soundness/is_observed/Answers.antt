@@ -16,13 +16,15 @@ returns-then-not-is_sound_alone c =
     let e = c.index-entries-i.result in
     let same = c.entries-entries.ensures.entries in
     let within : c.loop-i.i < length h.entries = subst (λ (xs : List Observation). c.loop-i.i < length xs) same c.loop-i-test.true in
-    let read : e ≡ get_or h.entries c.loop-i.i e = c.index-entries-i.is ∙ ap (λ (xs : List Observation). get_or xs c.loop-i.i e) same in
-    (λ no. absurd (differ no), λ is. absurd (elim c.then-not-is_sound_alone.branch [
-      | then-not-is_sound_alone-via-then-not-is_sound_alone w ↦
-          not_alone h c.loop-i.i e within read (λ sound. differ (sym w.if-not-is_sound_alone.true ∙ c.is_sound_alone.ensures.1 (subst (λ (n : ℕ). IsSound n e) (sym c.width.ensures.width) sound))) is
-      | then-not-is_sound_alone-via-else-not-is_sound_alone+then-not-is_apart_from w ↦
-          not_apart h c.loop-i.i e within read (λ apart. differ (sym w.if-not-is_apart_from.true ∙ w.is_apart_from.ensures.1 (subst (λ (xs : List Observation). All (λ (other : Observation). DoNotOverlap other e) (take c.loop-i.i xs)) (sym same) apart))) is
-    ]))
+    let read : e ≡ get_or h.entries c.loop-i.i e = c.index-entries-i.is ∙ ap (λ (xs : List Observation). get_or xs c.loop-i.i e) same in (
+      λ no. absurd (differ no),
+      λ is. absurd (elim c.then-not-is_sound_alone.branch [
+        | then-not-is_sound_alone-via-then-not-is_sound_alone w ↦
+            not_alone h c.loop-i.i e within read (λ sound. differ (sym w.if-not-is_sound_alone.true ∙ c.is_sound_alone.ensures.1 (subst (λ (n : ℕ). IsSound n e) (sym c.width.ensures.width) sound))) is
+        | then-not-is_sound_alone-via-else-not-is_sound_alone+then-not-is_apart_from w ↦
+            not_apart h c.loop-i.i e within read (λ apart. differ (sym w.if-not-is_apart_from.true ∙ w.is_apart_from.ensures.1 (subst (λ (xs : List Observation). All (λ (other : Observation). DoNotOverlap other e) (take c.loop-i.i xs)) (sym same) apart))) is
+      ]),
+    )
 
 pub loop-i-preserved : goal.loop-i-preserved
 loop-i-preserved c =
