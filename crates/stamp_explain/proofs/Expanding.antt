@@ -1,8 +1,8 @@
 -- How a search goes on from a node.
-use Rattle.std.proofs.Common.{◌≡◌, ◌≢◌, ◌⊎◌, ℕ, ◌+◌, ◌<◌, ◌≤◌, zero, suc, Bool, true, false, List, [], ◌∷◌}
-use Rattle.std.proofs.Common.{◌++◌, length, get_or, refl, sym, ◌∙◌, ap, subst, inl, inr, arith, Option, None}
-use Rattle.std.proofs.Common.{Some, if◌then◌else◌}
-use Rattle.std.specs.Prelude.{slice_get, slice_index, take, drop, MatchOption}
+use Rattle.std.proofs.Common.{◌≡◌, ◌≢◌, ◌⊎◌, ℕ, ◌<◌, ◌≤◌, Bool, true, false, List, ◌∷◌}
+use Rattle.std.proofs.Common.{length, get_or, refl, sym, ◌∙◌, ap, subst, inl, inr, arith, Option, None}
+use Rattle.std.proofs.Common.{Some}
+use Rattle.std.specs.Prelude.{slice_get, take, MatchOption}
 use Rattle.std.specs.Bool.{MatchBool}
 use Rattle.std.specs.List.{All, AllPairs, Contains}
 use Rattle.std.specs.Int.{bit_at}
@@ -22,13 +22,12 @@ use Rattle.stamp_explain.specs.declared.observed.Observation.{Observation}
 use Rattle.stamp_explain.specs.declared.observed.Returned.{Returned}
 use Rattle.stamp_explain.specs.declared.node.Node.{Node}
 use Rattle.stamp_explain.specs.declared.node.Step.{Step}
-use Rattle.stamp_explain.specs.declared.plan.Plan.{Plan}
-use Rattle.stamp_explain.specs.Observed.{ObservedHistory, IsObserved, IsBefore, IsInterval, DoNotOverlap, HasReturned}
+use Rattle.stamp_explain.specs.Observed.{ObservedHistory, IsObserved, IsBefore, IsInterval, DoNotOverlap}
 use Rattle.stamp_explain.specs.Explained.{Effect}
-use Rattle.stamp_explain.specs.Search.{LockState, LockSteps, MayTake, AreReturns, AreInOrder, after_call}
-use Rattle.stamp_explain.specs.Node.{IsNext, AreTaken, IsAt, StandsFor, Goes, HasGone}
-use Rattle.stamp_explain.specs.Plan.{IsPlan, IsNextOf, IsAwaitedAt, SetsBit}
-use Rattle.stamp_explain.specs.Expand.{IsTakenTo, Takes}
+use Rattle.stamp_explain.specs.Search.{LockState, LockSteps, MayTake, AreReturns, after_call}
+use Rattle.stamp_explain.specs.Node.{IsNext, AreTaken, StandsFor, Goes, HasGone}
+use Rattle.stamp_explain.specs.Plan.{IsNextOf, IsAwaitedAt, SetsBit}
+use Rattle.stamp_explain.specs.Expand.{Takes}
 use Rattle.stamp_explain.proofs.Finding.{no_later, has_returned, not_before_itself}
 use Rattle.stamp_explain.proofs.Standing.{AreOrderly, one_next, taken_by_bit, taken_more}
 

@@ -1,8 +1,8 @@
 -- The search as a whole.
-use Rattle.std.proofs.Common.{◌≡◌, ◌≢◌, ◌⊎◌, ℕ, ◌+◌, ◌<◌, ◌≤◌, zero, suc, List, [], ◌∷◌, ◌++◌, length, get_or}
-use Rattle.std.proofs.Common.{refl, sym, ◌∙◌, ap, subst, inl, inr, arith, Option, None, Some}
-use Rattle.std.specs.Prelude.{slice_get, take, drop}
-use Rattle.std.specs.List.{All, AllPairs, Contains}
+use Rattle.std.proofs.Common.{◌≡◌, ◌⊎◌, ℕ, ◌+◌, ◌<◌, ◌≤◌, List, [], ◌∷◌, ◌++◌, length, get_or}
+use Rattle.std.proofs.Common.{refl, sym, ◌∙◌, ap, subst, inl, inr, arith}
+use Rattle.std.specs.Prelude.{take, drop}
+use Rattle.std.specs.List.{Contains}
 use Rattle.std.specs.Int.{bit_at}
 use Rattle.std.proofs.lemmas.Nat.Bits.{bit_at-zero}
 use Rattle.std.proofs.lemmas.List.{length-drop, length-append}
@@ -10,18 +10,17 @@ use Rattle.std.proofs.lemmas.List.Elements.{All-weaker, All-contains, All-contai
 use Rattle.std.proofs.lemmas.List.Elements.{Contains-append_right, Contains-append_cases, Contains-push}
 use Rattle.std.proofs.lemmas.List.Elements.{Contains-push_cases}
 use Rattle.stamp_core.specs.Content.{zeros}
-use Rattle.stamp_explain.specs.declared.observed.Observation.{Observation}
 use Rattle.stamp_explain.specs.declared.node.Node.{Node}
 use Rattle.stamp_explain.specs.declared.store.Store.{Store}
-use Rattle.stamp_explain.specs.Observed.{ObservedHistory, IsObserved, HasReturned}
-use Rattle.stamp_explain.specs.Explained.{Effect, IsExplained, history_of, indices_of}
+use Rattle.stamp_explain.specs.Observed.{ObservedHistory}
+use Rattle.stamp_explain.specs.Explained.{IsExplained, history_of, indices_of}
 use Rattle.stamp_explain.specs.Search.{LockState, LockSteps, IsCompletedBy, CanComplete, AreReturns, IsReturnAt}
 use Rattle.stamp_explain.specs.Search.{opening}
-use Rattle.stamp_explain.specs.Node.{AreTaken, IsNext, IsOpening, StandsFor, IsReached, AreReached, Reaches}
+use Rattle.stamp_explain.specs.Node.{AreTaken, IsOpening, StandsFor, IsReached, AreReached, Reaches}
 use Rattle.stamp_explain.specs.Node.Reaches.{begins, goes_past, goes_on_by}
 use Rattle.stamp_explain.specs.Store.{Keeps}
 use Rattle.stamp_explain.specs.Expand.{Hope, GoesOn, Expands, Enters}
-use Rattle.stamp_explain.proofs.Lists.{none_in_empty, contains_cases, contains_rest}
+use Rattle.stamp_explain.proofs.Lists.{none_in_empty, contains_cases}
 use Rattle.stamp_explain.proofs.Completing.{completed_by_none, before_return, puts_first}
 use Rattle.stamp_explain.proofs.Finding.{ArePending, first_of_pending, runs_legal, legal_runs, past_pending}
 use Rattle.stamp_explain.proofs.Finding.{taken_pending}

@@ -1,23 +1,23 @@
 -- Numbers beside the places of calls.
-use Rattle.std.proofs.Common.{◌≡◌, ◌≢◌, ◌⊎◌, ℕ, ◌+◌, ◌<◌, ◌≤◌, zero, suc, Bool, true, false, List, [], ◌∷◌}
-use Rattle.std.proofs.Common.{◌++◌, length, get_or, refl, sym, ◌∙◌, ap, subst, inl, inr, arith, Some, None}
-use Rattle.std.specs.Prelude.{slice_get, map, nat_eq}
-use Rattle.std.specs.List.{All, AllPairs, Contains, IsDistinct}
-use Rattle.std.specs.List.Sorted.{IsPermutation, IsNonDecreasingBy}
+use Rattle.std.proofs.Common.{◌≡◌, ◌≢◌, ◌⊎◌, ℕ, ◌+◌, ◌<◌, ◌≤◌, suc, List, [], ◌∷◌}
+use Rattle.std.proofs.Common.{◌++◌, get_or, refl, sym, ◌∙◌, ap, subst, inl, inr, arith, Some, None}
+use Rattle.std.specs.Prelude.{slice_get, nat_eq}
+use Rattle.std.specs.List.{AllPairs, Contains}
+use Rattle.std.specs.List.Sorted.{IsNonDecreasingBy}
 use Rattle.std.specs.Bool.{Decides}
 use Rattle.std.proofs.lemmas.Bool.Decides.{nat_tests, Decides-eqb}
 use Rattle.std.proofs.lemmas.Option.{none-some}
 use Rattle.std.proofs.lemmas.List.Quantifiers.{all_pairs_push}
 use Rattle.std.proofs.lemmas.List.Elements.{Contains-push, Contains-push_cases, Contains-append_left}
-use Rattle.std.proofs.lemmas.List.Elements.{Contains-get_or, All-head, All-tail, All-map}
-use Rattle.std.proofs.lemmas.List.Sorted.{Contains-permutation, IsPermutation-sym, IsPermutation-map}
+use Rattle.std.proofs.lemmas.List.Elements.{Contains-get_or, All-map}
+use Rattle.std.proofs.lemmas.List.Sorted.{Contains-permutation, IsPermutation-map}
 use Rattle.std.proofs.lemmas.Map.Keys.{IsDistinct-IsPermutation}
 use Rattle.std.proofs.lemmas.Map.Made.{AllPairs-from_IsDistinct, IsDistinct-from_AllPairs}
 use Rattle.stamp_explain.specs.declared.observed.Observation.{Observation}
 use Rattle.stamp_explain.specs.declared.observed.Returned.{Returned}
 use Rattle.stamp_explain.specs.Planning.{AreKeys, ArePlaced, EndsAt, BeginsAt, places_of}
 use Rattle.stamp_explain.proofs.Lists.{none_in_empty, contains_cases, contains_first, contains_rest, pairs_none}
-use Rattle.stamp_explain.proofs.Lists.{pairs_head, pairs_tail, pairs_cons}
+use Rattle.stamp_explain.proofs.Lists.{pairs_cons}
 
 pub no_keys : (Has : Observation → ℕ → Type 0) (entries : List Observation) → AreKeys Has entries 0 []
 no_keys Has entries = record {

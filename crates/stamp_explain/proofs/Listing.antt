@@ -1,13 +1,12 @@
 -- The calls of each thread, in order.
-use Rattle.std.proofs.Common.{◌≡◌, ◌≢◌, ◌⊎◌, ℕ, ◌+◌, ◌<◌, ◌≤◌, zero, suc, Bool, true, false, List, [], ◌∷◌}
+use Rattle.std.proofs.Common.{◌≡◌, ◌≢◌, ◌⊎◌, ℕ, ◌+◌, ◌<◌, ◌≤◌, suc, Bool, true, false, List, [], ◌∷◌}
 use Rattle.std.proofs.Common.{◌++◌, length, get_or, refl, sym, ◌∙◌, ap, subst, inl, inr, arith, Option, Some}
 use Rattle.std.proofs.Common.{None, Vec, Global, cond}
-use Rattle.std.specs.Prelude.{slice_get, take, filter, ◌==◌, map, MatchOption}
+use Rattle.std.specs.Prelude.{slice_get, take, filter, ◌==◌, MatchOption}
 use Rattle.std.proofs.Math.ListN.{set, length-set}
 use Rattle.std.specs.List.{All, AllPairs, Contains}
-use Rattle.std.specs.List.Sorted.{IsPermutation, IsNonDecreasingBy}
 use Rattle.std.proofs.Math.Seq.{take-suc}
-use Rattle.std.proofs.lemmas.Bool.Decides.{nat_tests, Decides-eqb}
+use Rattle.std.proofs.lemmas.Bool.Decides.{Decides-eqb}
 use Rattle.std.proofs.lemmas.List.{append-nil, get_or-set_same, get_or-set_other}
 use Rattle.std.proofs.lemmas.List.Elements.{filter-append, Contains-get_or, All-contains}
 use Rattle.std.proofs.lemmas.List.Sorted.{Contains-permutation, IsPermutation-sym}
@@ -15,15 +14,13 @@ use Rattle.std.proofs.lemmas.Option.{same_Some, slice_get-get_or, get_or_from_sl
 use Rattle.stamp_explain.specs.declared.observed.Observation.{Observation}
 use Rattle.stamp_explain.specs.declared.observed.Returned.{Returned}
 use Rattle.stamp_explain.specs.declared.plan.Plan.{Plan}
-use Rattle.stamp_explain.specs.Observed.{ObservedHistory, IsObserved, IsBefore, IsInterval, HasReturned}
+use Rattle.stamp_explain.specs.Observed.{ObservedHistory, IsObserved, IsBefore}
 use Rattle.stamp_explain.specs.Search.{AreReturns, AreInOrder, ReturnsNoLater, IsReturnAt}
 use Rattle.stamp_explain.specs.Plan.{AreCallsOf, IsPlan}
 use Rattle.stamp_explain.specs.Planning.{AreKeys, ArePlaced, AreRanked, AreListed, EndsAt, BeginsAt, is_of}
-use Rattle.stamp_explain.specs.Planning.{is_of_thread, calls_in, places_of}
+use Rattle.stamp_explain.specs.Planning.{is_of_thread, calls_in}
 use Rattle.stamp_explain.proofs.Lists.{none_in_empty, contains_cases, contains_first, contains_rest, pairs_none}
 use Rattle.stamp_explain.proofs.Lists.{pairs_head, pairs_tail, pairs_cons}
-use Rattle.stamp_explain.proofs.Finding.{not_before_itself}
-use Rattle.stamp_explain.proofs.Standing.{AreOrderly}
 use Rattle.stamp_explain.proofs.Expanding.{orderly}
 use Rattle.stamp_explain.proofs.Keyed.{placed_once, placed_has, placed_pairs, key_of_place}
 

@@ -1,17 +1,15 @@
 -- The next call of a thread, among its calls in order.
-use Rattle.std.proofs.Common.{◌≡◌, ◌≢◌, ◌⊎◌, ℕ, ◌+◌, ◌-◌, ◌<◌, ◌≤◌, zero, suc, List, [], ◌∷◌, length, get_or}
-use Rattle.std.proofs.Common.{refl, sym, ◌∙◌, ap, subst, inl, inr, arith, Option, None, Some, Vec, Global}
-use Rattle.std.specs.Prelude.{slice_get, slice_index, take, MatchOption}
-use Rattle.std.specs.List.{All, AllPairs, Contains}
+use Rattle.std.proofs.Common.{◌≡◌, ◌≢◌, ◌⊎◌, ℕ, ◌-◌, ◌<◌, ◌≤◌, List, length, get_or}
+use Rattle.std.proofs.Common.{refl, sym, ◌∙◌, ap, subst, inl, inr, arith, None, Some, Vec, Global}
+use Rattle.std.specs.Prelude.{slice_get, take}
+use Rattle.std.specs.List.{Contains}
 use Rattle.std.proofs.Common.{length-take-le}
 use Rattle.std.proofs.lemmas.List.{get_or-take}
 use Rattle.std.proofs.lemmas.List.Elements.{Contains-get_or}
 use Rattle.std.proofs.lemmas.Option.{same_Some, slice_get_within, slice_get-get_or, slice_get_read}
 use Rattle.stamp_explain.specs.declared.observed.Observation.{Observation}
-use Rattle.stamp_explain.specs.declared.observed.Returned.{Returned}
-use Rattle.stamp_explain.specs.Observed.{ObservedHistory, IsObserved, IsBefore, IsInterval, HasReturned}
-use Rattle.stamp_explain.specs.Search.{AreReturns, ReturnsNoLater}
-use Rattle.stamp_explain.specs.Node.{IsNext}
+use Rattle.stamp_explain.specs.Observed.{ObservedHistory, IsObserved, IsBefore}
+use Rattle.stamp_explain.specs.Search.{AreReturns}
 use Rattle.stamp_explain.specs.declared.plan.Plan.{Plan}
 use Rattle.stamp_explain.specs.Plan.{AreRanks, AreCallsOf, IsNextOf, IsPlan}
 use Rattle.stamp_explain.proofs.Finding.{no_later, has_returned, not_before_itself}

@@ -1,17 +1,17 @@
 -- What a node stands for, and how it goes on: calls in effect by their threads.
-use Rattle.std.proofs.Common.{◌≡◌, ◌≢◌, ◌⊎◌, ℕ, ◌+◌, ◌<◌, ◌≤◌, zero, suc, List, [], ◌∷◌, ◌++◌, length, get_or}
-use Rattle.std.proofs.Common.{refl, sym, ◌∙◌, ap, subst, inl, inr, arith, Option, None, Some}
-use Rattle.std.specs.Prelude.{slice_get, take, drop, MatchOption}
-use Rattle.std.specs.List.{All, AllPairs, Contains}
+use Rattle.std.proofs.Common.{◌≡◌, ◌≢◌, ◌⊎◌, ℕ, ◌<◌, ◌≤◌, List, [], ◌∷◌, ◌++◌}
+use Rattle.std.proofs.Common.{sym, ◌∙◌, ap, subst, inl, inr, arith, Option, None, Some}
+use Rattle.std.specs.Prelude.{slice_get, MatchOption}
+use Rattle.std.specs.List.{Contains}
 use Rattle.std.specs.Int.{bit_at}
-use Rattle.std.proofs.lemmas.List.Elements.{All-contains, Contains-push, Contains-push_cases, Contains-append_left}
-use Rattle.std.proofs.lemmas.Option.{same_Some, slice_get_within, get_or_from_slice_get, MatchOption-at_some}
+use Rattle.std.proofs.lemmas.List.Elements.{Contains-push, Contains-push_cases, Contains-append_left}
+use Rattle.std.proofs.lemmas.Option.{same_Some}
 use Rattle.stamp_explain.specs.declared.observed.Observation.{Observation}
 use Rattle.stamp_explain.specs.declared.observed.Returned.{Returned}
-use Rattle.stamp_explain.specs.Observed.{IsBefore, IsInterval, DoNotOverlap, HasReturned}
+use Rattle.stamp_explain.specs.Observed.{IsBefore, IsInterval}
 use Rattle.stamp_explain.specs.Node.{IsNext, AreTaken}
 use Rattle.stamp_explain.specs.Plan.{SetsBit, ClearsBit}
-use Rattle.stamp_explain.proofs.Lists.{none_in_empty, contains_cases, contains_first, contains_rest, either_in}
+use Rattle.stamp_explain.proofs.Lists.{contains_cases, contains_first, contains_rest}
 
 -- what a run's calls are to each other
 pub record AreOrderly (entries : List Observation) : Type 0 where

@@ -1,25 +1,23 @@
 -- What a call does, by what was found of lock and record.
-use Rattle.std.proofs.Common.{◌≡◌, ℕ, ◌<◌, Bool, true, false, List, [], ◌++◌, refl, sym, ◌∙◌, ap, subst, arith}
+use Rattle.std.proofs.Common.{◌≡◌, ℕ, ◌<◌, Bool, true, false, List, refl, sym, ◌∙◌, ap, subst, arith}
 use Rattle.std.proofs.Common.{Option, None, Some}
 use Rattle.std.specs.Prelude.{IsTrue}
 use Rattle.std.specs.Bool.{MatchBool}
 use Rattle.std.proofs.lemmas.Bool.{MatchBool-at_true, MatchBool-at_false}
 use Rattle.std.proofs.lemmas.Bool.Decides.{nat_tests}
 use Rattle.stamp_core.specs.LockEvent.{LockEvent}
-use Rattle.stamp_core.specs.Limits.{Bounds}
 use Rattle.stamp_core.specs.Call.{is_lock_call, call_suits}
 use Rattle.stamp_core.specs.Content.{RecordReplies, content_next}
 use Rattle.stamp_core.specs.Transition.{transition}
 use Rattle.stamp_core.specs.Word.{Represents, word_at}
-use Rattle.stamp_core.specs.History.{Replies, appended_by}
+use Rattle.stamp_core.specs.History.{Replies}
 use Rattle.stamp_core.specs.declared.call.Call.{Call}
 use Rattle.stamp_core.specs.declared.call.Call.TheVariants.{Get, Put, PutIf}
 use Rattle.stamp_core.specs.declared.reply.Reply.{Reply}
 use Rattle.stamp_explain.specs.declared.observed.Observation.{Observation}
-use Rattle.stamp_explain.specs.declared.node.Step.{Step}
-use Rattle.stamp_explain.specs.Observed.{ObservedHistory, MayReply}
-use Rattle.stamp_explain.specs.Search.{LockState, LockSteps}
-use Rattle.stamp_explain.specs.Node.{content_by, IsAt, Goes, HasGone}
+use Rattle.stamp_explain.specs.Observed.{ObservedHistory}
+use Rattle.stamp_explain.specs.Search.{LockState}
+use Rattle.stamp_explain.specs.Node.{IsAt, Goes, HasGone}
 use Rattle.stamp_explain.specs.Stepping.{LockGoes, RecordGoes}
 use Rattle.stamp_explain.proofs.Merging.{lock_leaves, record_appends}
 

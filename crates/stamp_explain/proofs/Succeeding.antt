@@ -1,9 +1,9 @@
 -- The nodes that come next.
-use Rattle.std.proofs.Common.{◌≡◌, ◌≢◌, ◌⊎◌, ℕ, ◌+◌, ◌<◌, ◌≤◌, zero, suc, Bool, true, false, List, [], ◌∷◌}
-use Rattle.std.proofs.Common.{◌++◌, length, get_or, refl, sym, ◌∙◌, ap, subst, inl, inr, arith, Option, None}
+use Rattle.std.proofs.Common.{◌≡◌, ◌≢◌, ◌⊎◌, ℕ, ◌+◌, ◌<◌, zero, suc, List, [], ◌∷◌}
+use Rattle.std.proofs.Common.{◌++◌, length, get_or, refl, sym, ◌∙◌, ap, subst, inl, inr, arith, None}
 use Rattle.std.proofs.Common.{Some}
-use Rattle.std.specs.Prelude.{slice_get, slice_index, take, drop, MatchOption}
-use Rattle.std.specs.List.{All, AllPairs, Contains}
+use Rattle.std.specs.Prelude.{slice_get, slice_index, take, drop}
+use Rattle.std.specs.List.{Contains}
 use Rattle.std.specs.Int.{bit_at}
 use Rattle.std.proofs.Math.Seq.{take-suc, drop-cons}
 use Rattle.std.proofs.lemmas.List.Elements.{Contains-append_left, Contains-push, Contains-push_cases}
@@ -22,7 +22,7 @@ use Rattle.stamp_explain.specs.Expand.{Hope, GoesOn, Expands, IsTakenTo, Takes, 
 use Rattle.stamp_explain.proofs.Finding.{not_before_itself}
 use Rattle.stamp_explain.proofs.Completing.{IsAwaited}
 use Rattle.stamp_explain.proofs.Searching.{CompletesIn, GoesPast, GoesOnBy, goes_on}
-use Rattle.stamp_explain.proofs.Standing.{AreOrderly, taken_by_bit, taken_past}
+use Rattle.stamp_explain.proofs.Standing.{taken_by_bit, taken_past}
 use Rattle.stamp_explain.proofs.Expanding.{orderly, next_awaited}
 use Rattle.stamp_explain.proofs.Lists.{none_in_empty}
 

@@ -1,7 +1,7 @@
 -- What a search is given of a history: its returns in order, and the calls of each thread.
 use Rattle.std.specs.Prelude.{ℕ, ◌≡◌, ◌≢◌, ◌≤◌, ◌<◌, ◌↔◌, List, length, take, slice_get, slice_index, Option}
 use Rattle.std.specs.Prelude.{Some, None, Vec}
-use Rattle.std.specs.List.{All, AllPairs, Contains}
+use Rattle.std.specs.List.{AllPairs, Contains}
 use Rattle.std.specs.Int.{bit_at}
 use Rattle.std.specs.Global.{Global}
 use Rattle.stamp_explain.specs.declared.observed.Observation.{Observation}

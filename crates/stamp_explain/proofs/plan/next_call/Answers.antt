@@ -1,10 +1,9 @@
-use Rattle.std.proofs.Common.{◌≡◌, ◌+◌, ◌-◌, ◌<◌, ◌≤◌, ◌/◌, ◌*◌, ℕ, List, length, get_or, refl, sym, ◌∙◌, ap}
-use Rattle.std.proofs.Common.{subst, arith, Some, None, Fits, w64, take}
-use Rattle.std.specs.Prelude.{slice_get}
+use Rattle.std.proofs.Common.{◌+◌, ◌-◌, ◌<◌, ◌/◌, ℕ, List, length, get_or, refl, sym}
+use Rattle.std.proofs.Common.{subst, arith}
 use Rattle.std.proofs.lemmas.Bool.Decides.{nat_tests}
 use Rattle.std.proofs.lemmas.Option.{slice_get_read}
 use Rattle.stamp_explain.specs.declared.observed.Observation.{Observation}
-use Rattle.stamp_explain.specs.Plan.{AreCallsOf, AreRanks, IsNextOf}
+use Rattle.stamp_explain.specs.Plan.{AreCallsOf, AreRanks}
 use Rattle.stamp_explain.proofs.Nexts.{IsCall, rank_inside, call_at, found_next, found_none, own_calls, entry_read}
 use Rattle.stamp_explain.proofs.plan.next_call.Goals as goal
 

@@ -1,4 +1,4 @@
-use Rattle.std.proofs.Common.{ℕ, ◌-◌, ◌<◌, ◌≤◌, length, get_or}
+use Rattle.std.proofs.Common.{◌-◌}
 use Rattle.stamp_explain.proofs.Nexts.{IsNarrowed}
 use Rattle.stamp_explain.proofs.plan.next_call.Given as goal
 

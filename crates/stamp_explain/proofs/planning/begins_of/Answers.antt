@@ -2,7 +2,7 @@ use Rattle.std.proofs.Common.{◌≡◌, ◌+◌, length, refl, sym, subst, Some
 use Rattle.std.specs.Prelude.{slice_get}
 use Rattle.std.proofs.lemmas.Option.{slice_get_read}
 use Rattle.stamp_explain.specs.Planning.{AreKeys, BeginsAt}
-use Rattle.stamp_explain.proofs.Keyed.{begins_more, no_keys}
+use Rattle.stamp_explain.proofs.Keyed.{begins_more}
 use Rattle.stamp_explain.proofs.planning.begins_of.Goals as goal
 
 pub loop-i-preserved : goal.loop-i-preserved

@@ -1,4 +1,4 @@
-use Rattle.std.proofs.Common.{◌≡◌, ℕ, List, rules, sym, ◌∙◌, ap}
+use Rattle.std.proofs.Common.{ℕ, rules, ◌∙◌, ap}
 use Rattle.std.proofs.lemmas.List.Sorted.{IsNonDecreasingBy-from_sort_by_key}
 use Rattle.stamp_explain.specs.Planning.{places_of}
 use Rattle.stamp_explain.proofs.planning.placed.Goals as goal

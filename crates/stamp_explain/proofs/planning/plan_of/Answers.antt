@@ -1,7 +1,7 @@
-use Rattle.std.proofs.Common.{◌≡◌, ◌≢◌, ◌<◌, ℕ, List, length, sym, ◌∙◌, ap, subst}
+use Rattle.std.proofs.Common.{◌≢◌, ◌<◌, ℕ, List, length, sym, ap, subst}
 use Rattle.std.specs.List.{All, AllPairs}
 use Rattle.stamp_explain.specs.declared.observed.Observation.{Observation}
-use Rattle.stamp_explain.specs.Planning.{AreKeys, ArePlaced, AreRanked, AreListed, EndsAt, BeginsAt}
+use Rattle.stamp_explain.specs.Planning.{AreKeys, AreRanked, AreListed, EndsAt, BeginsAt}
 use Rattle.stamp_explain.proofs.Keyed.{placed_once}
 use Rattle.stamp_explain.proofs.Listing.{places_inside, planned}
 use Rattle.stamp_explain.proofs.planning.plan_of.Goals as goal

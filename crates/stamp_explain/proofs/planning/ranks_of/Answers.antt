@@ -1,5 +1,4 @@
-use Rattle.std.proofs.Common.{◌≡◌, ◌+◌, ◌<◌, ℕ, List, length, get_or, refl, sym, ◌∙◌, subst, arith}
-use Rattle.std.proofs.lemmas.List.Elements.{All-get_or}
+use Rattle.std.proofs.Common.{◌≡◌, ℕ, length, get_or, subst, arith}
 use Rattle.stamp_explain.specs.Planning.{AreRanked}
 use Rattle.stamp_explain.proofs.Ranking.{one_ranked}
 use Rattle.stamp_explain.proofs.Expanding.{same_read}

@@ -1,9 +1,9 @@
-use Rattle.std.proofs.Common.{◌≡◌, ◌+◌, ◌∷◌, ◌++◌, [], ℕ, List, length, refl, sym, ◌∙◌, ap, subst, Some, None}
+use Rattle.std.proofs.Common.{◌≡◌, ◌+◌, ℕ, length, refl, sym, ◌∙◌, ap, subst, Some}
 use Rattle.std.proofs.Common.{Vec, Global}
 use Rattle.std.specs.Prelude.{slice_get}
 use Rattle.std.proofs.lemmas.Option.{slice_get_read}
 use Rattle.stamp_explain.specs.Planning.{AreKeys, EndsAt}
-use Rattle.stamp_explain.proofs.Keyed.{ends_more, ends_same, no_keys}
+use Rattle.stamp_explain.proofs.Keyed.{ends_more, ends_same}
 use Rattle.stamp_explain.proofs.planning.returns_of.Goals as goal
 use Rattle.stamp_explain.proofs.planning.returns_of.Goals.{in-Some+in_ok-push, in_default}
 

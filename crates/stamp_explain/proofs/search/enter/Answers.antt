@@ -1,4 +1,4 @@
-use Rattle.std.proofs.Common.{◌≡◌, ◌∷◌, ◌++◌, [], Bool, true, false, List, length, get_or, sym, ◌∙◌, ap, subst}
+use Rattle.std.proofs.Common.{Bool, get_or, ◌∙◌, ap, subst}
 use Rattle.std.proofs.Common.{None, Vec, Global}
 use Rattle.stamp_explain.specs.declared.node.Node.{Node}
 use Rattle.stamp_explain.specs.Store.{IsStored}

@@ -1,8 +1,7 @@
-use Rattle.std.proofs.Common.{ℕ, ◌≡◌, ◌≤◌, ◌<◌, ◌∷◌, ◌++◌, [], List, length, refl, sym, ◌∙◌, ap, subst, arith}
+use Rattle.std.proofs.Common.{ℕ, ◌∷◌, [], List, length, sym, ◌∙◌, ap, subst, arith}
 use Rattle.stamp_explain.specs.declared.node.Node.{Node}
-use Rattle.stamp_explain.specs.Node.{IsReached}
 use Rattle.stamp_explain.specs.Expand.{Enters}
-use Rattle.stamp_explain.proofs.Exploring.{Searches, nil_of_length, popped_reached, searches_first}
+use Rattle.stamp_explain.proofs.Exploring.{nil_of_length, popped_reached, searches_first}
 use Rattle.stamp_explain.proofs.Exploring.{searches_more, found_order, found_nothing, found_many}
 use Rattle.stamp_explain.proofs.search.search.Goals as goal
 

@@ -1,5 +1,5 @@
-use Rattle.std.proofs.Common.{◌+◌, ◌≡◌, ◌<◌, ◌∷◌, ◌++◌, [], ℕ, List, Bool, true, false, length, refl, sym, ◌∙◌}
-use Rattle.std.proofs.Common.{ap, subst, arith, Some, None, Vec, Global}
+use Rattle.std.proofs.Common.{◌+◌, ◌≡◌, ◌∷◌, ◌++◌, [], ℕ, List, true, false, sym, ◌∙◌}
+use Rattle.std.proofs.Common.{ap, subst, arith, Vec, Global}
 use Rattle.std.proofs.lemmas.Option.{none-some}
 use Rattle.stamp_explain.specs.declared.node.Node.{Node}
 use Rattle.stamp_explain.specs.Observed.{HasReturned}

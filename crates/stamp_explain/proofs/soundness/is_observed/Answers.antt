@@ -1,9 +1,9 @@
-use Rattle.std.proofs.Common.{◌≡◌, ◌<◌, ◌≤◌, ℕ, List, Bool, true, false, length, get_or, refl, sym, ◌∙◌, ap, subst, arith}
-use Rattle.std.specs.Prelude.{take, IsTrue}
+use Rattle.std.proofs.Common.{◌≡◌, ◌<◌, ℕ, List, true, false, length, get_or, sym, ◌∙◌, ap, subst}
+use Rattle.std.specs.Prelude.{take}
 use Rattle.std.specs.List.{All}
 use Rattle.stamp_explain.specs.declared.observed.Observation.{Observation}
-use Rattle.stamp_explain.specs.Observed.{IsObserved, IsSound, DoNotOverlap}
-use Rattle.stamp_explain.proofs.Observers.{none_below, one_below, all_below, not_alone, not_apart}
+use Rattle.stamp_explain.specs.Observed.{IsSound, DoNotOverlap}
+use Rattle.stamp_explain.proofs.Observers.{one_below, not_alone, not_apart}
 use Rattle.stamp_explain.proofs.soundness.is_observed.Goals as goal
 use Rattle.stamp_explain.proofs.soundness.is_observed.Goals.{then-not-is_sound_alone-via-then-not-is_sound_alone, then-not-is_sound_alone-via-else-not-is_sound_alone+then-not-is_apart_from}
 

@@ -1,11 +1,9 @@
-use Rattle.std.proofs.Common.{◌≡◌, ◌<◌, ℕ, List, Bool, true, false, length, get_or, sym, ◌∙◌, ap, subst, arith}
+use Rattle.std.proofs.Common.{◌≡◌, ◌<◌, ℕ, List, length, get_or, sym, ◌∙◌, ap, subst}
 use Rattle.std.proofs.Common.{Some, None, refl}
-use Rattle.std.specs.Prelude.{slice_get, IsTrue}
+use Rattle.std.specs.Prelude.{slice_get}
 use Rattle.std.proofs.lemmas.Option.{same_Some, slice_get_read}
 use Rattle.stamp_explain.specs.declared.observed.Observation.{Observation}
-use Rattle.stamp_explain.specs.Search.{LockState}
-use Rattle.stamp_explain.specs.Stepping.{RecordGoes}
-use Rattle.stamp_explain.specs.Node.{IsAt, HasGone, Goes}
+use Rattle.stamp_explain.specs.Node.{HasGone, Goes}
 use Rattle.stamp_explain.proofs.Stepped.{record_went, record_did_not, suits_some}
 use Rattle.stamp_explain.proofs.stepping.step_of.Goals as goal
 

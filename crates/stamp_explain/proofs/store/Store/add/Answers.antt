@@ -1,9 +1,9 @@
-use Rattle.std.proofs.Common.{◌≡◌, ℕ, Bool, true, false, List, ◌∷◌, refl, sym, ◌∙◌, subst}
+use Rattle.std.proofs.Common.{◌≡◌, Bool, true, false, List, ◌∷◌, refl, sym, ◌∙◌, subst}
 use Rattle.std.specs.Prelude.{not}
 use Rattle.std.specs.Bool.{MatchBool}
 use Rattle.std.specs.List.{list_any, Contains}
 use Rattle.std.specs.List.Sorted.{IsPermutation}
-use Rattle.stamp_explain.specs.Store.{Key, key_of}
+use Rattle.stamp_explain.specs.Store.{Key}
 use Rattle.stamp_explain.proofs.Storing.{same_key, found_again, found_not, stored, not_stored}
 use Rattle.stamp_explain.proofs.store.Store.add.Goals as goal
 

@@ -1,0 +1,148 @@
+use stamp_core::{Call, Limits, Reply, Words};
+use stamp_explain::{ExplainError, Observation, Observed, Returned, is_explained, is_observed};
+use std::test::Fail;
+
+fn words(word: u64) -> Result<Words, Fail> {
+    match Words::new(&[word]) {
+        Some(words) => Ok(words),
+        None => Err(Fail::from("words")),
+    }
+}
+
+/// A call that returned, with its first and its last position.
+fn returned(thread: u64, call: Call, reply: Reply, at: (u64, u64)) -> Observation {
+    let (first, last) = at;
+    Observation {
+        thread,
+        call,
+        first,
+        returned: Some(Returned { last, reply }),
+    }
+}
+
+fn under_way(thread: u64, call: Call, first: u64) -> Observation {
+    Observation {
+        thread,
+        call,
+        first,
+        returned: None,
+    }
+}
+
+fn observed(rt: &impl AllocGlobal, width: u64, entries: &[Observation]) -> Result<Observed, Fail> {
+    let Ok(limits) = Limits::new(127, 1000) else {
+        return Err(Fail::from("limits"));
+    };
+    let mut held = Vec::new(rt.alloc());
+    for entry in entries {
+        held.push(*entry)?;
+    }
+    match Observed::of(limits, width, held) {
+        Some(observed) => Ok(observed),
+        None => Err(Fail::from("observed")),
+    }
+}
+
+fn verdict(
+    rt: &impl AllocGlobal,
+    width: u64,
+    entries: &[Observation],
+    most: u64,
+) -> Result<Result<bool, ExplainError>, Fail> {
+    let observed = observed(rt, width, entries)?;
+    if is_observed(&observed) {
+        Ok(is_explained(rt.alloc(), &observed, most))
+    } else {
+        Err(Fail::from("not observed"))
+    }
+}
+
+/// A write acquired from positions 0 to 3.
+fn first_write() -> Observation {
+    returned(0, Call::TryWrite, Reply::Stamp(384), (0, 3))
+}
+
+#[test]
+fn calls_one_after_the_other_are_judged_by_their_replies(rt: HostRuntime) -> Result<(), Fail> {
+    assert_eq!(rt; verdict(&rt, 0, &[], 1)?, Ok(true));
+    let released = returned(0, Call::UnlockWrite(384), Reply::Done, (4, 5));
+    assert_eq!(rt; verdict(&rt, 0, &[first_write(), released], 100)?, Ok(true));
+    let mismatch = returned(0, Call::UnlockWrite(384), Reply::Mismatch, (4, 5));
+    assert_eq!(rt;
+        verdict(&rt, 0, &[first_write(), mismatch], 100)?,
+        Ok(false)
+    );
+    Ok(())
+}
+
+#[test]
+fn overlapping_calls_take_effect_in_any_order(rt: HostRuntime) -> Result<(), Fail> {
+    let during = returned(1, Call::Optimistic, Reply::Stamp(256), (1, 2));
+    assert_eq!(rt; verdict(&rt, 0, &[first_write(), during], 100)?, Ok(true));
+    let after = returned(1, Call::Optimistic, Reply::Stamp(256), (4, 5));
+    assert_eq!(rt; verdict(&rt, 0, &[first_write(), after], 100)?, Ok(false));
+    Ok(())
+}
+
+#[test]
+fn a_call_under_way_may_have_taken_effect(rt: HostRuntime) -> Result<(), Fail> {
+    let failed = returned(1, Call::TryWrite, Reply::Stamp(0), (2, 3));
+    let begun = under_way(0, Call::WriteLock, 1);
+    assert_eq!(rt; verdict(&rt, 0, &[begun, failed], 100)?, Ok(true));
+    let later = under_way(0, Call::WriteLock, 4);
+    assert_eq!(rt; verdict(&rt, 0, &[later, failed], 100)?, Ok(false));
+    Ok(())
+}
+
+#[test]
+fn one_hold_is_converted_once(rt: HostRuntime) -> Result<(), Fail> {
+    let one = returned(1, Call::ToRead(384), Reply::Stamp(513), (6, 8));
+    let other = returned(2, Call::ToRead(384), Reply::Stamp(513), (7, 9));
+    assert_eq!(rt;
+        verdict(&rt, 0, &[first_write(), one, other], 100)?,
+        Ok(false)
+    );
+    let refused = returned(2, Call::ToRead(384), Reply::Stamp(0), (7, 9));
+    assert_eq!(rt;
+        verdict(&rt, 0, &[first_write(), one, refused], 100)?,
+        Ok(true)
+    );
+    Ok(())
+}
+
+#[test]
+fn a_get_after_a_get_reads_nothing_older(rt: HostRuntime) -> Result<(), Fail> {
+    let put = returned(0, Call::Put(words(7)?), Reply::Done, (0, 5));
+    let new = returned(1, Call::Get, Reply::Content(words(7)?), (1, 2));
+    let again = returned(2, Call::Get, Reply::Content(words(7)?), (3, 4));
+    assert_eq!(rt; verdict(&rt, 1, &[put, new, again], 100)?, Ok(true));
+    let old = returned(2, Call::Get, Reply::Content(words(0)?), (3, 4));
+    assert_eq!(rt; verdict(&rt, 1, &[put, new, old], 100)?, Ok(false));
+    let swapped = returned(2, Call::PutIf(words(7)?, words(8)?), Reply::Yes, (3, 4));
+    assert_eq!(rt; verdict(&rt, 1, &[put, new, swapped], 100)?, Ok(true));
+    Ok(())
+}
+
+#[test]
+fn a_search_that_has_not_ended_is_undecided(rt: HostRuntime) -> Result<(), Fail> {
+    let history = [first_write()];
+    assert_eq!(rt; verdict(&rt, 0, &history, 0)?, Err(ExplainError::Undecided));
+    assert_eq!(rt; verdict(&rt, 0, &history, 2)?, Err(ExplainError::Undecided));
+    assert_eq!(rt; verdict(&rt, 0, &history, 3)?, Ok(true));
+    Ok(())
+}
+
+#[test]
+fn calls_of_a_thread_do_not_overlap(rt: HostRuntime) -> Result<(), Fail> {
+    let over = returned(0, Call::ReadCount, Reply::Count(0), (5, 4));
+    let overlapping = returned(0, Call::ReadCount, Reply::Count(0), (3, 6));
+    let far = returned(64, Call::ReadCount, Reply::Count(0), (4, 5));
+    let of_the_record = returned(1, Call::Get, Reply::Content(words(0)?), (4, 5));
+    for entry in [over, overlapping, far, of_the_record] {
+        assert_eq!(rt;
+            is_observed(&observed(&rt, 0, &[first_write(), entry])?),
+            false
+        );
+    }
+    Ok(())
+}
