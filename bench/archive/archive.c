@@ -25,16 +25,16 @@ static int64_t now(void) {
     return at.tv_sec * INT64_C(1000000000) + at.tv_nsec;
 }
 
-static uint64_t number_of(struct stamped_decision made) {
-    switch (made.reply) {
-    case STAMPED_STAMP: return made.number;
-    case STAMPED_YES: return 1;
-    case STAMPED_NO: return 2;
-    case STAMPED_DONE: return 3;
-    case STAMPED_MISMATCH: return 4;
-    case STAMPED_COUNT: return made.number + 5;
-    }
-    abort();
+// Whether a call is answered a stamp.
+static int has_stamp(uint32_t call) {
+    return call <= STAMPED_OPTIMISTIC || (call >= STAMPED_TO_WRITE && call <= STAMPED_TO_OPTIMISTIC);
+}
+
+// A reply as decide.c counts it: yes, no, done, mismatch and counts from 1 on.
+static uint64_t number_of(uint32_t call, uint64_t reply) {
+    if (has_stamp(call)) return reply;
+    if (call == STAMPED_READ_COUNT) return reply + 5;
+    return (call >= STAMPED_UNLOCK_WRITE && call <= STAMPED_UNLOCK ? 4 : 2) - reply;
 }
 
 // One that waits is passed over.
@@ -42,11 +42,12 @@ static void decide(uint64_t calls) {
     uint64_t word = stamped_opening(limits.layout), stamp = 0, sum = 0;
     int64_t start = now();
     for (uint64_t i = 0; i < calls; i++) {
-        struct stamped_decision made = stamped_decide(limits, word, cycle[i % TURNS], stamp);
-        if (made.effect == STAMPED_WAIT) continue;
+        uint32_t call = cycle[i % TURNS];
+        struct stamped_decision made = stamped_decide(limits, word, call, stamp);
+        if (made.word == STAMPED_WAIT) continue;
         word = made.word;
-        if (made.reply == STAMPED_STAMP) stamp = made.number;
-        sum = sum * 31 + number_of(made);
+        if (has_stamp(call)) stamp = made.reply;
+        sum = sum * 31 + number_of(call, made.reply);
     }
     fprintf(stderr, "calls %" PRIu64 " nanoseconds %" PRId64 " sum %" PRIu64 "\n", calls, now() - start, sum);
 }
@@ -55,8 +56,8 @@ static void pairs(struct lock *lock, uint64_t count) {
     uint64_t good = 0;
     int64_t start = now();
     for (uint64_t i = 0; i < count; i++) {
-        uint64_t stamp = call_lock(lock, STAMPED_TRY_READ, 0).number;
-        good += call_lock(lock, STAMPED_UNLOCK_READ, stamp).reply == STAMPED_DONE;
+        uint64_t stamp = call_lock(lock, STAMPED_TRY_READ, 0);
+        good += call_lock(lock, STAMPED_UNLOCK_READ, stamp) == STAMPED_DONE;
     }
     fprintf(stderr, "read 1 %" PRIu64 " %" PRId64 " %" PRIu64 "\n", count, now() - start, good);
 }

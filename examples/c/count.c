@@ -11,13 +11,13 @@ static struct lock lock = {{1, STAMPED_READERS_1, STAMPED_VERSIONS_1}, 0};
 static uint64_t sum;
 
 static uint64_t acquire(uint32_t call) {
-    struct stamped_decision made = call_lock(&lock, call, 0);
-    if (made.reply != STAMPED_STAMP || made.number == 0) abort();
-    return made.number;
+    uint64_t stamp = call_lock(&lock, call, 0);
+    if (stamp == 0) abort();
+    return stamp;
 }
 
 static void release(uint64_t stamp) {
-    if (call_lock(&lock, STAMPED_UNLOCK, stamp).reply != STAMPED_DONE) abort();
+    if (call_lock(&lock, STAMPED_UNLOCK, stamp) != STAMPED_DONE) abort();
 }
 
 static uint64_t sum_now(void) {

@@ -10,25 +10,22 @@ mod stamped {
     #[derive(Clone, Copy)]
     pub struct Limits {
         pub layout: u32,
-        pub readers: u64,
+        pub readers: u32,
         pub versions: u64,
     }
 
     #[repr(C)]
     pub struct Decision {
-        pub effect: u32,
-        pub reply: u32,
         pub word: u64,
-        pub number: u64,
+        pub reply: u64,
     }
 
     pub const WRITE_LOCK: u32 = 3;
     pub const READ_LOCK: u32 = 4;
     pub const UNLOCK: u32 = 9;
-    pub const CHANGE: u32 = 17;
-    pub const WAIT: u32 = 18;
-    pub const STAMP: u32 = 1;
-    pub const DONE: u32 = 4;
+    pub const WAIT: u64 = 16;
+    pub const LEAST_WORD: u64 = 256;
+    pub const DONE: u64 = 1;
 
     unsafe extern "C" {
         pub safe fn stamped_opening(layout: u32) -> u64;
@@ -60,7 +57,7 @@ struct Held<'a, T> {
 impl<T> Drop for Held<'_, T> {
     fn drop(&mut self) {
         let released = self.lock.call(stamped::UNLOCK, self.stamp);
-        assert_eq!(released.reply, stamped::DONE);
+        assert_eq!(released, stamped::DONE);
     }
 }
 
@@ -70,32 +67,32 @@ impl<T> Locked<T> {
         Locked { word, value: UnsafeCell::new(value) }
     }
 
-    /// Makes a call, and waits where it has to.
-    fn call(&self, call: u32, stamp: u64) -> stamped::Decision {
-        let mut found = self.word.load(Ordering::SeqCst);
+    /// Makes a call, and waits where it has to. Returns the reply.
+    fn call(&self, call: u32, stamp: u64) -> u64 {
+        let order = Ordering::SeqCst;
+        let mut found = self.word.load(order);
         loop {
             let made = stamped::stamped_decide(LIMITS, found, call, stamp);
-            match made.effect {
-                stamped::CHANGE => {
-                    let order = Ordering::SeqCst;
-                    match self.word.compare_exchange(found, made.word, order, order) {
-                        Ok(_) => return made,
-                        Err(other) => found = other,
-                    }
-                }
-                stamped::WAIT => {
-                    thread::yield_now();
-                    found = self.word.load(Ordering::SeqCst);
-                }
-                _ => return made,
+            if made.word == stamped::WAIT {
+                thread::yield_now();
+                found = self.word.load(order);
+                continue;
+            }
+            assert!(made.word >= stamped::LEAST_WORD, "error {}", made.word);
+            if made.word == found {
+                return made.reply;
+            }
+            match self.word.compare_exchange(found, made.word, order, order) {
+                Ok(_) => return made.reply,
+                Err(other) => found = other,
             }
         }
     }
 
     fn acquire(&self, call: u32) -> Held<'_, T> {
-        let made = self.call(call, 0);
-        assert!(made.reply == stamped::STAMP && made.number != 0);
-        Held { lock: self, stamp: made.number }
+        let stamp = self.call(call, 0);
+        assert_ne!(stamp, 0);
+        Held { lock: self, stamp }
     }
 
     pub fn write<R>(&self, f: impl FnOnce(&mut T) -> R) -> R {

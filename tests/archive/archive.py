@@ -33,7 +33,11 @@ NAMES = ["try_write", "try_read", "write_lock", "read_lock", "optimistic", "vali
          "is_read_locked", "read_count"]
 BARE = {name for name in NAMES if name.startswith("try_") or name.startswith("is_")} | {
     "write_lock", "read_lock", "optimistic", "read_count"}
-ANSWER, CHANGE, WAIT = 16, 17, 18
+WAIT = 16
+# Names of the replies that are no stamp: of 0 and of 1.
+ANSWERS = {"validate": ("no", "yes"), "try_unlock_write": ("no", "yes"), "try_unlock_read": ("no", "yes"),
+           "is_write_locked": ("no", "yes"), "is_read_locked": ("no", "yes"), "unlock_write": ("mismatch", "done"),
+           "unlock_read": ("mismatch", "done"), "unlock": ("mismatch", "done")}
 KINDS = {16: "none", 17: "write", 18: "read", 19: "optimistic"}
 # What a version adds, the writer's unit, and the widest limits.
 LAYOUTS = {1: (256, 128, 127, 2**55 - 2), 2: (131072, 65536, 65535, 2**46 - 2)}
@@ -60,12 +64,11 @@ def same(what, ours, wanted):
         fail(f"{what}: {ours}, and not {wanted}")
 
 
-def reply_of(kind, number):
+def reply_of(name, reply):
     """A reply as `stamped replay` writes it."""
-    texts = {2: "yes", 3: "no", 4: "done", 5: "mismatch"}
-    if kind == 1:
-        return number
-    return {"count": number} if kind == 6 else texts[kind]
+    if name in ANSWERS:
+        return ANSWERS[name][reply]
+    return {"count": reply} if name == "read_count" else reply
 
 
 def drawn_stamp(layout, issued, word):
@@ -84,18 +87,18 @@ def walk(library, layout, limits):
     for _ in range(LENGTH):
         name = random.choice(NAMES)
         stamp = drawn_stamp(layout, issued, word)
-        effect, kind, new, number = library.ask("d", layout, *limits, word, NAMES.index(name) + 1, stamp)
+        new, reply = library.ask("d", layout, *limits, word, NAMES.index(name) + 1, stamp)
         call = [name] if name in BARE else [name, stamp]
-        if effect == WAIT:
-            same(f"{call} on {word}", (kind, new, number), (0, word, 0))
+        if new == WAIT:
+            same(f"{call} on {word}", reply, 0)
             waits.append((len(calls), call))
             continue
-        if effect not in (ANSWER, CHANGE) or (effect == CHANGE) != (new != word):
-            fail(f"{call} on {word} of layout {layout}: effect {effect}, word {new}")
+        if new < LAYOUTS[layout][0]:
+            fail(f"{call} on {word} of layout {layout}: error {new}")
         calls.append(call)
-        replies.append(reply_of(kind, number))
-        if kind == 1:
-            issued.append(number)
+        replies.append(reply_of(name, reply))
+        if replies[-1] == reply:
+            issued.append(reply)
         word = new
     return calls, replies, word, waits
 
@@ -155,22 +158,21 @@ def decision_of(layout, readers, versions, word, code, stamp):
     """What the library is to answer, by the call table in python."""
     error = error_of(layout, readers, versions, word)
     if error or not 1 <= code <= len(NAMES):
-        return [error or 5, 0, word, 0]
+        return [error or 5, 0]
     call_table.VERSION, call_table.WRITER = LAYOUTS[layout][:2]
     decided = call_table.TABLE[NAMES[code - 1]]((readers, versions), word, stamp)
     if decided is None:
-        return [WAIT, 0, word, 0]
+        return [WAIT, 0]
     new, reply = decided
-    kinds = {"yes": 2, "no": 3, "done": 4, "mismatch": 5}
-    kind, number = (6, reply["count"]) if isinstance(reply, dict) else (
-        (kinds[reply], 0) if isinstance(reply, str) else (1, reply))
-    return [ANSWER if new is None else CHANGE, kind, word if new is None else new, number]
+    names = ANSWERS.get(NAMES[code - 1], ())
+    number = reply["count"] if isinstance(reply, dict) else names.index(reply) if names else reply
+    return [word if new is None else new, number]
 
 
 def edges(layout):
     """Limits and words at the edges of a layout, and beyond them."""
     version, writer, readers, versions = LAYOUTS.get(layout, LAYOUTS[1])
-    limits = [(most, count) for most in (0, 1, 2, readers - 1, readers, readers + 1, 2**64 - 1)
+    limits = [(most, count) for most in (0, 1, 2, readers - 1, readers, readers + 1, 2**32 - 1)
               for count in (0, 1, 2, versions - 1, versions, versions + 1, 2**64 - 1)]
     words = [0, 1, writer, version - 1, 2**63 - 1, 2**63, 2**64 - 1, 2**63 - writer, 2**63 - writer - 1]
     words += [version * count + holders for count in (1, 2, 3, versions, versions + 1)
@@ -210,7 +212,7 @@ def compare_words(library):
             case = (layout, *limits, word, code, stamp)
             made = library.ask("d", *case)
             same(f"decision {case}", made, decision_of(*case))
-            found.add((code, made[0]))
+            found.add((code, WAIT if made[0] == WAIT else made[0] != word))
     print(f"words: {len(NAMES) * (WORDS // len(NAMES) + 1)} decisions as the call table's, {len(found)} kinds")
 
 

@@ -4,7 +4,7 @@
      o LAYOUT                               the opening word
      l LAYOUT READERS VERSIONS              the error of the limits
      w LAYOUT READERS VERSIONS WORD         the error of the word
-     d LAYOUT READERS VERSIONS WORD CALL STAMP    effect, reply, word and number
+     d LAYOUT READERS VERSIONS WORD CALL STAMP    word and reply
      k LAYOUT STAMP                         kind, version and readers */
 #include "stamped.h"
 #include <inttypes.h>
@@ -13,7 +13,7 @@
 static struct stamped_limits limits;
 
 static int take_limits(void) {
-    return scanf("%" SCNu32 " %" SCNu64 " %" SCNu64, &limits.layout, &limits.readers, &limits.versions) == 3;
+    return scanf("%" SCNu32 " %" SCNu32 " %" SCNu64, &limits.layout, &limits.readers, &limits.versions) == 3;
 }
 
 static int decide(void) {
@@ -21,7 +21,7 @@ static int decide(void) {
     uint32_t call;
     if (!take_limits() || scanf("%" SCNu64 " %" SCNu32 " %" SCNu64, &word, &call, &stamp) != 3) return 0;
     struct stamped_decision made = stamped_decide(limits, word, call, stamp);
-    printf("%" PRIu32 " %" PRIu32 " %" PRIu64 " %" PRIu64 "\n", made.effect, made.reply, made.word, made.number);
+    printf("%" PRIu64 " %" PRIu64 "\n", made.word, made.reply);
     return 1;
 }
 

@@ -1,5 +1,5 @@
 -- Each number of a state is represented as the word of some events.
-use Rattle.std.proofs.Common.{zero, suc, ◌≡◌, ℕ, ◌+◌, ◌<◌, ◌≤◌, List, [], ◌∷◌, ◌++◌, refl, sym, ◌∙◌}
+use Rattle.std.proofs.Common.{zero, suc, ◌≡◌, ◌↔◌, ℕ, ◌+◌, ◌<◌, ◌≤◌, List, [], ◌∷◌, ◌++◌, refl, sym, ◌∙◌}
 use Rattle.std.proofs.Common.{ap, subst, inl, inr, arith}
 use Rattle.std.proofs.lemmas.Bool.Decides.{nat_tests}
 use Rattle.stamp_core.specs.LockEvent.{LockEvent, Counts, counts}
@@ -12,7 +12,7 @@ use Rattle.stamp_core.specs.Stamp.{IsWriteStamp, IsReadStamp, IsOptimisticStamp,
 use Rattle.stamp_core.specs.StampKind.{HasKind}
 use Rattle.stamp_core.specs.declared.stamps.StampKind.{StampKind}
 use Rattle.stamp_core.specs.declared.stamps.StampKind.TheVariants.{Write, Read, Optimistic, Neither}
-use Rattle.stamp_core.specs.Decoded.{IsNumber, counts_in, counts_of, after_events}
+use Rattle.stamp_core.specs.Decoded.{IsNumber, IsWithin, counts_in, counts_of, after_events}
 use Rattle.stamp_core.specs.declared.layout.Layout.{Layout}
 use Rattle.stamp_core.proofs.TwoLayouts.{either_layout}
 use Rattle.stamp_core.proofs.WellFormedPush.{AllowsAll, push_all, obeys_now, well_formed_none}
@@ -237,3 +237,26 @@ admitted_number limits w n a e = record {
   events = a.events;
   represented = record { well_formed = a.represented.well_formed; layout = refl; spelled = e ∙ a.represented.spelled };
 }
+
+-- a number within the limits is that of an admitted word
+within_state : (limits : Bounds) (n : ℕ) → AreInRange limits → IsWithin limits n → IsNumber (units limits) n
+unfolding counts_of
+within_state limits n range within =
+    let u = either_layout limits.layout in
+    record {
+      low = grind (arith, nat_tests, range.readers, range.versions);
+      high = grind (arith, nat_tests, range.readers, range.versions);
+      holders = grind (arith, nat_tests, range.readers, range.versions);
+    }
+
+pub within_is_admitted : (limits : Bounds) (n : ℕ) → AreInRange limits → IsWithin limits n ↔
+    IsAdmitted limits (word_at limits n)
+within_is_admitted limits n range = (
+  λ within. admitted limits n (within_state limits n range within) within.1 within.2,
+  λ a.
+      let state = is_state limits (word_at limits n) range a in
+      let low = state.low in
+      let u = either_layout limits.layout in
+      let counts = is_within limits (word_at limits n) range a in
+      (grind arith, counts.0, counts.1),
+)

@@ -37,12 +37,14 @@ pub(crate) fn decided(limits: Limits, word: Word, call: &Call) -> LockDecision
     }
 }
 
+#[inline(always)]
 fn zero() -> LockDecision
     ensures { result ≡ LockDecision.Answer (LockReply.Stamp 0) }
 {
     LockDecision::Answer(LockReply::Stamp(0))
 }
 
+#[inline(always)]
 fn yes_where(holds: bool) -> LockDecision
     ensures { result ≡ LockDecision.Answer (if holds then LockReply.Yes else LockReply.No) }
 {
@@ -50,12 +52,14 @@ fn yes_where(holds: bool) -> LockDecision
 }
 
 /// Answers the stamp that the new word is.
+#[inline(always)]
 fn gets(word: Word) -> LockDecision
     ensures { result ≡ LockDecision.Change word (LockReply.Stamp word.bits) }
 {
     LockDecision::Change(word, LockReply::Stamp(word.bits()))
 }
 
+#[inline(always)]
 fn try_write(limits: Limits, word: Word) -> LockDecision
     requires { word.layout ≡ limits.layout }
     ensures { decision_as result ≡ decision_of limits word Call.TryWrite }
@@ -67,6 +71,7 @@ fn try_write(limits: Limits, word: Word) -> LockDecision
     }
 }
 
+#[inline(always)]
 fn try_read(limits: Limits, word: Word) -> LockDecision
     requires { word.layout ≡ limits.layout }
     ensures { decision_as result ≡ decision_of limits word Call.TryRead }
@@ -78,6 +83,7 @@ fn try_read(limits: Limits, word: Word) -> LockDecision
     }
 }
 
+#[inline(always)]
 fn write_lock(limits: Limits, word: Word) -> LockDecision
     requires { word.layout ≡ limits.layout }
     ensures { decision_as result ≡ decision_of limits word Call.WriteLock }
@@ -91,6 +97,7 @@ fn write_lock(limits: Limits, word: Word) -> LockDecision
     }
 }
 
+#[inline(always)]
 fn read_lock(limits: Limits, word: Word) -> LockDecision
     requires { word.layout ≡ limits.layout }
     ensures { decision_as result ≡ decision_of limits word Call.ReadLock }
@@ -102,6 +109,7 @@ fn read_lock(limits: Limits, word: Word) -> LockDecision
     }
 }
 
+#[inline(always)]
 fn optimistic(limits: Limits, word: Word) -> LockDecision
     requires { word.layout ≡ limits.layout }
     ensures { decision_as result ≡ decision_of limits word Call.Optimistic }
@@ -113,6 +121,7 @@ fn optimistic(limits: Limits, word: Word) -> LockDecision
     }
 }
 
+#[inline(always)]
 fn validate(limits: Limits, word: Word, stamp: u64) -> LockDecision
     requires { word.layout ≡ limits.layout }
     ensures { decision_as result ≡ decision_of limits word (Call.Validate stamp) }
@@ -120,6 +129,7 @@ fn validate(limits: Limits, word: Word, stamp: u64) -> LockDecision
     yes_where(word.validates(stamp))
 }
 
+#[inline(always)]
 fn unlock_write(limits: Limits, word: Word, stamp: u64) -> LockDecision
     requires { word.layout ≡ limits.layout }
     ensures { decision_as result ≡ decision_of limits word (Call.UnlockWrite stamp) }
@@ -131,6 +141,7 @@ fn unlock_write(limits: Limits, word: Word, stamp: u64) -> LockDecision
     }
 }
 
+#[inline(always)]
 fn unlock_read(limits: Limits, word: Word, stamp: u64) -> LockDecision
     requires { word.layout ≡ limits.layout }
     ensures { decision_as result ≡ decision_of limits word (Call.UnlockRead stamp) }
@@ -142,6 +153,7 @@ fn unlock_read(limits: Limits, word: Word, stamp: u64) -> LockDecision
     }
 }
 
+#[inline(always)]
 fn unlock(limits: Limits, word: Word, stamp: u64) -> LockDecision
     requires { word.layout ≡ limits.layout }
     ensures { decision_as result ≡ decision_of limits word (Call.Unlock stamp) }
@@ -155,6 +167,7 @@ fn unlock(limits: Limits, word: Word, stamp: u64) -> LockDecision
     }
 }
 
+#[inline(always)]
 fn to_write(limits: Limits, word: Word, stamp: u64) -> LockDecision
     requires { word.layout ≡ limits.layout }
     ensures { decision_as result ≡ decision_of limits word (Call.ToWrite stamp) }
@@ -173,6 +186,7 @@ fn to_write(limits: Limits, word: Word, stamp: u64) -> LockDecision
     }
 }
 
+#[inline(always)]
 fn to_read(limits: Limits, word: Word, stamp: u64) -> LockDecision
     requires { word.layout ≡ limits.layout }
     ensures { decision_as result ≡ decision_of limits word (Call.ToRead stamp) }
@@ -188,6 +202,7 @@ fn to_read(limits: Limits, word: Word, stamp: u64) -> LockDecision
     }
 }
 
+#[inline(always)]
 fn to_optimistic(limits: Limits, word: Word, stamp: u64) -> LockDecision
     requires { word.layout ≡ limits.layout }
     ensures { decision_as result ≡ decision_of limits word (Call.ToOptimistic stamp) }
@@ -205,6 +220,7 @@ fn to_optimistic(limits: Limits, word: Word, stamp: u64) -> LockDecision
     }
 }
 
+#[inline(always)]
 fn try_unlock_write(limits: Limits, word: Word) -> LockDecision
     requires { word.layout ≡ limits.layout }
     ensures { decision_as result ≡ decision_of limits word Call.TryUnlockWrite }
@@ -216,6 +232,7 @@ fn try_unlock_write(limits: Limits, word: Word) -> LockDecision
     }
 }
 
+#[inline(always)]
 fn try_unlock_read(limits: Limits, word: Word) -> LockDecision
     requires { word.layout ≡ limits.layout }
     ensures { decision_as result ≡ decision_of limits word Call.TryUnlockRead }

@@ -1,11 +1,11 @@
 //! The limits of a lock.
-ghost use Rattle.std.specs.Prelude.{◌≡◌, ◌≤◌, ◌↔◌, IsOk, IfOk, IsTrue};
+ghost use Rattle.std.specs.Prelude.{◌≡◌, ◌≤◌, ◌↔◌, IsOk, IfOk, IsSome, IfSome, IsTrue};
 ghost use Rattle.stamp_core.specs.Limits.{AreInRange, bounds, widest};
 ghost use Rattle.stamp_core.specs.Word.{IsAdmitted, word_at};
-ghost use Rattle.stamp_core.specs.Decoded.{counts_in};
+ghost use Rattle.stamp_core.specs.Decoded.{counts_in, IsWithin};
 
 use crate::layout::Layout;
-use crate::word::Word;
+use crate::word::{Word, holders_of, versions_of};
 use std::error::Error;
 use std::fmt;
 use std::marker::Model;
@@ -150,5 +150,33 @@ impl Limits {
     {
         self.known();
         Word::of_state(self.layout(), bits)
+    }
+
+    /// The word of this number; `None` where the limits admit none of it.
+    #[inline(always)]
+    pub fn word_from_bits(&self, bits: u64) -> Option<Word>
+        ensures bits { IfSome result (λ word. word ≡ word_at self.now bits) }
+        ensures some { IsSome result ↔ IsAdmitted self.now (word_at self.now bits) }
+    {
+        self.known();
+        if self.covers_bits(bits) {
+            Some(self.word(bits))
+        } else {
+            None
+        }
+    }
+
+    #[inline(always)]
+    #[tactic(auto, unfolding(crate::specs::Decoded::counts_of), using(crate::proofs::TwoLayouts::either_layout))]
+    fn covers_bits(&self, bits: u64) -> bool
+        ensures { IsTrue result ↔ IsWithin self.now bits }
+    {
+        let holders = holders_of(self.layout, bits);
+        let begun = versions_of(self.layout, bits);
+        if holders == self.layout.writer_unit() {
+            begun > 0 && begun <= self.versions
+        } else {
+            begun > 0 && begun <= self.versions + 1 && holders <= self.readers
+        }
     }
 }

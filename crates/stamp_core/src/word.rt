@@ -18,7 +18,7 @@ const END: u64 = 1 << 63;
 
 /// What stands below the version in a number: the readers, or the writer.
 #[tactic(auto, unfolding(crate::specs::Layout::units_of))]
-fn holders_of(layout: Layout, bits: u64) -> u64
+pub(crate) fn holders_of(layout: Layout, bits: u64) -> u64
     ensures { result ≡ bits % (units_of layout).version }
 {
     match layout {
@@ -29,7 +29,7 @@ fn holders_of(layout: Layout, bits: u64) -> u64
 
 /// How many times the unit of a version fits into a number.
 #[tactic(auto, unfolding(crate::specs::Layout::units_of))]
-fn versions_of(layout: Layout, bits: u64) -> u64
+pub(crate) fn versions_of(layout: Layout, bits: u64) -> u64
     ensures { result ≡ bits / (units_of layout).version }
 {
     match layout {

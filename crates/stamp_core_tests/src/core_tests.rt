@@ -119,7 +119,13 @@ fn limits_admit_words_of_their_layout_within_them(rt: HostRuntime) -> Result<(),
     ] {
         let word = Word::from_bits(bits).ok_or("no word")?;
         assert_eq!(rt; narrow.admits(word), is_admitted, "{bits}");
+        assert_eq!(rt;
+            narrow.word_from_bits(bits),
+            is_admitted.then_some(word),
+            "{bits}"
+        );
     }
+    assert!(rt; narrow.word_from_bits(255).is_none());
     assert!(rt; !narrow.admits(Word::opening_in(Layout::Two)));
     Ok(())
 }

@@ -33,14 +33,14 @@ enum {
 /* The layout of a lock and its limits. They stay the same for the life of the lock. */
 struct stamped_limits {
     uint32_t layout;   /* 1 or 2 */
-    uint64_t readers;  /* how many may hold read mode at a time: 1 to 127, in layout 2 to 65,535 */
+    uint32_t readers;  /* how many may hold read mode at a time: 1 to 127, in layout 2 to 65,535 */
     uint64_t versions; /* how often write mode may be acquired in all, from 0 */
 };
 
 /* The widest limits of each layout. */
-#define STAMPED_READERS_1 UINT64_C(127)
+#define STAMPED_READERS_1 UINT32_C(127)
 #define STAMPED_VERSIONS_1 UINT64_C(36028797018963966)
-#define STAMPED_READERS_2 UINT64_C(65535)
+#define STAMPED_READERS_2 UINT32_C(65535)
 #define STAMPED_VERSIONS_2 UINT64_C(70368744177662)
 
 /* Calls, with the methods of Java's StampedLock. Where "stamp" stands, the call takes one. */
@@ -64,31 +64,30 @@ enum {
     STAMPED_READ_COUNT = 17       /* getReadLockCount() */
 };
 
-/* Effects: what a call is to do with the word that it found. */
-enum {
-    STAMPED_ANSWER = 16, /* leave the word; the call is answered */
-    STAMPED_CHANGE = 17, /* put the new word in the place of the one found; then the call is answered */
-    STAMPED_WAIT = 18    /* look again later; STAMPED_WRITE_LOCK and STAMPED_READ_LOCK alone */
-};
+/* What a call does with the word that it found. Look at `word` in this order:
 
-/* Replies: what a call is answered. */
-enum {
-    STAMPED_NO_REPLY = 0, /* of a wait or an error */
-    STAMPED_STAMP = 1,    /* a stamp, in `number`; 0 where the mode was not acquired */
-    STAMPED_YES = 2,
-    STAMPED_NO = 3,
-    STAMPED_DONE = 4,     /* the mode was released */
-    STAMPED_MISMATCH = 5, /* nothing was released: the stamp matches no held mode
-                             (IllegalMonitorStateException in Java) */
-    STAMPED_COUNT = 6     /* how many hold read mode, in `number` */
-};
-
-/* What a call does with the word that it found. */
+     below STAMPED_LEAST_WORD   no word: STAMPED_WAIT, or an error
+     the word that you gave     the call is answered; leave the word
+     another word               put it in the place of the one that you gave; then the call is answered */
 struct stamped_decision {
-    uint32_t effect; /* an effect, or an error */
-    uint32_t reply;
-    uint64_t word;   /* the new word; unless the effect is STAMPED_CHANGE, the one that was given */
-    uint64_t number; /* the stamp or the count of the reply; otherwise 0 */
+    uint64_t word;
+    uint64_t reply; /* what the call is answered; 0 with a wait or an error */
+};
+
+/* Every word is at least this. */
+#define STAMPED_LEAST_WORD UINT64_C(256)
+
+/* Look again later: STAMPED_WRITE_LOCK and STAMPED_READ_LOCK alone. */
+#define STAMPED_WAIT UINT64_C(16)
+
+/* Replies. 0 says no. Acquisitions and conversions are answered a stamp, or 0 where the mode was not
+   acquired; STAMPED_READ_COUNT is answered how many hold read mode; the other calls, one of these. */
+enum {
+    STAMPED_NO = 0,       /* STAMPED_VALIDATE, the queries, STAMPED_TRY_UNLOCK_WRITE and _READ */
+    STAMPED_YES = 1,
+    STAMPED_MISMATCH = 0, /* STAMPED_UNLOCK_WRITE, _READ and STAMPED_UNLOCK: the stamp matches no held mode,
+                             and nothing is released (IllegalMonitorStateException in Java) */
+    STAMPED_DONE = 1
 };
 
 /* Kinds of stamps. */
@@ -118,7 +117,7 @@ uint32_t stamped_check_limits(struct stamped_limits limits);
 uint32_t stamped_check_word(struct stamped_limits limits, uint64_t word);
 
 /* What a call does on this word. A call that takes no stamp ignores `stamp`; any number may be given.
-   Errors are in `effect`: one of stamped_check_word, or STAMPED_UNKNOWN_CALL.
+   Errors are in `word` of the result: one of stamped_check_word, or STAMPED_UNKNOWN_CALL.
 
    After STAMPED_CHANGE the call is made only once you have exchanged the very `word` that you gave
    for the new one, in one atomic step. If another word is there by then, decide again on that. */

@@ -1,5 +1,5 @@
 -- What the exported functions answer.
-use Rattle.std.specs.Prelude.{ℕ, ◌≡◌, [], Result, Ok, Err, MatchOption}
+use Rattle.std.specs.Prelude.{ℕ, ◌≡◌, ◌≢◌, ◌≤◌, ◌<◌, [], Result, Ok, Err, MatchOption}
 use Rattle.stamp_core.specs.Layout.{units_of}
 use Rattle.stamp_core.specs.Limits.{Bounds}
 use Rattle.stamp_core.specs.Word.{LockWord, Represents, word_in}
@@ -9,6 +9,7 @@ use Rattle.stamp_core.specs.StampKind.{HasKind}
 use Rattle.stamp_core.specs.declared.layout.Layout.{Layout}
 use Rattle.stamp_core.specs.declared.call.Call.{Call}
 use Rattle.stamp_core.specs.declared.lock_decision.LockDecision.{LockDecision}
+use Rattle.stamp_core.specs.declared.lock_decision.LockDecision.TheVariants.{Answer, Change, Wait}
 use Rattle.stamp_core.specs.declared.stamps.StampKind.{StampKind}
 use Rattle.stamped_c.specs.declared.fault.Fault.{Fault}
 use Rattle.stamped_c.specs.declared.found.CLimits.{CLimits}
@@ -64,9 +65,18 @@ AnswersLimits given code = (limits : Result Bounds Fault) × AreLimitsOf given l
 abbrev pub AnswersWord : CLimits → ℕ → ℕ → Type 0
 AnswersWord given number code = (word : Result LockWord Fault) × IsWordOf given number word × (code ≡ fault_in_c word)
 
+-- by the word alone one tells what to do: below 256 it is a wait or a fault, and from 256 on the same
+-- number where there is nothing to change, and another one where there is
+abbrev pub IsTold : ℕ → Result LockDecision Fault → ℕ → Type 0
+IsTold number (Ok (Answer reply)) word = (256 ≤ word) × (word ≡ number)
+IsTold number (Ok (Change next reply)) word = (256 ≤ word) × (word ≢ number)
+IsTold number (Ok Wait) word = word < 256
+IsTold number (Err fault) word = word < 256
+
 abbrev pub AnswersDecision : CLimits → ℕ → ℕ → ℕ → CDecision → Type 0
 AnswersDecision given number code stamp made = (decided : Result LockDecision Fault) ×
-    IsDecided given number code stamp decided × (made ≡ decision_in_c number decided)
+    IsDecided given number code stamp decided × (made ≡ decision_in_c number decided) ×
+    IsTold number decided made.word
 
 abbrev pub AnswersKind : ℕ → ℕ → CKind → Type 0
 AnswersKind number stamp found = (kind : Result StampKind Fault) × IsKindOf number stamp kind ×

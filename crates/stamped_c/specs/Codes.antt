@@ -54,37 +54,31 @@ fault_code NoWord = 3
 fault_code BeyondLimits = 4
 fault_code UnknownCall = 5
 
-abbrev pub reply_code : LockReply → ℕ
-reply_code (Stamp s) = 1
-reply_code Yes = 2
-reply_code No = 3
-reply_code Done = 4
-reply_code Mismatch = 5
-reply_code (Count n) = 6
-
--- the stamp or the count in a reply
+-- a reply as a number: 0 where it is no, or a mismatch, or no stamp
 abbrev pub reply_number : LockReply → ℕ
 reply_number (Stamp s) = s
 reply_number (Count n) = n
-reply_number _ = 0
+reply_number Yes = 1
+reply_number Done = 1
+reply_number No = 0
+reply_number Mismatch = 0
 
-abbrev pub replied_in_c : ℕ → ℕ → LockReply → CDecision
-replied_in_c effect word reply =
-    record { effect = effect; reply = reply_code reply; word = word; number = reply_number reply }
+abbrev pub replied_in_c : ℕ → LockReply → CDecision
+replied_in_c word reply = record { word = word; reply = reply_number reply }
 
-abbrev pub unreplied_in_c : ℕ → ℕ → CDecision
-unreplied_in_c effect word = record { effect = effect; reply = 0; word = word; number = 0 }
+abbrev pub unreplied_in_c : ℕ → CDecision
+unreplied_in_c code = record { word = code; reply = 0 }
 
--- a decision on the word of this number: the word stays unless it changes
+-- a decision on the word of this number, which stays unless it changes
 abbrev pub made_in_c : ℕ → LockDecision → CDecision
-made_in_c word (Answer reply) = replied_in_c 16 word reply
-made_in_c word (Change next reply) = replied_in_c 17 next.bits reply
-made_in_c word Wait = unreplied_in_c 18 word
+made_in_c word (Answer reply) = replied_in_c word reply
+made_in_c word (Change next reply) = replied_in_c next.bits reply
+made_in_c word Wait = unreplied_in_c 16
 
 -- the same, or a fault
 abbrev pub decision_in_c : ℕ → Result LockDecision Fault → CDecision
 decision_in_c word (Ok decision) = made_in_c word decision
-decision_in_c word (Err fault) = unreplied_in_c (fault_code fault) word
+decision_in_c word (Err fault) = unreplied_in_c (fault_code fault)
 
 -- a kind of stamp, or a fault, as C gets it
 abbrev pub kind_in_c : Result StampKind Fault → CKind

@@ -1,4 +1,6 @@
 //! Tests of the numbers that a C program gives, each of which names its fault.
+ghost use Rattle.std.specs.Prelude.{Err};
+ghost use Rattle.stamp_core.specs.Word.{IsAdmitted, word_at};
 ghost use Rattle.stamped_c.specs.Checks.{IsLayoutOf, AreLimitsIn, AreLimitsOf, IsWordUnder, IsCallOf};
 
 use crate::codes::{call_of, layout_of};
@@ -18,10 +20,10 @@ pub(crate) fn checked_layout(number: u32) -> Result<Layout, Fault>
 
 /// Limits of a layout.
 #[inline(always)]
-pub(crate) fn limits_in(layout: Layout, readers: u64, versions: u64) -> Result<Limits, Fault>
+pub(crate) fn limits_in(layout: Layout, readers: u32, versions: u64) -> Result<Limits, Fault>
     ensures { AreLimitsIn layout readers versions result }
 {
-    match Limits::in_layout(layout, readers, versions) {
+    match Limits::in_layout(layout, u64::from(readers), versions) {
         Ok(limits) => Ok(limits),
         Err(_) => Err(Fault::LimitsOutOfRange),
     }
@@ -36,20 +38,25 @@ pub(crate) fn checked_limits(given: CLimits) -> Result<Limits, Fault>
     limits_in(layout, given.readers, given.versions)
 }
 
+/// Why the limits admit no word of this number.
+fn word_fault(limits: Limits, number: u64) -> Fault
+    requires { ¬ IsAdmitted limits (word_at limits number) }
+    ensures { IsWordUnder limits number (Err result) }
+{
+    match Word::from_bits_in(limits.layout(), number) {
+        Some(_) => Fault::BeyondLimits,
+        None => Fault::NoWord,
+    }
+}
+
 /// The word of this number, of a lock with these limits.
 #[inline(always)]
 pub(crate) fn checked_word(limits: Limits, number: u64) -> Result<Word, Fault>
     ensures { IsWordUnder limits number result }
 {
-    match Word::from_bits_in(limits.layout(), number) {
-        Some(word) => {
-            if limits.admits(word) {
-                Ok(word)
-            } else {
-                Err(Fault::BeyondLimits)
-            }
-        }
-        None => Err(Fault::NoWord),
+    match limits.word_from_bits(number) {
+        Some(word) => Ok(word),
+        None => Err(word_fault(limits, number)),
     }
 }
 

@@ -1,6 +1,6 @@
 //! The structs that C passes and gets, and how results are written into them.
 ghost use Rattle.std.specs.Prelude.{◌≡◌};
-ghost use Rattle.stamped_c.specs.Codes.{reply_code, reply_number, replied_in_c, unreplied_in_c, made_in_c, decision_in_c, kind_in_c};
+ghost use Rattle.stamped_c.specs.Codes.{reply_number, replied_in_c, unreplied_in_c, made_in_c, decision_in_c, kind_in_c};
 
 use crate::fault::Fault;
 use stamp_core::{LockDecision, LockReply, StampKind};
@@ -10,22 +10,18 @@ use stamp_core::{LockDecision, LockReply, StampKind};
 #[derive(Clone, Copy)]
 pub struct CLimits {
     pub layout: u32,
-    pub readers: u64,
+    pub readers: u32,
     pub versions: u64,
 }
 
-/// What a call is to do (`struct stamped_decision`).
+/// What a call does (`struct stamped_decision`).
 #[repr(C)]
 #[derive(Clone, Copy)]
 pub struct CDecision {
-    /// An effect, or a fault.
-    pub effect: u32,
-    /// The kind of the reply; 0 where there is none.
-    pub reply: u32,
-    /// The number of the word afterwards: the one that was given, unless it is to change.
+    /// The number of the lock's word afterwards; or, below 256, a wait or a fault.
     pub word: u64,
-    /// The stamp or the count in the reply; 0 where there is none.
-    pub number: u64,
+    /// The reply as a number; 0 where there is none.
+    pub reply: u64,
 }
 
 /// What a number is as a stamp (`struct stamped_kind`).
@@ -40,25 +36,14 @@ pub struct CKind {
     pub readers: u64,
 }
 
-fn reply_code(reply: LockReply) -> u32
-    ensures { result ≡ reply_code reply }
-{
-    match reply {
-        LockReply::Stamp(_) => 1,
-        LockReply::Yes => 2,
-        LockReply::No => 3,
-        LockReply::Done => 4,
-        LockReply::Mismatch => 5,
-        LockReply::Count(_) => 6,
-    }
-}
-
+#[inline(always)]
 fn reply_number(reply: LockReply) -> u64
     ensures { result ≡ reply_number reply }
 {
     match reply {
         LockReply::Stamp(number) | LockReply::Count(number) => number,
-        _ => 0,
+        LockReply::Yes | LockReply::Done => 1,
+        LockReply::No | LockReply::Mismatch => 0,
     }
 }
 
@@ -70,7 +55,7 @@ impl CDecision {
     {
         match decided {
             Ok(decision) => CDecision::made(word, decision),
-            Err(fault) => CDecision::unreplied(fault.code(), word),
+            Err(fault) => CDecision::unreplied(u64::from(fault.code())),
         }
     }
 
@@ -79,32 +64,26 @@ impl CDecision {
         ensures { result ≡ made_in_c word decision }
     {
         match decision {
-            LockDecision::Answer(reply) => CDecision::replied(16, word, reply),
-            LockDecision::Change(next, reply) => CDecision::replied(17, next.bits(), reply),
-            LockDecision::Wait => CDecision::unreplied(18, word),
+            LockDecision::Answer(reply) => CDecision::replied(word, reply),
+            LockDecision::Change(next, reply) => CDecision::replied(next.bits(), reply),
+            LockDecision::Wait => CDecision::unreplied(16),
         }
     }
 
-    fn replied(effect: u32, word: u64, reply: LockReply) -> CDecision
-        ensures { result ≡ replied_in_c effect word reply }
+    #[inline(always)]
+    fn replied(word: u64, reply: LockReply) -> CDecision
+        ensures { result ≡ replied_in_c word reply }
     {
         CDecision {
-            effect,
-            reply: reply_code(reply),
             word,
-            number: reply_number(reply),
+            reply: reply_number(reply),
         }
     }
 
-    fn unreplied(effect: u32, word: u64) -> CDecision
-        ensures { result ≡ unreplied_in_c effect word }
+    fn unreplied(word: u64) -> CDecision
+        ensures { result ≡ unreplied_in_c word }
     {
-        CDecision {
-            effect,
-            reply: 0,
-            word,
-            number: 0,
-        }
+        CDecision { word, reply: 0 }
     }
 }
 

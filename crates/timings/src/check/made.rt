@@ -15,8 +15,8 @@ struct At {
 }
 
 fn lock_answers(limits: Limits, at: At, call: &Call) -> Option<(At, Reply)> {
-    let word = Word::from_bits(at.bits)?;
-    if !limits.admits(word) || !call.is_lock_call() {
+    let word = limits.word_from_bits(at.bits)?;
+    if !call.is_lock_call() {
         return None;
     }
     let (next, reply) = step(limits, word, *call)?;
