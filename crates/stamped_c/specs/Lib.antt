@@ -1,3 +1,4 @@
 pub mod Codes
 pub mod Checks
 pub mod Answers
+pub mod Laws
