@@ -7,11 +7,10 @@ mod codes;
 mod exports;
 mod fault;
 mod found;
-mod laws;
+pub mod laws;
 
 pub use exports::{
     stamped_check_limits, stamped_check_word, stamped_decide, stamped_kind_of, stamped_opening,
 };
 pub use fault::Fault;
 pub use found::{CDecision, CKind, CLimits};
-pub use laws::{one_decision, one_limits, one_opening, one_word};
