@@ -13,8 +13,8 @@ use Rattle.stamp_threads.specs.PassView.{entry, observing, finding, HasFound}
 use Rattle.stamp_threads.specs.Seats.{alone, both}
 use Rattle.stamp_threads.specs.RecordWord.{version_unit, writer_unit, word_with}
 use Rattle.stamp_threads.specs.RecordLog.{RecordLog, puts, is_locked}
-use Rattle.stamp_threads.specs.RecordPass.{RecordPassView, LeavesLockWord, first_of, second_of}
-use Rattle.stamp_threads.specs.RecordRule.{Seated, with_phase, opening, acquiring, Looked, Acquired, Opened, Released}
+use Rattle.stamp_threads.specs.RecordPass.{RecordPassView, Seated, LeavesLockWord, first_of, second_of}
+use Rattle.stamp_threads.specs.RecordRule.{with_phase, opening, acquiring, Looked, Acquired, Opened, Released}
 use Rattle.stamp_threads.specs.RecordRule.{Confirmed, Overtaken, word_to_confirm, Met}
 use Rattle.stamp_threads.specs.RecordCall.{RecordAnswered, SawWord, WasBusy, WasLost, WasSpent}
 use Rattle.stamp_threads.specs.RecordCall.{HaveMet}

@@ -1,9 +1,8 @@
-use Rattle.std.proofs.Common.{ap, sym, ◌∙◌}
+use Rattle.std.proofs.Common.{ap, sym, ◌∙◌, rules}
 use Rattle.stamp_threads.specs.declared.record_view.RecordShape.{RecordShape}
 use Rattle.stamp_threads.specs.Seats.{alone}
 use Rattle.stamp_threads.specs.RecordLog.{puts}
-use Rattle.stamp_threads.specs.RecordPass.{first_of}
-use Rattle.stamp_threads.specs.RecordRule.{Seated}
+use Rattle.stamp_threads.specs.RecordPass.{first_of, Seated}
 use Rattle.stamp_threads.proofs.RecordPromises.{opened, get_busy_of, get_lost_of}
 use Rattle.stamp_threads.proofs.RecordPromises.{get_made_of, get_obeys_of}
 use Rattle.stamp_threads.proofs.record_get.got_words.Goals as goal
@@ -23,12 +22,12 @@ confirm-found-requires-clause-reading g c =
           (c.requires.long ∙ sym (ap (λ (z : RecordShape). z.width) c.requires.shape.0)),
     )
 
-pub confirm-found-requires-clause-alone : goal.confirm-found-requires-clause-alone
-confirm-found-requires-clause-alone g c =
+pub confirm-found-requires-clause-seat : goal.confirm-found-requires-clause-seat
+confirm-found-requires-clause-seat g c =
     let t = rw c.requires.shape.0 at c.open-loaded.ensures.told in
     let phase = opened _ _ _ _ t (sym c.is_held.ensures ∙ c.if-is_held.false) in
     let is = c.load_all.ensures.told (puts t.log) phase in
-    is ∙ sym (ap (λ (m : Seated). alone (first_of m.0)) is)
+    (search rules, search rules, is ∙ sym (ap (λ (m : Seated). alone (first_of m.0)) is))
 
 pub returns-then-is_held-clause-err : goal.returns-then-is_held-clause-err
 returns-then-is_held-clause-err g c = get_busy_of _ _ c.requires.shape.0 _ _ _

@@ -2,8 +2,7 @@ use Rattle.std.proofs.Common.{ap, sym, ◌∙◌, ◌+◌, eq-eqb, ne_eqb, arith
 use Rattle.stamp_threads.specs.declared.record_view.RecordShape.{RecordShape}
 use Rattle.stamp_threads.specs.RecordWord.{writer_unit}
 use Rattle.stamp_threads.specs.RecordLog.{puts}
-use Rattle.stamp_threads.specs.RecordPass.{first_of}
-use Rattle.stamp_threads.specs.RecordRule.{Seated}
+use Rattle.stamp_threads.specs.RecordPass.{first_of, Seated}
 use Rattle.stamp_threads.proofs.RecordWords.{unit_small}
 use Rattle.stamp_threads.proofs.RecordPromises.{goes_on, acquired_word_of, found_small}
 use Rattle.stamp_threads.proofs.RecordPromises.{put_busy_of, put_spent_of, put_lost_of, put_made_of}
