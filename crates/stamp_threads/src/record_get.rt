@@ -13,7 +13,6 @@ use crate::faults::GetFault;
 use crate::record_rule::ContentRule;
 use crate::record_steps::{RecordSeat, RecordTable, confirm, load_word, open};
 use crate::record_view::RecordShape;
-use crate::record_word::is_held;
 use stamp_core::Layout;
 use std::marker::Brand;
 
@@ -55,7 +54,7 @@ fn got_words<P: ContentRule>(
         IfErr result (λ fault. GetRefused shape v fault w) }
 {
     let loaded = open::<Brand, P>(table, seat);
-    if is_held(shape.limits, loaded) {
+    if shape.limits.layout().has_writer(loaded) {
         return Err(GetFault::Busy(loaded));
     }
     load_all(table, seat, into);

@@ -12,7 +12,6 @@ use crate::faults::PutFault;
 use crate::record_rule::ContentRule;
 use crate::record_steps::{RecordSeat, RecordTable, acquire, look, release, store};
 use crate::record_view::RecordShape;
-use crate::record_word::{is_held, turned, version};
 use std::marker::Brand;
 
 /// Stores each of the words.
@@ -51,20 +50,21 @@ pub fn put_words<P: ContentRule>(
     ensures err { let v = first_of seat.old.me.0 in let w = first_of seat.new.me.0 in
         IfErr result (λ fault. PutRefused shape v fault w) }
 {
+    let layout = shape.limits.layout();
     let loaded = look::<Brand, P>(table, seat);
-    if is_held(shape.limits, loaded) {
+    if layout.has_writer(loaded) {
         return Err(PutFault::Busy(loaded));
     }
-    if version(shape.limits, loaded) > shape.limits.versions() {
+    if layout.writes_of(loaded) >= shape.limits.versions() {
         return Err(PutFault::Spent(loaded));
     }
-    let held = turned(shape.limits, loaded);
+    let held = loaded + layout.writer_unit();
     let found = acquire::<Brand, P>(table, seat, words, loaded, held);
     if found != loaded {
         return Err(PutFault::Lost { loaded, found });
     }
     store_all(table, seat, words);
-    let free = turned(shape.limits, held);
+    let free = layout.released(held);
     release::<Brand, P>(table, seat, words, held, free);
     Ok(())
 }
