@@ -1,5 +1,5 @@
 //! How a word and its stamps are laid out.
-ghost use Rattle.std.specs.Prelude.{◌≡◌, ◌+◌, ◌<◌, ◌^◌, ◌↔◌, IsTrue};
+ghost use Rattle.std.specs.Prelude.{◌≡◌, ◌+◌, ◌-◌, ◌/◌, ◌%◌, ◌==◌, ◌<◌, ◌≤◌, ◌^◌, ◌↔◌, IsTrue, if◌then◌else◌};
 ghost use Rattle.stamp_core.specs.Layout.{units_of};
 
 /// The layout of words and stamps: how the bits of a number are shared out.
@@ -23,8 +23,9 @@ impl Layout {
         }
     }
 
-    /// The unit of the writer.
-    pub(crate) fn writer_unit(self) -> u64
+    /// The unit of the writer: what acquiring write mode adds to a number.
+    #[inline(always)]
+    pub fn writer_unit(self) -> u64
         ensures { result ≡ (units_of self).writer }
     {
         match self {
@@ -53,16 +54,58 @@ impl Layout {
         }
     }
 
+    /// What stands below the version in a number: the readers, or the writer.
+    #[inline(always)]
+    pub(crate) fn holders_of(self, number: u64) -> u64
+        ensures { result ≡ number % (units_of self).version }
+    {
+        match self {
+            Layout::One => number & 0xff,
+            Layout::Two => number & 0x1_ffff,
+        }
+    }
+
+    /// How many times the unit of a version fits into a number.
+    #[inline(always)]
+    pub(crate) fn versions_of(self, number: u64) -> u64
+        ensures { result ≡ number / (units_of self).version }
+    {
+        match self {
+            Layout::One => number >> 8,
+            Layout::Two => number >> 17,
+        }
+    }
+
+    /// Whether the number of a word has a writer.
+    #[inline(always)]
+    pub fn has_writer(self, number: u64) -> bool
+        ensures { let u = units_of self in result ≡ (number % u.version == u.writer) }
+    {
+        self.holders_of(number) == self.writer_unit()
+    }
+
+    /// How often write mode was acquired, by the number of a word.
+    #[inline(always)]
+    pub fn writes_of(self, number: u64) -> u64
+        requires { (units_of self).version ≤ number }
+        ensures { let u = units_of self in result ≡ (if number % u.version == u.writer
+            then number / u.version else number / u.version - 1) }
+    {
+        if self.has_writer(number) {
+            self.versions_of(number)
+        } else {
+            self.versions_of(number) - 1
+        }
+    }
+
     /// The number of the word that a writer leaves behind, for the stamp that it had: one writer's
     /// unit more.
+    #[inline(always)]
     pub fn released(self, stamp: u64) -> u64
         requires { stamp < 2 ^ 63 }
         ensures { result ≡ stamp + (units_of self).writer }
     {
-        match self {
-            Layout::One => stamp + 128,
-            Layout::Two => stamp + 65_536,
-        }
+        stamp + self.writer_unit()
     }
 
     /// Whether it is this layout.

@@ -5,7 +5,7 @@ ghost use Rattle.stamp_core.specs.Word.{IsAdmitted, word_at};
 ghost use Rattle.stamp_core.specs.Decoded.{counts_in, IsWithin};
 
 use crate::layout::Layout;
-use crate::word::{Word, holders_of, versions_of};
+use crate::word::Word;
 use std::error::Error;
 use std::fmt;
 use std::marker::Model;
@@ -171,8 +171,8 @@ impl Limits {
     fn covers_bits(&self, bits: u64) -> bool
         ensures { IsTrue result ↔ IsWithin self.now bits }
     {
-        let holders = holders_of(self.layout, bits);
-        let begun = versions_of(self.layout, bits);
+        let holders = self.layout.holders_of(bits);
+        let begun = self.layout.versions_of(bits);
         if holders == self.layout.writer_unit() {
             begun > 0 && begun <= self.versions
         } else {

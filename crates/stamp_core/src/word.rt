@@ -1,5 +1,5 @@
 //! The lock's word.
-ghost use Rattle.std.specs.Prelude.{◌≡◌, ◌%◌, ◌/◌, ◌<◌, ◌≤◌, ◌+◌, ◌-◌, ◌==◌, ◌↔◌, IsSome, IfSome, IsTrue, []};
+ghost use Rattle.std.specs.Prelude.{◌≡◌, ◌<◌, ◌≤◌, ◌+◌, ◌-◌, ◌==◌, ◌↔◌, IsSome, IfSome, IsTrue, []};
 ghost use Rattle.stamp_core.specs.Layout.{units_of};
 ghost use Rattle.stamp_core.specs.Limits.{Bounds, widest};
 ghost use Rattle.stamp_core.specs.LockEvent.{write_count, writers, readers};
@@ -16,35 +16,13 @@ use std::marker::Model;
 /// The first number above all states and their writer.
 const END: u64 = 1 << 63;
 
-/// What stands below the version in a number: the readers, or the writer.
-#[tactic(auto, unfolding(crate::specs::Layout::units_of))]
-pub(crate) fn holders_of(layout: Layout, bits: u64) -> u64
-    ensures { result ≡ bits % (units_of layout).version }
-{
-    match layout {
-        Layout::One => bits & 0xff,
-        Layout::Two => bits & 0x1_ffff,
-    }
-}
-
-/// How many times the unit of a version fits into a number.
-#[tactic(auto, unfolding(crate::specs::Layout::units_of))]
-pub(crate) fn versions_of(layout: Layout, bits: u64) -> u64
-    ensures { result ≡ bits / (units_of layout).version }
-{
-    match layout {
-        Layout::One => bits >> 8,
-        Layout::Two => bits >> 17,
-    }
-}
-
 #[tactic(auto, using(crate::proofs::TwoLayouts::either_layout))]
 fn is_state(layout: Layout, bits: u64) -> bool
     ensures { IsTrue result ↔ IsState (word_in layout bits) }
 {
     bits >= layout.version_unit()
         && bits < END - layout.writer_unit()
-        && holders_of(layout, bits) <= layout.writer_unit()
+        && layout.holders_of(bits) <= layout.writer_unit()
 }
 
 /// The state of a lock as one number: its version, and its writer or readers.
@@ -175,7 +153,7 @@ impl Word {
     pub(crate) fn has_writer(&self) -> bool
         ensures { result ≡ ((counts_in self.now).writers == 1) }
     {
-        holders_of(self.layout, self.bits) == self.layout.writer_unit()
+        self.layout.has_writer(self.bits)
     }
 
     pub(crate) fn reader_count(&self) -> u64
@@ -184,18 +162,14 @@ impl Word {
         if self.has_writer() {
             0
         } else {
-            holders_of(self.layout, self.bits)
+            self.layout.holders_of(self.bits)
         }
     }
 
     pub(crate) fn version(&self) -> u64
         ensures { result ≡ (counts_in self.now).write_count }
     {
-        if self.has_writer() {
-            versions_of(self.layout, self.bits)
-        } else {
-            versions_of(self.layout, self.bits) - 1
-        }
+        self.layout.writes_of(self.bits)
     }
 
     /// Write mode can be acquired.
@@ -203,7 +177,7 @@ impl Word {
         requires { self.now.layout ≡ limits.layout }
         ensures { result ≡ may_write limits (counts_in self.now) }
     {
-        holders_of(self.layout, self.bits) == 0 && self.version() < limits.versions()
+        self.layout.holders_of(self.bits) == 0 && self.version() < limits.versions()
     }
 
     /// Read mode can be acquired.
@@ -211,7 +185,7 @@ impl Word {
         requires { self.now.layout ≡ limits.layout }
         ensures { result ≡ may_read limits (counts_in self.now) }
     {
-        holders_of(self.layout, self.bits) < limits.readers()
+        self.layout.holders_of(self.bits) < limits.readers()
     }
 
     /// The optimistic stamp of this version.
@@ -220,7 +194,7 @@ impl Word {
         ensures { result
             ≡ optimistic_stamp (units_of self.now.layout) (counts_in self.now).write_count }
     {
-        self.bits - holders_of(self.layout, self.bits)
+        self.bits - self.layout.holders_of(self.bits)
     }
 
     /// The stamp of the last write acquisition.

@@ -50,9 +50,22 @@ fn a_layout_has_its_numbers(rt: HostRuntime) {
         assert_eq!(rt; layout.most_versions(), versions);
         assert!(rt; stamp < 1_000_000);
         assert_eq!(rt; layout.released(stamp), released);
+        assert_eq!(rt; layout.writer_unit(), released - stamp);
+        assert!(rt; layout.has_writer(stamp) && !layout.has_writer(released));
         let widest = Limits::widest(layout);
         assert_eq!(rt; (widest.readers(), widest.versions()), (readers, versions));
     }
+}
+
+#[test]
+#[tactic(auto, unfolding(stamp_core::specs::Layout::units_of))]
+fn a_number_has_its_writes(rt: HostRuntime) {
+    let new = (Layout::One.writes_of(256), Layout::Two.writes_of(131_072));
+    assert_eq!(rt; new, (0, 0));
+    let held = (Layout::One.writes_of(384), Layout::Two.writes_of(196_608));
+    assert_eq!(rt; held, (1, 1));
+    let released = (Layout::One.writes_of(512), Layout::Two.writes_of(262_144));
+    assert_eq!(rt; released, (1, 1));
 }
 
 /// The number of the word that limits make of an admitted word's number.

@@ -10,7 +10,7 @@ use Rattle.stamp_machines.specs.Script.{Scripted, IsSound}
 use Rattle.stamp_machines.specs.Invariant.{Invariant}
 use Rattle.stamp_machines.specs.World.{World, execution_of, completed_calls, step, stepped, landed}
 use Rattle.stamp_machines.specs.World.{current, stamps_of, opening}
-use Rattle.stamp_machines.specs.Progress.{HasReport}
+use Rattle.stamp_machines.specs.StepKind.{IsOfKind}
 use Rattle.stamp_machines.specs.CompletionsFields.{IsAfter, calls_until, calls_after, HandsOn}
 use Rattle.stamp_machines.specs.CompletionsFields.{completing_at}
 use Rattle.stamp_machines.specs.CompletionsFields.{StepMade}
@@ -20,8 +20,8 @@ use Rattle.stamp_machines.specs.declared.machine.Turn.{Turn}
 use Rattle.stamp_machines.specs.declared.machine.Turn.TheVariants as turned
 use Rattle.stamp_machines.specs.declared.state.Begun.{Begun}
 use Rattle.stamp_machines.specs.declared.state.State.{State}
-use Rattle.stamp_machines.specs.declared.state.Progress.{Progress}
-use Rattle.stamp_machines.specs.declared.state.Progress.TheVariants.{Idle, Going, Ended}
+use Rattle.stamp_machines.specs.declared.state.StepKind.{StepKind}
+use Rattle.stamp_machines.specs.declared.state.StepKind.TheVariants.{Idle, Going, Ended}
 use Rattle.stamp_machines.proofs.StepBound.{execution-rest}
 use Rattle.stamp_machines.proofs.StepsKeep.{execution_of-more, always-kept}
 
@@ -162,12 +162,12 @@ going script old new made t none until same =
           (until ∙ ap (λ (es : List Entry). gone ++ es) items ∙ append-nil gone),
     )
 
-handed-on : (script : Scripted) (old new : State) (made t : ℕ) (p : Progress) →
+handed-on : (script : Scripted) (old new : State) (made t : ℕ) (p : StepKind) →
     old.entries.items ≡ [] →
     (step script (world_at (calls_until script made) old made) t).entries
     ≡ calls_until script made ++ new.entries.items →
     calls_until script (made + 1) ≡ calls_until script made ++ new.entries.items →
-    HasReport script (world_at (calls_until script made) old made) t p → HandsOn script new made p
+    IsOfKind script (world_at (calls_until script made) old made) t p → HandsOn script new made p
 handed-on script old new made t Idle none entries until told =
     let world : World = world_at (calls_until script made) old made in
     going script old new made t none until
@@ -188,7 +188,7 @@ handed-on script old new made t Ended none entries until told =
     (sym (stepped-last (world_at gone old made) t (current script (world_at gone old made) t) told.0 told.1)) in
     rw (one, rest, ended) refl
 
-pub step-made : (script : Scripted) (old new : State) (made t : ℕ) (p : Progress) →
+pub step-made : (script : Scripted) (old new : State) (made t : ℕ) (p : StepKind) →
     IsAfter script old made → made < length script.steps → old.entries.items ≡ [] →
     take (made + 1) script.steps ≡ take made script.steps ++ t ∷ [] →
     world_at (calls_until script made) new (made + 1)
@@ -196,7 +196,7 @@ pub step-made : (script : Scripted) (old new : State) (made t : ℕ) (p : Progre
     vec_len new.workers ≡ vec_len old.workers →
     ((u : ℕ) → stamps_at new.workers.items u
     ≡ stamps_of u (calls_until script made ++ new.entries.items)) →
-    HasReport script (world_at (calls_until script made) old made) t p → StepMade script new made p
+    IsOfKind script (world_at (calls_until script made) old made) t p → StepMade script new made p
 step-made script old new made t p after left none names world workers stamps told =
     let until' : List Entry = calls_until script (made + 1) in
     let here : world_at (calls_until script made) new (made + 1)

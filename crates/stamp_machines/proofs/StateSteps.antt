@@ -16,9 +16,9 @@ use Rattle.stamp_machines.specs.Stepped.{Reports, told}
 use Rattle.stamp_machines.specs.declared.running.Stepped.{Stepped}
 use Rattle.stamp_machines.specs.declared.running.Stepped.TheVariants.{Idle, Ended}
 use Rattle.stamp_machines.specs.declared.running.Stepped.TheVariants.{Going as Still}
-use Rattle.stamp_machines.specs.declared.state.Progress.{Progress}
-use Rattle.stamp_machines.specs.declared.state.Progress.TheVariants as progress
-use Rattle.stamp_machines.specs.Progress.{HasReport, progress_of, told_by}
+use Rattle.stamp_machines.specs.declared.state.StepKind.{StepKind}
+use Rattle.stamp_machines.specs.declared.state.StepKind.TheVariants as kind
+use Rattle.stamp_machines.specs.StepKind.{IsOfKind, kind_of, told_by}
 use Rattle.stamp_core.specs.Decision.{stamp_in}
 use Rattle.stamp_machines.specs.Script.{IsSound}
 use Rattle.stamp_machines.specs.Invariant.{Invariant}
@@ -123,7 +123,7 @@ report-begun script world mid t b s e m is =
 
 -- what is reported, without the entry
 has-report : (script : Scripted) (world : World) (t : ℕ) (s : Stepped) → Reports script world t s →
-    HasReport script world t (progress_of s)
+    IsOfKind script world t (kind_of s)
 has-report script world t Idle r = r
 has-report script world t Still r = r
 has-report script world t (Ended e) r = (e, r)
@@ -138,27 +138,27 @@ last-one es e = let here : length (es ++ e ∷ []) - 1 ≡ length es = rw length
     go (x ∷ xs) = go xs
 
 -- with the last entry again
-pub told-reports : (script : Scripted) (world : World) (t : ℕ) (p : Progress) (entries : List Entry) →
-    entries ≡ (step script world t).entries → HasReport script world t p →
+pub told-reports : (script : Scripted) (world : World) (t : ℕ) (p : StepKind) (entries : List Entry) →
+    entries ≡ (step script world t).entries → IsOfKind script world t p →
     Reports script world t (told_by entries p)
-told-reports script world t progress.Idle entries is r = r
-told-reports script world t progress.Going entries is r = r
-told-reports script world t progress.Ended entries is r =
+told-reports script world t kind.Idle entries is r = r
+told-reports script world t kind.Going entries is r = r
+told-reports script world t kind.Ended entries is r =
     let here : slice_get entries (length entries - 1) ≡ Some r.0 =
     rw (is, r.1) (last-one world.entries r.0) in
-    let told_it : told_by entries progress.Ended ≡ Ended r.0 = rw here refl in
+    let told_it : told_by entries kind.Ended ≡ Ended r.0 = rw here refl in
     rw told_it r.1
 
 -- what a step of a thread that is in a call leaves
 pub record Taken (gone : List Entry) (script : Scripted) (old mid new : State) (t position : ℕ)
-    (s : Progress) : Type 0 where
+    (s : StepKind) : Type 0 where
   pub world : world_at gone new (position + 1) ≡ step script (world_at gone old position) t
   pub stamps : (u : ℕ) → stamps_at mid.workers.items u ≡ stamps_of u (gone ++ mid.entries.items) →
       stamps_at new.workers.items u ≡ stamps_of u (gone ++ new.entries.items)
-  pub report : HasReport script (world_at gone old position) t s
+  pub report : IsOfKind script (world_at gone old position) t s
 
 pub taken : (gone : List Entry) (script : Scripted) (old mid new : State) (t position : ℕ)
-    (s : Progress) →
+    (s : StepKind) →
     is_some (current script (world_at gone old position) t) ≡ true →
     t < length (map begun_in old.workers.items) →
     world_at gone mid position ≡ begun_with (world_at gone old position) t

@@ -9,8 +9,8 @@ use Rattle.stamp_machines.specs.declared.machine.Turn.TheVariants.{Going, Done}
 use Rattle.stamp_machines.specs.declared.state.Begun.{Begun}
 use Rattle.stamp_machines.specs.declared.state.Worker.{Worker}
 use Rattle.stamp_core.specs.declared.entry.Entry.{Entry}
-use Rattle.stamp_machines.specs.declared.state.Progress.{Progress}
-use Rattle.stamp_machines.specs.Progress.{progress_of}
+use Rattle.stamp_machines.specs.declared.state.StepKind.{StepKind}
+use Rattle.stamp_machines.specs.StepKind.{kind_of}
 use Rattle.stamp_machines.specs.declared.state.State.{State}
 use Rattle.stamp_machines.specs.Access.{words_after}
 use Rattle.stamp_machines.specs.Machine.{next_access}
@@ -60,7 +60,7 @@ gone-before gone entries Still = refl
 gone-before gone entries (Ended e) = sym (append_assoc gone entries (e ∷ []))
 
 pub state-landed : (gone : List Entry) (old new : State) (t position : ℕ) (d w : Worker)
-    (words' : List ℕ) (s : Progress) → t < length old.workers.items → new.words.items ≡ words' →
+    (words' : List ℕ) (s : StepKind) → t < length old.workers.items → new.words.items ≡ words' →
     new.workers.items ≡ slice_set old.workers.items t w →
     IfSome (slice_index_or old.workers.items t d).begun
     (λ b. Landed b t position old.words.items (slice_index_or old.workers.items t d).stamps.items
@@ -94,5 +94,5 @@ state-landed gone old new t position d w words' s h words workers landed =
               λ u. ap (λ (ws : List Worker). stamps_at ws u) workers
               ∙ stamps-landed old.workers.items t u w turned h
               (rw (stamps_at-index old.workers.items t d h) l.stamps_are);
-          told_is = l.told ∙ ap progress_of (told-same (world_at gone old position) t b turned);
+          told_is = l.told ∙ ap kind_of (told-same (world_at gone old position) t b turned);
         }

@@ -7,8 +7,8 @@ use Rattle.stamp_machines.specs.Script.{Scripted}
 use Rattle.stamp_machines.specs.World.{execution_of, completed_calls, stamps_of}
 use Rattle.stamp_machines.specs.StateFields.{world_at, stamps_at}
 use Rattle.stamp_machines.specs.declared.state.State.{State}
-use Rattle.stamp_machines.specs.declared.state.Progress.{Progress}
-use Rattle.stamp_machines.specs.declared.state.Progress.TheVariants.{Idle, Going, Ended}
+use Rattle.stamp_machines.specs.declared.state.StepKind.{StepKind}
+use Rattle.stamp_machines.specs.declared.state.StepKind.TheVariants.{Idle, Going, Ended}
 use Rattle.stamp_machines.specs.declared.completions.Completions.TheInside.{Inside}
 
 -- what this many of the script's steps finish, and what the later ones do
@@ -40,7 +40,7 @@ pub record IsAfter (script : Scripted) (s : State) (made : ℕ) : Type 0 where
   pub stamps : (t : ℕ) → stamps_at s.workers.items t ≡ stamps_of t (calls_until script made)
 
 -- what is to come after a step that is reported so
-abbrev pub HandsOn : Scripted → State → ℕ → Progress → Type 0
+abbrev pub HandsOn : Scripted → State → ℕ → StepKind → Type 0
 HandsOn script s made Ended =
     completing_at script s (made + 1) ≡ after_next (completing_at script s made)
 HandsOn script s made Idle =
@@ -48,7 +48,7 @@ HandsOn script s made Idle =
 HandsOn script s made Going =
     (s.entries.items ≡ []) × (calls_after script (made + 1) ≡ calls_after script made)
 
-pub record StepMade (script : Scripted) (s : State) (made : ℕ) (p : Progress) : Type 0 where
+pub record StepMade (script : Scripted) (s : State) (made : ℕ) (p : StepKind) : Type 0 where
   pub after : IsAfter script s (made + 1)
   pub hands_on : HandsOn script s made p
 

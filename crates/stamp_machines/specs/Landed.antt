@@ -8,11 +8,10 @@ use Rattle.stamp_machines.specs.Machine.{next_access, after_access, IsFound}
 use Rattle.stamp_machines.specs.declared.machine.Turn.{Turn}
 use Rattle.stamp_machines.specs.declared.machine.Turn.TheVariants as turned
 use Rattle.stamp_machines.specs.declared.state.Begun.{Begun}
-use Rattle.stamp_machines.specs.declared.state.Worker.{Worker}
 use Rattle.stamp_machines.specs.declared.running.Stepped.{Stepped}
 use Rattle.stamp_machines.specs.declared.running.Stepped.TheVariants.{Idle, Going, Ended}
-use Rattle.stamp_machines.specs.declared.state.Progress.{Progress}
-use Rattle.stamp_machines.specs.Progress.{progress_of}
+use Rattle.stamp_machines.specs.declared.state.StepKind.{StepKind}
+use Rattle.stamp_machines.specs.StepKind.{kind_of}
 
 -- its access is to a word that is there, and finds what its machine asks for
 abbrev pub IsSafeOn : Begun → List ℕ → Type 0
@@ -54,9 +53,9 @@ entries_with entries (Ended e) = entries ++ e ∷ []
 -- access
 pub record Landed (b : Begun) (thread position : ℕ) (words stamps : List ℕ) (entries : List Entry)
     (words' : List ℕ) (begun' : Option Begun) (stamps' : List ℕ) (entries' : List Entry)
-    (progress : Progress) : Type 0 where
+    (kind : StepKind) : Type 0 where
   pub words_are : words' ≡ words_after (next_access b.machine) words
   pub begun_is : begun' ≡ begun_after b (turn_on b words)
   pub stamps_are : stamps' ≡ stamps_with stamps (turn_on b words)
   pub entries_are : entries' ≡ entries_with entries (told_at thread position b (turn_on b words))
-  pub told : progress ≡ progress_of (told_at thread position b (turn_on b words))
+  pub told : kind ≡ kind_of (told_at thread position b (turn_on b words))

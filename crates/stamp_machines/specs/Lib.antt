@@ -25,7 +25,7 @@ pub mod Laws
 pub mod StateFields
 pub mod RunView
 pub mod Stepped
-pub mod Progress
+pub mod StepKind
 pub mod Landed
 pub mod StateLanded
 pub mod RunFields

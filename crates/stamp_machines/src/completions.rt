@@ -5,7 +5,7 @@ ghost use Rattle.stamp_machines.specs.Completing.{before_all, after_next, Stoppe
 
 use crate::running::RunError;
 use crate::script::Script;
-use crate::state::{Progress, State};
+use crate::state::{State, StepKind};
 use stamp_core::Entry;
 use std::alloc::{AllocError, Global};
 use std::marker::Model;
@@ -36,11 +36,11 @@ impl<'a> Model for Completions<'a> {
 /// Makes the script's step after those made, where no entry is kept. There is none either where
 /// memory is refused.
 #[inline(always)]
-fn make_step(script: &Script, state: &mut State, made: usize) -> Result<Progress, AllocError>
+fn make_step(script: &Script, state: &mut State, made: usize) -> Result<StepKind, AllocError>
     requires few { made < length script.now.steps }
     requires after { IsAfter script.now state.old made }
     requires none { state.old.entries.items ≡ [] }
-    ensures ok { IfOk result (λ progress. StepMade script.now state.new made progress) }
+    ensures ok { IfOk result (λ kind. StepMade script.now state.new made kind) }
     ensures after { OnErr result (IsAfter script.now state.new made) }
     ensures none { OnErr result (state.new.entries.items ≡ []) }
 {
@@ -61,9 +61,9 @@ fn run_on(script: &Script, state: &mut State, made: &mut usize) -> Result<(), Al
 {
     let steps = script.steps().len();
     while *made < steps {
-        let progress = make_step(script, state, *made)?;
+        let kind = make_step(script, state, *made)?;
         *made += 1;
-        if let Progress::Ended = progress {
+        if let StepKind::Ended = kind {
             return Ok(());
         }
     }

@@ -3,7 +3,7 @@ ghost use Rattle.std.specs.Prelude.{◌≡◌, ◌<◌, ◌≤◌, ◌↔◌, �
 ghost use Rattle.std.specs.Prelude.{slice_index, All};
 
 use crate::script::Script;
-use crate::state::{Progress, State};
+use crate::state::{State, StepKind};
 use crate::tally::Tally;
 use stamp_core::{Call, Entry, Record, Word};
 use std::alloc::{AllocError, Global};
@@ -84,7 +84,7 @@ impl<'a> Run<'a> {
     ghost use Rattle.stamp_core.specs.Linearized.{history_of, AreLinearized};
     ghost use Rattle.stamp_machines.specs.Script.{IsSound};
     ghost use Rattle.stamp_machines.specs.Stepped.{Reports};
-    ghost use Rattle.stamp_machines.specs.Progress.{HasReport, told_by};
+    ghost use Rattle.stamp_machines.specs.StepKind.{IsOfKind, told_by};
     ghost use Rattle.stamp_machines.specs.Tally.{tally_of, IsTallied};
 
     /// The run before its first step. It refuses as 6 `Memory` alone.
@@ -112,18 +112,19 @@ impl<'a> Run<'a> {
         ensures err { OnErr result (self.new ≡ self.old) }
         ensures full { (result ≡ Err RunError.TooManySteps) ↔ (length self.old.names ≡ 1000000) }
     {
-        let progress = self.moved(thread)?;
-        Ok(self.told(progress))
+        let kind = self.moved(thread)?;
+        Ok(self.told(kind))
     }
 
-    /// One access, reported without the entry of the call that has ended by it: it is the last one.
+    /// One access, of which the kind is reported, without the entry of a call that has ended by it: it is
+    /// the last one.
     #[inline(always)]
-    fn moved(&mut self, thread: u64) -> Result<Progress, RunError>
+    fn moved(&mut self, thread: u64) -> Result<StepKind, RunError>
         requires { thread < length self.old.script.threads }
         ensures ok { OnOk result
             (self.new ≡ record self.old { names = self.old.names ++ thread ∷ [] }) }
         ensures report { IfOk result
-            (HasReport self.old.script (execution_of self.old.script self.old.names) thread) }
+            (IsOfKind self.old.script (execution_of self.old.script self.old.names) thread) }
         ensures err { OnErr result (self.new ≡ self.old) }
         ensures full { (result ≡ Err RunError.TooManySteps) ↔ (length self.old.names ≡ 1000000) }
     {
@@ -138,11 +139,11 @@ impl<'a> Run<'a> {
         Ok(self.state.step(self.script, at, position))
     }
 
-    /// What a step did, with the entry of the call that has ended by it.
-    fn told(&self, progress: Progress) -> Stepped
-        ensures { result ≡ told_by (completed_calls self.now.script self.now.names) progress }
+    /// What a step of this kind did, with the entry of the call that has ended by it.
+    fn told(&self, kind: StepKind) -> Stepped
+        ensures { result ≡ told_by (completed_calls self.now.script self.now.names) kind }
     {
-        self.state.told(progress)
+        self.state.told(kind)
     }
 
     /// One access, of which only the refusal is reported.

@@ -36,9 +36,9 @@ pub(crate) struct State {
     answer: Reply,
 }
 
-/// What a step did: as `Stepped`, without the entry.
+/// The kind of a step: what `Stepped` says, without the entry.
 #[derive(Clone, Copy)]
-pub(crate) enum Progress {
+pub(crate) enum StepKind {
     Idle,
     Going,
     Ended,
@@ -184,7 +184,7 @@ impl Worker {
         answer: &mut Reply,
         entries: &mut Vec<Entry>,
         position: u64,
-    ) -> Progress
+    ) -> StepKind
         requires safe { IfSome self.old.begun (λ b. IsSafeOn b words.old) }
         requires room { vec_len self.old.stamps < vec_capacity self.old.stamps }
         requires entries { vec_len entries.old < vec_capacity entries.old }
@@ -193,14 +193,14 @@ impl Worker {
             words.new self.new.begun self.new.stamps.items entries.new.items result) }
     {
         let Some(begun) = &mut self.begun else {
-            return Progress::Idle;
+            return StepKind::Idle;
         };
         if !begun.access(words, answer) {
-            return Progress::Going;
+            return StepKind::Going;
         }
         keep(entries, begun, thread, answer, position);
         self.end(stamp_in(answer));
-        Progress::Ended
+        StepKind::Ended
     }
 
     /// The thread is in no call any more. There is room for the stamp that it answered.
@@ -257,7 +257,7 @@ impl State {
     ghost use Rattle.stamp_machines.specs.World.{begun_with, step, opening_of};
     ghost use Rattle.stamp_machines.specs.StateFields.{world_at, SameState};
     ghost use Rattle.stamp_machines.specs.StateLanded.{StateLanded};
-    ghost use Rattle.stamp_machines.specs.Progress.{told_by, HasReport};
+    ghost use Rattle.stamp_machines.specs.StepKind.{told_by, IsOfKind};
     ghost use Rattle.stamp_machines.specs.Invariant.{Invariant};
     ghost use Rattle.stamp_machines.specs.Script.{IsSound};
 
@@ -328,7 +328,7 @@ impl State {
 
     /// Makes the next access of the call that the thread is in. There is room for what it may finish.
     #[inline(always)]
-    fn land(&mut self, thread: usize, position: u64) -> Progress
+    fn land(&mut self, thread: usize, position: u64) -> StepKind
         ghost gone: { List Entry }
         requires safe { IfSome (slice_index_or (map begun_in self.old.workers.items) thread None)
             (λ b. IsSafeOn b self.old.words.items) }
@@ -351,7 +351,7 @@ impl State {
     /// Makes one access of the thread's current call, if it has one. The entry of a call that ends
     /// by it is the last one.
     #[inline(always)]
-    pub(crate) fn step(&mut self, script: &Script, thread: usize, position: u64) -> Progress
+    pub(crate) fn step(&mut self, script: &Script, thread: usize, position: u64) -> StepKind
         ghost gone: { List Entry }
         requires sound { IsSound script.now }
         requires kept { Invariant script.now (world_at gone self.old position) }
@@ -367,23 +367,23 @@ impl State {
         ensures workers { vec_len self.new.workers ≡ vec_len self.old.workers }
         ensures stamps { (t : ℕ) → stamps_at self.new.workers.items t
             ≡ stamps_of t (gone ++ self.new.entries.items) }
-        ensures report { HasReport script.now (world_at gone self.old position) thread result }
+        ensures report { IsOfKind script.now (world_at gone self.old position) thread result }
     {
         if self.begin(script, thread, position) {
             self.land(thread, position)
         } else {
-            Progress::Idle
+            StepKind::Idle
         }
     }
 
-    /// What a step did, with the entry of the call that has ended by it.
-    pub(crate) fn told(&self, progress: Progress) -> Stepped
-        ensures { result ≡ told_by self.now.entries.items progress }
+    /// What a step of this kind did, with the entry of the call that has ended by it.
+    pub(crate) fn told(&self, kind: StepKind) -> Stepped
+        ensures { result ≡ told_by self.now.entries.items kind }
     {
-        match progress {
-            Progress::Idle => Stepped::Idle,
-            Progress::Going => Stepped::Going,
-            Progress::Ended => match self.entries.last() {
+        match kind {
+            StepKind::Idle => Stepped::Idle,
+            StepKind::Going => Stepped::Going,
+            StepKind::Ended => match self.entries.last() {
                 Some(entry) => Stepped::Ended(*entry),
                 None => Stepped::Idle,
             },

@@ -20,8 +20,8 @@ use Rattle.stamp_threads.specs.PassView.{entry, observing, finding}
 use Rattle.stamp_threads.specs.Seats.{alone}
 use Rattle.stamp_threads.specs.RecordWord.{word_with}
 use Rattle.stamp_threads.specs.RecordLog.{puts, puts_in, content_in, is_locked, is_own}
-use Rattle.stamp_threads.specs.RecordPass.{RecordPassView, IsConsistentWith, marks_ahead, first_of}
-use Rattle.stamp_threads.specs.RecordRule.{KnowsReading, Knows, IsWriting, IsKept, Seated, calling}
+use Rattle.stamp_threads.specs.RecordPass.{RecordPassView, Seated, IsConsistentWith, marks_ahead, first_of}
+use Rattle.stamp_threads.specs.RecordRule.{KnowsReading, Knows, IsWriting, IsKept, calling}
 use Rattle.stamp_threads.specs.RecordRule.{opening, stopping, get_of, loading_one, loaded_one}
 use Rattle.stamp_threads.specs.RecordRule.{Confirmed, Overtaken, word_to_confirm, OpenTells}
 use Rattle.stamp_threads.specs.RecordRule.{LoadTells, ConfirmTells}

@@ -2,11 +2,11 @@
 use Rattle.std.proofs.Common.{◌≡◌, ℕ, ◌+◌, List, [], ◌∷◌, ◌++◌, map, take, drop, set, refl, ap}
 use Rattle.std.proofs.Common.{sym, get_or}
 use Rattle.std.proofs.Common.{Bool, true, false, true≢false, ◌∙◌, subst, arith}
-use Rattle.atomic_table.specs.Table.{State, Me, Splits, Joins, Enters}
+use Rattle.atomic_table.specs.Table.{State, Splits, Joins, Enters}
 use Rattle.stamp_core.specs.Limits.{Bounds}
 use Rattle.stamp_threads.specs.PassView.{IsPart, every, after_split, split_off, entering}
 use Rattle.stamp_threads.specs.Seats.{AreSeated, alone, both}
-use Rattle.stamp_threads.specs.LockPass.{LockPass, IsConsistentWith, HasEntered, first_of, second_of}
+use Rattle.stamp_threads.specs.LockPass.{LockPass, Seated, IsConsistentWith, HasEntered, first_of, second_of}
 use Rattle.stamp_threads.specs.LockRule.{IsKept}
 use Rattle.stamp_threads.proofs.GivenNames.{child_none, child_unused_all, given_more_all}
 use Rattle.stamp_threads.proofs.GivenNames.{part-after_split, part-split_off}
@@ -29,12 +29,12 @@ with_views limits s r roots closed views passes = record {
 }
 
 -- a pass gives a new one
-pub splits_give : (enterable : Bool) (limits : Bounds) (id : ℕ) (me : Me (Unit {0}) (List LockPass)) →
+pub splits_give : (enterable : Bool) (limits : Bounds) (id : ℕ) (me : Seated) →
     me ≡ alone (first_of me.0) → Splits (IsKept enterable limits) id me.0 (map after_split me.0)
     (map split_off me.0)
 splits_give enterable limits id me is =
     subst (λ (vs : List LockPass). Splits (IsKept enterable limits) id vs (map after_split vs)
-    (map split_off vs)) (sym (ap (λ (m : Me (Unit {0}) (List LockPass)). m.0) is)) (λ s r at.
+    (map split_off vs)) (sym (ap (λ (m : Seated). m.0) is)) (λ s r at.
     let v : LockPass = first_of me.0 in
     let f = r.passes.fits id 0 v (v ∷ [], at, refl) in
     with_views limits s r r.roots r.closed (set s.views id (after_split v ∷ []) ++ (split_off v ∷ []) ∷ [])
@@ -42,16 +42,16 @@ splits_give enterable limits id me is =
     (part-split_off every r.log v f)))
 
 -- two passes go on one seat
-pub joins_share : (enterable : Bool) (limits : Bounds) (id : ℕ) (me : Me (Unit {0}) (List LockPass)) (other : ℕ)
-    (them : Me (Unit {0}) (List LockPass)) → me ≡ alone (first_of me.0) →
+pub joins_share : (enterable : Bool) (limits : Bounds) (id : ℕ) (me : Seated) (other : ℕ)
+    (them : Seated) → me ≡ alone (first_of me.0) →
     them ≡ alone (first_of them.0)
     → Joins (IsKept enterable limits) id me.0 other them.0 (me.0 ++ them.0) []
 joins_share enterable limits id me other them is their =
     subst (λ (p : List LockPass × List LockPass). Joins (IsKept enterable limits) id p.0 other p.1
     (p.0 ++ p.1) [])
     (λ i. (
-      sym (ap (λ (m : Me (Unit {0}) (List LockPass)). m.0) is) i,
-      sym (ap (λ (m : Me (Unit {0}) (List LockPass)). m.0) their) i,
+      sym (ap (λ (m : Seated). m.0) is) i,
+      sym (ap (λ (m : Seated). m.0) their) i,
     )) (λ s r at away there.
     let v : LockPass = first_of me.0 in
     let u : LockPass = first_of them.0 in
@@ -59,12 +59,12 @@ joins_share enterable limits id me other them is their =
     (together (IsPart every r.log) r.roots r.log s.views r.passes id v other u at away there))
 
 -- and on two again
-pub splits_part : (enterable : Bool) (limits : Bounds) (id : ℕ) (me : Me (Unit {0}) (List LockPass)) →
+pub splits_part : (enterable : Bool) (limits : Bounds) (id : ℕ) (me : Seated) →
     me ≡ both (first_of me.0) (second_of me.0) →
     Splits (IsKept enterable limits) id me.0 (take 1 me.0) (drop 1 me.0)
 splits_part enterable limits id me is =
     subst (λ (vs : List LockPass). Splits (IsKept enterable limits) id vs (take 1 vs) (drop 1 vs))
-    (sym (ap (λ (m : Me (Unit {0}) (List LockPass)). m.0) is)) (λ s r at.
+    (sym (ap (λ (m : Seated). m.0) is)) (λ s r at.
     let v : LockPass = first_of me.0 in
     let u : LockPass = second_of me.0 in
     with_views limits s r r.roots r.closed (set s.views id (v ∷ []) ++ (u ∷ []) ∷ [])

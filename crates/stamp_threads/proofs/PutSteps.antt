@@ -22,9 +22,9 @@ use Rattle.stamp_threads.specs.PassView.{entry, observing, finding}
 use Rattle.stamp_threads.specs.Seats.{StandsAt, alone}
 use Rattle.stamp_threads.specs.RecordWord.{word_with, writer_unit}
 use Rattle.stamp_threads.specs.RecordLog.{puts, puts_in, is_locked, is_own}
-use Rattle.stamp_threads.specs.RecordPass.{RecordPassView, IsConsistentWith, marks_ahead, first_of}
+use Rattle.stamp_threads.specs.RecordPass.{RecordPassView, Seated, IsConsistentWith, marks_ahead, first_of}
 use Rattle.stamp_threads.specs.RecordRule.{KnowsWriting, Knows, IsWriting, IsKept}
-use Rattle.stamp_threads.specs.RecordRule.{Seated, acquiring, calling, put_of, Looked, Acquired}
+use Rattle.stamp_threads.specs.RecordRule.{acquiring, calling, put_of, Looked, Acquired}
 use Rattle.stamp_threads.specs.RecordRule.{storing_one, stored_one, LookTells, AcquireTells}
 use Rattle.stamp_threads.specs.RecordRule.{StoreTells, ReleaseTells}
 use Rattle.stamp_threads.proofs.Beginnings.{begins_all}

@@ -14,9 +14,9 @@ use Rattle.stamp_threads.specs.PassName.{HasGivenAll}
 use Rattle.stamp_threads.specs.PassView.{observing, after_split, split_off, entering}
 use Rattle.stamp_threads.specs.Seats.{StandsAt, AreSeated, alone, both}
 use Rattle.stamp_threads.specs.RecordLog.{RecordLog, is_locked, is_own, is_mark, marks_of}
-use Rattle.stamp_threads.specs.RecordPass.{RecordPassView, IsConsistentWith, IsConsistentIn}
+use Rattle.stamp_threads.specs.RecordPass.{RecordPassView, Seated, IsConsistentWith, IsConsistentIn}
 use Rattle.stamp_threads.specs.RecordPass.{marks_ahead, HasEntered, first_of, second_of}
-use Rattle.stamp_threads.specs.RecordRule.{Knows, Fits, IsWriting, HasWriter, IsKept, Seated}
+use Rattle.stamp_threads.specs.RecordRule.{Knows, Fits, IsWriting, HasWriter, IsKept}
 use Rattle.stamp_threads.specs.RecordRule.{MeetTells}
 use Rattle.stamp_threads.proofs.Beginnings.{begins_all}
 use Rattle.stamp_threads.proofs.ListElements.{only_one, two_of}

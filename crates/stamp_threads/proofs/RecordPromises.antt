@@ -1,5 +1,5 @@
 -- What the steps of a call of a record tell, put together.
-use Rattle.std.proofs.Common.{◌≡◌, ◌≢◌, ℕ, ◌+◌, ◌<◌, ◌≤◌, ◌%◌, ◌/◌, ◌^◌, eqb, Bool, true, false}
+use Rattle.std.proofs.Common.{◌≡◌, ◌≢◌, ℕ, ◌+◌, ◌<◌, ◌≤◌, ◌%◌, ◌^◌, eqb, Bool, true, false}
 use Rattle.std.proofs.Common.{if◌then◌else◌, MatchBool, List, [], refl, ap, sym, ◌∙◌, subst}
 use Rattle.std.proofs.Common.{◌∷◌, ◌++◌, append_assoc, arith, eq-eqb, ne_eqb}
 use Rattle.stamp_core.specs.declared.call.Call.TheVariants.{Get, Put}
@@ -13,14 +13,14 @@ use Rattle.stamp_threads.specs.PassView.{entry, observing, finding, HasFound}
 use Rattle.stamp_threads.specs.Seats.{alone, both}
 use Rattle.stamp_threads.specs.RecordWord.{version_unit, writer_unit, word_with}
 use Rattle.stamp_threads.specs.RecordLog.{RecordLog, puts, is_locked}
-use Rattle.stamp_threads.specs.RecordPass.{RecordPassView, LeavesLockWord, first_of, second_of}
-use Rattle.stamp_threads.specs.RecordRule.{Seated, with_phase, opening, acquiring, Looked, Acquired, Opened, Released}
+use Rattle.stamp_threads.specs.RecordPass.{RecordPassView, Seated, LeavesLockWord, first_of, second_of}
+use Rattle.stamp_threads.specs.RecordRule.{with_phase, opening, acquiring, Looked, Acquired, Opened, Released}
 use Rattle.stamp_threads.specs.RecordRule.{Confirmed, Overtaken, word_to_confirm, Met}
 use Rattle.stamp_threads.specs.RecordCall.{RecordAnswered, SawWord, WasBusy, WasLost, WasSpent}
 use Rattle.stamp_threads.specs.RecordCall.{HaveMet}
 use Rattle.stamp_threads.proofs.Beginnings.{begins_further, begins_more}
 use Rattle.stamp_threads.proofs.RecordLogs.{puts_get}
-use Rattle.stamp_threads.proofs.RecordWords.{held_test, puts_of, held_is, same_word, word_small}
+use Rattle.stamp_threads.proofs.RecordWords.{held_test, writes_in, puts_of, held_is, same_word, word_small, word_large}
 
 -- two seats after a meeting
 pub have_met : (shape : RecordShape) (v u : RecordPassView) (me : Seated)
@@ -71,10 +71,10 @@ module _ (shape : RecordShape) (v : RecordPassView) (found : ℕ) where
   -- a put goes on
   pub goes_on : (me : Seated) (t : Looked shape v found me) →
       eqb (found % version_unit shape.limits.layout) (writer_unit shape.limits.layout) ≡ false →
-      found / version_unit shape.limits.layout ≤ shape.limits.versions →
+      writes_in shape.limits.layout found < shape.limits.versions →
       (is_locked t.log ≡ false) × (found ≡ word_with shape.limits.layout (puts t.log) false) ×
       (puts t.log < shape.limits.versions)
-  goes_on me t test le =
+  goes_on me t test less =
       let free = is_free t.log t.left test in
       let p = puts_of shape.limits.layout (is_locked t.log) found (puts t.log) t.left.word_is free
       in
@@ -88,11 +88,22 @@ module _ (shape : RecordShape) (v : RecordPassView) (found : ℕ) where
       ap (λ (n : ℕ). n + writer_unit shape.limits.layout) is ∙
       sym (held_is shape.limits.layout (puts t.log))
 
-  -- there is room for two more changes
+  pub found_large : (log : RecordLog) → LeavesLockWord shape v found log → version_unit shape.limits.layout ≤ found
+  found_large log left = word_large shape.limits.layout (is_locked log) found (puts log) left.word_is
+
   pub found_small : (log : RecordLog) → LeavesLockWord shape v found log →
       AreInRange shape.limits → found < 2 ^ 63
   found_small log left range =
       word_small shape.limits (is_locked log) found (puts log) range left.word_is left.few
+
+  -- and with write mode held it is small, too
+  pub held_small : (log : RecordLog) → LeavesLockWord shape v found log → AreInRange shape.limits →
+      eqb (found % version_unit shape.limits.layout) (writer_unit shape.limits.layout) ≡ false →
+      found + writer_unit shape.limits.layout < 2 ^ 63
+  held_small log left range test =
+      word_small shape.limits true _ (puts log) range
+      (ap (λ (n : ℕ). n + writer_unit shape.limits.layout) (free_word log left (is_free log left test)) ∙
+      sym (held_is shape.limits.layout (puts log))) left.few
 
   -- a get goes on
   pub opened : (me : Seated) (t : Opened shape v found me) →
@@ -138,7 +149,7 @@ module _ (shape : RecordShape) (v : RecordPassView) (loaded : ℕ) where
 
   put_spent : (me : Seated) → Looked shape v loaded me → v.phase ≡ Idle →
       HeldTest shape loaded false →
-      shape.limits.versions < loaded / version_unit shape.limits.layout →
+      shape.limits.versions ≤ writes_in shape.limits.layout loaded →
       WasSpent shape v loaded (first_of me.0)
   put_spent me t idle test more =
       let free = is_free shape v loaded t.log t.left test in
@@ -353,11 +364,11 @@ module _ (key shape : RecordShape) (same : key ≡ shape) (v : RecordPassView) (
 
   pub put_spent_of : (me : Seated) → Looked key v loaded me → v.phase ≡ Idle →
       HeldTest shape loaded false →
-      shape.limits.versions < loaded / version_unit shape.limits.layout →
+      shape.limits.versions ≤ writes_in shape.limits.layout loaded →
       WasSpent shape v loaded (first_of me.0)
   put_spent_of me t idle =
       subst (λ (z : RecordShape). HeldTest z loaded false →
-      z.limits.versions < loaded / version_unit z.limits.layout →
+      z.limits.versions ≤ writes_in z.limits.layout loaded →
       WasSpent z v loaded (first_of me.0)) same
       (put_spent key v loaded me t idle)
 

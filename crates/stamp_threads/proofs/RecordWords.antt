@@ -1,6 +1,6 @@
 -- Lock words of a record, in either layout. Each fact is shown for both layouts by their numbers.
-use Rattle.std.proofs.Common.{◌≡◌, ℕ, ◌+◌, ◌^◌, ◌%◌, ◌/◌, ◌<◌, ◌≤◌, Bool, true, false, refl}
-use Rattle.std.proofs.Common.{true≢false, arith, eqb, eq-eqb, ne_eqb}
+use Rattle.std.proofs.Common.{◌≡◌, ℕ, ◌+◌, ◌-◌, ◌^◌, ◌%◌, ◌/◌, ◌<◌, ◌≤◌, Bool, true, false, refl}
+use Rattle.std.proofs.Common.{true≢false, arith, eqb, eq-eqb, ne_eqb, if◌then◌else◌}
 use Rattle.stamp_core.specs.Layout.{units_of}
 use Rattle.stamp_core.specs.Limits.{Bounds, AreInRange}
 use Rattle.stamp_core.specs.declared.layout.Layout.{Layout}
@@ -56,10 +56,18 @@ unfolding units_of
 puts_false One p = omega arith
 puts_false Two p = omega arith
 
-pub puts_of : (l : Layout) (b : Bool) (word p : ℕ) → word ≡ word_with l p b → b ≡ false →
-    word / version_unit l ≡ p + 1
+-- the code's count of the write acquisitions
+abbrev pub writes_in : Layout → ℕ → ℕ
+writes_in l word = if eqb (word % version_unit l) (writer_unit l) then word / version_unit l
+    else word / version_unit l - 1
+
+-- where nobody has write mode, these are the puts
+pub puts_of : (l : Layout) (b : Bool) (word p : ℕ) → word ≡ word_with l p b → b ≡ false → writes_in l word ≡ p
 puts_of l true word p is e = absurd (true≢false e)
-puts_of l false word p is e = rw is (puts_false l p)
+puts_of l false word p is e =
+    let free = held_test l false word p is in
+    let all : word / version_unit l ≡ p + 1 = rw is (puts_false l p) in
+    rw free (omega arith)
 
 by_layout : (l : Layout) (b : Bool) (word p versions : ℕ) → word ≡ word_with l p b →
     p ≤ versions → versions ≤ (units_of l).versions → word < 2 ^ 63
@@ -73,6 +81,13 @@ pub word_small : (limits : Bounds) (b : Bool) (word p : ℕ) → AreInRange limi
     word ≡ word_with limits.layout p b → p ≤ limits.versions → word < 2 ^ 63
 word_small limits b word p range is few =
     by_layout limits.layout b word p limits.versions is few range.versions
+
+pub word_large : (l : Layout) (b : Bool) (word p : ℕ) → word ≡ word_with l p b → version_unit l ≤ word
+unfolding units_of
+word_large One true word p is = omega arith
+word_large One false word p is = omega arith
+word_large Two true word p is = omega arith
+word_large Two false word p is = omega arith
 
 pub unit_small : (l : Layout) → writer_unit l ≤ 65536
 unfolding units_of

@@ -8,7 +8,7 @@ use mathlib.Core.List.{IsPrefix}
 use lib.ListN.{get_elem?}
 use prog.Atomic.{either}
 use Rattle.std.proofs.lemmas.Bool.{eqb-true}
-use Rattle.atomic_table.specs.Table.{State, Me, Act, keeps, step, stepped, Valid, carried_after}
+use Rattle.atomic_table.specs.Table.{State, Act, keeps, step, stepped, Valid, carried_after}
 use Rattle.atomic_table.specs.Table.{Allows}
 use Rattle.stamp_core.specs.Limits.{Bounds}
 use Rattle.stamp_core.specs.LockEvent.{LockEvent}
@@ -24,7 +24,7 @@ use Rattle.stamp_threads.specs.PassView.{entry, every, made_by, IsPart, observin
 use Rattle.stamp_threads.specs.PassView.{finding}
 use Rattle.stamp_threads.specs.Seats.{alone, both}
 use Rattle.stamp_threads.specs.LockLog.{LockLog, events_after, transition_after, IsLegalLog}
-use Rattle.stamp_threads.specs.LockPass.{LockPass, IsConsistentWith, LeavesWord, first_of}
+use Rattle.stamp_threads.specs.LockPass.{LockPass, Seated, IsConsistentWith, LeavesWord, first_of}
 use Rattle.stamp_threads.specs.LockPass.{second_of}
 use Rattle.stamp_threads.specs.LockRule.{IsKept, making, after_win, answering, reading, after_load}
 use Rattle.stamp_threads.specs.LockRule.{Loaded, Won, LoadTells, ExchangeTells, MeetTells}
@@ -170,12 +170,12 @@ module _ {enterable : Bool} (limits : Bounds) (s : State (Unit {0}) (List LockPa
 
 -- a load
 pub allows_load : {enterable : Bool} (limits : Bounds) (call : Call) (slots id : ℕ)
-    (me : Me (Unit {0}) (List LockPass)) → IsTrue (is_lock_call call) → me ≡ alone (first_of me.0) →
+    (me : Seated) → IsTrue (is_lock_call call) → me ≡ alone (first_of me.0) →
     Allows (IsKept enterable limits) slots id me 0 (λ n. n) (LoadTells limits call (step slots 0 0 0 none) me)
 allows_load limits call slots id me lock is s r _ at _ =
     let v : LockPass = first_of me.0 in
     let here : get_elem? s.views id ≡ some (v ∷ []) =
-    at ∙ ap (λ (m : Me (Unit {0}) (List LockPass)). some m.0) is in
+    at ∙ ap (λ (m : Seated). some m.0) is in
     let w : LockPass = after_load limits call (finding v (get_or s.words 0 0)) r.log in
     let t = loads limits s r id v s.homes here call lock in (
       w ∷ [],
@@ -195,13 +195,13 @@ allows_load limits call slots id me lock is s r _ at _ =
     )
 
 -- by whether the word found is the old one
-abbrev TellsBy : Bool → Bounds → Call → LockPass → ℕ → Me (Unit {0}) (List LockPass) → Type 0
+abbrev TellsBy : Bool → Bounds → Call → LockPass → ℕ → Seated → Type 0
 TellsBy b limits call v found n = (n ≡ alone (first_of n.0)) ×
     MatchBool b (Won limits call v found (first_of n.0)) (Loaded limits call v found (first_of n.0))
 
 exchange_at : {enterable : Bool} (limits : Bounds) (s : State (Unit {0}) (List LockPass))
     (r : IsKept enterable limits s)
-    (id : ℕ) (me : Me (Unit {0}) (List LockPass)) (call : Call) (old new : ℕ) (reply : Reply) →
+    (id : ℕ) (me : Seated) (call : Call) (old new : ℕ) (reply : Reply) →
     IsTrue (is_lock_call call) → me ≡ alone (first_of me.0) →
     get_elem? s.views id ≡ some (first_of me.0 ∷ [])
     → Changes limits (word_at limits old) call (word_at limits new) reply → (b : Bool) →
@@ -250,25 +250,25 @@ exchange_at limits s r id me call old new reply lock is here changes false e =
 
 -- an exchange
 pub allows_exchange : {enterable : Bool} (limits : Bounds) (call : Call) (slots id : ℕ)
-    (me : Me (Unit {0}) (List LockPass)) (old new : ℕ) (reply : Reply) →
+    (me : Seated) (old new : ℕ) (reply : Reply) →
     IsTrue (is_lock_call call) → me ≡ alone (first_of me.0)
     → Changes limits (word_at limits old) call (word_at limits new) reply
     → Allows (IsKept enterable limits) slots id me 0 (λ n. either (n == old) new n)
     (ExchangeTells limits call (step slots 0 old new none) me)
 allows_exchange limits call slots id me old new reply lock is changes s r _ at _ =
     exchange_at limits s r id me call old new reply lock is
-    (at ∙ ap (λ (m : Me (Unit {0}) (List LockPass)). some m.0) is) changes
+    (at ∙ ap (λ (m : Seated). some m.0) is) changes
     (eqb (get_or s.words 0 0) old) refl
 
 -- a load by a seat that holds two
-pub allows_meet : {enterable : Bool} (limits : Bounds) (slots id : ℕ) (me : Me (Unit {0}) (List LockPass)) →
+pub allows_meet : {enterable : Bool} (limits : Bounds) (slots id : ℕ) (me : Seated) →
     me ≡ both (first_of me.0) (second_of me.0) →
     Allows (IsKept enterable limits) slots id me 0 (λ n. n) (MeetTells limits (step slots 0 0 0 none) me)
 allows_meet limits slots id me is s r _ at _ =
     let v : LockPass = first_of me.0 in
     let u : LockPass = second_of me.0 in
     let here : get_elem? s.views id ≡ some (v ∷ u ∷ []) =
-    at ∙ ap (λ (m : Me (Unit {0}) (List LockPass)). some m.0) is in
+    at ∙ ap (λ (m : Seated). some m.0) is in
     let vs : List LockPass = v ∷ u ∷ [] in
     let v' : LockPass = observing v r.log in
     let u' : LockPass = observing u r.log in

@@ -1,7 +1,7 @@
 -- The rule of the running word, and what each step of it tells.
 use Rattle.std.specs.Prelude.{◌≡◌, ℕ, ◌==◌, MatchBool, List, [], ◌∷◌, length, slice_index, Option}
 use Rattle.std.specs.Prelude.{Some, None, Bool, false}
-use Rattle.atomic_table.specs.Table.{State, Step, Me}
+use Rattle.atomic_table.specs.Table.{State, Step}
 use Rattle.stamp_core.specs.Limits.{Bounds}
 use Rattle.stamp_core.specs.LockEvent.{LockEvent}
 use Rattle.stamp_core.specs.Transition.{Transition}
@@ -11,7 +11,7 @@ use Rattle.stamp_machines.specs.LockNumber.{RepresentsAt}
 use Rattle.stamp_threads.specs.PassView.{IsPart, every, observing, adding, finding}
 use Rattle.stamp_threads.specs.Seats.{AreSeated, alone, both}
 use Rattle.stamp_threads.specs.LockLog.{LockLog, events_after, transition_after, IsLegalLog}
-use Rattle.stamp_threads.specs.LockPass.{LockPass, IsConsistentWith, LeavesWord, first_of}
+use Rattle.stamp_threads.specs.LockPass.{LockPass, Seated, IsConsistentWith, LeavesWord, first_of}
 use Rattle.stamp_threads.specs.LockPass.{HasEntered}
 use Rattle.stamp_threads.specs.LockPass.{second_of}
 use Rattle.stamp_threads.specs.HaveMet.{HaveMet}
@@ -68,23 +68,19 @@ Exchanged limits call old v found w = MatchBool (found == old) (Won limits call 
     (Loaded limits call v found w)
 
 -- what the seat of one pass knows after a load
-abbrev pub LoadTells : Bounds → Call → Step (Unit {0}) → Me (Unit {0}) (List LockPass) → ℕ →
-    Me (Unit {0}) (List LockPass) → Type 0
+abbrev pub LoadTells : Bounds → Call → Step (Unit {0}) → Seated → ℕ → Seated → Type 0
 LoadTells limits call st m found n = (n ≡ alone (first_of n.0)) ×
     Loaded limits call (first_of m.0) found (first_of n.0)
 
-abbrev pub ExchangeTells : Bounds → Call → Step (Unit {0}) → Me (Unit {0}) (List LockPass) → ℕ →
-    Me (Unit {0}) (List LockPass) → Type 0
+abbrev pub ExchangeTells : Bounds → Call → Step (Unit {0}) → Seated → ℕ → Seated → Type 0
 ExchangeTells limits call st m found n =
     (n ≡ alone (first_of n.0)) × Exchanged limits call st.first (first_of m.0) found (first_of n.0)
 
 -- and the seat of two passes: both have observed the whole history
-abbrev pub MeetTells : Bounds → Step (Unit {0}) → Me (Unit {0}) (List LockPass) → ℕ →
-    Me (Unit {0}) (List LockPass) → Type 0
+abbrev pub MeetTells : Bounds → Step (Unit {0}) → Seated → ℕ → Seated → Type 0
 MeetTells limits st m found n = (n ≡ both (first_of n.0) (second_of n.0)) ×
     HaveMet limits (first_of m.0) (second_of m.0) (first_of n.0) (second_of n.0)
 
 -- and a seat that is made by a load
-abbrev pub EnterTells : Bounds → Step (Unit {0}) → Me (Unit {0}) (List LockPass) → ℕ →
-    Me (Unit {0}) (List LockPass) → Type 0
+abbrev pub EnterTells : Bounds → Step (Unit {0}) → Seated → ℕ → Seated → Type 0
 EnterTells limits st m found n = (n ≡ alone (first_of n.0)) × HasEntered limits (first_of n.0)

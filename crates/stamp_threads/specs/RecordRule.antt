@@ -2,7 +2,7 @@
 use Rattle.std.specs.Prelude.{◌≡◌, ◌≢◌, ℕ, ◌+◌, ◌<◌, ◌≤◌, ◌==◌, MatchBool, if◌then◌else◌, true}
 use Rattle.std.specs.Prelude.{Bool, false, List, [], ◌∷◌, ◌++◌, length, slice_index, Option, Some, None}
 use mathlib.Core.List.{IsPrefix}
-use Rattle.atomic_table.specs.Table.{State, Step, Me}
+use Rattle.atomic_table.specs.Table.{State, Step}
 use Rattle.stamp_core.specs.declared.layout.Layout.{Layout}
 use Rattle.stamp_core.specs.declared.call.Call.TheVariants.{Get, Put}
 use Rattle.stamp_core.specs.declared.reply.Reply.TheVariants.{Done, Content}
@@ -16,7 +16,7 @@ use Rattle.stamp_threads.specs.Seats.{StandsAt, AreSeated, alone, both}
 use Rattle.stamp_threads.specs.RecordWord.{word_with}
 use Rattle.stamp_threads.specs.RecordLog.{RecordLog, IsLegalRecord, content_in, puts, puts_in}
 use Rattle.stamp_threads.specs.RecordLog.{is_locked, marker_in, word_after, is_own, marks_of}
-use Rattle.stamp_threads.specs.RecordPass.{RecordPassView, IsConsistentWith, LeavesLockWord}
+use Rattle.stamp_threads.specs.RecordPass.{RecordPassView, Seated, IsConsistentWith, LeavesLockWord}
 use Rattle.stamp_threads.specs.RecordPass.{marks_ahead, first_of, second_of, first_pass}
 use Rattle.stamp_threads.specs.RecordPass.{HasEntered}
 
@@ -82,10 +82,6 @@ pub record IsKept (enterable : Bool) (P : List ℕ → Type 0) (shape : RecordSh
   pub obeys : P (content_in shape.width log)
   pub passes : AreSeated (Fits P shape.width s.words log) roots log s.views
   pub writer : is_locked log ≡ true → HasWriter log s.views
-
--- the view of a seat, and the slots that it holds: none here
-abbrev pub Seated : Type 0
-Seated = Me (Unit {0}) (List RecordPassView)
 
 abbrev pub with_phase : RecordPassView → RecordPhase → RecordPassView
 with_phase v phase = record v { phase = phase }

@@ -1,6 +1,7 @@
 -- Where passes stand. The view of a seat of the table is the list of the passes that it holds:
 -- one, and two while they meet.
 use Rattle.std.specs.Prelude.{◌≡◌, ℕ, List, [], ◌∷◌}
+use Rattle.atomic_table.specs.Seated.{TableId}
 use mathlib.Core.Option.{some}
 use lib.ListN.{get_elem?}
 use Rattle.atomic_table.specs.Table.{Me}
@@ -43,3 +44,14 @@ module _ {V : Type 0} where
   -- the seat holds both
   abbrev pub both : V → V → Me (Unit {0}) (List V)
   both v w = (v ∷ w ∷ [], [])
+
+module _ {E P : Type 0} where
+  -- the seat is one of this table, which has so many words, and one pass stands there alone
+  abbrev pub IsAtSeat : P → TableId → ℕ → TableId → Me (Unit {0}) (List (PassView E P)) → Type 0
+  IsAtSeat phase table words seat me =
+      (seat ≡ table) × (table.words ≡ words) × (me ≡ alone (first_of phase me.0))
+
+  -- and two passes, which meet there
+  abbrev pub AreAtSeat : P → TableId → ℕ → TableId → Me (Unit {0}) (List (PassView E P)) → Type 0
+  AreAtSeat phase table words seat me =
+      (seat ≡ table) × (table.words ≡ words) × (me ≡ both (first_of phase me.0) (second_of phase me.0))

@@ -5,7 +5,7 @@ ghost use Rattle.stamp_core.specs.Word.{word_at};
 ghost use Rattle.stamp_core.specs.Decision.{Changes};
 ghost use Rattle.stamp_threads.specs.PassView.{after_split, split_off};
 ghost use Rattle.stamp_threads.specs.Seats.{alone, both};
-ghost use Rattle.stamp_threads.specs.LockPass.{first_of, second_of, HasEntered};
+ghost use Rattle.stamp_threads.specs.LockPass.{first_of, second_of, HasEntered, IsAtSeat, AreAtSeat};
 ghost use Rattle.stamp_threads.specs.LockRule.{Loaded, Exchanged};
 ghost use Rattle.stamp_threads.specs.HaveMet.{HaveMet};
 
@@ -27,10 +27,8 @@ pub type LockSeat = Seat<(), Passes>;
 pub fn load<C: StepFor>(table: &LockTable, seat: &mut LockSeat, call: &Call) -> u64
     requires step { (C.limits ≡ table.now.key.limits) × (C.call ≡ call.now) }
     requires lock_call { IsTrue (is_lock_call call.now) }
-    requires table { (seat.old.table_id ≡ table.now.table_id) × (table.now.table_id.words ≡ 1) }
-    requires alone { seat.old.me ≡ alone (first_of seat.old.me.0) }
-    ensures table { seat.new.table_id ≡ seat.old.table_id }
-    ensures alone { seat.new.me ≡ alone (first_of seat.new.me.0) }
+    requires seat { IsAtSeat table.now.table_id seat.old.table_id seat.old.me }
+    ensures seat { IsAtSeat table.now.table_id seat.new.table_id seat.new.me }
     ensures told { let v = first_of seat.old.me.0 in
         Loaded table.now.key.limits call.now v result (first_of seat.new.me.0) }
 {
@@ -49,12 +47,10 @@ pub fn exchange<C: StepFor>(
 ) -> u64
     requires step { (C.limits ≡ table.now.key.limits) × (C.call ≡ call.now) }
     requires lock_call { IsTrue (is_lock_call call.now) }
-    requires table { (seat.old.table_id ≡ table.now.table_id) × (table.now.table_id.words ≡ 1) }
-    requires alone { seat.old.me ≡ alone (first_of seat.old.me.0) }
+    requires seat { IsAtSeat table.now.table_id seat.old.table_id seat.old.me }
     requires changes { let limits = table.now.key.limits in
         (reply : Reply) × Changes limits (word_at limits old) call.now (word_at limits new) reply }
-    ensures table { seat.new.table_id ≡ seat.old.table_id }
-    ensures alone { seat.new.me ≡ alone (first_of seat.new.me.0) }
+    ensures seat { IsAtSeat table.now.table_id seat.new.table_id seat.new.me }
     ensures told { let v = first_of seat.old.me.0 in
         Exchanged table.now.key.limits call.now old v result (first_of seat.new.me.0) }
 {
@@ -67,8 +63,7 @@ pub fn enter<C: StepFor>(table: &LockTable) -> LockSeat
     requires step { C.limits ≡ table.now.key.limits }
     requires enterable { table.now.key.enterable ≡ true }
     requires table { table.now.table_id.words ≡ 1 }
-    ensures table { result.table_id ≡ table.now.table_id }
-    ensures alone { result.me ≡ alone (first_of result.me.0) }
+    ensures seat { IsAtSeat table.now.table_id result.table_id result.me }
     ensures entered { HasEntered table.now.key.limits (first_of result.me.0) }
 {
     let (_, seat) = table.load_new_seat::<EnterStep<C>>(0);
@@ -77,8 +72,7 @@ pub fn enter<C: StepFor>(table: &LockTable) -> LockSeat
 
 /// A new seat, whose pass has a name that the first one gives.
 pub fn split(table: &LockTable, seat: &mut LockSeat) -> LockSeat
-    requires table { (seat.old.table_id ≡ table.now.table_id) × (table.now.table_id.words ≡ 1) }
-    requires alone { seat.old.me ≡ alone (first_of seat.old.me.0) }
+    requires seat { IsAtSeat table.now.table_id seat.old.table_id seat.old.me }
     ensures table { (seat.new.table_id ≡ seat.old.table_id)
         × (result.table_id ≡ seat.old.table_id) }
     ensures given { seat.new.me ≡ alone (after_split (first_of seat.old.me.0)) }
@@ -91,10 +85,8 @@ pub fn split(table: &LockTable, seat: &mut LockSeat) -> LockSeat
 /// history.
 pub fn load_both<C: StepFor>(table: &LockTable, seat: &mut LockSeat)
     requires step { C.limits ≡ table.now.key.limits }
-    requires table { (seat.old.table_id ≡ table.now.table_id) × (table.now.table_id.words ≡ 1) }
-    requires both { seat.old.me ≡ both (first_of seat.old.me.0) (second_of seat.old.me.0) }
-    ensures table { seat.new.table_id ≡ seat.old.table_id }
-    ensures both { seat.new.me ≡ both (first_of seat.new.me.0) (second_of seat.new.me.0) }
+    requires seat { AreAtSeat table.now.table_id seat.old.table_id seat.old.me }
+    ensures seat { AreAtSeat table.now.table_id seat.new.table_id seat.new.me }
     ensures met { let old = seat.old.me.0 in let new = seat.new.me.0 in
         HaveMet table.now.key.limits (first_of old) (second_of old) (first_of new) (second_of new) }
 {
@@ -103,10 +95,8 @@ pub fn load_both<C: StepFor>(table: &LockTable, seat: &mut LockSeat)
 
 /// Puts both passes on one seat.
 pub fn share_seat(table: &LockTable, seat: &mut LockSeat, other: LockSeat)
-    requires table { (seat.old.table_id ≡ table.now.table_id) × (table.now.table_id.words ≡ 1) }
-    requires other { other.table_id ≡ table.now.table_id }
-    requires alone { seat.old.me ≡ alone (first_of seat.old.me.0) }
-    requires other_alone { other.me ≡ alone (first_of other.me.0) }
+    requires seat { IsAtSeat table.now.table_id seat.old.table_id seat.old.me }
+    requires other { IsAtSeat table.now.table_id other.table_id other.me }
     ensures table { seat.new.table_id ≡ seat.old.table_id }
     ensures both { seat.new.me ≡ both (first_of seat.old.me.0) (first_of other.me.0) }
 {
@@ -115,8 +105,7 @@ pub fn share_seat(table: &LockTable, seat: &mut LockSeat, other: LockSeat)
 
 /// Puts the two passes of a seat on two seats.
 pub fn part_seats(table: &LockTable, seat: &mut LockSeat) -> LockSeat
-    requires table { (seat.old.table_id ≡ table.now.table_id) × (table.now.table_id.words ≡ 1) }
-    requires both { seat.old.me ≡ both (first_of seat.old.me.0) (second_of seat.old.me.0) }
+    requires seat { AreAtSeat table.now.table_id seat.old.table_id seat.old.me }
     ensures table { (seat.new.table_id ≡ seat.old.table_id)
         × (result.table_id ≡ seat.old.table_id) }
     ensures first { seat.new.me ≡ alone (first_of seat.old.me.0) }

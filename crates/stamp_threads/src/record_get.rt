@@ -1,10 +1,10 @@
 //! A get, step by step.
-ghost use Rattle.std.specs.Prelude.{◌≡◌, ◌+◌, ◌≤◌, IfOk, IfErr, length, ℕ, []};
+ghost use Rattle.std.specs.Prelude.{◌≡◌, ◌≤◌, IfOk, IfErr, length, ℕ, []};
 ghost use Rattle.stamp_core.specs.declared.call.Call.TheVariants.{Get};
 ghost use Rattle.stamp_core.specs.declared.reply.Reply.TheVariants.{Content};
 ghost use Rattle.stamp_threads.specs.declared.record_view.RecordPhase.TheVariants.{Idle, Reading};
 ghost use Rattle.stamp_threads.specs.Seats.{alone};
-ghost use Rattle.stamp_threads.specs.RecordPass.{first_of};
+ghost use Rattle.stamp_threads.specs.RecordPass.{first_of, IsAtSeat};
 ghost use Rattle.stamp_threads.specs.RecordRule.{with_phase};
 ghost use Rattle.stamp_threads.specs.RecordLog.{puts};
 ghost use Rattle.stamp_threads.specs.RecordCall.{RecordAnswered, GetRefused};
@@ -13,16 +13,13 @@ use crate::faults::GetFault;
 use crate::record_rule::ContentRule;
 use crate::record_steps::{RecordSeat, RecordTable, confirm, load_word, open};
 use crate::record_view::RecordShape;
-use crate::record_word::is_held;
 use stamp_core::Layout;
 use std::marker::Brand;
 
 /// Loads each of the words.
 #[inline(always)]
 fn load_all<P: ContentRule>(table: &RecordTable<P>, seat: &mut RecordSeat, into: &mut [u64])
-    requires table { (seat.old.table_id ≡ table.now.table_id)
-        × (table.now.table_id.words ≡ table.now.key.shape.width + 1) }
-    requires alone { seat.old.me ≡ alone (first_of seat.old.me.0) }
+    requires seat { IsAtSeat table.now.table_id table.now.key.shape seat.old.table_id seat.old.me }
     requires long { (length into.old ≡ table.now.key.shape.width) × (table.now.key.shape.width ≤ 16) }
     requires reading { (version : ℕ) × ((first_of seat.old.me.0).phase ≡ Reading version []) }
     ensures table { seat.new.table_id ≡ seat.old.table_id }
@@ -46,13 +43,10 @@ fn got_words<P: ContentRule>(
 ) -> Result<(), GetFault>
     requires shape { (table.now.key.shape ≡ shape) × (shape.width ≤ 16) }
     requires long { length into.old ≡ shape.width }
-    requires table { (seat.old.table_id ≡ table.now.table_id)
-        × (table.now.table_id.words ≡ shape.width + 1) }
-    requires alone { seat.old.me ≡ alone (first_of seat.old.me.0) }
+    requires seat { IsAtSeat table.now.table_id shape seat.old.table_id seat.old.me }
     requires idle { (first_of seat.old.me.0).phase ≡ Idle }
-    ensures table { seat.new.table_id ≡ seat.old.table_id }
+    ensures seat { IsAtSeat table.now.table_id shape seat.new.table_id seat.new.me }
     ensures long { length into.new ≡ length into.old }
-    ensures alone { seat.new.me ≡ alone (first_of seat.new.me.0) }
     ensures ok { let v = first_of seat.old.me.0 in let w = first_of seat.new.me.0 in
         IfOk result (λ _. RecordAnswered shape Get (Content into.new) v w) }
     ensures obeys { IfOk result (λ _. P.holds into.new) }
@@ -60,7 +54,7 @@ fn got_words<P: ContentRule>(
         IfErr result (λ fault. GetRefused shape v fault w) }
 {
     let loaded = open::<Brand, P>(table, seat);
-    if is_held(shape.limits, loaded) {
+    if shape.limits.layout().has_writer(loaded) {
         return Err(GetFault::Busy(loaded));
     }
     load_all(table, seat, into);
@@ -81,13 +75,10 @@ pub fn get_words<P: ContentRule>(
 ) -> Result<(), GetFault>
     requires shape { (table.now.key.shape ≡ shape) × (shape.width ≤ 16) }
     requires long { length into.old ≡ shape.width }
-    requires table { (seat.old.table_id ≡ table.now.table_id)
-        × (table.now.table_id.words ≡ shape.width + 1) }
-    requires alone { seat.old.me ≡ alone (first_of seat.old.me.0) }
+    requires seat { IsAtSeat table.now.table_id shape seat.old.table_id seat.old.me }
     requires idle { (first_of seat.old.me.0).phase ≡ Idle }
-    ensures table { seat.new.table_id ≡ seat.old.table_id }
+    ensures seat { IsAtSeat table.now.table_id shape seat.new.table_id seat.new.me }
     ensures long { length into.new ≡ length into.old }
-    ensures alone { seat.new.me ≡ alone (first_of seat.new.me.0) }
     ensures ok { let v = first_of seat.old.me.0 in let w = first_of seat.new.me.0 in
         IfOk result (λ _. RecordAnswered shape Get (Content into.new) v w) }
     ensures obeys { IfOk result (λ _. P.holds into.new) }

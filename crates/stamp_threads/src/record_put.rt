@@ -1,10 +1,10 @@
 //! A put, step by step.
-ghost use Rattle.std.specs.Prelude.{◌≡◌, ◌+◌, ◌≤◌, IfOk, IfErr, length, ℕ};
+ghost use Rattle.std.specs.Prelude.{◌≡◌, ◌≤◌, IfOk, IfErr, length, ℕ};
 ghost use Rattle.stamp_core.specs.declared.call.Call.TheVariants.{Put};
 ghost use Rattle.stamp_core.specs.declared.reply.Reply.TheVariants.{Done};
 ghost use Rattle.stamp_threads.specs.declared.record_view.RecordPhase.TheVariants.{Idle, Writing};
 ghost use Rattle.stamp_threads.specs.Seats.{alone};
-ghost use Rattle.stamp_threads.specs.RecordPass.{first_of};
+ghost use Rattle.stamp_threads.specs.RecordPass.{first_of, IsAtSeat};
 ghost use Rattle.stamp_threads.specs.RecordRule.{with_phase};
 ghost use Rattle.stamp_threads.specs.RecordCall.{RecordAnswered, PutRefused};
 
@@ -12,15 +12,12 @@ use crate::faults::PutFault;
 use crate::record_rule::ContentRule;
 use crate::record_steps::{RecordSeat, RecordTable, acquire, look, release, store};
 use crate::record_view::RecordShape;
-use crate::record_word::{is_held, turned, version};
 use std::marker::Brand;
 
 /// Stores each of the words.
 #[inline(always)]
 fn store_all<P: ContentRule>(table: &RecordTable<P>, seat: &mut RecordSeat, words: &[u64])
-    requires table { (seat.old.table_id ≡ table.now.table_id)
-        × (table.now.table_id.words ≡ table.now.key.shape.width + 1) }
-    requires alone { seat.old.me ≡ alone (first_of seat.old.me.0) }
+    requires seat { IsAtSeat table.now.table_id table.now.key.shape seat.old.table_id seat.old.me }
     requires long { (length words.now ≡ table.now.key.shape.width) × (table.now.key.shape.width ≤ 16) }
     requires writing { (version : ℕ)
         × ((first_of seat.old.me.0).phase ≡ Writing version words.now 0) }
@@ -45,31 +42,29 @@ pub fn put_words<P: ContentRule>(
     requires shape { (table.now.key.shape ≡ shape) × (shape.width ≤ 16) }
     requires long { length words.now ≡ shape.width }
     requires good { P.holds words.now }
-    requires table { (seat.old.table_id ≡ table.now.table_id)
-        × (table.now.table_id.words ≡ shape.width + 1) }
-    requires alone { seat.old.me ≡ alone (first_of seat.old.me.0) }
+    requires seat { IsAtSeat table.now.table_id shape seat.old.table_id seat.old.me }
     requires idle { (first_of seat.old.me.0).phase ≡ Idle }
-    ensures table { seat.new.table_id ≡ seat.old.table_id }
-    ensures alone { seat.new.me ≡ alone (first_of seat.new.me.0) }
+    ensures seat { IsAtSeat table.now.table_id shape seat.new.table_id seat.new.me }
     ensures ok { let v = first_of seat.old.me.0 in let w = first_of seat.new.me.0 in
         IfOk result (λ _. RecordAnswered shape (Put words.now) Done v w) }
     ensures err { let v = first_of seat.old.me.0 in let w = first_of seat.new.me.0 in
         IfErr result (λ fault. PutRefused shape v fault w) }
 {
+    let layout = shape.limits.layout();
     let loaded = look::<Brand, P>(table, seat);
-    if is_held(shape.limits, loaded) {
+    if layout.has_writer(loaded) {
         return Err(PutFault::Busy(loaded));
     }
-    if version(shape.limits, loaded) > shape.limits.versions() {
+    if layout.writes_of(loaded) >= shape.limits.versions() {
         return Err(PutFault::Spent(loaded));
     }
-    let held = turned(shape.limits, loaded);
+    let held = loaded + layout.writer_unit();
     let found = acquire::<Brand, P>(table, seat, words, loaded, held);
     if found != loaded {
         return Err(PutFault::Lost { loaded, found });
     }
     store_all(table, seat, words);
-    let free = turned(shape.limits, held);
+    let free = layout.released(held);
     release::<Brand, P>(table, seat, words, held, free);
     Ok(())
 }

@@ -7,6 +7,7 @@ ghost use Rattle.stamp_threads.specs.PassView.{after_split, split_off};
 ghost use Rattle.stamp_threads.specs.Seats.{alone, both};
 ghost use Rattle.stamp_threads.specs.RecordWord.{word_with, writer_unit};
 ghost use Rattle.stamp_threads.specs.RecordPass.{first_of, second_of, HasEntered};
+ghost use Rattle.stamp_threads.specs.RecordPass.{IsAtSeat, AreAtSeat};
 ghost use Rattle.stamp_threads.specs.RecordRule.{Looked, Acquired, Released, stored_one, Opened};
 ghost use Rattle.stamp_threads.specs.RecordRule.{loaded_one, Confirmed, Overtaken, word_to_confirm};
 ghost use Rattle.stamp_threads.specs.RecordRule.{Met};
@@ -29,9 +30,7 @@ pub type RecordSeat = Seat<(), RecordPasses>;
 #[inline(always)]
 pub fn look<C: WordsStep, P: ContentRule>(table: &RecordTable<P>, seat: &mut RecordSeat) -> u64
     requires step { C.shape ≡ table.now.key.shape }
-    requires table { (seat.old.table_id ≡ table.now.table_id)
-        × (table.now.table_id.words ≡ table.now.key.shape.width + 1) }
-    requires alone { seat.old.me ≡ alone (first_of seat.old.me.0) }
+    requires seat { IsAtSeat table.now.table_id table.now.key.shape seat.old.table_id seat.old.me }
     requires idle { (first_of seat.old.me.0).phase ≡ Idle }
     ensures table { seat.new.table_id ≡ seat.old.table_id }
     ensures told { Looked table.now.key.shape (first_of seat.old.me.0) result seat.new.me }
@@ -51,9 +50,7 @@ pub fn acquire<C: WordsStep, P: ContentRule>(
     requires step { (C.shape ≡ table.now.key.shape) × (C.words ≡ words.now) }
     requires long { length words.now ≡ table.now.key.shape.width }
     requires good { P.holds words.now }
-    requires table { (seat.old.table_id ≡ table.now.table_id)
-        × (table.now.table_id.words ≡ table.now.key.shape.width + 1) }
-    requires alone { seat.old.me ≡ alone (first_of seat.old.me.0) }
+    requires seat { IsAtSeat table.now.table_id table.now.key.shape seat.old.table_id seat.old.me }
     requires idle { (first_of seat.old.me.0).phase ≡ Idle }
     requires free { let limits = table.now.key.shape.limits in
         (n : ℕ) × (free ≡ word_with limits.layout n false)
@@ -70,9 +67,7 @@ pub fn acquire<C: WordsStep, P: ContentRule>(
 /// Stores the word of this place.
 #[inline(always)]
 pub fn store<P: ContentRule>(table: &RecordTable<P>, seat: &mut RecordSeat, place: usize, word: u64)
-    requires table { (seat.old.table_id ≡ table.now.table_id)
-        × (table.now.table_id.words ≡ table.now.key.shape.width + 1) }
-    requires alone { seat.old.me ≡ alone (first_of seat.old.me.0) }
+    requires seat { IsAtSeat table.now.table_id table.now.key.shape seat.old.table_id seat.old.me }
     requires inside { (place < table.now.key.shape.width) × (table.now.key.shape.width ≤ 16) }
     requires writing { (version : ℕ) × (words : List ℕ)
         × ((first_of seat.old.me.0).phase ≡ Writing version words place)
@@ -93,9 +88,7 @@ pub fn release<C: WordsStep, P: ContentRule>(
     free: u64,
 )
     requires step { (C.shape ≡ table.now.key.shape) × (C.words ≡ words.now) }
-    requires table { (seat.old.table_id ≡ table.now.table_id)
-        × (table.now.table_id.words ≡ table.now.key.shape.width + 1) }
-    requires alone { seat.old.me ≡ alone (first_of seat.old.me.0) }
+    requires seat { IsAtSeat table.now.table_id table.now.key.shape seat.old.table_id seat.old.me }
     requires writing { let key = table.now.key.shape in
         (version : ℕ) × ((first_of seat.old.me.0).phase ≡ Writing version words.now key.width)
         × (held ≡ word_with key.limits.layout version true)
@@ -112,9 +105,7 @@ pub fn release<C: WordsStep, P: ContentRule>(
 #[inline(always)]
 pub fn open<C: WordsStep, P: ContentRule>(table: &RecordTable<P>, seat: &mut RecordSeat) -> u64
     requires step { C.shape ≡ table.now.key.shape }
-    requires table { (seat.old.table_id ≡ table.now.table_id)
-        × (table.now.table_id.words ≡ table.now.key.shape.width + 1) }
-    requires alone { seat.old.me ≡ alone (first_of seat.old.me.0) }
+    requires seat { IsAtSeat table.now.table_id table.now.key.shape seat.old.table_id seat.old.me }
     requires idle { (first_of seat.old.me.0).phase ≡ Idle }
     ensures table { seat.new.table_id ≡ seat.old.table_id }
     ensures told { Opened table.now.key.shape (first_of seat.old.me.0) result seat.new.me }
@@ -125,9 +116,7 @@ pub fn open<C: WordsStep, P: ContentRule>(table: &RecordTable<P>, seat: &mut Rec
 /// Loads the word of this place.
 #[inline(always)]
 pub fn load_word<P: ContentRule>(table: &RecordTable<P>, seat: &mut RecordSeat, place: usize) -> u64
-    requires table { (seat.old.table_id ≡ table.now.table_id)
-        × (table.now.table_id.words ≡ table.now.key.shape.width + 1) }
-    requires alone { seat.old.me ≡ alone (first_of seat.old.me.0) }
+    requires seat { IsAtSeat table.now.table_id table.now.key.shape seat.old.table_id seat.old.me }
     requires inside { (place < table.now.key.shape.width) × (table.now.key.shape.width ≤ 16) }
     requires reading { (version : ℕ) × (words : List ℕ)
         × ((first_of seat.old.me.0).phase ≡ Reading version words) × (length words ≡ place) }
@@ -145,9 +134,7 @@ pub fn confirm<C: WordsStep, P: ContentRule>(
     words: &[u64],
 ) -> u64
     requires step { (C.shape ≡ table.now.key.shape) × (C.words ≡ words.now) }
-    requires table { (seat.old.table_id ≡ table.now.table_id)
-        × (table.now.table_id.words ≡ table.now.key.shape.width + 1) }
-    requires alone { seat.old.me ≡ alone (first_of seat.old.me.0) }
+    requires seat { IsAtSeat table.now.table_id table.now.key.shape seat.old.table_id seat.old.me }
     requires reading { (version : ℕ)
         × ((first_of seat.old.me.0).phase ≡ Reading version words.now)
         × (length words.now ≡ table.now.key.shape.width) }
@@ -165,8 +152,7 @@ pub fn enter<C: WordsStep, P: ContentRule>(table: &RecordTable<P>) -> RecordSeat
     requires step { C.shape ≡ table.now.key.shape }
     requires enterable { table.now.key.enterable ≡ true }
     requires table { table.now.table_id.words ≡ table.now.key.shape.width + 1 }
-    ensures table { result.table_id ≡ table.now.table_id }
-    ensures alone { result.me ≡ alone (first_of result.me.0) }
+    ensures seat { IsAtSeat table.now.table_id table.now.key.shape result.table_id result.me }
     ensures entered { HasEntered table.now.key.shape (first_of result.me.0) }
 {
     let (_, seat) = table.load_new_seat::<EnterRecordStep<C>>(0);
@@ -175,9 +161,7 @@ pub fn enter<C: WordsStep, P: ContentRule>(table: &RecordTable<P>) -> RecordSeat
 
 /// A new seat, whose pass has a name that the first one gives.
 pub fn split<P: ContentRule>(table: &RecordTable<P>, seat: &mut RecordSeat) -> RecordSeat
-    requires table { (seat.old.table_id ≡ table.now.table_id)
-        × (table.now.table_id.words ≡ table.now.key.shape.width + 1) }
-    requires alone { seat.old.me ≡ alone (first_of seat.old.me.0) }
+    requires seat { IsAtSeat table.now.table_id table.now.key.shape seat.old.table_id seat.old.me }
     requires idle { (first_of seat.old.me.0).phase ≡ Idle }
     ensures table { (seat.new.table_id ≡ seat.old.table_id)
         × (result.table_id ≡ seat.old.table_id) }
@@ -189,11 +173,8 @@ pub fn split<P: ContentRule>(table: &RecordTable<P>, seat: &mut RecordSeat) -> R
 
 /// Puts both passes on one seat.
 pub fn share_seat<P: ContentRule>(table: &RecordTable<P>, seat: &mut RecordSeat, other: RecordSeat)
-    requires table { (seat.old.table_id ≡ table.now.table_id)
-        × (table.now.table_id.words ≡ table.now.key.shape.width + 1) }
-    requires other { other.table_id ≡ table.now.table_id }
-    requires alone { seat.old.me ≡ alone (first_of seat.old.me.0) }
-    requires other_alone { other.me ≡ alone (first_of other.me.0) }
+    requires seat { IsAtSeat table.now.table_id table.now.key.shape seat.old.table_id seat.old.me }
+    requires other { IsAtSeat table.now.table_id table.now.key.shape other.table_id other.me }
     requires idle { ((first_of seat.old.me.0).phase ≡ Idle)
         × ((first_of other.me.0).phase ≡ Idle) }
     ensures table { seat.new.table_id ≡ seat.old.table_id }
@@ -206,9 +187,7 @@ pub fn share_seat<P: ContentRule>(table: &RecordTable<P>, seat: &mut RecordSeat,
 /// history.
 pub fn load_both<C: WordsStep, P: ContentRule>(table: &RecordTable<P>, seat: &mut RecordSeat)
     requires step { C.shape ≡ table.now.key.shape }
-    requires table { (seat.old.table_id ≡ table.now.table_id)
-        × (table.now.table_id.words ≡ table.now.key.shape.width + 1) }
-    requires both { seat.old.me ≡ both (first_of seat.old.me.0) (second_of seat.old.me.0) }
+    requires seat { AreAtSeat table.now.table_id table.now.key.shape seat.old.table_id seat.old.me }
     requires idle { ((first_of seat.old.me.0).phase ≡ Idle)
         × ((second_of seat.old.me.0).phase ≡ Idle) }
     ensures table { seat.new.table_id ≡ seat.old.table_id }
@@ -220,9 +199,7 @@ pub fn load_both<C: WordsStep, P: ContentRule>(table: &RecordTable<P>, seat: &mu
 
 /// Puts the two passes of a seat on two seats.
 pub fn part_seats<P: ContentRule>(table: &RecordTable<P>, seat: &mut RecordSeat) -> RecordSeat
-    requires table { (seat.old.table_id ≡ table.now.table_id)
-        × (table.now.table_id.words ≡ table.now.key.shape.width + 1) }
-    requires both { seat.old.me ≡ both (first_of seat.old.me.0) (second_of seat.old.me.0) }
+    requires seat { AreAtSeat table.now.table_id table.now.key.shape seat.old.table_id seat.old.me }
     requires idle { ((first_of seat.old.me.0).phase ≡ Idle)
         × ((second_of seat.old.me.0).phase ≡ Idle) }
     ensures table { (seat.new.table_id ≡ seat.old.table_id)

@@ -7,6 +7,6 @@ compare_exchange-requires g c = (
   search rules,
   omega arith,
   rw (c.requires.step.0, c.requires.step.1)
-      (allows_exchange _ _ _ _ _ _ _ c.requires.changes.0 c.requires.lock_call c.requires.alone
+      (allows_exchange _ _ _ _ _ _ _ c.requires.changes.0 c.requires.lock_call c.requires.seat.2
       c.requires.changes.1),
 )

@@ -7,5 +7,5 @@ load-requires g c = (
   search rules,
   omega arith,
   rw (c.requires.step.0, c.requires.step.1)
-      (allows_load _ _ _ _ _ c.requires.lock_call c.requires.alone),
+      (allows_load _ _ _ _ _ c.requires.lock_call c.requires.seat.2),
 )

@@ -6,5 +6,5 @@ pub load-requires : goal.load-requires
 load-requires g c = (
   search rules,
   omega arith,
-  rw (c.requires.step) (allows_meet _ _ _ _ c.requires.both),
+  rw (c.requires.step) (allows_meet _ _ _ _ c.requires.seat.2),
 )

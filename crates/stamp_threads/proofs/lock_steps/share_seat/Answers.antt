@@ -8,5 +8,5 @@ join_seat-requires c = (
   search rules,
   search rules,
   omega arith,
-  joins_share _ _ _ _ _ _ c.requires.alone c.requires.other_alone,
+  joins_share _ _ _ _ _ _ c.requires.seat.2 c.requires.other.2,
 )

@@ -1,9 +1,8 @@
-use Rattle.std.proofs.Common.{ap, sym, ◌∙◌}
+use Rattle.std.proofs.Common.{ap, sym, ◌∙◌, rules}
 use Rattle.stamp_threads.specs.declared.record_view.RecordShape.{RecordShape}
 use Rattle.stamp_threads.specs.Seats.{alone}
 use Rattle.stamp_threads.specs.RecordLog.{puts}
-use Rattle.stamp_threads.specs.RecordPass.{first_of}
-use Rattle.stamp_threads.specs.RecordRule.{Seated}
+use Rattle.stamp_threads.specs.RecordPass.{first_of, Seated}
 use Rattle.stamp_threads.proofs.RecordPromises.{opened, get_busy_of, get_lost_of}
 use Rattle.stamp_threads.proofs.RecordPromises.{get_made_of, get_obeys_of}
 use Rattle.stamp_threads.proofs.record_get.got_words.Goals as goal
@@ -11,40 +10,40 @@ use Rattle.stamp_threads.proofs.record_get.got_words.Goals as goal
 pub load_all-requires-clause-reading : goal.load_all-requires-clause-reading
 load_all-requires-clause-reading g c =
     let t = rw c.requires.shape.0 at c.open-loaded.ensures.told in
-    (puts t.log, opened _ _ _ _ t (sym c.is_held.ensures ∙ c.if-is_held.false))
+    (puts t.log, opened _ _ _ _ t (sym (rw c.layout.ensures.layout at c.has_writer.ensures) ∙ c.if-has_writer.false))
 
 pub confirm-found-requires-clause-reading : goal.confirm-found-requires-clause-reading
 confirm-found-requires-clause-reading g c =
     let t = rw c.requires.shape.0 at c.open-loaded.ensures.told in
-    let phase = opened _ _ _ _ t (sym c.is_held.ensures ∙ c.if-is_held.false) in (
+    let phase = opened _ _ _ _ t (sym (rw c.layout.ensures.layout at c.has_writer.ensures) ∙ c.if-has_writer.false) in (
       puts t.log,
       ap (λ (m : Seated). (first_of m.0).phase) (c.load_all.ensures.told (puts t.log) phase),
       c.load_all.ensures.long ∙
           (c.requires.long ∙ sym (ap (λ (z : RecordShape). z.width) c.requires.shape.0)),
     )
 
-pub confirm-found-requires-clause-alone : goal.confirm-found-requires-clause-alone
-confirm-found-requires-clause-alone g c =
+pub confirm-found-requires-clause-seat : goal.confirm-found-requires-clause-seat
+confirm-found-requires-clause-seat g c =
     let t = rw c.requires.shape.0 at c.open-loaded.ensures.told in
-    let phase = opened _ _ _ _ t (sym c.is_held.ensures ∙ c.if-is_held.false) in
+    let phase = opened _ _ _ _ t (sym (rw c.layout.ensures.layout at c.has_writer.ensures) ∙ c.if-has_writer.false) in
     let is = c.load_all.ensures.told (puts t.log) phase in
-    is ∙ sym (ap (λ (m : Seated). alone (first_of m.0)) is)
+    (search rules, search rules, is ∙ sym (ap (λ (m : Seated). alone (first_of m.0)) is))
 
-pub returns-then-is_held-clause-err : goal.returns-then-is_held-clause-err
-returns-then-is_held-clause-err g c = get_busy_of _ _ c.requires.shape.0 _ _ _
-    c.open-loaded.ensures.told c.requires.idle (sym c.is_held.ensures ∙ c.if-is_held.true)
+pub returns-then-has_writer-clause-err : goal.returns-then-has_writer-clause-err
+returns-then-has_writer-clause-err g c = get_busy_of _ _ c.requires.shape.0 _ _ _
+    c.open-loaded.ensures.told c.requires.idle (sym (rw c.layout.ensures.layout at c.has_writer.ensures) ∙ c.if-has_writer.true)
 
 pub returns-then-found-loaded-clause-err : goal.returns-then-found-loaded-clause-err
 returns-then-found-loaded-clause-err g c = get_lost_of _ _ c.requires.shape.0 _ _ _ _ _ _
-    c.open-loaded.ensures.told (sym c.is_held.ensures ∙ c.if-is_held.false)
+    c.open-loaded.ensures.told (sym (rw c.layout.ensures.layout at c.has_writer.ensures) ∙ c.if-has_writer.false)
     c.load_all.ensures.told _ _ c.confirm-found.ensures.told c.if-found-loaded.true
 
 pub returns-clause-ok : goal.returns-clause-ok
 returns-clause-ok g c = get_made_of _ _ c.requires.shape.0 _ _ _ _ _ _
-    c.open-loaded.ensures.told (sym c.is_held.ensures ∙ c.if-is_held.false)
+    c.open-loaded.ensures.told (sym (rw c.layout.ensures.layout at c.has_writer.ensures) ∙ c.if-has_writer.false)
     c.load_all.ensures.told _ _ c.confirm-found.ensures.told c.if-found-loaded.false
 
 pub returns-clause-obeys : goal.returns-clause-obeys
 returns-clause-obeys g c = get_obeys_of _ _ c.requires.shape.0 _ _ _ _ _ _
-    c.open-loaded.ensures.told (sym c.is_held.ensures ∙ c.if-is_held.false)
+    c.open-loaded.ensures.told (sym (rw c.layout.ensures.layout at c.has_writer.ensures) ∙ c.if-has_writer.false)
     c.load_all.ensures.told _ _ c.confirm-found.ensures.told c.if-found-loaded.false

@@ -7,5 +7,5 @@ load-requires g c = (
   search rules,
   omega arith,
   rw (c.requires.step)
-      (allows_meet _ _ _ _ _ _ c.requires.both c.requires.idle.0 c.requires.idle.1),
+      (allows_meet _ _ _ _ _ _ c.requires.seat.2 c.requires.idle.0 c.requires.idle.1),
 )

@@ -6,5 +6,5 @@ pub load-requires : goal.load-requires
 load-requires g c = (
   search rules,
   omega arith,
-  rw (c.requires.step) (allows_open _ _ _ _ _ c.requires.alone c.requires.idle),
+  rw (c.requires.step) (allows_open _ _ _ _ _ c.requires.seat.2 c.requires.idle),
 )

@@ -6,5 +6,5 @@ pub split_seat-requires : goal.split_seat-requires
 split_seat-requires g c = (
   search rules,
   omega arith,
-  splits_part _ _ _ _ _ c.requires.both c.requires.idle.0 c.requires.idle.1,
+  splits_part _ _ _ _ _ c.requires.seat.2 c.requires.idle.0 c.requires.idle.1,
 )

@@ -7,6 +7,6 @@ compare_exchange-requires g c = (
   search rules,
   omega arith,
   rw (c.requires.step.0, c.requires.step.1)
-      (allows_release _ _ _ _ _ _ c.requires.writing.0 _ _ _ c.requires.alone c.requires.writing.1
+      (allows_release _ _ _ _ _ _ c.requires.writing.0 _ _ _ c.requires.seat.2 c.requires.writing.1
       c.requires.writing.2 c.requires.writing.3),
 )

@@ -8,6 +8,6 @@ join_seat-requires g c = (
   search rules,
   search rules,
   omega arith,
-  joins_share _ _ _ _ _ _ _ c.requires.alone c.requires.other_alone c.requires.idle.0
+  joins_share _ _ _ _ _ _ _ c.requires.seat.2 c.requires.other.2 c.requires.idle.0
       c.requires.idle.1,
 )

@@ -6,6 +6,6 @@ pub store-requires : goal.store-requires
 store-requires g c = (
   search rules,
   omega arith,
-  allows_store _ _ _ _ _ c.requires.writing.0 _ _ c.requires.writing.1 c.requires.alone
+  allows_store _ _ _ _ _ c.requires.writing.0 _ _ c.requires.writing.1 c.requires.seat.2
       c.requires.writing.2 c.requires.inside.0 c.requires.writing.3,
 )

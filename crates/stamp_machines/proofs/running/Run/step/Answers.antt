@@ -10,9 +10,9 @@ returns-clause-report c =
     let world : World = execution_of c.args.self.now.script c.args.self.now.names in
     let entries : completed_calls c.moved.new.self.script c.moved.new.self.names
     ≡ (step c.args.self.now.script world c.args.thread).entries =
-    ap (λ (r : RunView). completed_calls r.script r.names) c.in_ok-progress.ensures.ok
+    ap (λ (r : RunView). completed_calls r.script r.names) c.in_ok-kind.ensures.ok
     ∙ ap (λ (w : World). w.entries)
     (execution_of-more c.args.self.now.script c.args.self.now.names c.args.thread) in
     rw c.told.ensures
-    (told-reports c.args.self.now.script world c.args.thread c.in_ok-progress.progress _ entries
-    c.in_ok-progress.ensures.report)
+    (told-reports c.args.self.now.script world c.args.thread c.in_ok-kind.kind _ entries
+    c.in_ok-kind.ensures.report)
