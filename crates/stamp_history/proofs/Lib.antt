@@ -2,9 +2,9 @@ pub mod CallLengths
 pub mod ItemLengths
 pub mod EachItem
 pub mod NoJson
-pub mod NoFloat
 pub mod StoredCalls
 pub mod RepliesSoFar
+pub mod ReplayedParts
 pub mod ReplayAnswers
 pub mod OnlyLockCalls
 pub mod ScriptCallLengths

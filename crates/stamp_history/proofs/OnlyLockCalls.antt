@@ -15,6 +15,7 @@ use Rattle.stamp_core.specs.declared.call.Call.TheVariants.{UnlockRead, Unlock, 
 use Rattle.stamp_core.specs.declared.call.Call.TheVariants.{ToOptimistic, TryUnlockWrite}
 use Rattle.stamp_core.specs.declared.call.Call.TheVariants.{TryUnlockRead, IsWriteLocked}
 use Rattle.stamp_core.specs.declared.call.Call.TheVariants.{IsReadLocked, ReadCount}
+use Rattle.stamp_history.specs.declared.text_kind.TextKind.TheVariants.{Script}
 use Rattle.stamp_history.specs.JsonValue.{whole}
 use Rattle.stamp_history.specs.LockCall.{plain_call, stamp_call, listed_call, lock_call}
 use Rattle.stamp_history.specs.Reading.{◌>>=◌, json_of, each}
@@ -106,9 +107,9 @@ pub replay_of_lock : (bytes : List ℕ) (replay : Replay) → replay_of bytes �
 unfolding replay_of replay_in
 replay_of_lock bytes replay e =
     let value = bind_ok (json_of bytes) replay_in replay e in
-    let keys = bind_ok (top value.0) (λ _. limits value.0 >>= λ found_limits. calls value.0 >>= λ found_calls. Ok
+    let keys = bind_ok (top value.0) (λ _. limits Script value.0 >>= λ found_limits. calls value.0 >>= λ found_calls. Ok
     (record { limits = found_limits; calls = found_calls })) replay value.2 in
-    let bounds = bind_ok (limits value.0) (λ found_limits. calls value.0 >>= λ found_calls. Ok
+    let bounds = bind_ok (limits Script value.0) (λ found_limits. calls value.0 >>= λ found_calls. Ok
     (record { limits = found_limits; calls = found_calls })) replay keys.2 in
     let found = bind_ok (calls value.0) (λ found_calls. Ok (record { limits = bounds.0; calls = found_calls }))
     replay bounds.2 in

@@ -37,14 +37,14 @@ refused bytes (Err f) e handed reading = λ other.
     rw (reading not_memory) handed
 
 -- a call that waits, passed on
-pub waited : (bytes : List ℕ) (replay : Replay) (r : Result (Vec ℕ Global) AnswerError) (f : AnswerError) →
-    replay_of bytes ≡ Ok replay → IsErrAnd r (λ g. g ≡ f) → RepliesTo replay.limits replay.calls (Err f) →
-    Answers bytes r
-waited bytes replay (Ok text) f reading handed replies = absurd handed
-waited bytes replay (Err g) f reading handed replies =
+pub waited : (bytes : List ℕ) (replay : Replay) (old new : List ℕ) (r : Result (Vec ℕ Global) AnswerError)
+    (f : AnswerError) → replay_of bytes ≡ Ok replay → IsErrAnd r (λ g. g ≡ f) →
+    RepliesTo replay.limits replay.calls old new (Err f) → Answers bytes r
+waited bytes replay old new (Ok text) f reading handed replies = absurd handed
+waited bytes replay old new (Err g) f reading handed replies =
     subst (λ (h : AnswerError). Answers bytes (Err h)) (sym handed) (λ other. by f other replies)
   where
-    by : (h : AnswerError) → h ≢ Refused Memory → RepliesTo replay.limits replay.calls (Err h) →
+    by : (h : AnswerError) → h ≢ Refused Memory → RepliesTo replay.limits replay.calls old new (Err h) →
         IsAnswer (replay_of bytes) (Err h)
     by (Waits i) other waits = rw reading waits
     by (Refused e) other memory = absurd (other (ap Refused memory))

@@ -3,14 +3,16 @@ use Rattle.std.specs.Prelude.{ℕ, List, length, Result, Ok}
 use Rattle.serde_json.specs.Data.{Data}
 use Rattle.stamp_core.specs.Record.{Recorded, recorded}
 use Rattle.stamp_history.specs.declared.read_error.ReadError.{ReadError}
-use Rattle.stamp_history.specs.HistoryFields.{top, format, limits, width, entries, report}
+use Rattle.stamp_history.specs.declared.text_kind.TextKind.TheVariants as text
+use Rattle.stamp_history.specs.HistoryFields.{top, format, width, entries, report}
+use Rattle.stamp_history.specs.LimitFields.{limits}
 use Rattle.stamp_history.specs.Reading.{◌>>=◌, json_of}
 
 unfoldable pub history_in : Data → Result Recorded ReadError
 history_in d = do
   _ ← top d
   _ ← format d
-  found_limits ← limits d
+  found_limits ← limits text.History d
   found_width ← width d
   found_entries ← entries found_width d
   found_report ← report (length found_entries) d

@@ -6,14 +6,12 @@ use Rattle.serde_json.specs.Data.{Data, Items, no_items, item}
 use Rattle.serde_json.specs.Events.{items_len}
 use Rattle.serde_json.specs.Find as find
 use Rattle.stamp_core.specs.Call.{call_suits}
-use Rattle.stamp_core.specs.Limits.{Bounds}
 use Rattle.stamp_core.specs.declared.entry.Entry.{Entry}
 use Rattle.stamp_history.specs.declared.field.Field.TheVariants as part
 use Rattle.stamp_history.specs.declared.read_error.ReadError.{ReadError}
-use Rattle.stamp_history.specs.declared.read_error.ReadError.TheVariants.{NotHistory, NotScript, Limit}
+use Rattle.stamp_history.specs.declared.read_error.ReadError.TheVariants.{NotHistory, Limit}
 use Rattle.stamp_history.specs.EntryValue as value
 use Rattle.stamp_history.specs.JsonValue.{has_key, has_keys, whole, whole_under, list_under}
-use Rattle.stamp_history.specs.LimitFields as limit
 use Rattle.stamp_history.specs.Reading.{◌>>=◌, kind, ranged, each}
 
 -- the keys of format 1 and of format 2, each without a report and with one
@@ -44,18 +42,6 @@ is_number n (Some m) = m == n
 abbrev pub format : Data → Result ⊤ ReadError
 format d = if is_number (if has_key (codes "layout") d then 2 else 1) (whole_under (codes "format") d) then
     Ok tt else Err (NotHistory part.Format)
-
--- a fault of the fields that a replay has too, as one of a history
-abbrev pub of_history : ReadError → ReadError
-of_history (NotScript field) = NotHistory field
-of_history other = other
-
-abbrev pub in_history : {A : Type 0} → Result A ReadError → Result A ReadError
-in_history (Ok x) = Ok x
-in_history (Err fault) = Err (of_history fault)
-
-abbrev pub limits : Data → Result Bounds ReadError
-limits d = in_history (limit.limits d)
 
 abbrev pub width : Data → Result ℕ ReadError
 width d = ranged (NotHistory part.Width) (Limit part.Width) (λ n. nat_le n 16) (whole_under (codes "width") d)

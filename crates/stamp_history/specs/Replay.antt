@@ -7,6 +7,7 @@ use Rattle.stamp_core.specs.declared.call.Call.{Call}
 use Rattle.stamp_history.specs.StoredCall.{stored_calls}
 use Rattle.stamp_history.specs.declared.stored_call.StoredCall.{StoredCall}
 use Rattle.stamp_history.specs.declared.read_error.ReadError.{ReadError}
+use Rattle.stamp_history.specs.declared.text_kind.TextKind.TheVariants as text
 use Rattle.stamp_history.specs.Reading.{◌>>=◌, json_of}
 use Rattle.stamp_history.specs.LimitFields.{limits}
 use Rattle.stamp_history.specs.ReplayFields.{top, calls}
@@ -19,7 +20,7 @@ pub record Replay : Type 0 where
 unfoldable pub replay_in : Data → Result Replay ReadError
 replay_in d = do
   _ ← top d
-  found_limits ← limits d
+  found_limits ← limits text.Script d
   found_calls ← calls d
   Ok (record { limits = found_limits; calls = found_calls })
 

@@ -21,10 +21,13 @@ reply_data Mismatch = string (codes "mismatch")
 reply_data (Count n) = object (member (codes "count") (number_data n) no_members)
 reply_data (Content words) = words_data words
 
+abbrev pub replies_data : List Reply → Data
+replies_data replies = array (items_of (map reply_data replies))
+
 -- the keys in the order of their bytes
 abbrev pub replayed_data : List Reply → ℕ → Data
 replayed_data replies word =
-    object (member (codes "replies") (array (items_of (map reply_data replies)))
+    object (member (codes "replies") (replies_data replies)
     (member (codes "word") (number_data word) no_members))
 
 -- without spaces

@@ -5,6 +5,7 @@ use Rattle.serde_json.specs.Data.{Data}
 use Rattle.stamp_machines.specs.Script.{Scripted}
 use Rattle.stamp_history.specs.declared.read_error.ReadError.{ReadError}
 use Rattle.stamp_history.specs.declared.read_error.ReadError.TheVariants.{BadScript}
+use Rattle.stamp_history.specs.declared.text_kind.TextKind.TheVariants as text
 use Rattle.stamp_history.specs.LimitFields.{limits}
 use Rattle.stamp_history.specs.FirstFault.{first_fault}
 use Rattle.stamp_history.specs.Reading.{◌>>=◌, json_of}
@@ -14,7 +15,7 @@ use Rattle.stamp_history.specs.ScriptValue.{top, width, threads, steps}
 unfoldable pub script_in : Data → Result Scripted ReadError
 script_in d = do
   _ ← top d
-  found_limits ← limits d
+  found_limits ← limits text.Script d
   found_width ← width d
   found_threads ← threads d
   found_steps ← steps d

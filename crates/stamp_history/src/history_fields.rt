@@ -12,10 +12,9 @@ ghost use Rattle.stamp_history.specs.Reading.{each};
 use crate::field::Field;
 use crate::history_entries::entry_of;
 use crate::json_values::{has_key, has_keys, list_under, whole_under};
-use crate::limit_fields;
 use crate::read_error::ReadError;
 use serde_json::Value;
-use stamp_core::{Call, Entry, Limits, MOST_ENTRIES, MOST_THREADS, MOST_WIDTH, Reply};
+use stamp_core::{Call, Entry, MOST_ENTRIES, MOST_THREADS, MOST_WIDTH, Reply};
 use std::alloc::Global;
 
 /// The keys of format 1.
@@ -79,25 +78,6 @@ pub(crate) fn check_format(value: &Value) -> Result<(), ReadError>
         Ok(())
     } else {
         Err(ReadError::NotHistory(Field::Format))
-    }
-}
-
-/// The fault of a field that a replay has too.
-fn of_history(fault: ReadError) -> ReadError
-    ensures { result ≡ field.of_history fault }
-{
-    match fault {
-        ReadError::NotScript(field) => ReadError::NotHistory(field),
-        other => other,
-    }
-}
-
-pub(crate) fn read_limits(value: &Value) -> Result<Limits, ReadError>
-    ensures { Gives ReadError.Memory (λ limits. limits) result (field.limits (view value.now)) }
-{
-    match limit_fields::read_limits(value) {
-        Ok(limits) => Ok(limits),
-        Err(fault) => Err(of_history(fault)),
     }
 }
 

@@ -6,11 +6,11 @@ ghost use Rattle.stamp_core.specs.Record.{recorded, IsRecorded};
 ghost use Rattle.stamp_history.specs.Gives.{Gives};
 ghost use Rattle.stamp_history.specs.History.{history_in, history_of};
 
-use crate::history_fields::{
-    check_format, check_top, read_entries, read_limits, read_report, read_width,
-};
+use crate::history_fields::{check_format, check_top, read_entries, read_report, read_width};
 use crate::json_values::json;
+use crate::limit_fields::read_limits;
 use crate::read_error::ReadError;
+use crate::text_kind::TextKind;
 use serde_json::Value;
 use stamp_core::{Entry, Limits, Record};
 use std::alloc::Global;
@@ -32,7 +32,7 @@ fn history_from(alloc: Global, value: &Value) -> Result<Record, ReadError>
 {
     check_top(value)?;
     check_format(value)?;
-    let limits = read_limits(value)?;
+    let limits = read_limits(TextKind::History, value)?;
     let width = read_width(value)?;
     let entries = read_entries(alloc, width, value)?;
     let report = read_report(alloc, entries.len(), value)?;

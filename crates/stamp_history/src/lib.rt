@@ -23,6 +23,7 @@ mod script_calls;
 mod script_fields;
 mod script_reading;
 mod stored_call;
+mod text_kind;
 mod words_value;
 
 pub use answer_error::AnswerError;

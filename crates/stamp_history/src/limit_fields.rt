@@ -9,34 +9,35 @@ ghost use Rattle.stamp_history.specs.LimitFields as field;
 use crate::field::Field;
 use crate::json_values::{has_key, whole_under};
 use crate::read_error::ReadError;
+use crate::text_kind::TextKind;
 use serde_json::Value;
 use stamp_core::{Layout, Limits};
 
-fn numbered_layout(number: Option<u64>) -> Result<Layout, ReadError>
-    ensures { result ≡ field.numbered_layout number }
+fn numbered_layout(text: TextKind, number: Option<u64>) -> Result<Layout, ReadError>
+    ensures { result ≡ field.numbered_layout text number }
 {
     match number {
         Some(1) => Ok(Layout::One),
         Some(2) => Ok(Layout::Two),
-        _ => Err(ReadError::NotScript(Field::Layout)),
+        _ => Err(text.mistake(Field::Layout)),
     }
 }
 
-fn read_layout(value: &Value) -> Result<Layout, ReadError>
-    ensures { result ≡ field.layout (view value.now) }
+fn read_layout(text: TextKind, value: &Value) -> Result<Layout, ReadError>
+    ensures { result ≡ field.layout text (view value.now) }
 {
     if has_key(value, "layout") {
-        numbered_layout(whole_under(value, "layout"))
+        numbered_layout(text, whole_under(value, "layout"))
     } else {
         Ok(Layout::One)
     }
 }
 
-fn read_readers(layout: Layout, value: &Value) -> Result<u64, ReadError>
-    ensures { result ≡ field.readers layout (view value.now) }
+fn read_readers(text: TextKind, layout: Layout, value: &Value) -> Result<u64, ReadError>
+    ensures { result ≡ field.readers text layout (view value.now) }
 {
     match whole_under(value, "readers") {
-        None => Err(ReadError::NotScript(Field::Readers)),
+        None => Err(text.mistake(Field::Readers)),
         Some(readers) => {
             if 1 <= readers && readers <= layout.most_readers() {
                 Ok(readers)
@@ -47,11 +48,11 @@ fn read_readers(layout: Layout, value: &Value) -> Result<u64, ReadError>
     }
 }
 
-fn read_versions(layout: Layout, value: &Value) -> Result<u64, ReadError>
-    ensures { result ≡ field.versions layout (view value.now) }
+fn read_versions(text: TextKind, layout: Layout, value: &Value) -> Result<u64, ReadError>
+    ensures { result ≡ field.versions text layout (view value.now) }
 {
     match whole_under(value, "versions") {
-        None => Err(ReadError::NotScript(Field::Versions)),
+        None => Err(text.mistake(Field::Versions)),
         Some(versions) => {
             if versions <= layout.most_versions() {
                 Ok(versions)
@@ -73,13 +74,13 @@ fn limits_of(layout: Layout, readers: u64, versions: u64) -> Limits
     }
 }
 
-/// The limits that the fields give.
+/// The limits that the fields of a text of this kind give.
 #[tactic(auto, unfolding(crate::specs::LimitFields::limits))]
-pub(crate) fn read_limits(value: &Value) -> Result<Limits, ReadError>
-    ensures { Gives ReadError.Memory (λ limits. limits) result (field.limits (view value.now)) }
+pub(crate) fn read_limits(text: TextKind, value: &Value) -> Result<Limits, ReadError>
+    ensures { Gives ReadError.Memory (λ limits. limits) result (field.limits text (view value.now)) }
 {
-    let layout = read_layout(value)?;
-    let readers = read_readers(layout, value)?;
-    let versions = read_versions(layout, value)?;
+    let layout = read_layout(text, value)?;
+    let readers = read_readers(text, layout, value)?;
+    let versions = read_versions(text, layout, value)?;
     Ok(limits_of(layout, readers, versions))
 }

@@ -1,45 +1,38 @@
 //! The answer to the text of a replay, without its calls and replies as lists.
 
-ghost use Rattle.std.specs.Prelude.{◌≡◌, ◌<◌, List, length, map, IfOk, IfErr};
-ghost use Rattle.serde_json.specs.View.{view};
-ghost use Rattle.stamp_history.specs.ReplayText.{reply_data, replayed_data};
+ghost use Rattle.std.specs.Prelude.{◌≡◌, ◌<◌, length, map, IfErr};
 ghost use Rattle.stamp_history.specs.ReplayAnswer.{Answers, RepliesTo};
 ghost use Rattle.stamp_history.specs.StoredCall.{call_of};
 
 use crate::answer_error::AnswerError;
+use crate::json_text::{push_comma, push_reply, push_text};
 use crate::read_error::ReadError;
 use crate::replay_reading::read_stored;
-use crate::replay_writing::reply_value;
+use crate::replay_writing::push_word;
 use crate::stored_call::StoredCall;
-use serde_json::{Value, json};
-use stamp_core::{Limits, Reply, Word, step};
-use std::alloc::{AllocError, Global};
+use stamp_core::{Limits, Word, step};
+use std::alloc::Global;
 
-/// Takes the calls one after the other, and keeps the replies as the values that are written.
-fn replies_to(
-    alloc: Global,
+/// Takes the calls one after the other, and appends the list of their replies.
+fn push_replies_to(
+    text: &mut Vec<u8>,
     limits: Limits,
     calls: &[StoredCall],
-) -> Result<(Vec<Value>, Word), AnswerError>
-    ensures { RepliesTo limits (map call_of calls.now) result }
+) -> Result<Word, AnswerError>
+    ensures { RepliesTo limits (map call_of calls.now) text.old.items text.new.items result }
 {
+    push_text(text, "[")?;
     let mut word = Word::opening_in(limits.layout());
-    let mut values = Vec::with_capacity(alloc, calls.len())?;
     for (index, stored) in calls.iter().enumerate() {
         let Some((next, reply)) = step(limits, word, stored.call()) else {
             return Err(AnswerError::Waits(index as u64));
         };
-        values.push(reply_value(alloc, &reply)?)?;
+        push_comma(text, index)?;
+        push_reply(text, &reply)?;
         word = next;
     }
-    Ok((values, word))
-}
-
-fn answer_value(alloc: Global, replies: Vec<Value>, word: u64) -> Result<Value, AllocError>
-    ensures { IfOk result (λ value. (rs : List Reply) → map view replies.items ≡ map reply_data rs
-        → view value ≡ replayed_data rs word) }
-{
-    json!(in alloc; {"replies": replies, "word": word})
+    push_text(text, "]")?;
+    Ok(word)
 }
 
 /// The compact text of what the replay that the bytes are is answered, as `write_replay` writes
@@ -51,7 +44,9 @@ pub fn replay_text(alloc: Global, bytes: &[u8]) -> Result<Vec<u8>, AnswerError>
         → 0 < length bytes.now) }
 {
     let (limits, calls) = read_stored(alloc, bytes)?;
-    let (replies, word) = replies_to(alloc, limits, &calls)?;
-    let answer = answer_value(alloc, replies, word.bits())?;
-    Ok(answer.to_vec(alloc)?)
+    let mut text = Vec::new(alloc);
+    push_text(&mut text, "{\"replies\":")?;
+    let word = push_replies_to(&mut text, limits, &calls)?;
+    push_word(&mut text, word.bits())?;
+    Ok(text)
 }

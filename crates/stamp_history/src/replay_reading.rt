@@ -12,6 +12,7 @@ use crate::limit_fields::read_limits;
 use crate::read_error::ReadError;
 use crate::replay_fields::{check_top, read_calls};
 use crate::stored_call::StoredCall;
+use crate::text_kind::TextKind;
 use stamp_core::{Call, Limits};
 use std::alloc::{AllocError, Global};
 
@@ -27,7 +28,7 @@ pub(crate) fn read_stored(
 {
     let value = json(alloc, bytes)?;
     check_top(&value)?;
-    let limits = read_limits(&value)?;
+    let limits = read_limits(TextKind::Script, &value)?;
     let calls = read_calls(alloc, &value)?;
     Ok((limits, calls))
 }

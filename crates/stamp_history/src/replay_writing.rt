@@ -1,76 +1,57 @@
 //! The text of what a replay answered.
 
-ghost use Rattle.std.specs.Prelude.{◌≡◌, map, IfOk, IsOkUnless};
-ghost use Rattle.serde_json.specs.View.{view};
-ghost use Rattle.stamp_history.specs.ReplayText.{number_data, words_data, reply_data, replayed_data, replayed_text};
+ghost use Rattle.std.specs.Prelude.{◌≡◌, ◌++◌, true, codes, OnOk, IfOk, IsOkUnless};
+ghost use Rattle.serde_json.specs.Data.{no_members, member};
+ghost use Rattle.serde_json.specs.Written.{compact_text, members_text};
+ghost use Rattle.stamp_history.specs.ReplayText.{number_data, replies_data, replayed_data, replayed_text};
 
+use crate::json_text::{push_comma, push_numbered, push_reply, push_text};
 use crate::read_error::ReadError;
-use serde_json::{Value, json};
-use stamp_core::{Replayed, Reply, Words};
+use stamp_core::{Replayed, Reply};
 use std::alloc::{AllocError, Global};
 
-fn number_values(alloc: Global, numbers: &[u64]) -> Result<Vec<Value>, AllocError>
-    ensures { IfOk result (λ values. map view values.items ≡ map number_data numbers.now) }
+/// Appends the word's number under its key, and the end of the object.
+#[tactic(auto, unfolding(serde_json::proofs::OnLiterals::serde_json_on_literals))]
+pub(crate) fn push_word(text: &mut Vec<u8>, word: u64) -> Result<(), AllocError>
+    ensures { OnOk result (text.new.items ≡ text.old.items
+        ++ members_text true (member (codes "word") (number_data word) no_members)) }
 {
-    let mut values = Vec::with_capacity(alloc, numbers.len())?;
-    for number in numbers {
-        values.push(Value::from(*number))?;
+    push_numbered(text, ",\"word\":", word)?;
+    push_text(text, "}")
+}
+
+fn push_replies(text: &mut Vec<u8>, replies: &[Reply]) -> Result<(), AllocError>
+    ensures { OnOk result (text.new.items
+        ≡ text.old.items ++ compact_text (replies_data replies.now)) }
+{
+    push_text(text, "[")?;
+    for (index, reply) in replies.iter().enumerate() {
+        push_comma(text, index)?;
+        push_reply(text, reply)?;
     }
-    Ok(values)
+    push_text(text, "]")?;
+    Ok(())
 }
 
-fn words_value(alloc: Global, words: &Words) -> Result<Value, AllocError>
-    ensures { IfOk result (λ value. view value ≡ words_data words.now) }
+fn push_replayed(text: &mut Vec<u8>, done: &Replayed) -> Result<(), AllocError>
+    ensures { OnOk result (text.new.items ≡ text.old.items
+        ++ compact_text (replayed_data done.now.replies.items done.now.word.bits)) }
 {
-    Ok(Value::Array(number_values(alloc, words.as_slice())?))
-}
-
-fn count_value(alloc: Global, count: u64) -> Result<Value, AllocError>
-    ensures { IfOk result (λ value. view value ≡ reply_data (Reply.Count count)) }
-{
-    json!(in alloc; {"count": count})
-}
-
-pub(crate) fn reply_value(alloc: Global, reply: &Reply) -> Result<Value, AllocError>
-    ensures { IfOk result (λ value. view value ≡ reply_data reply.now) }
-{
-    match reply {
-        Reply::Stamp(stamp) => Ok(Value::from(*stamp)),
-        Reply::Yes => Value::try_from_str(alloc, "yes"),
-        Reply::No => Value::try_from_str(alloc, "no"),
-        Reply::Done => Value::try_from_str(alloc, "done"),
-        Reply::Mismatch => Value::try_from_str(alloc, "mismatch"),
-        Reply::Count(count) => count_value(alloc, *count),
-        Reply::Content(words) => words_value(alloc, words),
-    }
-}
-
-fn reply_values(alloc: Global, replies: &[Reply]) -> Result<Vec<Value>, AllocError>
-    ensures { IfOk result (λ values. map view values.items ≡ map reply_data replies.now) }
-{
-    let mut values = Vec::with_capacity(alloc, replies.len())?;
-    for reply in replies {
-        values.push(reply_value(alloc, reply)?)?;
-    }
-    Ok(values)
-}
-
-fn replayed_value(alloc: Global, done: &Replayed) -> Result<Value, AllocError>
-    ensures { IfOk result (λ value. view value
-        ≡ replayed_data done.now.replies.items done.now.word.bits) }
-{
-    let replies = reply_values(alloc, &done.replies)?;
-    let word = done.word.bits();
-    json!(in alloc; {"replies": replies, "word": word})
+    push_text(text, "{\"replies\":")?;
+    push_replies(text, &done.replies)?;
+    push_word(text, done.word.bits())?;
+    Ok(())
 }
 
 /// The compact text of the replies and of the word's number, as
 /// `{"replies":[256,"yes"],"word":256}`. The one error is 4 `Memory`, after which nothing is kept.
+#[tactic(auto, unfolding(crate::specs::ReplayText::replayed_text))]
 pub fn write_replay(alloc: Global, done: &Replayed) -> Result<Vec<u8>, ReadError>
     ensures text { IfOk result (λ text. text.items
         ≡ replayed_text done.now.replies.items done.now.word.bits) }
     ensures refused { IsOkUnless result ReadError.Memory }
 {
-    let value = replayed_value(alloc, done)?;
-    Ok(value.to_vec(alloc)?)
+    let mut text = Vec::new(alloc);
+    push_replayed(&mut text, done)?;
+    Ok(text)
 }

@@ -9,6 +9,7 @@ use crate::json_values::json;
 use crate::limit_fields::read_limits;
 use crate::read_error::ReadError;
 use crate::script_fields::{check_top, read_steps, read_threads, read_width};
+use crate::text_kind::TextKind;
 use stamp_core::Limits;
 use stamp_machines::{Script, ScriptCall};
 use std::alloc::Global;
@@ -46,7 +47,7 @@ pub fn read_script(alloc: Global, bytes: &[u8]) -> Result<Script, ReadError>
 {
     let value = json(alloc, bytes)?;
     check_top(&value)?;
-    let limits = read_limits(&value)?;
+    let limits = read_limits(TextKind::Script, &value)?;
     let width = read_width(&value)?;
     // The steps are read first, since the threads use the value up. Their fault comes second.
     let steps = read_steps(alloc, &value);
