@@ -1,11 +1,12 @@
 -- What the calls of a running record promise. v is the pass before the call, and w after it.
-use Rattle.std.specs.Prelude.{◌≡◌, ◌≢◌, ℕ, ◌+◌, ◌≤◌, true, false, List, [], ◌∷◌, ◌++◌}
+use Rattle.std.specs.Prelude.{◌≡◌, ◌≢◌, ℕ, ◌+◌, ◌≤◌, true, false, List, [], ◌∷◌, ◌++◌, length}
 use mathlib.Core.List.{IsPrefix}
 use Rattle.stamp_core.specs.Content.{RecordReplies}
 use Rattle.stamp_core.specs.declared.call.Call.{Call}
-use Rattle.stamp_core.specs.declared.call.Call.TheVariants.{Put}
+use Rattle.stamp_core.specs.declared.call.Call.TheVariants.{Get, Put}
 use Rattle.stamp_core.specs.declared.layout.Layout.{Layout}
 use Rattle.stamp_core.specs.declared.reply.Reply.{Reply}
+use Rattle.stamp_core.specs.declared.reply.Reply.TheVariants.{Content}
 use Rattle.stamp_threads.specs.declared.record_view.RecordShape.{RecordShape}
 use Rattle.stamp_threads.specs.declared.record_view.RecordEvent.TheVariants.{Called}
 use Rattle.stamp_threads.specs.declared.record_view.RecordPhase.TheVariants.{Idle}
@@ -96,6 +97,14 @@ PutRefused shape v (Spent word) w = WasSpent shape v word w
 abbrev pub GetRefused : RecordShape → RecordPassView → GetFault → RecordPassView → Type 0
 GetRefused shape v (get.Busy word) w = WasBusy shape v word w
 GetRefused shape v (get.Lost loaded found) w = WasLost shape v loaded found w
+
+-- a get was made: these words are the content that it was answered, as many as the width, and they
+-- keep to the rule
+pub record WasGot (P : List ℕ → Type 0) (shape : RecordShape) (words : List ℕ) (v w : RecordPassView) :
+    Type 0 where
+  pub answered : RecordAnswered shape Get (Content words) v w
+  pub long : length words ≡ shape.width
+  pub obeys : P words
 
 -- v' and w' are v and w after they met
 pub record HaveMet (width : ℕ) (v w v' w' : RecordPassView) : Type 0 where

@@ -3,6 +3,7 @@ use Rattle.std.specs.Prelude.{◌≡◌, ◌≢◌, ℕ, ◌+◌, ◌<◌, ◌�
 use Rattle.std.specs.Prelude.{Bool, false, List, [], ◌∷◌, ◌++◌, length, slice_index, Option, Some, None}
 use mathlib.Core.List.{IsPrefix}
 use Rattle.atomic_table.specs.Table.{State, Step}
+use Rattle.stamp_core.specs.Limits.{Bounds}
 use Rattle.stamp_core.specs.declared.layout.Layout.{Layout}
 use Rattle.stamp_core.specs.declared.call.Call.TheVariants.{Get, Put}
 use Rattle.stamp_core.specs.declared.reply.Reply.TheVariants.{Done, Content}
@@ -16,7 +17,7 @@ use Rattle.stamp_threads.specs.Seats.{StandsAt, AreSeated, alone, both}
 use Rattle.stamp_threads.specs.RecordWord.{word_with}
 use Rattle.stamp_threads.specs.RecordLog.{RecordLog, IsLegalRecord, content_in, puts, puts_in}
 use Rattle.stamp_threads.specs.RecordLog.{is_locked, marker_in, word_after, is_own, marks_of}
-use Rattle.stamp_threads.specs.RecordPass.{RecordPassView, Seated, IsConsistentWith, LeavesLockWord}
+use Rattle.stamp_threads.specs.RecordPass.{RecordPassView, RecordView, RecordToken, Seated, IsConsistentWith, LeavesLockWord}
 use Rattle.stamp_threads.specs.RecordPass.{marks_ahead, first_of, second_of, first_pass}
 use Rattle.stamp_threads.specs.RecordPass.{HasEntered}
 
@@ -238,3 +239,10 @@ abbrev pub opening_pass : Option (List ℕ) → RecordPassView
 opening_pass None = first_pass
 opening_pass (Some words) =
     record first_pass { observed = opening_log (Some words); own = put_of words ∷ [] }
+
+-- a record of these words, and its first pass, which has put them
+pub record IsHolding (limits : Bounds) (first : List ℕ) (r : RecordView) (p : RecordToken) : Type 0 where
+  pub shape : r.shape ≡ record { limits = limits; width = length first }
+  pub table : p.table ≡ r.table
+  pub pass : p.view ≡ opening_pass (Some first)
+  pub consistent : IsConsistentWith (length first) p.view

@@ -1,19 +1,15 @@
 //! A get, step by step.
 ghost use Rattle.std.specs.Prelude.{◌≡◌, ◌≤◌, IfOk, IfErr, length, ℕ, []};
-ghost use Rattle.stamp_core.specs.declared.call.Call.TheVariants.{Get};
-ghost use Rattle.stamp_core.specs.declared.reply.Reply.TheVariants.{Content};
 ghost use Rattle.stamp_threads.specs.declared.record_view.RecordPhase.TheVariants.{Idle, Reading};
 ghost use Rattle.stamp_threads.specs.Seats.{alone};
 ghost use Rattle.stamp_threads.specs.RecordPass.{first_of, IsAtSeat};
 ghost use Rattle.stamp_threads.specs.RecordRule.{with_phase};
-ghost use Rattle.stamp_threads.specs.RecordLog.{puts};
-ghost use Rattle.stamp_threads.specs.RecordCall.{RecordAnswered, GetRefused};
+ghost use Rattle.stamp_threads.specs.RecordCall.{WasGot, GetRefused};
 
 use crate::faults::GetFault;
 use crate::record_rule::ContentRule;
 use crate::record_steps::{RecordSeat, RecordTable, confirm, load_word, open};
 use crate::record_view::RecordShape;
-use stamp_core::Layout;
 use std::marker::Brand;
 
 /// Loads each of the words.
@@ -35,38 +31,6 @@ fn load_all<P: ContentRule>(table: &RecordTable<P>, seat: &mut RecordSeat, into:
 
 /// Gets the words: one load, a load a word, and one load.
 #[inline(always)]
-fn got_words<P: ContentRule>(
-    table: &RecordTable<P>,
-    shape: RecordShape,
-    seat: &mut RecordSeat,
-    into: &mut [u64],
-) -> Result<(), GetFault>
-    requires shape { (table.now.key.shape ≡ shape) × (shape.width ≤ 16) }
-    requires long { length into.old ≡ shape.width }
-    requires seat { IsAtSeat table.now.table_id shape seat.old.table_id seat.old.me }
-    requires idle { (first_of seat.old.me.0).phase ≡ Idle }
-    ensures seat { IsAtSeat table.now.table_id shape seat.new.table_id seat.new.me }
-    ensures long { length into.new ≡ length into.old }
-    ensures ok { let v = first_of seat.old.me.0 in let w = first_of seat.new.me.0 in
-        IfOk result (λ _. RecordAnswered shape Get (Content into.new) v w) }
-    ensures obeys { IfOk result (λ _. P.holds into.new) }
-    ensures err { let v = first_of seat.old.me.0 in let w = first_of seat.new.me.0 in
-        IfErr result (λ fault. GetRefused shape v fault w) }
-{
-    let loaded = open::<Brand, P>(table, seat);
-    if shape.limits.layout().has_writer(loaded) {
-        return Err(GetFault::Busy(loaded));
-    }
-    load_all(table, seat, into);
-    let found = confirm::<Brand, P>(table, seat, into);
-    if found != loaded {
-        return Err(GetFault::Lost { loaded, found });
-    }
-    Ok(())
-}
-
-/// The same, by code for each layout, whose numbers are constants there.
-#[inline(always)]
 pub fn get_words<P: ContentRule>(
     table: &RecordTable<P>,
     shape: RecordShape,
@@ -80,13 +44,18 @@ pub fn get_words<P: ContentRule>(
     ensures seat { IsAtSeat table.now.table_id shape seat.new.table_id seat.new.me }
     ensures long { length into.new ≡ length into.old }
     ensures ok { let v = first_of seat.old.me.0 in let w = first_of seat.new.me.0 in
-        IfOk result (λ _. RecordAnswered shape Get (Content into.new) v w) }
-    ensures obeys { IfOk result (λ _. P.holds into.new) }
+        IfOk result (λ _. WasGot P.holds shape into.new v w) }
     ensures err { let v = first_of seat.old.me.0 in let w = first_of seat.new.me.0 in
         IfErr result (λ fault. GetRefused shape v fault w) }
 {
-    match shape.limits.layout() {
-        Layout::One => got_words(table, shape, seat, into),
-        Layout::Two => got_words(table, shape, seat, into),
+    let loaded = open::<Brand, P>(table, seat);
+    if shape.limits.layout().has_writer(loaded) {
+        return Err(GetFault::Busy(loaded));
     }
+    load_all(table, seat, into);
+    let found = confirm::<Brand, P>(table, seat, into);
+    if found != loaded {
+        return Err(GetFault::Lost { loaded, found });
+    }
+    Ok(())
 }

@@ -1,12 +1,12 @@
 //! The record that threads share.
 ghost use Rattle.std.specs.Prelude.{◌≡◌, ◌+◌, ◌≤◌, ◌-◌, ◌∷◌, [], IfOk, IfErr, Some, length, take};
 ghost use Rattle.std.specs.Prelude.{true, false};
-ghost use Rattle.stamp_core.specs.declared.call.Call.TheVariants.{Get, Put};
-ghost use Rattle.stamp_core.specs.declared.reply.Reply.TheVariants.{Done, Content};
+ghost use Rattle.stamp_core.specs.declared.call.Call.TheVariants.{Put};
+ghost use Rattle.stamp_core.specs.declared.reply.Reply.TheVariants.{Done};
 ghost use Rattle.stamp_threads.specs.PassView.{after_split, split_off};
 ghost use Rattle.stamp_threads.specs.RecordPass.{HasEntered, IsConsistentWith, first_pass};
-ghost use Rattle.stamp_threads.specs.RecordCall.{RecordAnswered, PutRefused, GetRefused, HaveMet};
-ghost use Rattle.stamp_threads.specs.RecordRule.{opening_pass, IsKept};
+ghost use Rattle.stamp_threads.specs.RecordCall.{RecordAnswered, PutRefused, WasGot, GetRefused, HaveMet};
+ghost use Rattle.stamp_threads.specs.RecordRule.{opening_pass, IsKept, IsHolding};
 ghost use Rattle.atomic_table.specs.Table.{opening};
 
 use crate::faults::{GetFault, PutFault};
@@ -19,7 +19,7 @@ use crate::record_view::{RecordKey, RecordPasses, RecordShape};
 use crate::record_word::{first_word, opening_word};
 use crate::running_lock::LockError;
 use atomic_table::Table;
-use stamp_core::{Limits, Words};
+use stamp_core::{Layout, Limits, Words};
 use std::alloc::Global;
 use std::marker::{Brand, Model};
 
@@ -108,12 +108,8 @@ impl<P: ContentRule> RuledRecord<P> {
     ) -> Result<(RuledRecord<P>, RecordPass), LockError>
         requires version { 1 ≤ limits.versions }
         requires good { P.holds first }
-        ensures shape { IfOk result (λ r.
-            r.0.shape ≡ record { limits = limits; width = length first }) }
+        ensures made { IfOk result (λ r. IsHolding limits first r.0 r.1) }
         ensures closed { IfOk result (λ r. r.0.enterable ≡ false) }
-        ensures table { IfOk result (λ r. r.1.table ≡ r.0.table) }
-        ensures pass { IfOk result (λ r. r.1.view ≡ opening_pass (Some first)) }
-        ensures consistent { IfOk result (λ r. IsConsistentWith (length first) r.1.view) }
     {
         Self::of_put(alloc, limits, first, false)
     }
@@ -126,12 +122,8 @@ impl<P: ContentRule> RuledRecord<P> {
     ) -> Result<(RuledRecord<P>, RecordPass), LockError>
         requires version { 1 ≤ limits.versions }
         requires good { P.holds first }
-        ensures shape { IfOk result (λ r.
-            r.0.shape ≡ record { limits = limits; width = length first }) }
+        ensures made { IfOk result (λ r. IsHolding limits first r.0 r.1) }
         ensures enterable { IfOk result (λ r. r.0.enterable ≡ true) }
-        ensures table { IfOk result (λ r. r.1.table ≡ r.0.table) }
-        ensures pass { IfOk result (λ r. r.1.view ≡ opening_pass (Some first)) }
-        ensures consistent { IfOk result (λ r. IsConsistentWith (length first) r.1.view) }
     {
         Self::of_put(alloc, limits, first, true)
     }
@@ -145,12 +137,8 @@ impl<P: ContentRule> RuledRecord<P> {
     ) -> Result<(RuledRecord<P>, RecordPass), LockError>
         requires version { 1 ≤ limits.versions }
         requires good { P.holds first }
-        ensures shape { IfOk result (λ r.
-            r.0.shape ≡ record { limits = limits; width = length first }) }
+        ensures made { IfOk result (λ r. IsHolding limits first r.0 r.1) }
         ensures enterable { IfOk result (λ r. r.0.enterable ≡ enterable) }
-        ensures table { IfOk result (λ r. r.1.table ≡ r.0.table) }
-        ensures pass { IfOk result (λ r. r.1.view ≡ opening_pass (Some first)) }
-        ensures consistent { IfOk result (λ r. IsConsistentWith (length first) r.1.view) }
     {
         let width = first.len();
         let row = row_of(first_word(limits.layout()), first.as_slice());
@@ -217,10 +205,8 @@ impl<P: ContentRule> RuledRecord<P> {
     pub fn get_once(&self, pass: &mut RecordPass) -> Result<Words, GetFault>
         requires { pass.old.table ≡ self.now.table }
         ensures table { pass.new.table ≡ self.now.table }
-        ensures width { IfOk result (λ words. length words ≡ self.now.shape.width) }
         ensures ok { let v = pass.old.view in let w = pass.new.view in
-            IfOk result (λ words. RecordAnswered self.now.shape Get (Content words) v w) }
-        ensures obeys { IfOk result (λ words. P.holds words) }
+            IfOk result (λ words. WasGot P.holds self.now.shape words v w) }
         ensures err { let v = pass.old.view in let w = pass.new.view in
             IfErr result (λ fault. GetRefused self.now.shape v fault w) }
     {
@@ -228,7 +214,11 @@ impl<P: ContentRule> RuledRecord<P> {
             1 => self.get_fixed::<1>(pass),
             2 => self.get_fixed::<2>(pass),
             16 => self.get_fixed::<16>(pass),
-            _ => self.get_any(pass),
+            width => {
+                let mut row = [0u64; 16];
+                self.get_into(pass, &mut row[..width])?;
+                Ok(Words::of_row(row, width))
+            }
         }
     }
 
@@ -239,10 +229,8 @@ impl<P: ContentRule> RuledRecord<P> {
         requires table { pass.old.table ≡ self.now.table }
         requires width { (N ≡ self.now.shape.width) × (1 ≤ N) × (N ≤ 16) }
         ensures table { pass.new.table ≡ self.now.table }
-        ensures width { IfOk result (λ words. length words ≡ self.now.shape.width) }
         ensures ok { let v = pass.old.view in let w = pass.new.view in
-            IfOk result (λ words. RecordAnswered self.now.shape Get (Content words) v w) }
-        ensures obeys { IfOk result (λ words. P.holds words) }
+            IfOk result (λ words. WasGot P.holds self.now.shape words v w) }
         ensures err { let v = pass.old.view in let w = pass.new.view in
             IfErr result (λ fault. GetRefused self.now.shape v fault w) }
     {
@@ -254,23 +242,6 @@ impl<P: ContentRule> RuledRecord<P> {
         }
     }
 
-    /// `get_once` of any width.
-    #[inline(always)]
-    fn get_any(&self, pass: &mut RecordPass) -> Result<Words, GetFault>
-        requires { pass.old.table ≡ self.now.table }
-        ensures table { pass.new.table ≡ self.now.table }
-        ensures width { IfOk result (λ words. length words ≡ self.now.shape.width) }
-        ensures ok { let v = pass.old.view in let w = pass.new.view in
-            IfOk result (λ words. RecordAnswered self.now.shape Get (Content words) v w) }
-        ensures obeys { IfOk result (λ words. P.holds words) }
-        ensures err { let v = pass.old.view in let w = pass.new.view in
-            IfErr result (λ fault. GetRefused self.now.shape v fault w) }
-    {
-        let mut row = [0u64; 16];
-        self.get_into(pass, &mut row[..self.shape.width])?;
-        Ok(Words::of_row(row, self.shape.width))
-    }
-
     /// As `get_once`, into a place of the caller's that has the width.
     /// Where it is refused, any words may stand there.
     #[inline(always)]
@@ -280,12 +251,16 @@ impl<P: ContentRule> RuledRecord<P> {
         ensures table { pass.new.table ≡ self.now.table }
         ensures width { length into.new ≡ length into.old }
         ensures ok { let v = pass.old.view in let w = pass.new.view in
-            IfOk result (λ _. RecordAnswered self.now.shape Get (Content into.new) v w) }
-        ensures obeys { IfOk result (λ _. P.holds into.new) }
+            IfOk result (λ _. WasGot P.holds self.now.shape into.new v w) }
         ensures err { let v = pass.old.view in let w = pass.new.view in
             IfErr result (λ fault. GetRefused self.now.shape v fault w) }
     {
-        get_words(&self.table.shared, self.shape, &mut pass.seat, into)
+        let shape = self.shape;
+        // Each layout has its own code, where the masks are constants.
+        match shape.limits.layout() {
+            Layout::One => get_words(&self.table.shared, shape, &mut pass.seat, into),
+            Layout::Two => get_words(&self.table.shared, shape, &mut pass.seat, into),
+        }
     }
 
     /// A pass for a thread that has none, of an enterable record: it has made no call. It makes one

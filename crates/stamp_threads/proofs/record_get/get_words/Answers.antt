@@ -5,7 +5,7 @@ use Rattle.stamp_threads.specs.RecordLog.{puts}
 use Rattle.stamp_threads.specs.RecordPass.{first_of, Seated}
 use Rattle.stamp_threads.proofs.RecordPromises.{opened, get_busy_of, get_lost_of}
 use Rattle.stamp_threads.proofs.RecordPromises.{get_made_of, get_obeys_of}
-use Rattle.stamp_threads.proofs.record_get.got_words.Goals as goal
+use Rattle.stamp_threads.proofs.record_get.get_words.Goals as goal
 
 pub load_all-requires-clause-reading : goal.load_all-requires-clause-reading
 load_all-requires-clause-reading g c =
@@ -39,11 +39,12 @@ returns-then-found-loaded-clause-err g c = get_lost_of _ _ c.requires.shape.0 _ 
     c.load_all.ensures.told _ _ c.confirm-found.ensures.told c.if-found-loaded.true
 
 pub returns-clause-ok : goal.returns-clause-ok
-returns-clause-ok g c = get_made_of _ _ c.requires.shape.0 _ _ _ _ _ _
-    c.open-loaded.ensures.told (sym (rw c.layout.ensures.layout at c.has_writer.ensures) ∙ c.if-has_writer.false)
-    c.load_all.ensures.told _ _ c.confirm-found.ensures.told c.if-found-loaded.false
-
-pub returns-clause-obeys : goal.returns-clause-obeys
-returns-clause-obeys g c = get_obeys_of _ _ c.requires.shape.0 _ _ _ _ _ _
-    c.open-loaded.ensures.told (sym (rw c.layout.ensures.layout at c.has_writer.ensures) ∙ c.if-has_writer.false)
-    c.load_all.ensures.told _ _ c.confirm-found.ensures.told c.if-found-loaded.false
+returns-clause-ok g c =
+    let test = sym (rw c.layout.ensures.layout at c.has_writer.ensures) ∙ c.if-has_writer.false in
+    record {
+      answered = get_made_of _ _ c.requires.shape.0 _ _ _ _ _ _ c.open-loaded.ensures.told test
+          c.load_all.ensures.told _ _ c.confirm-found.ensures.told c.if-found-loaded.false;
+      long = c.load_all.ensures.long ∙ c.requires.long;
+      obeys = get_obeys_of _ _ c.requires.shape.0 _ _ _ _ _ _ c.open-loaded.ensures.told test
+          c.load_all.ensures.told _ _ c.confirm-found.ensures.told c.if-found-loaded.false;
+    }
