@@ -10,10 +10,13 @@ Run at the top of the repository, with libstamped_c.a and the program. `calls.c`
     numbers  random words of any version, and what is wrong with numbers, limits and codes, beside the
              plain functions below and the call table in python (bench/common/call_table.py)
     stamps   what numbers are as stamps, beside `stamped stamp`
+    names    the constants of the header, of docs/C.md and of the Rust example, beside those that the
+             contracts state (specs/Codes.antt)
 """
 import json
 import os
 import random
+import re
 import shutil
 import subprocess
 import sys
@@ -39,6 +42,8 @@ ANSWERS = {"validate": ("no", "yes"), "try_unlock_write": ("no", "yes"), "try_un
            "is_write_locked": ("no", "yes"), "is_read_locked": ("no", "yes"), "unlock_write": ("mismatch", "done"),
            "unlock_read": ("mismatch", "done"), "unlock": ("mismatch", "done")}
 KINDS = {16: "none", 17: "write", 18: "read", 19: "optimistic"}
+# Numbers of no layout, the last ones those whose lowest bits name one.
+NO_LAYOUTS = (0, 3, 4, 2**32 - 1, 257, 258, 65537, 65538, 2**31 + 1)
 # What a version adds, the writer's unit, and the widest limits.
 LAYOUTS = {1: (256, 128, 127, 2**55 - 2), 2: (131072, 65536, 65535, 2**46 - 2)}
 
@@ -49,10 +54,13 @@ class Library:
     def __init__(self, program):
         self.process = subprocess.Popen([program], stdin=subprocess.PIPE, stdout=subprocess.PIPE, text=True, bufsize=1)
 
-    def ask(self, *numbers):
-        self.process.stdin.write(" ".join(map(str, numbers)) + "\n")
+    def say(self, *words):
+        self.process.stdin.write(" ".join(map(str, words)) + "\n")
         self.process.stdin.flush()
-        return [int(number) for number in self.process.stdout.readline().split()]
+        return self.process.stdout.readline().split()
+
+    def ask(self, *numbers):
+        return [int(number) for number in self.say(*numbers)]
 
 
 def fail(text):
@@ -174,7 +182,7 @@ def edges(layout):
     version, writer, readers, versions = LAYOUTS.get(layout, LAYOUTS[1])
     limits = [(most, count) for most in (0, 1, 2, readers - 1, readers, readers + 1, 2**32 - 1)
               for count in (0, 1, 2, versions - 1, versions, versions + 1, 2**64 - 1)]
-    words = [0, 1, writer, version - 1, 2**63 - 1, 2**63, 2**64 - 1, 2**63 - writer, 2**63 - writer - 1]
+    words = [0, 1, 2, 3, 4, 5, 16, writer, version - 1, 2**63 - 1, 2**63, 2**64 - 1, 2**63 - writer, 2**63 - writer - 1]
     words += [version * count + holders for count in (1, 2, 3, versions, versions + 1)
               for holders in (0, 1, 2, 3, writer - 1, writer, writer + 1, version - 1)]
     return limits, words
@@ -182,7 +190,7 @@ def edges(layout):
 
 def compare_edges(library):
     compared = 0
-    for layout in (0, 1, 2, 3, 2**32 - 1):
+    for layout in (1, 2, *NO_LAYOUTS):
         same(f"opening of layout {layout}", library.ask("o", layout), [LAYOUTS.get(layout, (0,))[0]])
         limits, words = edges(layout)
         for given in limits:
@@ -190,7 +198,7 @@ def compare_edges(library):
             for word in words:
                 case = (layout, *given, word)
                 same(f"word {case}", library.ask("w", *case), [error_of(*case)])
-                code = random.choice([0, 18, 2**32 - 1, *range(1, 18)])
+                code = random.choice([0, 18, 19, 2**32 - 1, 257, 65537, *range(1, 18)])
                 case += (code, word)
                 same(f"decision {case}", library.ask("d", *case), decision_of(*case))
                 compared += 3
@@ -216,17 +224,70 @@ def compare_words(library):
     print(f"words: {len(NAMES) * (WORDS // len(NAMES) + 1)} decisions as the call table's, {len(found)} kinds")
 
 
+def drawn_number():
+    return drawn_stamp(random.choice([1, 2]), [random.getrandbits(random.randint(1, 63))], random.getrandbits(18))
+
+
 def compare_stamps(library, stamped):
-    for _ in range(STAMPS):
-        layout = random.choice([1, 2])
-        stamp = drawn_stamp(layout, [random.getrandbits(random.randint(1, 63))], random.getrandbits(18))
-        kind, version, readers = library.ask("k", layout, stamp)
-        told = " ".join(map(str, [KINDS.get(kind), version, readers][:{16: 1, 18: 3}.get(kind, 2)]))
-        run = subprocess.run([stamped, "stamp", "--layout", str(layout), str(stamp)], capture_output=True, text=True,
+    edge = [0, 1, 2**63 - 1, 2**63, 2**64 - 1]
+    for version, writer, _, versions in LAYOUTS.values():
+        edge += [version * count + by for count in (0, 1, 2, versions, versions + 1)
+                 for by in (0, 1, writer - 1, writer, writer + 1, version - 1)]
+    numbers = [(layout, number) for layout in (1, 2) for number in edge + [drawn_number() for _ in range(STAMPS)]]
+    for layout, number in numbers:
+        ours = library.ask("k", layout, number)
+        run = subprocess.run([stamped, "stamp", "--layout", str(layout), str(number)], capture_output=True, text=True,
                              check=True)
-        same(f"stamp {stamp} of layout {layout}", told, run.stdout.strip())
-    same("a stamp of no layout", library.ask("k", 3, 256), [1, 0, 0])
-    print(f"stamps: {STAMPS} kinds as those of stamped stamp")
+        told = run.stdout.split()
+        wanted = [told[0], *map(int, told[1:]), 0, 0][:3]
+        same(f"stamp {number} of layout {layout}", [KINDS.get(ours[0]), *ours[1:]], wanted)
+    for layout in NO_LAYOUTS:
+        same(f"a stamp of layout {layout}", library.ask("k", layout, 256), [1, 0, 0])
+    print(f"stamps: {len(numbers)} kinds as those of stamped stamp")
+
+
+def in_c(name):
+    """A variant's name as C spells it."""
+    return re.sub(r"(?<!^)(?=[A-Z])", "_", name).upper()
+
+
+def stated():
+    """The constants that the contracts state, by their names in C."""
+    text = text_of("crates/stamped_c/specs/Codes.antt")
+    found = {in_c(name): int(code) for code, name in re.findall(r"n == (\d+) then Some \(?(\w+)", text)}
+    del found["ONE"], found["TWO"]
+    found |= {in_c(name): int(code) for name, code in re.findall(r"^fault_code (\w+) = (\d+)$", text, re.M)}
+    found |= {in_c(name): int(code) for name, code in re.findall(r"^reply_number (\w+) = (\d+)$", text, re.M)}
+    kinds = re.findall(r"^kind_in_c \(Ok \(?kind\.(\w+)[^=]*= record \{ kind = (\d+)", text, re.M)
+    found |= {"NEITHER" if name == "Neither" else f"{in_c(name)}_STAMP": int(code) for name, code in kinds}
+    found["WAIT"] = int(re.search(r"^made_in_c word Wait = unreplied_in_c (\d+)$", text, re.M)[1])
+    found |= {"OK": 0, "LEAST_WORD": 256}
+    for layout, (_, _, readers, versions) in LAYOUTS.items():
+        found |= {f"READERS_{layout}": readers, f"VERSIONS_{layout}": versions}
+    return found
+
+
+def text_of(path):
+    with open(path, encoding="utf-8") as file:
+        return file.read()
+
+
+def compare_names(library):
+    wanted = stated()
+    ours = dict(word.removeprefix("STAMPED_").split("=") for word in library.say("c"))
+    same("the header's constants", {name: int(value) for name, value in ours.items()}, wanted)
+    page = text_of("docs/C.md")
+    for path, text in (("stamped.h", text_of(f"{INCLUDE}/stamped.h")), ("docs/C.md", page)):
+        unknown = set(re.findall(r"\bSTAMPED_(\w+)", text)) - set(wanted) - {"H"}
+        if unknown:
+            fail(f"{path} names constants that the header hasn't: {sorted(unknown)}")
+    told = re.findall(r"(\d+) `STAMPED_(\w+)`", page)
+    for value, name in told:
+        same(f"docs/C.md, {name}", int(value), wanted[name])
+    rust = re.findall(r"pub const (\w+): u\d+ = (\d+);", text_of("examples/rust/count.rs"))
+    for name, value in rust:
+        same(f"examples/rust, {name}", int(value), wanted[name])
+    print(f"names: {len(wanted)} of the header, {len(told)} of docs/C.md and {len(rust)} of examples/rust as stated")
 
 
 def build_and_run(name, command):
@@ -238,16 +299,17 @@ def build_and_run(name, command):
     print(f"{name}: built without a warning, and prints 40000")
 
 
-def try_header(room):
-    """The header alone, as C11 and as C++17."""
+def try_header(archive, room):
+    """A program over the header and the archive, as C11 and as C++17."""
     for compiler, standard, suffix in (("cc", "c11", "c"), ("c++", "c++17", "cpp")):
         if not shutil.which(compiler):
             print(f"header: no {compiler}, so {standard} is left out")
             continue
         path = os.path.join(room, f"header.{suffix}")
         with open(path, "w", encoding="utf-8") as file:
-            file.write('#include "stamped.h"\nint main(void) { return (int)stamped_opening(0); }\n')
-        subprocess.run([compiler, f"-std={standard}", *C_FLAGS, "-c", "-o", path + ".o", path], check=True)
+            file.write('#include "stamped.h"\nint main(void) { return stamped_opening(1) != 256; }\n')
+        subprocess.run([compiler, f"-std={standard}", *C_FLAGS, "-o", path + ".out", path, archive], check=True)
+        subprocess.run([path + ".out"], check=True)
         print(f"header: {standard} without a warning")
 
 
@@ -281,9 +343,10 @@ def main():
         compare_edges(library)
         compare_words(library)
         compare_stamps(library, stamped)
+        compare_names(library)
         compare_walks(library, stamped)
         try_page()
-        try_header(room)
+        try_header(archive, room)
         try_examples(archive, room)
 
 

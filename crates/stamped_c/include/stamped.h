@@ -9,7 +9,12 @@
  * Any thread may call them at any time. They test every number that they are given, and return an error
  * for what they don't know.
  *
- * Every code below 16 is an error, or 0 for none; what is no error is 16 or more.
+ * Where a result may be an error, a number from 1 to 5 is one.
+ *
+ * Replies differ from Java's in four cases. A write stamp stays valid after its release, until write mode
+ * is acquired again (in Java it doesn't). In layout 1 a 128th reader gets no stamp. Once all versions of the
+ * limits are spent, no call acquires write mode: STAMPED_WRITE_LOCK then returns 0 and doesn't wait. In
+ * layout 2 stamps are other numbers.
  */
 #ifndef STAMPED_H
 #define STAMPED_H
@@ -47,7 +52,7 @@ struct stamped_limits {
 enum {
     STAMPED_TRY_WRITE = 1,        /* tryWriteLock() */
     STAMPED_TRY_READ = 2,         /* tryReadLock() */
-    STAMPED_WRITE_LOCK = 3,       /* writeLock(): may have to wait */
+    STAMPED_WRITE_LOCK = 3,       /* writeLock(): may have to wait, unless the versions are spent */
     STAMPED_READ_LOCK = 4,        /* readLock(): may have to wait */
     STAMPED_OPTIMISTIC = 5,       /* tryOptimisticRead() */
     STAMPED_VALIDATE = 6,         /* validate(stamp) */
@@ -68,7 +73,9 @@ enum {
 
      below STAMPED_LEAST_WORD   no word: STAMPED_WAIT, or an error
      the word that you gave     the call is answered; leave the word
-     another word               put it in the place of the one that you gave; then the call is answered */
+     another word               put it in the place of the one that you gave; then the call is answered
+
+   The order matters if what you gave was no word itself: 3 is answered STAMPED_NO_WORD, which is 3. */
 struct stamped_decision {
     uint64_t word;
     uint64_t reply; /* what the call is answered; 0 with a wait or an error */
@@ -119,8 +126,8 @@ uint32_t stamped_check_word(struct stamped_limits limits, uint64_t word);
 /* What a call does on this word. A call that takes no stamp ignores `stamp`; any number may be given.
    Errors are in `word` of the result: one of stamped_check_word, or STAMPED_UNKNOWN_CALL.
 
-   After STAMPED_CHANGE the call is made only once you have exchanged the very `word` that you gave
-   for the new one, in one atomic step. If another word is there by then, decide again on that. */
+   Where the result is another word, the call is made only once you have exchanged the very `word` that
+   you gave for it, in one atomic step. If another word is there by then, decide again on that. */
 struct stamped_decision stamped_decide(struct stamped_limits limits, uint64_t word, uint32_t call, uint64_t stamp);
 
 /* What a number is as a stamp of a layout, by its value alone. The error is STAMPED_UNKNOWN_LAYOUT. */
