@@ -17,7 +17,8 @@ use Rattle.stamp_threads.specs.Seats.{StandsAt, AreSeated, alone, both}
 use Rattle.stamp_threads.specs.RecordWord.{word_with}
 use Rattle.stamp_threads.specs.RecordLog.{RecordLog, IsLegalRecord, content_in, puts, puts_in}
 use Rattle.stamp_threads.specs.RecordLog.{is_locked, marker_in, word_after, is_own, marks_of}
-use Rattle.stamp_threads.specs.RecordPass.{RecordPassView, RecordView, RecordToken, Seated, IsConsistentWith, LeavesLockWord}
+use Rattle.stamp_threads.specs.RecordPass.{RecordPassView, RecordView, RecordToken, Seated}
+use Rattle.stamp_threads.specs.RecordPass.{IsConsistentWith, LeavesLockWord}
 use Rattle.stamp_threads.specs.RecordPass.{marks_ahead, first_of, second_of, first_pass}
 use Rattle.stamp_threads.specs.RecordPass.{HasEntered}
 

@@ -5,7 +5,8 @@ ghost use Rattle.stamp_core.specs.declared.call.Call.TheVariants.{Put};
 ghost use Rattle.stamp_core.specs.declared.reply.Reply.TheVariants.{Done};
 ghost use Rattle.stamp_threads.specs.PassView.{after_split, split_off};
 ghost use Rattle.stamp_threads.specs.RecordPass.{HasEntered, IsConsistentWith, first_pass};
-ghost use Rattle.stamp_threads.specs.RecordCall.{RecordAnswered, PutRefused, WasGot, GetRefused, HaveMet};
+ghost use Rattle.stamp_threads.specs.RecordCall.{RecordAnswered, PutRefused};
+ghost use Rattle.stamp_threads.specs.RecordCall.{WasGot, GetRefused, HaveMet};
 ghost use Rattle.stamp_threads.specs.RecordRule.{opening_pass, IsKept, IsHolding};
 ghost use Rattle.atomic_table.specs.Table.{opening};
 

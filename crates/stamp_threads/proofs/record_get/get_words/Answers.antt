@@ -30,12 +30,14 @@ confirm-found-requires-clause-seat g c =
     (search rules, search rules, is ∙ sym (ap (λ (m : Seated). alone (first_of m.0)) is))
 
 pub returns-then-has_writer-clause-err : goal.returns-then-has_writer-clause-err
-returns-then-has_writer-clause-err g c = get_busy_of _ _ c.requires.shape.0 _ _ _
-    c.open-loaded.ensures.told c.requires.idle (sym (rw c.layout.ensures.layout at c.has_writer.ensures) ∙ c.if-has_writer.true)
+returns-then-has_writer-clause-err g c =
+    let test = sym (rw c.layout.ensures.layout at c.has_writer.ensures) ∙ c.if-has_writer.true in
+    get_busy_of _ _ c.requires.shape.0 _ _ _ c.open-loaded.ensures.told c.requires.idle test
 
 pub returns-then-found-loaded-clause-err : goal.returns-then-found-loaded-clause-err
-returns-then-found-loaded-clause-err g c = get_lost_of _ _ c.requires.shape.0 _ _ _ _ _ _
-    c.open-loaded.ensures.told (sym (rw c.layout.ensures.layout at c.has_writer.ensures) ∙ c.if-has_writer.false)
+returns-then-found-loaded-clause-err g c =
+    let test = sym (rw c.layout.ensures.layout at c.has_writer.ensures) ∙ c.if-has_writer.false in
+    get_lost_of _ _ c.requires.shape.0 _ _ _ _ _ _ c.open-loaded.ensures.told test
     c.load_all.ensures.told _ _ c.confirm-found.ensures.told c.if-found-loaded.true
 
 pub returns-clause-ok : goal.returns-clause-ok

@@ -27,7 +27,8 @@ acquire-found-requires-clause-free g c =
     let t = goes_on _ _ _ _ told test
     (rw (c.writes_of.ensures, c.versions.ensures.versions, c.layout-layout.ensures.layout) at
     c.if-writes_of-versions.false) in
-    let held = rw c.layout-layout.ensures.layout at (ap (λ (n : ℕ). c.look-loaded.result + n) c.writer_unit.ensures) in
+    let held = rw c.layout-layout.ensures.layout at
+    (ap (λ (n : ℕ). c.look-loaded.result + n) c.writer_unit.ensures) in
     rw c.requires.shape.0 (puts told.log, t.1, held, t.2)
 
 pub store_all-requires-clause-writing : goal.store_all-requires-clause-writing
@@ -48,7 +49,8 @@ release-requires-clause-writing g c =
     let phase = ap (λ (m : Seated). (first_of m.0).phase) got.after in
     let test = sym (rw c.layout-layout.ensures.layout at c.has_writer.ensures) ∙ c.if-has_writer.false in
     let w = acquired_word_of _ _ c.requires.shape.0 _ _ _ _ _ got c.if-found-loaded.false test in
-    let held = rw c.layout-layout.ensures.layout at (ap (λ (n : ℕ). c.look-loaded.result + n) c.writer_unit.ensures) in (
+    let held = rw c.layout-layout.ensures.layout at
+    (ap (λ (n : ℕ). c.look-loaded.result + n) c.writer_unit.ensures) in (
       puts got.log,
       ap (λ (m : Seated). (first_of m.0).phase)
           (c.store_all.ensures.told (puts got.log) phase),
@@ -81,7 +83,8 @@ pub returns-clause-ok : goal.returns-clause-ok
 returns-clause-ok g c =
     let got = rw (eq-eqb _ _ c.if-found-loaded.false) at c.acquire-found.ensures.told in
     let phase = ap (λ (m : Seated). (first_of m.0).phase) got.after in
-    let held = rw c.layout-layout.ensures.layout at (ap (λ (n : ℕ). c.look-loaded.result + n) c.writer_unit.ensures) in
+    let held = rw c.layout-layout.ensures.layout at
+    (ap (λ (n : ℕ). c.look-loaded.result + n) c.writer_unit.ensures) in
     put_made_of _ _ c.requires.shape.0 _ _ _ _ _ _ _ _ _ c.look-loaded.ensures.told got
     c.if-found-loaded.false (c.store_all.ensures.told (puts got.log) phase) held
     c.release.ensures.told
