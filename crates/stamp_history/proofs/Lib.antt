@@ -1,4 +1,3 @@
-pub mod CallLengths
 pub mod ItemLengths
 pub mod EachItem
 pub mod NoJson

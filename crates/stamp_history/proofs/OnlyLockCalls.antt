@@ -1,23 +1,15 @@
 -- The calls of a replay are the lock's.
 use Rattle.std.proofs.Common.{◌≡◌, ℕ, ◌+◌, List, [], ◌∷◌, Bool, true, false, refl, subst, Option}
 use Rattle.std.proofs.Common.{Some, None, Ok, option_and_then}
-use Rattle.std.specs.Prelude.{IsTrue, if◌then◌else◌, codes}
+use Rattle.std.specs.Prelude.{IsTrue, if◌then◌else◌}
 use Rattle.std.specs.List.{All}
-use Rattle.std.specs.Str.{bytes_eq}
 use Rattle.std.proofs.lemmas.List.Elements.{All-nil, All-cons}
 use Rattle.serde_json.specs.Data.{Data, Items, no_items, item}
-use Rattle.serde_json.specs.Find as find
 use Rattle.stamp_core.specs.Call.{is_lock_call}
 use Rattle.stamp_core.specs.declared.call.Call.{Call}
-use Rattle.stamp_core.specs.declared.call.Call.TheVariants.{TryWrite, TryRead, WriteLock, ReadLock}
-use Rattle.stamp_core.specs.declared.call.Call.TheVariants.{Optimistic, Validate, UnlockWrite}
-use Rattle.stamp_core.specs.declared.call.Call.TheVariants.{UnlockRead, Unlock, ToWrite, ToRead}
-use Rattle.stamp_core.specs.declared.call.Call.TheVariants.{ToOptimistic, TryUnlockWrite}
-use Rattle.stamp_core.specs.declared.call.Call.TheVariants.{TryUnlockRead, IsWriteLocked}
-use Rattle.stamp_core.specs.declared.call.Call.TheVariants.{IsReadLocked, ReadCount}
 use Rattle.stamp_history.specs.declared.text_kind.TextKind.TheVariants.{Script}
-use Rattle.stamp_history.specs.JsonValue.{whole}
-use Rattle.stamp_history.specs.LockCall.{plain_call, stamp_call, listed_call, lock_call}
+use Rattle.stamp_history.specs.HistoryCall.{history_call}
+use Rattle.stamp_history.specs.LockCall.{of_lock, lock_call}
 use Rattle.stamp_history.specs.Reading.{◌>>=◌, json_of, each}
 use Rattle.stamp_history.specs.LimitFields.{limits}
 use Rattle.stamp_history.specs.Replay.{Replay, replay_in, replay_of}
@@ -34,55 +26,22 @@ one k lock = record {
       subst (λ (c : Call). IsTrue (is_lock_call c)) same lock;
 }
 
--- a call whose test computes
-abbrev lock : IsTrue true
-lock = refl
-
 nothing : IsOfLock None
 nothing = record { is = λ call e. cc }
 
-either : (b : Bool) {x y : Option Call} → IsOfLock x → IsOfLock y → IsOfLock (if b then x else y)
-either true f g = f
-either false f g = g
-
-and_then : {A : Type 0} (found : Option A) (f : A → Option Call) → ((x : A) → IsOfLock (f x)) →
-    IsOfLock (option_and_then f found)
-and_then None f h = nothing
-and_then (Some x) f h = h x
-
-plain_of_lock : (name : List ℕ) → IsOfLock (plain_call name)
-plain_of_lock name =
-    either (bytes_eq name (codes "try_write")) (one TryWrite lock)
-    (either (bytes_eq name (codes "try_read")) (one TryRead lock)
-    (either (bytes_eq name (codes "write_lock")) (one WriteLock lock)
-    (either (bytes_eq name (codes "read_lock")) (one ReadLock lock)
-    (either (bytes_eq name (codes "optimistic")) (one Optimistic lock)
-    (either (bytes_eq name (codes "try_unlock_write")) (one TryUnlockWrite lock)
-    (either (bytes_eq name (codes "try_unlock_read")) (one TryUnlockRead lock)
-    (either (bytes_eq name (codes "is_write_locked")) (one IsWriteLocked lock)
-    (either (bytes_eq name (codes "is_read_locked")) (one IsReadLocked lock)
-    (either (bytes_eq name (codes "read_count")) (one ReadCount lock) nothing)))))))))
-
-stamp_of_lock : (name : List ℕ) (stamp : ℕ) → IsOfLock (stamp_call name stamp)
-stamp_of_lock name stamp =
-    either (bytes_eq name (codes "validate")) (one (Validate stamp) lock)
-    (either (bytes_eq name (codes "unlock_write")) (one (UnlockWrite stamp) lock)
-    (either (bytes_eq name (codes "unlock_read")) (one (UnlockRead stamp) lock)
-    (either (bytes_eq name (codes "unlock")) (one (Unlock stamp) lock)
-    (either (bytes_eq name (codes "to_write")) (one (ToWrite stamp) lock)
-    (either (bytes_eq name (codes "to_read")) (one (ToRead stamp) lock)
-    (either (bytes_eq name (codes "to_optimistic")) (one (ToOptimistic stamp) lock) nothing))))))
-
-listed_of_lock : (ds : Items) → IsOfLock (listed_call ds)
-listed_of_lock no_items = nothing
-listed_of_lock (item name no_items) = and_then (find.as_str name) plain_call plain_of_lock
-listed_of_lock (item name (item stamp no_items)) =
-    and_then (find.as_str name) (λ text. option_and_then (stamp_call text) (whole stamp))
-    (λ text. and_then (whole stamp) (stamp_call text) (stamp_of_lock text))
-listed_of_lock (item name (item stamp (item further rest))) = nothing
+of_lock_alone : (call : Call) → IsOfLock (of_lock call)
+of_lock_alone call = by (is_lock_call call) refl
+  where
+    by : (b : Bool) → is_lock_call call ≡ b → IsOfLock (if b then Some call else None)
+    by true is = one call is
+    by false is = nothing
 
 lock_call_of_lock : (d : Data) → IsOfLock (lock_call d)
-lock_call_of_lock d = and_then (find.as_array d) listed_call listed_of_lock
+lock_call_of_lock d = by (history_call d)
+  where
+    by : (found : Option Call) → IsOfLock (option_and_then of_lock found)
+    by None = nothing
+    by (Some call) = of_lock_alone call
 
 each_of_lock : (i : ℕ) (ds : Items) (found : List Call) → each call_at i ds ≡ Ok found →
     All (λ call. IsTrue (is_lock_call call)) found

@@ -1,7 +1,7 @@
 //! The parts of a text.
 
-ghost use Rattle.std.specs.Prelude.{Some};
-ghost use Rattle.stamp_history.specs.Field.{field_text};
+ghost use Rattle.std.specs.Prelude.{◌≡◌, Some};
+ghost use Rattle.stamp_history.specs.Field.{field_name, field_text};
 
 use std::fmt;
 
@@ -28,26 +28,41 @@ pub enum Field {
     Report,
 }
 
+impl Field {
+    /// The name, without the positions.
+    fn name(self) -> &'static str
+        ensures { result.now ≡ field_name self }
+    {
+        match self {
+            Field::Top => "top",
+            Field::Format => "format",
+            Field::Layout => "layout",
+            Field::Readers => "readers",
+            Field::Versions => "versions",
+            Field::Width => "width",
+            Field::Calls => "calls",
+            Field::Call(_) | Field::ThreadCall(_, _) => "call",
+            Field::Threads => "threads",
+            Field::Steps => "steps",
+            Field::Step(_) => "step",
+            Field::Entries => "entries",
+            Field::Entry(_) => "entry",
+            Field::Report => "report",
+        }
+    }
+}
+
 impl fmt::Display for Field {
     ghost output = { λ field. Some (field_text field) };
 
     fn fmt<W: fmt::Write>(&self, f: &mut fmt::Formatter<W>) -> fmt::Result {
+        let name = self.name();
         match self {
-            Field::Top => write!(f, "top"),
-            Field::Format => write!(f, "format"),
-            Field::Layout => write!(f, "layout"),
-            Field::Readers => write!(f, "readers"),
-            Field::Versions => write!(f, "versions"),
-            Field::Width => write!(f, "width"),
-            Field::Calls => write!(f, "calls"),
-            Field::Call(index) => write!(f, "call {index}"),
-            Field::Threads => write!(f, "threads"),
-            Field::ThreadCall(thread, index) => write!(f, "call {thread} {index}"),
-            Field::Steps => write!(f, "steps"),
-            Field::Step(index) => write!(f, "step {index}"),
-            Field::Entries => write!(f, "entries"),
-            Field::Entry(index) => write!(f, "entry {index}"),
-            Field::Report => write!(f, "report"),
+            Field::Call(index) | Field::Step(index) | Field::Entry(index) => {
+                write!(f, "{name} {index}")
+            }
+            Field::ThreadCall(thread, index) => write!(f, "{name} {thread} {index}"),
+            _ => f.write_str(name),
         }
     }
 }

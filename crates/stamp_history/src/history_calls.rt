@@ -9,7 +9,8 @@ use serde_json::Value;
 use stamp_core::Call;
 use stamp_machines::{Arg, ScriptCall};
 
-fn number(stamp: Arg) -> Option<u64>
+/// The stamp, if it is a number.
+pub(crate) fn number(stamp: Arg) -> Option<u64>
     ensures { result ≡ spec.number stamp }
 {
     match stamp {

@@ -1,60 +1,46 @@
 //! The lock's calls out of JSON values.
 
-ghost use Rattle.std.specs.Prelude.{◌≡◌, option_map};
-ghost use Rattle.serde_json.specs.View.{view, items_view};
+ghost use Rattle.std.specs.Prelude.{◌≡◌, option_and_then, option_map};
+ghost use Rattle.serde_json.specs.View.{view};
+ghost use Rattle.stamp_history.specs.HistoryCall as history;
 ghost use Rattle.stamp_history.specs.LockCall as spec;
 ghost use Rattle.stamp_history.specs.StoredCall.{call_of};
 
+use crate::history_calls::number;
+use crate::script_calls::script_call_of;
 use crate::stored_call::StoredCall;
 use serde_json::Value;
+use stamp_machines::ScriptCall;
 
-fn plain_call(name: &str) -> Option<StoredCall>
-    ensures { option_map call_of result ≡ spec.plain_call name.now }
+/// The call, if it is the lock's and its stamp is a number.
+fn stored(call: ScriptCall) -> Option<StoredCall>
+    ensures { option_map call_of result ≡ option_and_then spec.of_lock (history.as_call call) }
 {
-    match name {
-        "try_write" => Some(StoredCall::TryWrite),
-        "try_read" => Some(StoredCall::TryRead),
-        "write_lock" => Some(StoredCall::WriteLock),
-        "read_lock" => Some(StoredCall::ReadLock),
-        "optimistic" => Some(StoredCall::Optimistic),
-        "try_unlock_write" => Some(StoredCall::TryUnlockWrite),
-        "try_unlock_read" => Some(StoredCall::TryUnlockRead),
-        "is_write_locked" => Some(StoredCall::IsWriteLocked),
-        "is_read_locked" => Some(StoredCall::IsReadLocked),
-        "read_count" => Some(StoredCall::ReadCount),
-        _ => None,
+    match call {
+        ScriptCall::TryWrite => Some(StoredCall::TryWrite),
+        ScriptCall::TryRead => Some(StoredCall::TryRead),
+        ScriptCall::WriteLock => Some(StoredCall::WriteLock),
+        ScriptCall::ReadLock => Some(StoredCall::ReadLock),
+        ScriptCall::Optimistic => Some(StoredCall::Optimistic),
+        ScriptCall::Validate(stamp) => Some(StoredCall::Validate(number(stamp)?)),
+        ScriptCall::UnlockWrite(stamp) => Some(StoredCall::UnlockWrite(number(stamp)?)),
+        ScriptCall::UnlockRead(stamp) => Some(StoredCall::UnlockRead(number(stamp)?)),
+        ScriptCall::Unlock(stamp) => Some(StoredCall::Unlock(number(stamp)?)),
+        ScriptCall::ToWrite(stamp) => Some(StoredCall::ToWrite(number(stamp)?)),
+        ScriptCall::ToRead(stamp) => Some(StoredCall::ToRead(number(stamp)?)),
+        ScriptCall::ToOptimistic(stamp) => Some(StoredCall::ToOptimistic(number(stamp)?)),
+        ScriptCall::TryUnlockWrite => Some(StoredCall::TryUnlockWrite),
+        ScriptCall::TryUnlockRead => Some(StoredCall::TryUnlockRead),
+        ScriptCall::IsWriteLocked => Some(StoredCall::IsWriteLocked),
+        ScriptCall::IsReadLocked => Some(StoredCall::IsReadLocked),
+        ScriptCall::ReadCount => Some(StoredCall::ReadCount),
+        ScriptCall::Get | ScriptCall::Put(_) | ScriptCall::PutIf(_, _) => None,
     }
 }
 
-fn stamp_call(name: &str, stamp: u64) -> Option<StoredCall>
-    ensures { option_map call_of result ≡ spec.stamp_call name.now stamp }
-{
-    match name {
-        "validate" => Some(StoredCall::Validate(stamp)),
-        "unlock_write" => Some(StoredCall::UnlockWrite(stamp)),
-        "unlock_read" => Some(StoredCall::UnlockRead(stamp)),
-        "unlock" => Some(StoredCall::Unlock(stamp)),
-        "to_write" => Some(StoredCall::ToWrite(stamp)),
-        "to_read" => Some(StoredCall::ToRead(stamp)),
-        "to_optimistic" => Some(StoredCall::ToOptimistic(stamp)),
-        _ => None,
-    }
-}
-
-#[tactic(auto, using(crate::proofs::CallLengths::listed_call_none, crate::proofs::CallLengths::listed_call_long))]
-fn listed_call(list: &[Value]) -> Option<StoredCall>
-    ensures { option_map call_of result ≡ spec.listed_call (items_view list.now) }
-{
-    match list {
-        [name] => plain_call(name.as_str()?),
-        [name, stamp] => stamp_call(name.as_str()?, stamp.as_u64()?),
-        _ => None,
-    }
-}
-
-/// The call that the value is, if it is one of the lock's seventeen.
+/// The call that the value is, if it is one of the lock's seventeen and its stamp is a number.
 pub(crate) fn lock_call_of(value: &Value) -> Option<StoredCall>
     ensures { option_map call_of result ≡ spec.lock_call (view value.now) }
 {
-    listed_call(value.as_array()?)
+    stored(script_call_of(value)?)
 }

@@ -7,7 +7,7 @@ ghost use Rattle.stamp_history.specs.StoredCall.{call_of};
 use stamp_core::Call;
 
 /// A call of the lock in 16 bytes. A `Call` has room for the words of a record, and takes 280.
-#[derive(Clone, Copy, Debug, PartialEq, Eq)]
+#[derive(Clone, Copy)]
 pub(crate) enum StoredCall {
     TryWrite,
     TryRead,
