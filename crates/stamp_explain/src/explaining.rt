@@ -50,7 +50,7 @@ pub fn is_explained(alloc: Global, observed: &Observed, most: u64) -> Result<boo
     let plan = plan_of(alloc, observed)?;
     let found = search(alloc, observed, &plan, most)?;
     match found {
-        Found::Order => Ok(true),
+        Found::Order(_) => Ok(true),
         Found::Nothing => Ok(false),
         Found::Undecided => Err(ExplainError::Undecided),
     }
