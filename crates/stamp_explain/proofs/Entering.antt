@@ -1,78 +1,167 @@
 -- Nodes that come next, added to those seen and to those that wait.
-use Rattle.std.proofs.Common.{◌≡◌, ℕ, ◌+◌, ◌<◌, suc, true, false, List, [], ◌∷◌, ◌++◌, length}
-use Rattle.std.proofs.Common.{get_or, sym, ◌∙◌, ap, subst, arith}
-use Rattle.std.specs.Prelude.{take}
+use Rattle.std.proofs.Common.{◌≡◌, ◌⊎◌, ℕ, ◌+◌, ◌<◌, suc, true, false, List, [], ◌∷◌, ◌++◌, length}
+use Rattle.std.proofs.Common.{get_or, refl, sym, ◌∙◌, ap, subst, arith, inl, inr, Some}
+use Rattle.std.specs.Prelude.{take, slice_get}
 use Rattle.std.specs.List.{All, Contains}
-use Rattle.std.proofs.Math.Seq.{take-suc}
-use Rattle.std.proofs.lemmas.List.{append-nil, append_assoc}
-use Rattle.std.proofs.lemmas.List.Elements.{All-nil, All-more, All-push, All-weaker, Contains-append_left}
-use Rattle.std.proofs.lemmas.List.Elements.{Contains-push}
+use Rattle.std.proofs.Math.Seq.{take-suc, get_or-append_seam}
+use Rattle.std.proofs.lemmas.List.{append-nil, append_assoc, length-append, map-append, get_or_append_left}
+use Rattle.std.proofs.lemmas.List.Elements.{All-nil, All-push, All-weaker, Contains-append_left}
+use Rattle.std.proofs.lemmas.List.Elements.{Contains-push, Contains-push_cases}
+use Rattle.std.proofs.lemmas.Option.{slice_get-get_or, slice_get_within}
 use Rattle.stamp_explain.specs.declared.node.Node.{Node}
+use Rattle.stamp_explain.specs.declared.node.Next.{Next}
+use Rattle.stamp_explain.specs.declared.node.Origin.{Origin}
 use Rattle.stamp_explain.specs.declared.store.Store.{Store}
 use Rattle.stamp_explain.specs.Store.{Keeps, IsStored}
-use Rattle.stamp_explain.specs.Expand.{Enters}
+use Rattle.stamp_explain.specs.Expand.{Enters, IsPlaced, nodes_of, origins_of}
+use Rattle.stamp_explain.proofs.Lists.{none_in_empty}
 
-take_more_is : (nexts : List Node) (i : ℕ) (d : Node) → i < length nexts →
+-- what stands at a place stays there when more is added, and what is added stands behind
+pub read_left : {X : Type 0} (xs ys : List X) (k : ℕ) (x : X) → slice_get xs k ≡ Some x →
+    slice_get (xs ++ ys) k ≡ Some x
+read_left {X} xs ys k x at =
+    let lt : k < length xs = slice_get_within xs k x at in
+    let more : k < length (xs ++ ys) = omega (arith, lt, length-append xs ys) in
+    slice_get-get_or (xs ++ ys) k x more ∙ ap (λ (y : X). Some y) (get_or_append_left xs ys x k lt) ∙
+    sym (slice_get-get_or xs k x lt) ∙ at
+
+pub read_right : {X : Type 0} (xs ys : List X) (j : ℕ) → slice_get (xs ++ ys) (length xs + j) ≡ slice_get ys j
+read_right [] ys j = let e : 0 + j ≡ j = omega arith in ap (λ (n : ℕ). slice_get ys n) e
+read_right (x ∷ xs) ys j =
+    let e : length (x ∷ xs) + j ≡ suc (length xs + j) = omega arith in
+    ap (λ (n : ℕ). slice_get (x ∷ (xs ++ ys)) n) e ∙ read_right xs ys j
+
+pub read_last : {X : Type 0} (xs : List X) (x : X) → slice_get (xs ++ x ∷ []) (length xs) ≡ Some x
+read_last {X} xs x =
+    let lt : length xs < length (xs ++ x ∷ []) = omega (arith, length-append xs (x ∷ [])) in
+    slice_get-get_or (xs ++ x ∷ []) (length xs) x lt ∙ ap (λ (y : X). Some y) (get_or-append_seam xs x [] x)
+
+take_more_is : (nexts : List Next) (i : ℕ) (d : Next) → i < length nexts →
     take (i + 1) nexts ≡ take i nexts ++ get_or nexts i d ∷ []
 take_more_is nexts i d lt =
     let e : i + 1 ≡ suc i = omega arith in
     ap (λ (n : ℕ). take n nexts) e ∙ take-suc nexts i d lt
 
-pub entered_new : (s0 s1 s2 : Store) (w0 w1 w2 nexts : List Node) (i : ℕ) (d : Node) → i < length nexts →
-    Enters s0 s1 w0 w1 (take i nexts) → IsStored s1 s2 (get_or nexts i d) true → w2 ≡ w1 ++ get_or nexts i d ∷ [] →
-    Enters s0 s2 w0 w2 (take (i + 1) nexts)
-entered_new s0 s1 s2 w0 w1 w2 nexts i d lt enters stored pushed = record {
+pub entered_new : (s0 s1 s2 : Store) (from : ℕ) (w0 w1 w2 : List ℕ) (nexts : List Next) (i : ℕ) (d : Next) →
+    i < length nexts → Enters s0 s1 from w0 w1 (take i nexts) →
+    IsStored s1 s2 (get_or nexts i d).node (record { from = from; took = (get_or nexts i d).took }) true →
+    w2 ≡ w1 ++ length s1.nodes.items ∷ [] → Enters s0 s2 from w0 w2 (take (i + 1) nexts)
+entered_new s0 s1 s2 from w0 w1 w2 nexts i d lt enters stored pushed = record {
   keeps = stored.keeps;
-  added = enters.added ++ node ∷ [];
-  nodes = stored.nodes ∙ ap (λ (xs : List Node). xs ++ node ∷ []) enters.nodes ∙
-      append_assoc s0.nodes.items enters.added (node ∷ []);
-  to_do = pushed ∙ ap (λ (xs : List Node). xs ++ node ∷ []) enters.to_do ∙ append_assoc w0 enters.added (node ∷ []);
-  each = All-more (Contains s2.nodes.items) nexts i d lt (All-weaker (Contains s1.nodes.items)
-      (Contains s2.nodes.items) more (take i nexts) enters.each) here;
-  among = subst (λ (ns : List Node). All (Contains ns) (enters.added ++ node ∷ [])) (sym (take_more_is nexts i d lt))
-      (All-push (Contains (take i nexts ++ node ∷ [])) enters.added node
-      (All-weaker (Contains (take i nexts)) (Contains (take i nexts ++ node ∷ []))
-      (λ x has. Contains-append_left (take i nexts) (node ∷ []) x has) enters.added enters.among)
-      (Contains-push (take i nexts) node));
+  added = enters.added ++ next ∷ [];
+  nodes = stored.nodes ∙ ap (λ (xs : List Node). xs ++ next.node ∷ []) enters.nodes ∙
+      append_assoc s0.nodes.items (nodes_of enters.added) (next.node ∷ []) ∙
+      ap (λ (xs : List Node). s0.nodes.items ++ xs) (sym nodes_push);
+  origins = stored.origins ∙ ap (λ (xs : List Origin). xs ++ origin ∷ []) enters.origins ∙
+      append_assoc s0.origins.items (origins_of from enters.added) (origin ∷ []) ∙
+      ap (λ (xs : List Origin). s0.origins.items ++ xs)
+      (sym (map-append (λ (w : Next). record { from = from; took = w.took }) enters.added (next ∷ [])));
+  places = enters.places ++ length s1.nodes.items ∷ [];
+  to_do = pushed ∙ ap (λ (xs : List ℕ). xs ++ length s1.nodes.items ∷ []) enters.to_do ∙
+      append_assoc w0 enters.places (length s1.nodes.items ∷ []);
+  many = omega (
+    arith,
+    enters.many,
+    length-append enters.places (length s1.nodes.items ∷ []),
+    length-append enters.added (next ∷ []),
+  );
+  placed = λ v has. placed v (Contains-push_cases (nodes_of enters.added) next.node v
+      (subst (λ (xs : List Node). Contains xs v) nodes_push has));
+  inside = All-push (λ (p : ℕ). p < length s2.nodes.items) enters.places (length s1.nodes.items)
+      (All-weaker (λ (p : ℕ). p < length s1.nodes.items) (λ (p : ℕ). p < length s2.nodes.items)
+      (λ p less. omega (arith, less, longer)) enters.places enters.inside) (omega (arith, longer));
+  each = λ w has. each w (Contains-push_cases (take i nexts) next w
+      (subst (λ (ns : List Next). Contains ns w) (take_more_is nexts i d lt) has));
+  among = subst (λ (ns : List Next). All (Contains ns) (enters.added ++ next ∷ [])) (sym (take_more_is nexts i d lt))
+      (All-push (Contains (take i nexts ++ next ∷ [])) enters.added next
+      (All-weaker (Contains (take i nexts)) (Contains (take i nexts ++ next ∷ []))
+      (λ x has. Contains-append_left (take i nexts) (next ∷ []) x has) enters.added enters.among)
+      (Contains-push (take i nexts) next));
 }
   where
-    node : Node
-    node = get_or nexts i d
+    next : Next
+    next = get_or nexts i d
 
-    more : (x : Node) → Contains s1.nodes.items x → Contains s2.nodes.items x
-    more x has = subst (λ (xs : List Node). Contains xs x) (sym stored.nodes)
-        (Contains-append_left s1.nodes.items (node ∷ []) x has)
+    origin : Origin
+    origin = record { from = from; took = next.took }
 
-    here : Contains s2.nodes.items node
-    here = subst (λ (xs : List Node). Contains xs node) (sym stored.nodes) (Contains-push s1.nodes.items node)
+    nodes_push : nodes_of (enters.added ++ next ∷ []) ≡ nodes_of enters.added ++ next.node ∷ []
+    nodes_push = map-append (λ (w : Next). w.node) enters.added (next ∷ [])
 
-pub entered_seen : (s0 s1 s2 : Store) (w0 w1 w2 nexts : List Node) (i : ℕ) (d : Node) → i < length nexts →
-    Enters s0 s1 w0 w1 (take i nexts) → IsStored s1 s2 (get_or nexts i d) false → w2 ≡ w1 →
-    Enters s0 s2 w0 w2 (take (i + 1) nexts)
-entered_seen s0 s1 s2 w0 w1 w2 nexts i d lt enters stored same = record {
+    longer : length s2.nodes.items ≡ length s1.nodes.items + 1
+    longer = omega (
+      arith,
+      ap (λ (xs : List Node). length xs) stored.nodes,
+      length-append s1.nodes.items (next.node ∷ []),
+    )
+
+    placed : (v : Node) → Contains (nodes_of enters.added) v ⊎ (next.node ≡ v) →
+        IsPlaced s2.nodes.items (enters.places ++ length s1.nodes.items ∷ []) v
+    placed v (inl has) =
+        let at : IsPlaced s1.nodes.items enters.places v = enters.placed v has in
+        record {
+          place = at.place;
+          among = Contains-append_left enters.places (length s1.nodes.items ∷ []) at.place at.among;
+          is_node = ap (λ (xs : List Node). slice_get xs at.place) stored.nodes ∙
+              read_left s1.nodes.items (next.node ∷ []) at.place v at.is_node;
+        }
+    placed v (inr same) = record {
+      place = length s1.nodes.items;
+      among = Contains-push enters.places (length s1.nodes.items);
+      is_node = ap (λ (xs : List Node). slice_get xs (length s1.nodes.items)) stored.nodes ∙
+          read_last s1.nodes.items next.node ∙ ap (λ (x : Node). Some x) same;
+    }
+
+    each : (w : Next) → Contains (take i nexts) w ⊎ (next ≡ w) → Contains s2.nodes.items w.node
+    each w (inl has) = subst (λ (xs : List Node). Contains xs w.node) (sym stored.nodes)
+        (Contains-append_left s1.nodes.items (next.node ∷ []) w.node (enters.each w has))
+    each w (inr same) = subst (λ (xs : List Node). Contains xs w.node) (sym stored.nodes)
+        (subst (λ (x : Next). Contains (s1.nodes.items ++ next.node ∷ []) x.node) same
+        (Contains-push s1.nodes.items next.node))
+
+pub entered_seen : (s0 s1 s2 : Store) (from : ℕ) (w0 w1 w2 : List ℕ) (nexts : List Next) (i : ℕ) (d : Next) →
+    i < length nexts → Enters s0 s1 from w0 w1 (take i nexts) →
+    IsStored s1 s2 (get_or nexts i d).node (record { from = from; took = (get_or nexts i d).took }) false →
+    w2 ≡ w1 → Enters s0 s2 from w0 w2 (take (i + 1) nexts)
+entered_seen s0 s1 s2 from w0 w1 w2 nexts i d lt enters stored same = record {
   keeps = stored.keeps;
   added = enters.added;
   nodes = stored.nodes.0 ∙ enters.nodes;
+  origins = stored.origins ∙ enters.origins;
+  places = enters.places;
   to_do = same ∙ enters.to_do;
-  each = All-more (Contains s2.nodes.items) nexts i d lt (All-weaker (Contains s1.nodes.items)
-      (Contains s2.nodes.items) more (take i nexts) enters.each) (more node stored.nodes.1);
-  among = subst (λ (ns : List Node). All (Contains ns) enters.added) (sym (take_more_is nexts i d lt))
-      (All-weaker (Contains (take i nexts)) (Contains (take i nexts ++ node ∷ []))
-      (λ x has. Contains-append_left (take i nexts) (node ∷ []) x has) enters.added enters.among);
+  many = enters.many;
+  placed = λ v has. subst (λ (xs : List Node). IsPlaced xs enters.places v) (sym stored.nodes.0)
+      (enters.placed v has);
+  inside = subst (λ (xs : List Node). All (λ (p : ℕ). p < length xs) enters.places) (sym stored.nodes.0)
+      enters.inside;
+  each = λ w has. each w (Contains-push_cases (take i nexts) next w
+      (subst (λ (ns : List Next). Contains ns w) (take_more_is nexts i d lt) has));
+  among = subst (λ (ns : List Next). All (Contains ns) enters.added) (sym (take_more_is nexts i d lt))
+      (All-weaker (Contains (take i nexts)) (Contains (take i nexts ++ next ∷ []))
+      (λ x has. Contains-append_left (take i nexts) (next ∷ []) x has) enters.added enters.among);
 }
   where
-    node : Node
-    node = get_or nexts i d
+    next : Next
+    next = get_or nexts i d
 
-    more : (x : Node) → Contains s1.nodes.items x → Contains s2.nodes.items x
-    more x has = subst (λ (xs : List Node). Contains xs x) (sym stored.nodes.0) has
+    each : (w : Next) → Contains (take i nexts) w ⊎ (next ≡ w) → Contains s2.nodes.items w.node
+    each w (inl has) = subst (λ (xs : List Node). Contains xs w.node) (sym stored.nodes.0) (enters.each w has)
+    each w (inr equal) = subst (λ (xs : List Node). Contains xs w.node) (sym stored.nodes.0)
+        (subst (λ (x : Next). Contains s1.nodes.items x.node) equal stored.nodes.1)
 
-pub enters_none : (s : Store) (w nexts : List Node) → Keeps s → Enters s s w w (take 0 nexts)
-enters_none s w nexts keeps = record {
+pub enters_none : (s : Store) (from : ℕ) (w : List ℕ) (nexts : List Next) → Keeps s →
+    Enters s s from w w (take 0 nexts)
+enters_none s from w nexts keeps = record {
   keeps = keeps;
   added = [];
   nodes = sym (append-nil s.nodes.items);
+  origins = sym (append-nil s.origins.items);
+  places = [];
   to_do = sym (append-nil w);
-  each = All-nil (Contains s.nodes.items);
+  many = refl;
+  placed = λ v has. absurd (none_in_empty v has);
+  inside = All-nil (λ (p : ℕ). p < length s.nodes.items);
+  each = λ w has. absurd (none_in_empty w has);
   among = All-nil (Contains (take 0 nexts));
 }

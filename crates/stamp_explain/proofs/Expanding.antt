@@ -230,11 +230,15 @@ pub taken_to : (h : ObservedHistory) (returns : List ℕ) (node : Node) (a : Obs
     IsNextOf h.entries (take node.past returns) thread (Some (i, first)) → ¬ (last < first) →
     ((e : Observation) → slice_get h.entries i ≡ Some e → HasGone h e s (Some step)) →
     SetsBit node.threads threads thread → Takes h returns node a thread s taken
-    (Some (record { past = node.past; bits = step.bits; writer = step.writer; threads = threads }))
+    (Some (record {
+      node = record { past = node.past; bits = step.bits; writer = step.writer; threads = threads };
+      took = Some i;
+    }))
 taken_to h returns node a thread s taken i first last threads step is awaited bit (e, (own, (begins, next))) begun
     gone sets = record {
       past = refl;
       effect = effect;
+      took = refl;
       state = after_call h.limits s (e.call, step.reply);
       may = record {
         effect = record { is_entry = next.is_entry; replies = went.may };

@@ -1,47 +1,50 @@
 -- The search as a whole.
-use Rattle.std.proofs.Common.{◌≡◌, ◌⊎◌, ℕ, ◌+◌, ◌<◌, ◌≤◌, List, [], ◌∷◌, ◌++◌, length, get_or}
-use Rattle.std.proofs.Common.{refl, sym, ◌∙◌, ap, subst, inl, inr, arith}
-use Rattle.std.specs.Prelude.{take, drop}
-use Rattle.std.specs.List.{Contains}
+use Rattle.std.proofs.Common.{◌≡◌, ◌⊎◌, ℕ, ◌+◌, ◌-◌, ◌<◌, ◌≤◌, List, [], ◌∷◌, ◌++◌, length, get_or}
+use Rattle.std.proofs.Common.{refl, sym, ◌∙◌, ap, subst, inl, inr, arith, Option, None, Some}
+use Rattle.std.specs.Prelude.{take, drop, slice_get}
+use Rattle.std.specs.Option.{option_map}
+use Rattle.std.specs.List.{All, Contains}
 use Rattle.std.specs.Int.{bit_at}
 use Rattle.std.proofs.lemmas.Nat.Bits.{bit_at-zero}
-use Rattle.std.proofs.lemmas.List.{length-drop, length-append}
-use Rattle.std.proofs.lemmas.List.Elements.{All-weaker, All-contains, All-contains_itself, Contains-append_left}
-use Rattle.std.proofs.lemmas.List.Elements.{Contains-append_right, Contains-append_cases, Contains-push}
-use Rattle.std.proofs.lemmas.List.Elements.{Contains-push_cases}
+use Rattle.std.proofs.lemmas.List.{length-append, length-map}
+use Rattle.std.proofs.lemmas.List.Elements.{All-append, All-weaker, All-contains, All-contains_itself}
+use Rattle.std.proofs.lemmas.List.Elements.{Contains-append_left, Contains-append_right, Contains-append_cases}
+use Rattle.std.proofs.lemmas.List.Elements.{Contains-push, Contains-push_cases, Contains-get_or}
+use Rattle.std.proofs.lemmas.Option.{none-some, same_Some, slice_get-map, slice_get-get_or, slice_get_within}
+use Rattle.std.proofs.lemmas.Option.{slice_get_read, get_or_from_slice_get}
 use Rattle.stamp_core.specs.Content.{zeros}
 use Rattle.stamp_explain.specs.declared.node.Node.{Node}
+use Rattle.stamp_explain.specs.declared.node.Next.{Next}
+use Rattle.stamp_explain.specs.declared.node.Origin.{Origin}
 use Rattle.stamp_explain.specs.declared.store.Store.{Store}
 use Rattle.stamp_explain.specs.Observed.{ObservedHistory}
-use Rattle.stamp_explain.specs.Explained.{IsExplained, history_of, indices_of}
-use Rattle.stamp_explain.specs.Search.{LockState, LockSteps, IsCompletedBy, CanComplete, AreReturns, IsReturnAt}
+use Rattle.stamp_explain.specs.Explained.{Effect, IsExplained, IsExplainedBy, history_of, indices_of}
+use Rattle.stamp_explain.specs.Search.{LockSteps, IsCompletedBy, AreReturns, IsReturnAt}
 use Rattle.stamp_explain.specs.Search.{opening}
 use Rattle.stamp_explain.specs.Node.{AreTaken, IsOpening, StandsFor, IsReached, AreReached, Reaches}
-use Rattle.stamp_explain.specs.Node.Reaches.{begins, goes_past, goes_on_by}
+use Rattle.stamp_explain.specs.Node.Reaches.{begins}
 use Rattle.stamp_explain.specs.Store.{Keeps}
-use Rattle.stamp_explain.specs.Expand.{Hope, GoesOn, Expands, Enters}
-use Rattle.stamp_explain.proofs.Lists.{none_in_empty, contains_cases}
-use Rattle.stamp_explain.proofs.Completing.{completed_by_none, before_return, puts_first}
-use Rattle.stamp_explain.proofs.Finding.{ArePending, first_of_pending, runs_legal, legal_runs, past_pending}
-use Rattle.stamp_explain.proofs.Finding.{taken_pending}
+use Rattle.stamp_explain.specs.Expand.{Hope, GoesOn, Leads, Expands, Enters, IsPlaced, IsLinkedAt, AreLinked, nodes_of}
+use Rattle.stamp_explain.specs.Expand.{origins_of}
+use Rattle.stamp_explain.proofs.Lists.{none_in_empty, contains_cases, contains_first, contains_rest}
+use Rattle.stamp_explain.proofs.Finding.{runs_legal, legal_runs}
 use Rattle.stamp_explain.proofs.Searching.{Waits, Follows, LosesNothing, node_kept, none_left}
+use Rattle.stamp_explain.proofs.Entering.{read_left, read_right}
+use Rattle.stamp_explain.proofs.Leading.{leads_reached}
 
 -- what an order of the whole history is to a search
-completed_from : (h : ObservedHistory) (returns : List ℕ) → AreReturns h.entries returns →
-    CanComplete (LockSteps h.limits) h.entries returns (opening h.width) [] → IsExplained h
-completed_from h returns are can = record {
-  order = can.rest;
-  by = record {
-    effects = can.by.effects;
-    once = can.by.once;
-    returned = λ i e at returned. right (All-contains (λ (j : ℕ). Contains [] j ⊎ Contains (indices_of can.rest) j)
-        returns i can.by.returned (are.whole i e at returned));
-    ordered = can.by.ordered;
-    legal = legal_runs h.limits [] (zeros h.width) (history_of can.rest) can.by.runs;
-  };
+pub completed_from : (h : ObservedHistory) (returns : List ℕ) (rest : List Effect) → AreReturns h.entries returns →
+    IsCompletedBy (LockSteps h.limits) h.entries returns (opening h.width) [] rest → IsExplainedBy h rest
+completed_from h returns rest are by = record {
+  effects = by.effects;
+  once = by.once;
+  returned = λ i e at returned. right (All-contains (λ (j : ℕ). Contains [] j ⊎ Contains (indices_of rest) j)
+      returns i by.returned (are.whole i e at returned));
+  ordered = by.ordered;
+  legal = legal_runs h.limits [] (zeros h.width) (history_of rest) by.runs;
 }
   where
-    right : {i : ℕ} → Contains [] i ⊎ Contains (indices_of can.rest) i → Contains (indices_of can.rest) i
+    right : {i : ℕ} → Contains [] i ⊎ Contains (indices_of rest) i → Contains (indices_of rest) i
     right {i} (inl has) = absurd (none_in_empty i has)
     right (inr has) = has
 
@@ -61,68 +64,18 @@ explained_by h returns are explained =
       runs = runs_legal h.limits [] (zeros h.width) (history_of explained.order) by.legal;
     }
 
--- along a way through the search, what has not returned is to come, in order
-pending : (h : ObservedHistory) (returns : List ℕ) {to_come : List ℕ} {s : LockState} {taken : List ℕ} →
-    AreReturns h.entries returns → Reaches h returns to_come s taken → ArePending h.entries to_come taken
-pending h returns are begins = record {
-  whole = λ i e at returned _. are.whole i e at returned;
-  in_order =
-      are.in_order;
-}
-pending h returns are (goes_past {i} {to_come} {s} {taken} way has) =
-    past_pending h.entries i to_come taken has (pending h returns are way)
-pending h returns are (goes_on_by {i} {to_come} {s} {taken} way a x t at not_yet may) =
-    taken_pending h.entries (i ∷ to_come) taken x.index (pending h returns are way)
-
--- what completes the end of a way completes its beginning
-comes_back : (h : ObservedHistory) (returns : List ℕ) {to_come : List ℕ} {s : LockState} {taken : List ℕ} →
-    AreReturns h.entries returns → Reaches h returns to_come s taken →
-    CanComplete (LockSteps h.limits) h.entries to_come s taken →
-    CanComplete (LockSteps h.limits) h.entries returns (opening h.width) []
-comes_back h returns are begins can = can
-comes_back h returns are (goes_past {i} {to_come} {s} {taken} way has) can =
-    comes_back h returns are way (record {
-      rest = can.rest;
-      by =
-          before_return (LockSteps h.limits) h.entries i to_come s taken can.rest has can.by;
-    })
-comes_back h returns are (goes_on_by {i} {to_come} {s} {taken} way a x t at not_yet may) can =
-    comes_back h returns are way (record {
-      rest = x ∷ can.rest;
-      by = puts_first (LockSteps h.limits) h.entries a (i ∷ to_come) s t taken x can.rest
-          (first_of_pending h.entries i a to_come taken at (pending h returns are way)) may can.by;
-    })
-
-none_after : (xs : List ℕ) (n : ℕ) → length xs ≤ n → drop n xs ≡ []
-none_after xs n same = empty (drop n xs) (omega (arith, length-drop n xs, same))
-  where
-    empty : (ys : List ℕ) → length ys ≡ 0 → ys ≡ []
-    empty [] h = refl
-    empty (y ∷ ys) h = absurd (omega arith)
-
--- a node with no return to come is the end of an order
-pub found_order : (h : ObservedHistory) (returns : List ℕ) (node : Node) → AreReturns h.entries returns →
-    IsReached h returns node → length returns ≤ node.past → IsExplained h
-found_order h returns node are reached all =
-    completed_from h returns are (comes_back h returns are
-    (subst (λ (to_come : List ℕ). Reaches h returns to_come reached.state reached.taken)
-    (none_after returns node.past all) reached.way)
-    (record { rest = []; by = completed_by_none (LockSteps h.limits) h.entries reached.state reached.taken }))
-
 -- what the search keeps
 pub record Searches (h : ObservedHistory) (returns : List ℕ) (looked : ℕ) (store : Store)
-    (waiting : List Node) : Type 0 where
+    (waiting : List ℕ) : Type 0 where
   pub keeps : Keeps store
   pub reached : (v : Node) → Contains store.nodes.items v → IsReached h returns v
-  pub waits : (v : Node) → Contains waiting v → Contains store.nodes.items v
-  pub loses : LosesNothing (Hope h returns) (Contains store.nodes.items) (Contains waiting)
-  pub first : Node
-  pub is_first : IsOpening h first
-  pub began : Contains store.nodes.items first
+  pub inside : All (λ (p : ℕ). p < length store.nodes.items) waiting
+  pub loses : LosesNothing (Hope h returns) (Contains store.nodes.items) (IsPlaced store.nodes.items waiting)
+  pub linked : AreLinked h returns store
   pub count : looked + length waiting ≡ length store.nodes.items
 
 -- the opening is a node that is reached, and hopes for any order
-opening_stands : (h : ObservedHistory) (returns : List ℕ) (node : Node) → IsOpening h node →
+pub opening_stands : (h : ObservedHistory) (returns : List ℕ) (node : Node) → IsOpening h node →
     StandsFor h returns node (opening h.width) []
 opening_stands h returns node is = record {
   at = is.at;
@@ -145,130 +98,272 @@ opening_reached h returns node is = record {
   way = subst (λ (n : ℕ). Reaches h returns (drop n returns) (opening h.width) []) (sym is.past) begins;
 }
 
-pub searches_first : (h : ObservedHistory) (returns : List ℕ) (old new : Store) (waiting : List Node) (node : Node)
-    → old.nodes.items ≡ [] → IsOpening h node → Enters old new [] waiting (node ∷ []) →
+contains_at : {X : Type 0} (xs : List X) (k : ℕ) (x : X) → slice_get xs k ≡ Some x → Contains xs x
+contains_at xs k x at = (k, slice_get_within xs k x at, get_or_from_slice_get xs k x x at)
+
+-- the node that comes next, of whose nodes it is
+named : (xs : List Next) (w : Node) → Contains (nodes_of xs) w → (x : Next) × (Contains xs x × (x.node ≡ w))
+named [] w has = absurd (none_in_empty w has)
+named (y ∷ xs) w has = by (contains_cases y.node (nodes_of xs) w has) (named xs w)
+  where
+    by : (y.node ≡ w) ⊎ Contains (nodes_of xs) w → (Contains (nodes_of xs) w → (x : Next) × (Contains xs x ×
+        (x.node ≡ w))) → (x : Next) × (Contains (y ∷ xs) x × (x.node ≡ w))
+    by (inl same) later = (y, (contains_first y xs y refl, same))
+    by (inr rest) later = let found : (x : Next) × (Contains xs x × (x.node ≡ w)) = later rest in
+        (found.0, (contains_rest y xs found.0 found.1.0, found.1.1))
+
+named_at : (xs : List Next) (j : ℕ) (w : Node) → slice_get (nodes_of xs) j ≡ Some w →
+    (x : Next) × ((slice_get xs j ≡ Some x) × (x.node ≡ w))
+named_at xs j w at = by (slice_get xs j) refl (sym (slice_get-map (λ (x : Next). x.node) xs j) ∙ at)
+  where
+    by : (o : Option Next) → slice_get xs j ≡ o → option_map (λ (x : Next). x.node) o ≡ Some w →
+        (x : Next) × ((slice_get xs j ≡ Some x) × (x.node ≡ w))
+    by None e h = absurd (none-some w h)
+    by (Some x) e h = (x, (e, same_Some x.node w h))
+
+pub searches_first : (h : ObservedHistory) (returns : List ℕ) (old new : Store) (waiting : List ℕ) (next : Next) →
+    old.nodes.items ≡ [] → IsOpening h next.node → Enters old new 0 [] waiting (next ∷ []) →
     Searches h returns 0 new waiting
-searches_first h returns old new waiting node empty is enters = record {
+searches_first h returns old new waiting next empty is enters = record {
   keeps = enters.keeps;
-  reached = λ v has. subst (IsReached h returns) (one v (subst (λ (ns : List Node). Contains ns v) all has))
-      (opening_reached h returns node is);
-  waits = λ v has. subst (λ (ns : List Node). Contains ns v) (enters.to_do ∙ sym all) has;
+  reached = λ v has. subst (IsReached h returns) (one v has) (opening_reached h returns next.node is);
+  inside = subst (All (λ (p : ℕ). p < length new.nodes.items)) (sym enters.to_do) enters.inside;
   loses = record {
     kept = λ u n seen hope. record {
       node = u;
       steps = n;
-      waiting =
-          subst (λ (ns : List Node). Contains ns u) (all ∙ sym enters.to_do) seen;
+      waiting = subst (λ (ps : List ℕ). IsPlaced new.nodes.items ps u) (sym enters.to_do)
+          (enters.placed u (subst (λ (ns : List Node). Contains ns u) all seen));
       no_more = omega arith;
       hope = hope;
     };
   };
-  first = node;
-  is_first = is;
-  began = enters.each 0 node one_there;
-  count = omega (arith, ap (λ (ns : List Node). length ns) (enters.to_do ∙ sym all));
-}
-  where
-    all : new.nodes.items ≡ enters.added
-    all = enters.nodes ∙ ap (λ (ns : List Node). ns ++ enters.added) empty
-
-    one_there : 0 < length (node ∷ [])
-    one_there = omega arith
-
-    one : (v : Node) → Contains enters.added v → node ≡ v
-    one v has = first_only (contains_cases node [] v (All-contains (Contains (node ∷ [])) enters.added v
-        enters.among has))
-      where
-        first_only : (node ≡ v) ⊎ Contains [] v → node ≡ v
-        first_only (inl e) = e
-        first_only (inr none) = absurd (none_in_empty v none)
-
-pub searches_more : (h : ObservedHistory) (returns : List ℕ) (looked : ℕ) (old new : Store)
-    (before popped after nexts : List Node) (v : Node) → Searches h returns looked old before →
-    before ≡ popped ++ v ∷ [] → Expands h returns v nexts → Enters old new popped after nexts →
-    Searches h returns (looked + 1) new after
-searches_more h returns looked old new before popped after nexts v is split expands enters = record {
-  keeps = enters.keeps;
-  reached = λ w has. reached w (Contains-append_cases old.nodes.items enters.added w
-      (subst (λ (ns : List Node). Contains ns w) enters.nodes has));
-  waits = λ w has. waits w (Contains-append_cases popped enters.added w
-      (subst (λ (ns : List Node). Contains ns w) enters.to_do has));
-  loses = record {
-    kept = λ u n seen hope. turned (kept.kept u n
-        (Contains-append_cases old.nodes.items enters.added u
-        (subst (λ (ns : List Node). Contains ns u) enters.nodes seen)) hope);
+  linked = record {
+    first = next.node;
+    is_first = is;
+    at_first = at_first;
+    each = λ k v lt at. absurd (enters.keeps.different 0 k v lt (slice_get_within new.nodes.items k v at)
+        (at_place 0 v inside ∙ sym (at_place k v (slice_get_within new.nodes.items k v at))));
   };
-  first = is.first;
-  is_first = is.is_first;
-  began = more is.first is.began;
   count = omega (
     arith,
-    is.count,
-    ap (λ (ns : List Node). length ns) enters.nodes,
-    ap (λ (ns : List Node). length ns) enters.to_do,
-    ap (λ (ns : List Node). length ns) split,
-    length-append old.nodes.items enters.added,
-    length-append popped enters.added,
-    length-append popped (v ∷ []),
+    ap (λ (ns : List Node). length ns) all,
+    length-map enters.added (λ (w : Next). w.node),
+    enters.many,
+    ap (λ (ps : List ℕ). length ps) enters.to_do,
   );
 }
   where
-    more : (w : Node) → Contains old.nodes.items w → Contains new.nodes.items w
-    more w has = subst (λ (ns : List Node). Contains ns w) (sym enters.nodes)
-        (Contains-append_left old.nodes.items enters.added w has)
+    all : new.nodes.items ≡ nodes_of enters.added
+    all = enters.nodes ∙ ap (λ (ns : List Node). ns ++ nodes_of enters.added) empty
 
-    added : (w : Node) → Contains enters.added w → Contains new.nodes.items w
-    added w has = subst (λ (ns : List Node). Contains ns w) (sym enters.nodes)
-        (Contains-append_right old.nodes.items enters.added w has)
+    one_next : (w : Next) → Contains enters.added w → next ≡ w
+    one_next w has = first_only (contains_cases next [] w (All-contains (Contains (next ∷ [])) enters.added w
+        enters.among has))
+      where
+        first_only : (next ≡ w) ⊎ Contains [] w → next ≡ w
+        first_only (inl e) = e
+        first_only (inr none) = absurd (none_in_empty w none)
 
-    reached : (w : Node) → Contains old.nodes.items w ⊎ Contains enters.added w → IsReached h returns w
+    one : (v : Node) → Contains new.nodes.items v → next.node ≡ v
+    one v has = let found : (x : Next) × (Contains enters.added x × (x.node ≡ v)) =
+        named enters.added v (subst (λ (ns : List Node). Contains ns v) all has) in
+        ap (λ (w : Next). w.node) (one_next found.0 found.1.0) ∙ found.1.1
+
+    at_place : (k : ℕ) (d : Node) → k < length new.nodes.items → get_or new.nodes.items k d ≡ next.node
+    at_place k d lt = sym (one (get_or new.nodes.items k d) (Contains-get_or new.nodes.items k d lt))
+
+    some_in : (xs : List Node) → Contains xs next.node → 0 < length xs
+    some_in xs (k, lt, e) = omega (arith, lt)
+
+    inside : 0 < length new.nodes.items
+    inside = some_in new.nodes.items (enters.each next (contains_first next [] next refl))
+
+    at_first : slice_get new.nodes.items 0 ≡ Some next.node
+    at_first = slice_get-get_or new.nodes.items 0 next.node inside ∙
+        ap (λ (v : Node). Some v) (at_place 0 next.node inside)
+
+-- the node is one of those that come next
+abbrev Comes : List Next → Node → Type 0
+Comes nexts w = (x : Next) × (Contains nexts x × (x.node ≡ w))
+
+pub searches_more : (h : ObservedHistory) (returns : List ℕ) (looked : ℕ) (old new : Store)
+    (before popped after : List ℕ) (nexts : List Next) (place : ℕ) (v : Node) →
+    Searches h returns looked old before → before ≡ popped ++ place ∷ [] →
+    slice_get old.nodes.items place ≡ Some v → Expands h returns v nexts →
+    Enters old new place popped after nexts → Searches h returns (looked + 1) new after
+searches_more h returns looked old new before popped after nexts place v is split at expands enters = record {
+  keeps = enters.keeps;
+  reached = λ w has. reached w (Contains-append_cases old.nodes.items (nodes_of enters.added) w
+      (subst (λ (ns : List Node). Contains ns w) enters.nodes has));
+  inside = subst (All (λ (p : ℕ). p < length new.nodes.items)) (sym enters.to_do)
+      (All-append (λ (p : ℕ). p < length new.nodes.items) popped enters.places
+      (All-weaker (Contains popped) (λ (p : ℕ). p < length new.nodes.items)
+      (λ p has. omega (arith, longer, popped_less p has)) popped (All-contains_itself popped)) enters.inside);
+  loses = record {
+    kept = λ u n seen hope. turned (kept.kept u n
+        (Contains-append_cases old.nodes.items (nodes_of enters.added) u
+        (subst (λ (ns : List Node). Contains ns u) enters.nodes seen)) hope);
+  };
+  linked = record {
+    first = is.linked.first;
+    is_first = is.linked.is_first;
+    at_first = more 0 is.linked.first is.linked.at_first;
+    each = λ k w lt here. linked k w lt here (below k);
+  };
+  count = omega (
+    arith,
+    is.count,
+    longer,
+    enters.many,
+    ap (λ (ps : List ℕ). length ps) enters.to_do,
+    ap (λ (ps : List ℕ). length ps) split,
+    length-append popped enters.places,
+    length-append popped (place ∷ []),
+  );
+}
+  where
+    longer : length new.nodes.items ≡ length old.nodes.items + length enters.added
+    longer = omega (
+      arith,
+      ap (λ (ns : List Node). length ns) enters.nodes,
+      length-append old.nodes.items (nodes_of enters.added),
+      length-map enters.added (λ (w : Next). w.node),
+    )
+
+    popped_less : (p : ℕ) → Contains popped p → p < length old.nodes.items
+    popped_less p has = All-contains (λ (q : ℕ). q < length old.nodes.items) before p is.inside
+        (subst (λ (ps : List ℕ). Contains ps p) (sym split) (Contains-append_left popped (place ∷ []) p has))
+
+    more : (k : ℕ) (w : Node) → slice_get old.nodes.items k ≡ Some w → slice_get new.nodes.items k ≡ Some w
+    more k w here = ap (λ (ns : List Node). slice_get ns k) enters.nodes ∙
+        read_left old.nodes.items (nodes_of enters.added) k w here
+
+    v_reached : IsReached h returns v
+    v_reached = is.reached v (contains_at old.nodes.items place v at)
+
+    led : (x : Next) → Contains enters.added x → Leads h returns v x
+    led x has = expands.each x (All-contains (Contains nexts) enters.added x enters.among has)
+
+    reached : (w : Node) → Contains old.nodes.items w ⊎ Contains (nodes_of enters.added) w → IsReached h returns w
     reached w (inl has) = is.reached w has
-    reached w (inr has) = expands.reached w (All-contains (Contains nexts) enters.added w enters.among has)
+    reached w (inr has) = let found : (x : Next) × (Contains enters.added x × (x.node ≡ w)) =
+        named enters.added w has in
+        subst (IsReached h returns) found.1.1 (leads_reached h returns v found.0 v_reached
+        (led found.0 found.1.0))
 
-    waits : (w : Node) → Contains popped w ⊎ Contains enters.added w → Contains new.nodes.items w
-    waits w (inl has) = more w (is.waits w (subst (λ (ns : List Node). Contains ns w) (sym split)
-        (Contains-append_left popped (v ∷ []) w has)))
-    waits w (inr has) = added w has
+    below : (k : ℕ) → (k < length old.nodes.items) ⊎ (length old.nodes.items ≤ k)
+    below k = grind arith
 
-    either : (w : Node) → Contains popped w ⊎ (v ≡ w) → (w ≡ v) ⊎ Contains popped w
-    either w (inl has) = inr has
-    either w (inr same) = inl (sym same)
+    linked : (k : ℕ) (w : Node) → 0 < k → slice_get new.nodes.items k ≡ Some w →
+        (k < length old.nodes.items) ⊎ (length old.nodes.items ≤ k) → IsLinkedAt h returns new k w
+    linked k w lt here (inl less) =
+        let d : Node = get_or old.nodes.items k w in
+        let was : slice_get old.nodes.items k ≡ Some d = slice_get-get_or old.nodes.items k w less in
+        let same : d ≡ w = same_Some d w (sym (more k d was) ∙ here) in
+        let link : IsLinkedAt h returns old k w = is.linked.each k w lt (was ∙ ap (λ (x : Node). Some x) same) in
+        record {
+          origin = link.origin;
+          is_origin = ap (λ (os : List Origin). slice_get os k) enters.origins ∙
+              read_left old.origins.items (origins_of place enters.added) k link.origin link.is_origin;
+          sooner = link.sooner;
+          node = link.node;
+          is_node = more link.origin.from link.node link.is_node;
+          reached = link.reached;
+          leads = link.leads;
+        }
+    linked k w lt here (inr past) =
+        let j : ℕ = k - length old.nodes.items in
+        let k_is : k ≡ length old.nodes.items + j = omega arith in
+        let origin_place : k ≡ length old.origins.items + j = omega (arith, is.keeps.origins) in
+        let read : slice_get (nodes_of enters.added) j ≡ Some w =
+        sym (read_right old.nodes.items (nodes_of enters.added) j) ∙
+        ap (λ (n : ℕ). slice_get (old.nodes.items ++ nodes_of enters.added) n) (sym k_is) ∙
+        ap (λ (ns : List Node). slice_get ns k) (sym enters.nodes) ∙ here in
+        let found : (x : Next) × ((slice_get enters.added j ≡ Some x) × (x.node ≡ w)) =
+        named_at enters.added j w read in
+        let x : Next = found.0 in
+        record {
+          origin = record { from = place; took = x.took };
+          is_origin = ap (λ (os : List Origin). slice_get os k) enters.origins ∙
+              ap (λ (n : ℕ). slice_get (old.origins.items ++ origins_of place enters.added) n) origin_place ∙
+              read_right old.origins.items (origins_of place enters.added) j ∙
+              slice_get-map (λ (y : Next). record { from = place; took = y.took }) enters.added j ∙
+              ap (λ (o : Option Next). option_map (λ (y : Next). record { from = place; took = y.took }) o)
+              found.1.0;
+          sooner = omega (arith, past, slice_get_within old.nodes.items place v at);
+          node = v;
+          is_node = more place v at;
+          reached = v_reached;
+          leads = subst (λ (u : Node). Leads h returns v (record { node = u; took = x.took })) found.1.1
+              (led x (contains_at enters.added j x found.1.0));
+        }
 
-    had : LosesNothing (Hope h returns) (Contains old.nodes.items) (λ (w : Node). (w ≡ v) ⊎ Contains popped w)
+    either : (w : Node) → IsPlaced old.nodes.items before w → (w ≡ v) ⊎ IsPlaced old.nodes.items popped w
+    either w placed = which (Contains-push_cases popped place placed.place
+        (subst (λ (ps : List ℕ). Contains ps placed.place) split placed.among))
+      where
+        which : Contains popped placed.place ⊎ (place ≡ placed.place) →
+            (w ≡ v) ⊎ IsPlaced old.nodes.items popped w
+        which (inl has) = inr (record { place = placed.place; among = has; is_node = placed.is_node })
+        which (inr same) = inl (same_Some w v (sym placed.is_node ∙
+            ap (λ (p : ℕ). slice_get old.nodes.items p) (sym same) ∙ at))
+
+    had : LosesNothing (Hope h returns) (Contains old.nodes.items) (λ (w : Node). (w ≡ v) ⊎
+        IsPlaced old.nodes.items popped w)
     had = record {
       kept = λ u n seen hope.
-          let w : Waits (Hope h returns) (Contains before) n = is.loses.kept u n seen hope in
+          let w : Waits (Hope h returns) (IsPlaced old.nodes.items before) n = is.loses.kept u n seen hope in
           record {
             node = w.node;
             steps = w.steps;
-            waiting = either w.node
-                (Contains-push_cases popped v w.node (subst (λ (ns : List Node). Contains ns w.node) split w.waiting));
+            waiting = either w.node w.waiting;
             no_more = w.no_more;
             hope = w.hope;
           };
     }
 
-    follows : (n : ℕ) → Hope h returns v n → Follows (Hope h returns) (Contains nexts) n
+    follows : (n : ℕ) → Hope h returns v n → Follows (Hope h returns) (Comes nexts) n
     follows n hope =
         let on : GoesOn h returns nexts n = expands.whole n hope in
-        record { node = on.node; steps = on.left; next = on.among; fewer = omega (arith, on.fewer); hope = on.hope }
+        record {
+          node = on.next.node;
+          steps = on.left;
+          next = (on.next, (on.among, refl));
+          fewer = omega (arith, on.fewer);
+          hope = on.hope;
+        }
 
-    kept : LosesNothing (Hope h returns) (λ (w : Node). Contains old.nodes.items w ⊎ Contains enters.added w)
-        (λ (w : Node). Contains enters.added w ⊎ Contains popped w)
-    kept = node_kept (Hope h returns) (Contains old.nodes.items) (Contains popped) (Contains nexts)
-        (Contains enters.added) v had follows
-        (λ w next. Contains-append_cases old.nodes.items enters.added w
+    known : (w : Node) → Comes nexts w → Contains old.nodes.items w ⊎ Contains (nodes_of enters.added) w
+    known w (x, (has, same)) = Contains-append_cases old.nodes.items (nodes_of enters.added) w
         (subst (λ (ns : List Node). Contains ns w) enters.nodes
-        (All-contains (Contains new.nodes.items) nexts w enters.each next)))
+        (subst (λ (u : Node). Contains new.nodes.items u) same (enters.each x has)))
 
-    back : (w : Node) → Contains enters.added w ⊎ Contains popped w → Contains after w
-    back w (inl has) = subst (λ (ns : List Node). Contains ns w) (sym enters.to_do)
-        (Contains-append_right popped enters.added w has)
-    back w (inr has) = subst (λ (ns : List Node). Contains ns w) (sym enters.to_do)
-        (Contains-append_left popped enters.added w has)
+    kept : LosesNothing (Hope h returns) (λ (w : Node). Contains old.nodes.items w ⊎
+        Contains (nodes_of enters.added) w) (λ (w : Node). Contains (nodes_of enters.added) w ⊎
+        IsPlaced old.nodes.items popped w)
+    kept = node_kept (Hope h returns) (Contains old.nodes.items) (IsPlaced old.nodes.items popped) (Comes nexts)
+        (Contains (nodes_of enters.added)) v had follows known
 
-    turned : {n : ℕ} → Waits (Hope h returns) (λ (w : Node). Contains enters.added w ⊎ Contains popped w) n →
-        Waits (Hope h returns) (Contains after) n
+    back : (w : Node) → Contains (nodes_of enters.added) w ⊎ IsPlaced old.nodes.items popped w →
+        IsPlaced new.nodes.items after w
+    back w (inl has) =
+        let placed : IsPlaced new.nodes.items enters.places w = enters.placed w has in
+        record {
+          place = placed.place;
+          among = subst (λ (ps : List ℕ). Contains ps placed.place) (sym enters.to_do)
+              (Contains-append_right popped enters.places placed.place placed.among);
+          is_node = placed.is_node;
+        }
+    back w (inr placed) = record {
+      place = placed.place;
+      among = subst (λ (ps : List ℕ). Contains ps placed.place) (sym enters.to_do)
+          (Contains-append_left popped enters.places placed.place placed.among);
+      is_node = more placed.place w placed.is_node;
+    }
+
+    turned : {n : ℕ} → Waits (Hope h returns) (λ (w : Node). Contains (nodes_of enters.added) w ⊎
+        IsPlaced old.nodes.items popped w) n → Waits (Hope h returns) (IsPlaced new.nodes.items after) n
     turned w = record {
       node = w.node;
       steps = w.steps;
@@ -279,24 +374,25 @@ searches_more h returns looked old new before popped after nexts v is split expa
     }
 
 -- where none waits, no order explains the history
-pub found_nothing : (h : ObservedHistory) (returns : List ℕ) (looked : ℕ) (store : Store) (waiting : List Node) →
+pub found_nothing : (h : ObservedHistory) (returns : List ℕ) (looked : ℕ) (store : Store) (waiting : List ℕ) →
     AreReturns h.entries returns → Searches h returns looked store waiting → waiting ≡ [] → ¬ IsExplained h
 found_nothing h returns looked store waiting are is none explained =
-    none_left (Hope h returns) (Contains store.nodes.items) (Contains waiting) is.loses
-    (λ w has. none_in_empty w (subst (λ (ns : List Node). Contains ns w) none has)) is.first
-    (length (drop is.first.past returns) + length explained.order) is.began
+    none_left (Hope h returns) (Contains store.nodes.items) (IsPlaced store.nodes.items waiting) is.loses
+    (λ w placed. none_in_empty placed.place (subst (λ (ps : List ℕ). Contains ps placed.place) none placed.among))
+    is.linked.first (length (drop is.linked.first.past returns) + length explained.order)
+    (contains_at store.nodes.items 0 is.linked.first is.linked.at_first)
     (record {
       state = opening h.width;
       taken = [];
-      stands = opening_stands h returns is.first is.is_first;
+      stands = opening_stands h returns is.linked.first is.linked.is_first;
       rest = explained.order;
       by = subst (λ (n : ℕ). IsCompletedBy (LockSteps h.limits) h.entries (drop n returns) (opening h.width) []
-          explained.order) (sym is.is_first.past) (explained_by h returns are explained);
+          explained.order) (sym is.linked.is_first.past) (explained_by h returns are explained);
       steps = refl;
     })
 
 -- so many configurations were looked at
-pub found_many : (h : ObservedHistory) (returns : List ℕ) (most looked : ℕ) (store : Store) (waiting : List Node) →
+pub found_many : (h : ObservedHistory) (returns : List ℕ) (most looked : ℕ) (store : Store) (waiting : List ℕ) →
     Searches h returns looked store waiting → most ≤ looked → AreReached h returns most
 found_many h returns most looked store waiting is all = record {
   nodes = store.nodes.items;
@@ -306,12 +402,28 @@ found_many h returns most looked store waiting is all = record {
   many = omega (arith, is.count, all);
 }
 
-pub popped_reached : (h : ObservedHistory) (returns : List ℕ) (looked : ℕ) (store : Store)
-    (before popped : List Node) (v : Node) → Searches h returns looked store before → before ≡ popped ++ v ∷ [] →
-    IsReached h returns v
-popped_reached h returns looked store before popped v is split =
-    is.reached v (is.waits v (subst (λ (ns : List Node). Contains ns v) (sym split) (Contains-push popped v)))
+pub popped_inside : (h : ObservedHistory) (returns : List ℕ) (looked : ℕ) (store : Store) (before popped : List ℕ)
+    (place : ℕ) → Searches h returns looked store before → before ≡ popped ++ place ∷ [] →
+    place < length store.nodes.items
+popped_inside h returns looked store before popped place is split =
+    All-contains (λ (p : ℕ). p < length store.nodes.items) before place is.inside
+    (subst (λ (ps : List ℕ). Contains ps place) (sym split) (Contains-push popped place))
 
-pub nil_of_length : (xs : List Node) → length xs ≡ 0 → xs ≡ []
+-- what is popped is the place of a node that is reached
+pub popped_node : (h : ObservedHistory) (returns : List ℕ) (looked : ℕ) (store : Store) (before popped : List ℕ)
+    (place : ℕ) (v : Node) → Searches h returns looked store before → before ≡ popped ++ place ∷ [] →
+    v ≡ get_or store.nodes.items place v → slice_get store.nodes.items place ≡ Some v
+popped_node h returns looked store before popped place v is split read =
+    slice_get_read store.nodes.items (length store.nodes.items) place v refl
+    (popped_inside h returns looked store before popped place is split) read
+
+pub popped_reached : (h : ObservedHistory) (returns : List ℕ) (looked : ℕ) (store : Store)
+    (before popped : List ℕ) (place : ℕ) (v : Node) → Searches h returns looked store before →
+    before ≡ popped ++ place ∷ [] → v ≡ get_or store.nodes.items place v → IsReached h returns v
+popped_reached h returns looked store before popped place v is split read =
+    is.reached v (contains_at store.nodes.items place v
+    (popped_node h returns looked store before popped place v is split read))
+
+pub nil_of_length : (xs : List ℕ) → length xs ≡ 0 → xs ≡ []
 nil_of_length [] h = refl
 nil_of_length (x ∷ xs) h = absurd (omega arith)

@@ -1,13 +1,14 @@
 -- An order gives points: each call takes effect at the largest beginning up to it, and those of one position
 -- follow one another there.
 use Rattle.std.proofs.Common.{◌≡◌, ◌≢◌, ◌⊎◌, ℕ, ◌+◌, ◌*◌, ◌<◌, ◌≤◌, zero, suc, List, [], ◌∷◌, length, get_or}
-use Rattle.std.proofs.Common.{refl, sym, ◌∙◌, ap, subst, inl, inr, arith, Option, None, Some}
-use Rattle.std.specs.Prelude.{MatchOption}
+use Rattle.std.proofs.Common.{refl, sym, ◌∙◌, ap, subst, inl, inr, arith, Option, None, Some, Bool, true, false}
+use Rattle.std.specs.Prelude.{MatchOption, nat_lt, max, if◌then◌else◌}
 use Rattle.std.specs.List.{All, AllPairs, AllZip, AllAdjacentBelow, Contains}
 use Rattle.std.proofs.lemmas.List.Elements.{All-nil, All-cons, All-head, All-tail, All-weaker, All-map}
 use Rattle.std.proofs.lemmas.List.Elements.{Contains-get_or}
 use Rattle.std.proofs.lemmas.Option.{get_or_from_slice_get, slice_get_within}
 use Rattle.std.proofs.lemmas.Bool.{cases_lt, cases_order}
+use Rattle.std.proofs.lemmas.Bool.Decides.{nat_tests}
 use Rattle.stamp_core.specs.History.{History, IsLegal}
 use Rattle.stamp_core.specs.Record.{recorded}
 use Rattle.stamp_core.specs.Linearized.{IsWithin, KeepsThreadOrder, IsLinearized, history_of as entries_history}
@@ -19,42 +20,33 @@ use Rattle.stamp_explain.specs.declared.observed.Returned.{Returned}
 use Rattle.stamp_explain.specs.Observed.{ObservedHistory, IsBefore, IsInterval, DoNotOverlap, IsObserved}
 use Rattle.stamp_explain.specs.Explained.{Effect, IsEffectOf, history_of, indices_of, AreApart, RespectsBefore}
 use Rattle.stamp_explain.specs.Explained.{IsExplainedBy}
-use Rattle.stamp_explain.specs.Points.{IsEntryOf, IsRecordOf}
+use Rattle.stamp_explain.specs.Points.{IsEntryOf, IsRecordOf, entry_at, ends_at, position_at, there_at}
 use Rattle.stamp_explain.specs.ExplainLaws.{ExplainedHasPoints}
 use Rattle.stamp_explain.proofs.Lists.{none_in_empty, contains_cases, pairs_none, pairs_cons, pairs_head, pairs_tail}
 use Rattle.stamp_explain.proofs.Threads.{few_threads}
 
--- the last moment of a call; one that is under way has that of the position where it takes effect
-abbrev ends_at : Option Returned → ℕ → ℕ
-ends_at None q = 64 * q + 63
-ends_at (Some r) q = 64 * r.last + 63
+-- the points of an order, where so many calls took effect at this position
+abbrev pub points_from : ℕ → ℕ → ℕ → List Effect → List Entry
+points_from end q n [] = []
+points_from end q n (x ∷ xs) =
+    entry_at x.entry x.reply end (64 * position_at q x.entry.first + there_at q n x.entry.first) ∷
+    points_from end (position_at q x.entry.first) (there_at q n x.entry.first + 1) xs
 
-abbrev entry_at : Effect → ℕ → ℕ → Entry
-entry_at x q p = record {
-  thread = x.entry.thread;
-  call = x.entry.call;
-  reply = x.reply;
-  first = 64 * x.entry.first;
-  point = p;
-  last = ends_at x.entry.returned q;
-}
-
-record IsSpreadOf (x : Effect) (e : Entry) : Type 0 where
+pub record IsSpreadOf (x : Effect) (e : Entry) : Type 0 where
   thread : e.thread ≡ x.entry.thread
   call : e.call ≡ x.entry.call
   reply : e.reply ≡ x.reply
   first : e.first ≡ 64 * x.entry.first
   last : MatchOption x.entry.returned (Unit {0}) (λ (r : Returned). e.last ≡ 64 * r.last + 63)
 
-spread_at : (x : Effect) (q p : ℕ) → IsSpreadOf x (entry_at x q p)
-spread_at x q p = record { thread = refl; call = refl; reply = refl; first = refl; last = by x.entry.returned }
+spread_at : (x : Effect) (end p : ℕ) → IsSpreadOf x (entry_at x.entry x.reply end p)
+spread_at x end p = record { thread = refl; call = refl; reply = refl; first = refl; last = by x.entry.returned }
   where
-    by : (o : Option Returned) → MatchOption o (Unit {0}) (λ (r : Returned). ends_at o q ≡ 64 * r.last + 63)
+    by : (o : Option Returned) → MatchOption o (Unit {0}) (λ (r : Returned). ends_at o end ≡ 64 * r.last + 63)
     by None = tt
     by (Some r) = refl
 
-record Spread (low : ℕ) (xs : List Effect) : Type 0 where
-  entries : List Entry
+pub record Spread (low : ℕ) (xs : List Effect) (entries : List Entry) : Type 0 where
   of : AllZip IsSpreadOf xs entries
   within : All IsWithin entries
   above : All (λ (e : Entry). low ≤ e.point) entries
@@ -69,32 +61,32 @@ adjacent_cons e es later rising (suc k) d lt =
     let more : k + 1 < length es = omega arith in
     subst (λ (n : ℕ). (get_or es k d).point < (get_or (e ∷ es) n d).point) same (rising k d more)
 
-spread_cons : (low q p : ℕ) (x : Effect) (xs : List Effect) → low ≤ p → IsWithin (entry_at x q p) →
-    Spread (p + 1) xs → Spread low (x ∷ xs)
-spread_cons low q p x xs le within left = record {
-  entries = entry_at x q p ∷ left.entries;
-  of = (spread_at x q p, left.of);
-  within = All-cons IsWithin (entry_at x q p) left.entries within left.within;
-  above = All-cons (λ (e : Entry). low ≤ e.point) (entry_at x q p) left.entries le
-      (All-weaker (λ (e : Entry). p + 1 ≤ e.point) (λ (e : Entry). low ≤ e.point) (λ e h. omega arith) left.entries
+spread_cons : (low end p : ℕ) (x : Effect) (xs : List Effect) (entries : List Entry) → low ≤ p →
+    IsWithin (entry_at x.entry x.reply end p) → Spread (p + 1) xs entries →
+    Spread low (x ∷ xs) (entry_at x.entry x.reply end p ∷ entries)
+spread_cons low end p x xs entries le within left = record {
+  of = (spread_at x end p, left.of);
+  within = All-cons IsWithin (entry_at x.entry x.reply end p) entries within left.within;
+  above = All-cons (λ (e : Entry). low ≤ e.point) (entry_at x.entry x.reply end p) entries le
+      (All-weaker (λ (e : Entry). p + 1 ≤ e.point) (λ (e : Entry). low ≤ e.point) (λ e h. omega arith) entries
       left.above);
-  rising = adjacent_cons (entry_at x q p) left.entries (All-weaker (λ (e : Entry). p + 1 ≤ e.point)
-      (λ (e : Entry). p < e.point) (λ e h. omega arith) left.entries left.above) left.rising;
+  rising = adjacent_cons (entry_at x.entry x.reply end p) entries (All-weaker (λ (e : Entry). p + 1 ≤ e.point)
+      (λ (e : Entry). p < e.point) (λ e h. omega arith) entries left.above) left.rising;
 }
 
 -- the call had not returned before this position
-abbrev IsNotOver : ℕ → Observation → Type 0
+abbrev pub IsNotOver : ℕ → Observation → Type 0
 IsNotOver q e = MatchOption e.returned (Unit {0}) (λ (r : Returned). q ≤ r.last)
 
 -- a call that had begun by this position is of none of these threads
-abbrev IsFree : ℕ → List ℕ → Effect → Type 0
+abbrev pub IsFree : ℕ → List ℕ → Effect → Type 0
 IsFree q ts y = y.entry.first ≤ q → ¬ Contains ts y.entry.thread
 
-record IsKnown (x : Effect) : Type 0 where
+pub record IsKnown (x : Effect) : Type 0 where
   interval : IsInterval x.entry
   thread : x.entry.thread < 64
 
-record AreRight (x y : Effect) : Type 0 where
+pub record AreRight (x y : Effect) : Type 0 where
   respects : RespectsBefore x y
   overlap : DoNotOverlap x.entry y.entry
 
@@ -118,93 +110,202 @@ not_over a b misses = by b.returned misses
         which (inl less) = absurd (misses less)
         which (inr le) = le
 
-ended : (o : Option Returned) (q p : ℕ) → MatchOption o (Unit {0}) (λ (r : Returned). q ≤ r.last) → p ≤ 64 * q + 63 →
-    p ≤ ends_at o q
-ended None q p over le = le
-ended (Some r) q p over le = omega arith
+ended : (o : Option Returned) (q p end : ℕ) → MatchOption o (Unit {0}) (λ (r : Returned). q ≤ r.last) → q ≤ end →
+    p ≤ 64 * q + 63 → p ≤ ends_at o end
+ended None q p end over most le = omega (arith, most, le)
+ended (Some r) q p end over most le = omega (arith, over, le)
 
 not_in : (ts : List ℕ) (t : ℕ) → ¬ Contains ts t → All (λ (u : ℕ). t ≢ u) ts
 not_in ts t misses = λ k d lt e. misses (subst (λ (u : ℕ). Contains ts u) (sym e) (Contains-get_or ts k d lt))
 
-spread : (q : ℕ) (ts : List ℕ) (xs : List Effect) → All IsKnown xs → AllPairs AreRight xs →
-    All (λ (y : Effect). IsNotOver q y.entry) xs → All (IsFree q ts) xs → AllPairs (λ (a b : ℕ). a ≢ b) ts →
-    All (λ (a : ℕ). a < 64) ts → Spread (64 * q + length ts) xs
-spread q ts [] known right over free differ below = record {
-  entries = [];
-  of = tt;
-  within = All-nil IsWithin;
-  above = All-nil (λ (e : Entry). 64 * q + length ts ≤ e.point);
-  rising = λ k d lt. absurd (omega arith);
-}
-spread q ts (x ∷ xs) known right over free differ below =
-    by (cases_lt q x.entry.first) (λ (p : ℕ) (us : List ℕ). spread p us xs (All-tail IsKnown x xs known)
-    (pairs_tail AreRight x xs right))
+-- an order whose calls can take effect from this position on, where those of these threads took effect
+pub record IsReady (end q : ℕ) (ts : List ℕ) (xs : List Effect) : Type 0 where
+  pub known : All IsKnown xs
+  pub right : AllPairs AreRight xs
+  pub over : All (λ (y : Effect). IsNotOver q y.entry) xs
+  pub free : All (IsFree q ts) xs
+  pub begun : All (λ (y : Effect). y.entry.first ≤ end) xs
+  pub reached : q ≤ end
+  pub differ : AllPairs (λ (a b : ℕ). a ≢ b) ts
+  pub below : All (λ (a : ℕ). a < 64) ts
+
+-- the first of them takes effect, and the others can
+pub record TakesEffect (end q n : ℕ) (x : Effect) (xs : List Effect) : Type 0 where
+  pub threads : List ℕ
+  pub ready : IsReady end (position_at q x.entry.first) threads xs
+  pub many : length threads ≡ there_at q n x.entry.first + 1
+  pub few : there_at q n x.entry.first < 64
+  pub low : 64 * q + n ≤ 64 * position_at q x.entry.first + there_at q n x.entry.first
+  pub within : IsWithin (entry_at x.entry x.reply end (64 * position_at q x.entry.first +
+      there_at q n x.entry.first))
+
+-- a later position, or this one
+position_beyond : (q f : ℕ) → q < f → position_at q f ≡ f
+position_beyond q f lt = by (nat_lt q f) (grind (arith, nat_tests))
   where
-    t : ℕ
-    t = x.entry.thread
+    by : (b : Bool) → b ≡ true → (if b then f else q) ≡ f
+    by true h = refl
+    by false h = absurd (grind arith)
+
+there_beyond : (q n f : ℕ) → q < f → there_at q n f ≡ 0
+there_beyond q n f lt = by (nat_lt q f) (grind (arith, nat_tests))
+  where
+    by : (b : Bool) → b ≡ true → (if b then 0 else n) ≡ 0
+    by true h = refl
+    by false h = absurd (grind arith)
+
+position_here : (q f : ℕ) → f ≤ q → position_at q f ≡ q
+position_here q f le = by (nat_lt q f) (grind (arith, nat_tests))
+  where
+    by : (b : Bool) → b ≡ false → (if b then f else q) ≡ q
+    by false h = refl
+    by true h = absurd (grind arith)
+
+there_here : (q n f : ℕ) → f ≤ q → there_at q n f ≡ n
+there_here q n f le = by (nat_lt q f) (grind (arith, nat_tests))
+  where
+    by : (b : Bool) → b ≡ false → (if b then 0 else n) ≡ n
+    by false h = refl
+    by true h = absurd (grind arith)
+
+takes_beyond : (end q : ℕ) (ts : List ℕ) (x : Effect) (xs : List Effect) → IsReady end q ts (x ∷ xs) →
+    q < x.entry.first → TakesEffect end q (length ts) x xs
+takes_beyond end q ts x xs is beyond = record {
+  threads = x.entry.thread ∷ [];
+  ready = subst (λ (p : ℕ). IsReady end p (x.entry.thread ∷ []) xs) (sym at) (record {
+    known = All-tail IsKnown x xs is.known;
+    right = pairs_tail AreRight x xs is.right;
+    over = All-weaker (AreRight x) (λ (y : Effect). IsNotOver x.entry.first y.entry)
+        (λ y r. not_over x.entry y.entry r.respects) xs later;
+    free = All-weaker (AreRight x) (IsFree x.entry.first (x.entry.thread ∷ []))
+        (λ y r le has. alone y r le (contains_cases x.entry.thread [] y.entry.thread has)) xs later;
+    begun = All-tail (λ (y : Effect). y.entry.first ≤ end) x xs is.begun;
+    reached = most;
+    differ = pairs_cons (λ (a b : ℕ). a ≢ b) x.entry.thread [] (All-nil (λ (b : ℕ). x.entry.thread ≢ b))
+        (pairs_none (λ (a b : ℕ). a ≢ b));
+    below = All-cons (λ (a : ℕ). a < 64) x.entry.thread [] it.thread (All-nil (λ (a : ℕ). a < 64));
+  });
+  many = omega (arith, none);
+  few = omega (arith, none);
+  low = omega (arith, at, none, few, beyond);
+  within = record {
+    begun = omega (arith, at, none);
+    ended = ended x.entry.returned x.entry.first (64 * position_at q x.entry.first +
+        there_at q (length ts) x.entry.first) end it.interval most (omega (arith, at, none));
+  };
+}
+  where
+    at : position_at q x.entry.first ≡ x.entry.first
+    at = position_beyond q x.entry.first beyond
+
+    none : there_at q (length ts) x.entry.first ≡ 0
+    none = there_beyond q (length ts) x.entry.first beyond
 
     it : IsKnown x
-    it = All-head IsKnown x xs known
+    it = All-head IsKnown x xs is.known
 
     later : All (AreRight x) xs
-    later = pairs_head AreRight x xs right
+    later = pairs_head AreRight x xs is.right
 
-    by : (q < x.entry.first) ⊎ (x.entry.first ≤ q) → ((p : ℕ) (us : List ℕ) →
-        All (λ (y : Effect). IsNotOver p y.entry) xs → All (IsFree p us) xs → AllPairs (λ (a b : ℕ). a ≢ b) us →
-        All (λ (a : ℕ). a < 64) us → Spread (64 * p + length us) xs) → Spread (64 * q + length ts) (x ∷ xs)
-    by (inl beyond) again =
-        let few : length ts ≤ 64 = few_threads ts 64 differ below in
-        let left : Spread (64 * x.entry.first + 1) xs = again x.entry.first (x.entry.thread ∷ [])
-        (All-weaker (AreRight x) (λ (y : Effect). IsNotOver x.entry.first y.entry)
-        (λ y r. not_over x.entry y.entry r.respects) xs later)
-        (All-weaker (AreRight x) (IsFree x.entry.first (x.entry.thread ∷ []))
-        (λ y r le has. alone y r le (contains_cases x.entry.thread [] y.entry.thread has)) xs later)
-        (pairs_cons (λ (a b : ℕ). a ≢ b) x.entry.thread [] (All-nil (λ (b : ℕ). x.entry.thread ≢ b))
-        (pairs_none (λ (a b : ℕ). a ≢ b)))
-        (All-cons (λ (a : ℕ). a < 64) x.entry.thread [] it.thread (All-nil (λ (a : ℕ). a < 64))) in
-        let ends : 64 * x.entry.first ≤ ends_at x.entry.returned x.entry.first =
-        ended x.entry.returned x.entry.first (64 * x.entry.first) it.interval (omega arith) in
-        spread_cons (64 * q + length ts) x.entry.first (64 * x.entry.first) x xs (omega arith)
-        (record { begun = omega arith; ended = ends }) left
+    few : length ts ≤ 64
+    few = few_threads ts 64 is.differ is.below
+
+    most : x.entry.first ≤ end
+    most = All-head (λ (y : Effect). y.entry.first ≤ end) x xs is.begun
+
+    alone : (y : Effect) → AreRight x y → y.entry.first ≤ x.entry.first →
+        (x.entry.thread ≡ y.entry.thread) ⊎ Contains [] y.entry.thread → ⊥
+    alone y r le (inr none) = none_in_empty y.entry.thread none
+    alone y r le (inl same) = which (r.overlap same)
       where
-        alone : (y : Effect) → AreRight x y → y.entry.first ≤ x.entry.first →
-            (x.entry.thread ≡ y.entry.thread) ⊎ Contains [] y.entry.thread → ⊥
-        alone y r le (inr none) = none_in_empty y.entry.thread none
-        alone y r le (inl same) = which (r.overlap same)
-          where
-            which : IsBefore x.entry y.entry ⊎ IsBefore y.entry x.entry → ⊥
-            which (inl before) = not_before x.entry.first x.entry y.entry it.interval le before
-            which (inr before) = r.respects before
-    by (inr begun) again =
-        let over_x : IsNotOver q x.entry = All-head (λ (y : Effect). IsNotOver q y.entry) x xs over in
-        let others : All (λ (u : ℕ). x.entry.thread ≢ u) ts =
-        not_in ts x.entry.thread (All-head (IsFree q ts) x xs free begun) in
-        let differ_x : AllPairs (λ (a b : ℕ). a ≢ b) (x.entry.thread ∷ ts) =
-        pairs_cons (λ (a b : ℕ). a ≢ b) x.entry.thread ts others differ in
-        let below_x : All (λ (a : ℕ). a < 64) (x.entry.thread ∷ ts) =
-        All-cons (λ (a : ℕ). a < 64) x.entry.thread ts it.thread below in
-        let few : length (x.entry.thread ∷ ts) ≤ 64 = few_threads (x.entry.thread ∷ ts) 64 differ_x below_x in
-        let over_xs : All (λ (y : Effect). IsNotOver q y.entry) xs =
-        All-tail (λ (y : Effect). IsNotOver q y.entry) x xs over in
-        let free_xs : All (IsFree q ts) xs = All-tail (IsFree q ts) x xs free in
-        let left : Spread (64 * q + length (x.entry.thread ∷ ts)) xs = again q (x.entry.thread ∷ ts) over_xs
-        (λ k d lt le has. apart (get_or xs k d) (later k d lt) (over_xs k d lt) le over_x (free_xs k d lt)
-        (contains_cases x.entry.thread ts (get_or xs k d).entry.thread has))
-        differ_x below_x in
-        let next : 64 * q + length (x.entry.thread ∷ ts) ≡ 64 * q + length ts + 1 = omega arith in
-        let ends : 64 * q + length ts ≤ ends_at x.entry.returned q =
-        ended x.entry.returned q (64 * q + length ts) over_x (omega arith) in
-        spread_cons (64 * q + length ts) q (64 * q + length ts) x xs (omega arith)
-        (record { begun = omega arith; ended = ends }) (subst (λ (n : ℕ). Spread n xs) next left)
+        which : IsBefore x.entry y.entry ⊎ IsBefore y.entry x.entry → ⊥
+        which (inl before) = not_before x.entry.first x.entry y.entry it.interval le before
+        which (inr before) = r.respects before
+
+takes_here : (end q : ℕ) (ts : List ℕ) (x : Effect) (xs : List Effect) → IsReady end q ts (x ∷ xs) →
+    x.entry.first ≤ q → TakesEffect end q (length ts) x xs
+takes_here end q ts x xs is begun = record {
+  threads = x.entry.thread ∷ ts;
+  ready = subst (λ (p : ℕ). IsReady end p (x.entry.thread ∷ ts) xs) (sym at) (record {
+    known = All-tail IsKnown x xs is.known;
+    right = pairs_tail AreRight x xs is.right;
+    over = over_xs;
+    free = λ k d lt le has. apart (get_or xs k d) (pairs_head AreRight x xs is.right k d lt) (over_xs k d lt) le
+        (free_xs k d lt) (contains_cases x.entry.thread ts (get_or xs k d).entry.thread has);
+    begun = All-tail (λ (y : Effect). y.entry.first ≤ end) x xs is.begun;
+    reached = is.reached;
+    differ = differ_x;
+    below = below_x;
+  });
+  many = omega (arith, here);
+  few = omega (arith, here, few);
+  low = omega (arith, at, here);
+  within = record {
+    begun = omega (arith, at, here, begun);
+    ended = ended x.entry.returned q (64 * position_at q x.entry.first + there_at q (length ts) x.entry.first) end
+        over_x is.reached (omega (arith, at, here, few));
+  };
+}
+  where
+    at : position_at q x.entry.first ≡ q
+    at = position_here q x.entry.first begun
+
+    here : there_at q (length ts) x.entry.first ≡ length ts
+    here = there_here q (length ts) x.entry.first begun
+
+    over_x : IsNotOver q x.entry
+    over_x = All-head (λ (y : Effect). IsNotOver q y.entry) x xs is.over
+
+    differ_x : AllPairs (λ (a b : ℕ). a ≢ b) (x.entry.thread ∷ ts)
+    differ_x = pairs_cons (λ (a b : ℕ). a ≢ b) x.entry.thread ts
+        (not_in ts x.entry.thread (All-head (IsFree q ts) x xs is.free begun)) is.differ
+
+    below_x : All (λ (a : ℕ). a < 64) (x.entry.thread ∷ ts)
+    below_x = All-cons (λ (a : ℕ). a < 64) x.entry.thread ts (All-head IsKnown x xs is.known).thread is.below
+
+    few : length (x.entry.thread ∷ ts) ≤ 64
+    few = few_threads (x.entry.thread ∷ ts) 64 differ_x below_x
+
+    over_xs : All (λ (y : Effect). IsNotOver q y.entry) xs
+    over_xs = All-tail (λ (y : Effect). IsNotOver q y.entry) x xs is.over
+
+    free_xs : All (IsFree q ts) xs
+    free_xs = All-tail (IsFree q ts) x xs is.free
+
+    apart : (y : Effect) → AreRight x y → IsNotOver q y.entry → y.entry.first ≤ q → IsFree q ts y →
+        (x.entry.thread ≡ y.entry.thread) ⊎ Contains ts y.entry.thread → ⊥
+    apart y r over_y le free_y (inr has) = free_y le has
+    apart y r over_y le free_y (inl same) = which (r.overlap same)
       where
-        apart : (y : Effect) → AreRight x y → IsNotOver q y.entry → y.entry.first ≤ q → IsNotOver q x.entry →
-            IsFree q ts y → (x.entry.thread ≡ y.entry.thread) ⊎ Contains ts y.entry.thread → ⊥
-        apart y r over_y le over_x free_y (inr has) = free_y le has
-        apart y r over_y le over_x free_y (inl same) = which (r.overlap same)
-          where
-            which : IsBefore x.entry y.entry ⊎ IsBefore y.entry x.entry → ⊥
-            which (inl before) = not_before q x.entry y.entry over_x le before
-            which (inr before) = not_before q y.entry x.entry over_y begun before
+        which : IsBefore x.entry y.entry ⊎ IsBefore y.entry x.entry → ⊥
+        which (inl before) = not_before q x.entry y.entry over_x le before
+        which (inr before) = not_before q y.entry x.entry over_y begun before
+
+pub takes_effect : (end q : ℕ) (ts : List ℕ) (n : ℕ) (x : Effect) (xs : List Effect) → length ts ≡ n →
+    IsReady end q ts (x ∷ xs) → TakesEffect end q n x xs
+takes_effect end q ts n x xs same is =
+    subst (λ (m : ℕ). TakesEffect end q m x xs) same (by (cases_lt q x.entry.first))
+  where
+    by : (q < x.entry.first) ⊎ (x.entry.first ≤ q) → TakesEffect end q (length ts) x xs
+    by (inl beyond) = takes_beyond end q ts x xs is beyond
+    by (inr begun) = takes_here end q ts x xs is begun
+
+spread : (end q : ℕ) (ts : List ℕ) (n : ℕ) (xs : List Effect) → length ts ≡ n → IsReady end q ts xs →
+    Spread (64 * q + n) xs (points_from end q n xs)
+spread end q ts n [] same is = record {
+  of = tt;
+  within = All-nil IsWithin;
+  above = All-nil (λ (e : Entry). 64 * q + n ≤ e.point);
+  rising = λ k d lt. absurd (omega arith);
+}
+spread end q ts n (x ∷ xs) same is =
+    let step : TakesEffect end q n x xs = takes_effect end q ts n x xs same is in
+    let position : ℕ = position_at q x.entry.first in
+    let there : ℕ = there_at q n x.entry.first in
+    let one_more : 64 * position + (there + 1) ≡ 64 * position + there + 1 = omega arith in
+    spread_cons (64 * q + n) end (64 * position + there) x xs (points_from end position (there + 1) xs) step.low
+    step.within (subst (λ (low : ℕ). Spread low xs (points_from end position (there + 1) xs)) one_more
+    (spread end position step.threads (there + 1) xs step.many step.ready))
 
 -- what holds of effects holds of the entries that are spread of them
 zip_all : (P : Effect → Type 0) (Q : Entry → Type 0) → ((x : Effect) (e : Entry) → IsSpreadOf x e → P x → Q e) →
@@ -316,47 +417,81 @@ from_start e = by e.returned
     by None = tt
     by (Some r) = omega arith
 
-pub explained_has_points : ExplainedHasPoints
-explained_has_points h observed explained = (recorded h.limits h.width points.entries [], (of, linearized))
+-- the largest of these and the beginnings of an order
+latest : ℕ → List Effect → ℕ
+latest n [] = n
+latest n (x ∷ xs) = max x.entry.first (latest n xs)
+
+begun_by : (n : ℕ) (xs : List Effect) → All (λ (y : Effect). y.entry.first ≤ latest n xs) xs
+unfolding latest
+begun_by n [] = All-nil (λ (y : Effect). y.entry.first ≤ n)
+begun_by n (x ∷ xs) = All-cons (λ (y : Effect). y.entry.first ≤ max x.entry.first (latest n xs)) x xs
+    (omega arith) (All-weaker (λ (y : Effect). y.entry.first ≤ latest n xs)
+    (λ (y : Effect). y.entry.first ≤ max x.entry.first (latest n xs)) (λ y le. omega (arith, le)) xs
+    (begun_by n xs))
+
+right_of : (h : ObservedHistory) (order : List Effect) → IsObserved h → IsExplainedBy h order →
+    AllPairs AreRight order
+right_of h order observed by i j d lt within =
+    let before : i < length order = omega arith in
+    record {
+      respects = by.ordered i j d lt within;
+      overlap = overlaps h (get_or order i d) (get_or order j d) observed
+          (by.effects i d before) (by.effects j d within) (by.once i j d lt within);
+    }
+
+-- an order is ready to take effect from the beginning on
+pub ready_of : (h : ObservedHistory) (end : ℕ) (order : List Effect) → IsObserved h → IsExplainedBy h order →
+    All (λ (y : Effect). y.entry.first ≤ end) order → IsReady end 0 [] order
+ready_of h end order observed by begun = record {
+  known = λ k d lt. known_of h (get_or order k d) observed (by.effects k d lt);
+  right = right_of h order observed by;
+  over = λ k d lt. from_start (get_or order k d).entry;
+  free = λ k d lt le. none_in_empty (get_or order k d).entry.thread;
+  begun = begun;
+  reached = omega arith;
+  differ = pairs_none (λ (a b : ℕ). a ≢ b);
+  below = All-nil (λ (a : ℕ). a < 64);
+}
+
+-- the record of an order
+pub points_are_of : (h : ObservedHistory) (end : ℕ) (order : List Effect) → IsObserved h → IsExplainedBy h order →
+    All (λ (y : Effect). y.entry.first ≤ end) order →
+    IsRecordOf h (recorded h.limits h.width (points_from end 0 0 order) [])
+points_are_of h end order observed by begun = record {
+  limits = refl;
+  width = refl;
+  report = refl;
+  indices = indices_of order;
+  entries = entries_of h.entries order (points_from end 0 0 order)
+      (spread end 0 [] 0 order refl (ready_of h end order observed by begun)).of by.effects;
+  once = apart_indices order by.once;
+  returned = by.returned;
+}
+
+pub points_are_linearized : (h : ObservedHistory) (end : ℕ) (order : List Effect) → IsObserved h →
+    IsExplainedBy h order → All (λ (y : Effect). y.entry.first ≤ end) order →
+    IsLinearized (recorded h.limits h.width (points_from end 0 0 order) [])
+points_are_linearized h end order observed by begun = record {
+  within = points.within;
+  rising = points.rising;
+  apart = zip_pairs AreRight KeepsThreadOrder keeps order (points_from end 0 0 order) points.of
+      (right_of h order observed by);
+  legal = subst (λ (history : History). IsLegal h.limits h.width history)
+      (same_history order (points_from end 0 0 order) points.of) by.legal;
+}
   where
-    order : List Effect
-    order = explained.order
+    points : Spread (64 * 0 + 0) order (points_from end 0 0 order)
+    points = spread end 0 [] 0 order refl (ready_of h end order observed by begun)
 
-    by : IsExplainedBy h explained.order
-    by = explained.by
-
-    right : AllPairs AreRight explained.order
-    right = λ i j d lt within.
-        let before : i < length explained.order = omega arith in
-        record {
-          respects = explained.by.ordered i j d lt within;
-          overlap = overlaps h (get_or explained.order i d) (get_or explained.order j d) observed
-              (explained.by.effects i d before) (explained.by.effects j d within) (explained.by.once i j d lt within);
-        }
-
-    points : Spread (64 * 0 + length {A = ℕ} []) explained.order
-    points = spread 0 [] explained.order (λ k d lt. known_of h (get_or explained.order k d) observed
-        (explained.by.effects k d lt)) right
-        (λ k d lt. from_start (get_or explained.order k d).entry)
-        (λ k d lt le. none_in_empty (get_or explained.order k d).entry.thread)
-        (pairs_none (λ (a b : ℕ). a ≢ b)) (All-nil (λ (a : ℕ). a < 64))
-
-    of : IsRecordOf h (recorded h.limits h.width points.entries [])
-    of = record {
-      limits = refl;
-      width = refl;
-      report = refl;
-      indices = indices_of explained.order;
-      entries = entries_of h.entries explained.order points.entries points.of explained.by.effects;
-      once = apart_indices explained.order explained.by.once;
-      returned = explained.by.returned;
-    }
-
-    linearized : IsLinearized (recorded h.limits h.width points.entries [])
-    linearized = record {
-      within = points.within;
-      rising = points.rising;
-      apart = zip_pairs AreRight KeepsThreadOrder keeps explained.order points.entries points.of right;
-      legal = subst (λ (history : History). IsLegal h.limits h.width history)
-          (same_history explained.order points.entries points.of) explained.by.legal;
-    }
+pub explained_has_points : ExplainedHasPoints
+explained_has_points h observed explained = (
+  recorded h.limits h.width (points_from end 0 0 explained.order) [],
+  (
+    points_are_of h end explained.order observed explained.by (begun_by 0 explained.order),
+    points_are_linearized h end explained.order observed explained.by (begun_by 0 explained.order),
+  ),
+)
+  where
+    end : ℕ
+    end = latest 0 explained.order

@@ -1,5 +1,5 @@
 -- A set of nodes and the list of them.
-use Rattle.std.proofs.Common.{◌≡◌, ◌≢◌, ◌⊎◌, ℕ, Bool, true, false, List, [], ◌∷◌, ◌++◌}
+use Rattle.std.proofs.Common.{◌≡◌, ◌≢◌, ◌⊎◌, ℕ, Bool, true, false, List, [], ◌∷◌, ◌++◌, length}
 use Rattle.std.proofs.Common.{get_or, refl, sym, ◌∙◌, ap, subst, inl, inr, arith, Option, None, Some}
 use Rattle.std.specs.Prelude.{◌&&◌, ◌==◌, nat_eq, not}
 use Rattle.std.specs.Cmp.{IsEquivalence}
@@ -8,10 +8,12 @@ use Rattle.std.specs.List.{AllPairs, Contains, list_any}
 use Rattle.std.specs.List.Sorted.{IsPermutation}
 use Rattle.std.proofs.lemmas.Bool.Decides.{nat_tests}
 use Rattle.std.proofs.lemmas.List.Elements.{Contains-push, Contains-push_cases, Contains-append_left, Contains-get_or}
+use Rattle.std.proofs.lemmas.List.{length-append}
 use Rattle.std.proofs.lemmas.List.Quantifiers.{all_pairs_push}
 use Rattle.std.proofs.lemmas.List.Sorted.{Contains-permutation, IsPermutation-sym}
 use Rattle.std.proofs.lemmas.Map.Views.{Contains-from_any, list_any-from_Contains}
 use Rattle.stamp_explain.specs.declared.node.Node.{Node}
+use Rattle.stamp_explain.specs.declared.node.Origin.{Origin}
 use Rattle.stamp_explain.specs.declared.store.Store.{Store}
 use Rattle.stamp_explain.specs.Store.{Key, key_of, Keeps, IsStored}
 use Rattle.stamp_explain.proofs.Lists.{contains_cases, contains_first, contains_rest}
@@ -97,10 +99,11 @@ exact_node v w h =
       threads = x;
     }) e3
 
-pub stored : (old new : Store) (node : Node) → Keeps old → new.nodes.items ≡ old.nodes.items ++ node ∷ [] →
+pub stored : (old new : Store) (node : Node) (origin : Origin) → Keeps old →
+    new.nodes.items ≡ old.nodes.items ++ node ∷ [] → new.origins.items ≡ old.origins.items ++ origin ∷ [] →
     IsPermutation (key_of node ∷ old.known.keys) new.known.keys → ¬ Contains old.known.keys (key_of node) →
-    IsStored old new node true
-stored old new node keeps is moved misses = record {
+    IsStored old new node origin true
+stored old new node origin keeps is comes moved misses = record {
   keeps = record {
     listed = λ w has. subst (λ (ws : List Node). Contains ws w) (sym is)
         (listed w (contains_cases (key_of node) old.known.keys (key_of w)
@@ -108,12 +111,21 @@ stored old new node keeps is moved misses = record {
         (IsPermutation-sym (key_of node ∷ old.known.keys) new.known.keys moved) has)));
     known = λ w has. Contains-permutation (key_of node ∷ old.known.keys) new.known.keys (key_of w) moved
         (known w (Contains-push_cases old.nodes.items node w (subst (λ (ws : List Node). Contains ws w) is has)));
+    origins = omega (
+      arith,
+      keeps.origins,
+      ap (λ (ws : List Node). length ws) is,
+      ap (λ (os : List Origin). length os) comes,
+      length-append old.nodes.items (node ∷ []),
+      length-append old.origins.items (origin ∷ []),
+    );
     different = subst (AllPairs (λ (v w : Node). v ≢ w)) (sym is)
         (all_pairs_push (λ (v w : Node). v ≢ w) old.nodes.items node keeps.different
         (λ k d lt same. misses (subst (λ (w : Node). Contains old.known.keys (key_of w)) same
         (keeps.known (get_or old.nodes.items k d) (Contains-get_or old.nodes.items k d lt)))));
   };
   nodes = is;
+  origins = comes;
 }
   where
     listed : (w : Node) → (key_of node ≡ key_of w) ⊎ Contains old.known.keys (key_of w) →
@@ -126,17 +138,25 @@ stored old new node keeps is moved misses = record {
     known w (inl has) = contains_rest (key_of node) old.known.keys (key_of w) (keeps.known w has)
     known w (inr same) = contains_first (key_of node) old.known.keys (key_of w) (ap key_of same)
 
-pub not_stored : (old new : Store) (node : Node) → Keeps old → new.nodes.items ≡ old.nodes.items →
-    new.known.keys ≡ old.known.keys → Contains old.known.keys (key_of node) → IsStored old new node false
-not_stored old new node keeps is same has = record {
+pub not_stored : (old new : Store) (node : Node) (origin : Origin) → Keeps old →
+    new.nodes.items ≡ old.nodes.items → new.origins.items ≡ old.origins.items →
+    new.known.keys ≡ old.known.keys → Contains old.known.keys (key_of node) → IsStored old new node origin false
+not_stored old new node origin keeps is comes same has = record {
   keeps = record {
     listed = λ w found. subst (λ (ws : List Node). Contains ws w) (sym is)
         (keeps.listed w (subst (λ (ks : List Key). Contains ks (key_of w)) same found));
     known = λ w found. subst (λ (ks : List Key). Contains ks (key_of w)) (sym same)
         (keeps.known w (subst (λ (ws : List Node). Contains ws w) is found));
+    origins = omega (
+      arith,
+      keeps.origins,
+      ap (λ (ws : List Node). length ws) is,
+      ap (λ (os : List Origin). length os) comes,
+    );
     different = subst (AllPairs (λ (v w : Node). v ≢ w)) (sym is) keeps.different;
   };
   nodes = (is, keeps.listed node has);
+  origins = comes;
 }
 
 -- by the clauses of `insert`

@@ -1,7 +1,7 @@
 -- The nodes that come next.
 use Rattle.std.proofs.Common.{◌≡◌, ◌≢◌, ◌⊎◌, ℕ, ◌+◌, ◌<◌, zero, suc, List, [], ◌∷◌}
 use Rattle.std.proofs.Common.{◌++◌, length, get_or, refl, sym, ◌∙◌, ap, subst, inl, inr, arith, None}
-use Rattle.std.proofs.Common.{Some}
+use Rattle.std.proofs.Common.{Option, Some}
 use Rattle.std.specs.Prelude.{slice_get, slice_index, take, drop}
 use Rattle.std.specs.List.{Contains}
 use Rattle.std.specs.Int.{bit_at}
@@ -11,14 +11,14 @@ use Rattle.std.proofs.lemmas.Option.{same_Some, slice_get_read, slice_get-get_or
 use Rattle.stamp_explain.specs.declared.observed.Observation.{Observation}
 use Rattle.stamp_explain.specs.declared.observed.Returned.{Returned}
 use Rattle.stamp_explain.specs.declared.node.Node.{Node}
+use Rattle.stamp_explain.specs.declared.node.Next.{Next}
 use Rattle.stamp_explain.specs.declared.plan.Plan.{Plan}
 use Rattle.stamp_explain.specs.Observed.{ObservedHistory, IsObserved, HasReturned}
 use Rattle.stamp_explain.specs.Explained.{Effect}
 use Rattle.stamp_explain.specs.Search.{LockState, LockSteps, MayTake, IsReturnAt}
-use Rattle.stamp_explain.specs.Node.{IsNext, AreTaken, StandsFor, IsReached, Reaches}
-use Rattle.stamp_explain.specs.Node.Reaches.{goes_past, goes_on_by}
+use Rattle.stamp_explain.specs.Node.{IsNext, AreTaken, StandsFor}
 use Rattle.stamp_explain.specs.Plan.{IsPlan, IsAwaitedAt, ClearsBit}
-use Rattle.stamp_explain.specs.Expand.{Hope, GoesOn, Expands, IsTakenTo, Takes, Tried}
+use Rattle.stamp_explain.specs.Expand.{Hope, GoesOn, Expands, Leads, LeadsBy, IsTakenTo, Takes, Tried}
 use Rattle.stamp_explain.proofs.Finding.{not_before_itself}
 use Rattle.stamp_explain.proofs.Completing.{IsAwaited}
 use Rattle.stamp_explain.proofs.Searching.{CompletesIn, GoesPast, GoesOnBy, goes_on}
@@ -27,7 +27,7 @@ use Rattle.stamp_explain.proofs.Expanding.{orderly, next_awaited}
 use Rattle.stamp_explain.proofs.Lists.{none_in_empty}
 
 -- of whatever the node stands for, the threads below k were tried
-pub record Tries (h : ObservedHistory) (returns : List ℕ) (node : Node) (last k : ℕ) (nexts : List Node) : Type 0 where
+pub record Tries (h : ObservedHistory) (returns : List ℕ) (node : Node) (last k : ℕ) (nexts : List Next) : Type 0 where
   pub tried : (a : Observation) (s : LockState) (taken : List ℕ) → IsAwaitedAt h returns node.past last a →
       ¬ Contains taken (slice_index returns node.past) → StandsFor h returns node s taken →
       Tried h returns node a s taken k nexts
@@ -43,7 +43,7 @@ none_tried h returns node last = record {
 last_or_less : (n k : ℕ) → n < k + 1 → (n < k) ⊎ (n ≡ k)
 last_or_less n k lt = grind arith
 
-pub tried_none : (h : ObservedHistory) (returns : List ℕ) (node : Node) (last k : ℕ) (nexts : List Node) →
+pub tried_none : (h : ObservedHistory) (returns : List ℕ) (node : Node) (last k : ℕ) (nexts : List Next) →
     Tries h returns node last k nexts → ((a : Observation) (s : LockState) (taken : List ℕ) →
     IsAwaitedAt h returns node.past last a → ¬ Contains taken (slice_index returns node.past) →
     StandsFor h returns node s taken → Takes h returns node a k s taken None) →
@@ -59,11 +59,12 @@ tried_none h returns node last k nexts tries takes = record {
     by : (a : Observation) (s : LockState) (taken : List ℕ) → Tried h returns node a s taken k nexts →
         Takes h returns node a k s taken None → (x : Effect) (u : LockState) →
         MayTake (LockSteps h.limits) h.entries a s taken x u → (x.entry.thread < k) ⊎ (x.entry.thread ≡ k) →
-        (w : Node) × (Contains nexts w × ((w.past ≡ node.past) × StandsFor h returns w u (x.index ∷ taken)))
+        (w : Next) × (Contains nexts w × ((w.node.past ≡ node.past) ×
+        StandsFor h returns w.node u (x.index ∷ taken)))
     by a s taken tried none x u may (inl less) = tried.whole x u may less
     by a s taken tried none x u may (inr same) = absurd (none x u may same)
 
-pub tried_some : (h : ObservedHistory) (returns : List ℕ) (node : Node) (last k : ℕ) (nexts : List Node) (w : Node)
+pub tried_some : (h : ObservedHistory) (returns : List ℕ) (node : Node) (last k : ℕ) (nexts : List Next) (w : Next)
     → Tries h returns node last k nexts → ((a : Observation) (s : LockState) (taken : List ℕ) →
     IsAwaitedAt h returns node.past last a → ¬ Contains taken (slice_index returns node.past) →
     StandsFor h returns node s taken → Takes h returns node a k s taken (Some w)) →
@@ -78,23 +79,23 @@ tried_some h returns node last k nexts w tries takes = record {
 }
   where
     each : (a : Observation) (s : LockState) (taken : List ℕ) → Tried h returns node a s taken k nexts →
-        IsTakenTo h returns node a k s taken w → (v : Node) → Contains nexts v ⊎ (w ≡ v) →
+        IsTakenTo h returns node a k s taken w → (v : Next) → Contains nexts v ⊎ (w ≡ v) →
         (t : ℕ) × IsTakenTo h returns node a t s taken v
     each a s taken tried some v (inl has) = tried.each v has
     each a s taken tried some v (inr same) = (
       k,
-      subst (λ (n : Node). IsTakenTo h returns node a k s taken n) same
+      subst (λ (n : Next). IsTakenTo h returns node a k s taken n) same
           some,
     )
 
     by : (a : Observation) (s : LockState) (taken : List ℕ) → Tried h returns node a s taken k nexts →
         IsTakenTo h returns node a k s taken w → (x : Effect) (u : LockState) →
         MayTake (LockSteps h.limits) h.entries a s taken x u → (x.entry.thread < k) ⊎ (x.entry.thread ≡ k) →
-        (v : Node) × (Contains (nexts ++ w ∷ []) v × ((v.past ≡ node.past) ×
-        StandsFor h returns v u (x.index ∷ taken)))
+        (v : Next) × (Contains (nexts ++ w ∷ []) v × ((v.node.past ≡ node.past) ×
+        StandsFor h returns v.node u (x.index ∷ taken)))
     by a s taken tried some x u may (inl less) =
-        let found : (v : Node) × (Contains nexts v × ((v.past ≡ node.past) ×
-        StandsFor h returns v u (x.index ∷ taken))) = tried.whole x u may less in
+        let found : (v : Next) × (Contains nexts v × ((v.node.past ≡ node.past) ×
+        StandsFor h returns v.node u (x.index ∷ taken))) = tried.whole x u may less in
         (found.0, (Contains-append_left nexts (w ∷ []) found.0 found.1.0, found.1.1))
     by a s taken tried some x u may (inr same) = (w, (Contains-push nexts w, (some.past, some.only x u may same)))
 
@@ -127,20 +128,16 @@ steps_of h plan node a n is hope =
 
 -- where the call is in effect, its return is past
 pub expands_past : (h : ObservedHistory) (plan : Plan) (node : Node) (a : Observation) (threads : ℕ)
-    (nexts : List Node) → Awaits h plan node a → bit_at node.threads a.thread ≡ 1 →
-    ClearsBit node.threads threads a.thread → IsReached h plan.returns.items node →
-    nexts ≡ record { past = node.past + 1; bits = node.bits; writer = node.writer; threads = threads } ∷ [] →
+    (nexts : List Next) → Awaits h plan node a → bit_at node.threads a.thread ≡ 1 →
+    ClearsBit node.threads threads a.thread →
+    nexts ≡ record {
+      node = record { past = node.past + 1; bits = node.bits; writer = node.writer; threads = threads };
+      took = None;
+    } ∷ [] →
     Expands h plan.returns.items node nexts
-expands_past h plan node a threads nexts is bit clears reached made = record {
-  reached = λ w has. subst (λ (v : Node). IsReached h plan.returns.items v)
-      (only w (subst (λ (ns : List Node). Contains ns w) made has)) (record {
-        state = reached.state;
-        taken = reached.taken;
-        stands = stands reached.state reached.taken reached.stands;
-        way = goes_past (subst (λ (to_come : List ℕ). Reaches h plan.returns.items to_come reached.state reached.taken)
-            (left_of h plan node a is ∙ ap (λ (rest : List ℕ). i ∷ rest) next_left) reached.way)
-            (in_effect reached.state reached.taken reached.stands);
-      });
+expands_past h plan node a threads nexts is bit clears made = record {
+  each = λ w has. subst (λ (v : Next). Leads h plan.returns.items node v)
+      (only w (subst (λ (ns : List Next). Contains ns w) made has)) leads;
   whole = λ n hope. goes n hope (goes_on (LockSteps h.limits) h.entries i a
       (drop (suc node.past) plan.returns.items) hope.state hope.taken n awaited (steps_of h plan node a n is hope));
 }
@@ -151,7 +148,10 @@ expands_past h plan node a threads nexts is bit clears reached made = record {
     it : Node
     it = record { past = node.past + 1; bits = node.bits; writer = node.writer; threads = threads }
 
-    only : (w : Node) → Contains (it ∷ []) w → it ≡ w
+    next : Next
+    next = record { node = it; took = None }
+
+    only : (w : Next) → Contains (next ∷ []) w → next ≡ w
     only w (zero, lt, e) = e
     only w (suc k, lt, e) = absurd (omega (arith, lt))
 
@@ -179,6 +179,16 @@ expands_past h plan node a threads nexts is bit clears reached made = record {
           (in_effect s taken stands_for) clears);
     }
 
+    leads : Leads h plan.returns.items node next
+    leads = record {
+      inside = is.inside;
+      leads = λ s taken stands_for. record {
+        past = refl;
+        in_effect = in_effect s taken stands_for;
+        stands = stands s taken stands_for;
+      };
+    }
+
     goes : (n : ℕ) (hope : Hope h plan.returns.items node n) →
         GoesPast (LockSteps h.limits) h.entries i (drop (suc node.past) plan.returns.items) hope.state hope.taken n
         ⊎ GoesOnBy (LockSteps h.limits) h.entries i a (drop (suc node.past) plan.returns.items) hope.state
@@ -188,11 +198,11 @@ expands_past h plan node a threads nexts is bit clears reached made = record {
         hope.state hope.taken past.left in
         let left : CompletesIn (LockSteps h.limits) h.entries (drop it.past plan.returns.items) hope.state
         hope.taken past.left = subst P next_left past.completes in
-        let none : 0 < length (it ∷ []) = omega arith in
+        let none : 0 < length (next ∷ []) = omega arith in
         record {
-          node = it;
+          next = next;
           left = past.left;
-          among = subst (λ (ns : List Node). Contains ns it) (sym made) (0, none, refl);
+          among = subst (λ (ns : List Next). Contains ns next) (sym made) (0, none, refl);
           fewer = omega (arith, past.fewer);
           hope = record {
             state = hope.state;
@@ -207,12 +217,15 @@ expands_past h plan node a threads nexts is bit clears reached made = record {
 
 -- else an open call takes effect
 pub expands_taken : (h : ObservedHistory) (plan : Plan) (node : Node) (a : Observation) (last : ℕ)
-    (nexts : List Node) → Awaits h plan node a → IsAwaitedAt h plan.returns.items node.past last a →
-    bit_at node.threads a.thread ≢ 1 → IsReached h plan.returns.items node →
+    (nexts : List Next) → Awaits h plan node a → IsAwaitedAt h plan.returns.items node.past last a →
+    bit_at node.threads a.thread ≢ 1 →
     Tries h plan.returns.items node last 64 nexts → Expands h plan.returns.items node nexts
-expands_taken h plan node a last nexts is awaited_at bit reached tries = record {
-  reached = λ w has. to w ((tries.tried a reached.state reached.taken awaited_at
-      (not_yet reached.state reached.taken reached.stands) reached.stands).each w has);
+expands_taken h plan node a last nexts is awaited_at bit tries = record {
+  each = λ w has. record {
+    inside = is.inside;
+    leads = λ s taken stands. to w s taken stands
+        ((tries.tried a s taken awaited_at (not_yet s taken stands) stands).each w has);
+  };
   whole = λ n hope. goes n hope (goes_on (LockSteps h.limits) h.entries i a
       (drop (suc node.past) plan.returns.items) hope.state hope.taken n awaited (steps_of h plan node a n is hope));
 }
@@ -231,18 +244,21 @@ expands_taken h plan node a last nexts is awaited_at bit reached tries = record 
         plan.returns.items
     same_left w same = sym (left_of h plan node a is) ∙ ap (λ (n : ℕ). drop n plan.returns.items) (sym same)
 
-    to : (w : Node) → (t : ℕ) × IsTakenTo h plan.returns.items node a t reached.state reached.taken w →
-        IsReached h plan.returns.items w
-    to w (t, taken) = record {
-      state = taken.state;
-      taken = taken.effect.index ∷ reached.taken;
-      stands = taken.stands;
-      way = subst (λ (to_come : List ℕ). Reaches h plan.returns.items to_come taken.state
-          (taken.effect.index ∷ reached.taken)) (same_left w taken.past)
-          (goes_on_by (subst (λ (to_come : List ℕ). Reaches h plan.returns.items to_come reached.state
-          reached.taken) (left_of h plan node a is) reached.way) a taken.effect taken.state is.at
-          (not_yet reached.state reached.taken reached.stands) taken.may);
-    }
+    to : (w : Next) (s : LockState) (taken : List ℕ) → StandsFor h plan.returns.items node s taken →
+        (t : ℕ) × IsTakenTo h plan.returns.items node a t s taken w →
+        LeadsBy h plan.returns.items node w.node s taken w.took
+    to w s taken stands (t, took) =
+        subst (λ (o : Option ℕ). LeadsBy h plan.returns.items node w.node s taken o) (sym took.took) (record {
+          past = took.past;
+          awaited = a;
+          is_awaited = is.at;
+          not_yet = not_yet s taken stands;
+          effect = took.effect;
+          index = refl;
+          state = took.state;
+          may = took.may;
+          stands = took.stands;
+        })
 
     goes : (n : ℕ) (hope : Hope h plan.returns.items node n) →
         GoesPast (LockSteps h.limits) h.entries i (drop (suc node.past) plan.returns.items) hope.state hope.taken n
@@ -252,16 +268,16 @@ expands_taken h plan node a last nexts is awaited_at bit reached tries = record 
     goes n hope (inr on) =
         let few : on.effect.entry.thread < 64 = (orderly h is.observed).thread on.effect.index on.effect.entry
         on.may.effect.is_entry in
-        let found : (w : Node) × (Contains nexts w × ((w.past ≡ node.past) ×
-        StandsFor h plan.returns.items w on.state (on.effect.index ∷ hope.taken))) =
+        let found : (w : Next) × (Contains nexts w × ((w.node.past ≡ node.past) ×
+        StandsFor h plan.returns.items w.node on.state (on.effect.index ∷ hope.taken))) =
         (tries.tried a hope.state hope.taken awaited_at (not_yet hope.state hope.taken hope.stands)
         hope.stands).whole on.effect on.state on.may few in
         let P : List ℕ → Type 0 = λ (to_come : List ℕ). CompletesIn (LockSteps h.limits) h.entries to_come on.state
         (on.effect.index ∷ hope.taken) on.left in
-        let left : CompletesIn (LockSteps h.limits) h.entries (drop found.0.past plan.returns.items) on.state
-        (on.effect.index ∷ hope.taken) on.left = subst P (same_left found.0 found.1.1.0) on.completes in
+        let left : CompletesIn (LockSteps h.limits) h.entries (drop found.0.node.past plan.returns.items) on.state
+        (on.effect.index ∷ hope.taken) on.left = subst P (same_left found.0.node found.1.1.0) on.completes in
         record {
-          node = found.0;
+          next = found.0;
           left = on.left;
           among = found.1.0;
           fewer = omega (arith, on.fewer);

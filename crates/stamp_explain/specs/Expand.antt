@@ -1,17 +1,20 @@
 -- How a search goes on from a node, and what it finds.
-use Rattle.std.specs.Prelude.{ℕ, ◌≡◌, ◌≢◌, ◌<◌, ◌≤◌, ◌++◌, ◌+◌, List, ◌∷◌, length, drop}
+use Rattle.std.specs.Prelude.{ℕ, ◌≡◌, ◌≢◌, ◌<◌, ◌≤◌, ◌++◌, ◌+◌, List, ◌∷◌, length, drop, map, slice_get, slice_index}
 use Rattle.std.specs.Prelude.{Option, Some, None}
 use Rattle.std.specs.List.{All, Contains}
 use Rattle.stamp_explain.specs.declared.observed.Observation.{Observation}
 use Rattle.stamp_explain.specs.declared.node.Node.{Node}
+use Rattle.stamp_explain.specs.declared.node.Next.{Next}
+use Rattle.stamp_explain.specs.declared.node.Origin.{Origin}
 use Rattle.stamp_explain.specs.declared.store.Store.{Store}
 use Rattle.stamp_explain.specs.declared.search.Found.{Found}
 use Rattle.stamp_explain.specs.declared.search.Found.TheVariants.{Order, Nothing, Undecided}
 use Rattle.stamp_explain.specs.Observed.{ObservedHistory}
-use Rattle.stamp_explain.specs.Explained.{Effect, IsExplained}
+use Rattle.stamp_explain.specs.Explained.{Effect, IsEffectOf, IsExplained}
 use Rattle.stamp_explain.specs.Search.{LockState, LockSteps, MayTake, IsCompletedBy, AreReturns}
-use Rattle.stamp_explain.specs.Node.{StandsFor, IsReached, AreReached}
+use Rattle.stamp_explain.specs.Node.{IsAt, StandsFor, IsReached, IsOpening, AreReached}
 use Rattle.stamp_explain.specs.Store.{Keeps}
+use Rattle.stamp_explain.specs.Order.{IsOrderOf}
 
 -- an order completes what the node stands for, in so many steps: returns and calls that take effect
 pub record Hope (h : ObservedHistory) (returns : List ℕ) (node : Node) (n : ℕ) : Type 0 where
@@ -23,53 +26,132 @@ pub record Hope (h : ObservedHistory) (returns : List ℕ) (node : Node) (n : �
   pub steps : length (drop node.past returns) + length rest ≡ n
 
 -- a node that comes next can be completed in fewer steps
-pub record GoesOn (h : ObservedHistory) (returns : List ℕ) (nexts : List Node) (n : ℕ) : Type 0 where
-  pub node : Node
+pub record GoesOn (h : ObservedHistory) (returns : List ℕ) (nexts : List Next) (n : ℕ) : Type 0 where
+  pub next : Next
   pub left : ℕ
-  pub among : Contains nexts node
+  pub among : Contains nexts next
   pub fewer : 1 + left ≤ n
-  pub hope : Hope h returns node left
+  pub hope : Hope h returns next.node left
 
--- nothing is lost if the search goes on from this node by these, and each of them is reached if it is
-pub record Expands (h : ObservedHistory) (returns : List ℕ) (node : Node) (nexts : List Node) : Type 0 where
-  pub reached : (w : Node) → Contains nexts w → IsReached h returns w
+-- one node comes from another, where that stands for this state: this call takes effect
+pub record LeadsByCall (h : ObservedHistory) (returns : List ℕ) (node w : Node) (s : LockState) (taken : List ℕ)
+    (i : ℕ) : Type 0 where
+  pub past : w.past ≡ node.past
+  pub awaited : Observation
+  pub is_awaited : slice_get h.entries (slice_index returns node.past) ≡ Some awaited
+  pub not_yet : ¬ Contains taken (slice_index returns node.past)
+  pub effect : Effect
+  pub index : effect.index ≡ i
+  pub state : LockState
+  pub may : MayTake (LockSteps h.limits) h.entries awaited s taken effect state
+  pub stands : StandsFor h returns w state (effect.index ∷ taken)
+
+-- or the awaited call, which is in effect, returns
+pub record LeadsByReturn (h : ObservedHistory) (returns : List ℕ) (node w : Node) (s : LockState)
+    (taken : List ℕ) : Type 0 where
+  pub past : w.past ≡ node.past + 1
+  pub in_effect : Contains taken (slice_index returns node.past)
+  pub stands : StandsFor h returns w s taken
+
+abbrev pub LeadsBy : ObservedHistory → List ℕ → Node → Node → LockState → List ℕ → Option ℕ → Type 0
+LeadsBy h returns node w s taken None = LeadsByReturn h returns node w s taken
+LeadsBy h returns node w s taken (Some i) = LeadsByCall h returns node w s taken i
+
+-- whatever the node stands for
+pub record Leads (h : ObservedHistory) (returns : List ℕ) (node : Node) (next : Next) : Type 0 where
+  pub inside : node.past < length returns
+  pub leads : (s : LockState) (taken : List ℕ) → StandsFor h returns node s taken →
+      LeadsBy h returns node next.node s taken next.took
+
+-- where a call took effect at a node, in some state that this stands for
+pub record IsLedBy (h : ObservedHistory) (node : Node) (i : ℕ) : Type 0 where
+  pub state : LockState
+  pub at : IsAt h node.bits node.writer state
+  pub effect : Effect
+  pub next : LockState
+  pub index : effect.index ≡ i
+  pub is_effect : IsEffectOf h.entries effect
+  pub steps : LockSteps h.limits state (effect.entry.call, effect.reply) next
+
+abbrev pub IsLed : ObservedHistory → Node → Option ℕ → Type 0
+IsLed h node None = Unit {0}
+IsLed h node (Some i) = IsLedBy h node i
+
+-- nothing is lost if the search goes on from this node by these, and each of them comes from it
+pub record Expands (h : ObservedHistory) (returns : List ℕ) (node : Node) (nexts : List Next) : Type 0 where
+  pub each : (w : Next) → Contains nexts w → Leads h returns node w
   pub whole : (n : ℕ) → Hope h returns node n → GoesOn h returns nexts n
 
 -- what becomes of a node, where the open call of a thread takes effect
 pub record IsTakenTo (h : ObservedHistory) (returns : List ℕ) (node : Node) (a : Observation) (thread : ℕ)
-    (s : LockState) (taken : List ℕ) (w : Node) : Type 0 where
-  pub past : w.past ≡ node.past
+    (s : LockState) (taken : List ℕ) (w : Next) : Type 0 where
+  pub past : w.node.past ≡ node.past
   pub effect : Effect
+  pub took : w.took ≡ Some effect.index
   pub state : LockState
   pub may : MayTake (LockSteps h.limits) h.entries a s taken effect state
-  pub stands : StandsFor h returns w state (effect.index ∷ taken)
+  pub stands : StandsFor h returns w.node state (effect.index ∷ taken)
   pub only : (x : Effect) (u : LockState) → MayTake (LockSteps h.limits) h.entries a s taken x u →
-      x.entry.thread ≡ thread → StandsFor h returns w u (x.index ∷ taken)
+      x.entry.thread ≡ thread → StandsFor h returns w.node u (x.index ∷ taken)
 
-abbrev pub Takes : ObservedHistory → List ℕ → Node → Observation → ℕ → LockState → List ℕ → Option Node → Type 0
+abbrev pub Takes : ObservedHistory → List ℕ → Node → Observation → ℕ → LockState → List ℕ → Option Next → Type 0
 Takes h returns node a thread s taken None = (x : Effect) (u : LockState) →
     MayTake (LockSteps h.limits) h.entries a s taken x u → x.entry.thread ≢ thread
 Takes h returns node a thread s taken (Some w) = IsTakenTo h returns node a thread s taken w
 
 -- of the threads below k: each node that was made is one of these, and each call that may take effect makes one
 pub record Tried (h : ObservedHistory) (returns : List ℕ) (node : Node) (a : Observation) (s : LockState)
-    (taken : List ℕ) (k : ℕ) (nexts : List Node) : Type 0 where
-  pub each : (w : Node) → Contains nexts w → (t : ℕ) × IsTakenTo h returns node a t s taken w
+    (taken : List ℕ) (k : ℕ) (nexts : List Next) : Type 0 where
+  pub each : (w : Next) → Contains nexts w → (t : ℕ) × IsTakenTo h returns node a t s taken w
   pub whole : (x : Effect) (u : LockState) → MayTake (LockSteps h.limits) h.entries a s taken x u →
-      x.entry.thread < k → (w : Node) × (Contains nexts w × ((w.past ≡ node.past) ×
-      StandsFor h returns w u (x.index ∷ taken)))
+      x.entry.thread < k → (w : Next) × (Contains nexts w × ((w.node.past ≡ node.past) ×
+      StandsFor h returns w.node u (x.index ∷ taken)))
 
 -- what a search finds within so many configurations
 abbrev pub IsFound : ObservedHistory → ℕ → Found → Type 0
-IsFound h most Order = IsExplained h
+IsFound h most (Order order) = IsOrderOf h order.items
 IsFound h most Nothing = ¬ IsExplained h
 IsFound h most Undecided = (returns : List ℕ) × (AreReturns h.entries returns × AreReached h returns most)
 
--- nodes that were not seen are added to those seen and to those that wait
-pub record Enters (old new : Store) (waited waiting : List Node) (nexts : List Node) : Type 0 where
+abbrev pub nodes_of : List Next → List Node
+nodes_of nexts = map (λ (w : Next). w.node) nexts
+
+abbrev pub origins_of : ℕ → List Next → List Origin
+origins_of from nexts = map (λ (w : Next). record { from = from; took = w.took }) nexts
+
+-- a place of the list is that of the node
+pub record IsPlaced (nodes : List Node) (places : List ℕ) (v : Node) : Type 0 where
+  pub place : ℕ
+  pub among : Contains places place
+  pub is_node : slice_get nodes place ≡ Some v
+
+-- nodes that come from this place and were not seen are added to those seen, and their places to those that wait
+pub record Enters (old new : Store) (from : ℕ) (waited waiting : List ℕ) (nexts : List Next) : Type 0 where
   pub keeps : Keeps new
-  pub added : List Node
-  pub nodes : new.nodes.items ≡ old.nodes.items ++ added
-  pub to_do : waiting ≡ waited ++ added
-  pub each : All (Contains new.nodes.items) nexts
+  pub added : List Next
+  pub nodes : new.nodes.items ≡ old.nodes.items ++ nodes_of added
+  pub origins : new.origins.items ≡ old.origins.items ++ origins_of from added
+  pub places : List ℕ
+  pub to_do : waiting ≡ waited ++ places
+  pub many : length places ≡ length added
+  pub placed : (v : Node) → Contains (nodes_of added) v → IsPlaced new.nodes.items places v
+  pub inside : All (λ (p : ℕ). p < length new.nodes.items) places
+  pub each : (w : Next) → Contains nexts w → Contains new.nodes.items w.node
   pub among : All (Contains nexts) added
+
+-- how the node at this place was come by, from one that is reached
+pub record IsLinkedAt (h : ObservedHistory) (returns : List ℕ) (store : Store) (k : ℕ) (v : Node) : Type 0 where
+  pub origin : Origin
+  pub is_origin : slice_get store.origins.items k ≡ Some origin
+  pub sooner : origin.from < k
+  pub node : Node
+  pub is_node : slice_get store.nodes.items origin.from ≡ Some node
+  pub reached : IsReached h returns node
+  pub leads : Leads h returns node (record { node = v; took = origin.took })
+
+-- the first node is where a search begins, and each other comes from one before it
+pub record AreLinked (h : ObservedHistory) (returns : List ℕ) (store : Store) : Type 0 where
+  pub first : Node
+  pub is_first : IsOpening h first
+  pub at_first : slice_get store.nodes.items 0 ≡ Some first
+  pub each : (k : ℕ) (v : Node) → 0 < k → slice_get store.nodes.items k ≡ Some v → IsLinkedAt h returns store k v

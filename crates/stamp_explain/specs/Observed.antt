@@ -15,10 +15,16 @@ pub record ObservedHistory : Type 0 where
 abbrev pub observed_as : Bounds → ℕ → List Observation → ObservedHistory
 observed_as limits width entries = record { limits = limits; width = width; entries = entries }
 
--- at most 640,000 calls, beside a record of at most 16 words
+-- positions are below 2 to the 58, so that 64 points fit in each
+pub record IsLow (e : Observation) : Type 0 where
+  pub first : e.first < 288230376151711744
+  pub last : MatchOption e.returned (Unit {0}) (λ (r : Returned). r.last < 288230376151711744)
+
+-- at most 640,000 calls at such positions, beside a record of at most 16 words
 pub record IsSmall (h : ObservedHistory) : Type 0 where
   pub width : h.width ≤ 16
   pub entries : length h.entries ≤ 640000
+  pub positions : All IsLow h.entries
 
 -- the one had returned when the other began
 abbrev pub IsBefore : Observation → Observation → Type 0

@@ -1,10 +1,12 @@
 -- Which records, with a point for each call, are of an observed history. A position p becomes the moments 64
 -- p to 64 p + 63:
 -- a call begins at the first moment of its position and ends at the last of its, and points stand between
-use Rattle.std.specs.Prelude.{ℕ, ◌≡◌, ◌≢◌, ◌+◌, ◌*◌, List, [], slice_get, Some, MatchOption}
+use Rattle.std.specs.Prelude.{ℕ, ◌≡◌, ◌≢◌, ◌+◌, ◌*◌, List, [], slice_get, Option, None, Some, MatchOption, nat_lt, if◌then◌else◌}
 use Rattle.std.specs.List.{AllPairs, AllZip, Contains}
 use Rattle.stamp_core.specs.Record.{Recorded}
+use Rattle.stamp_core.specs.Linearized.{IsLinearized}
 use Rattle.stamp_core.specs.declared.entry.Entry.{Entry}
+use Rattle.stamp_core.specs.declared.reply.Reply.{Reply}
 use Rattle.stamp_explain.specs.declared.observed.Observation.{Observation}
 use Rattle.stamp_explain.specs.declared.observed.Returned.{Returned}
 use Rattle.stamp_explain.specs.Observed.{ObservedHistory, HasReturned}
@@ -29,3 +31,31 @@ pub record IsRecordOf (h : ObservedHistory) (r : Recorded) : Type 0 where
   pub entries : AllZip (IsEntryOf h.entries) indices r.entries
   pub once : AllPairs (λ (i j : ℕ). i ≢ j) indices
   pub returned : (i : ℕ) (e : Observation) → slice_get h.entries i ≡ Some e → HasReturned e → Contains indices i
+
+-- the position at which a call takes effect, after one at this position: where it begins, if that is later
+abbrev pub position_at : ℕ → ℕ → ℕ
+position_at q first = if nat_lt q first then first else q
+
+-- and how many took effect there before it
+abbrev pub there_at : ℕ → ℕ → ℕ → ℕ
+there_at q n first = if nat_lt q first then 0 else n
+
+-- the last moment of a call; one that is under way has that of the end of the history
+abbrev pub ends_at : Option Returned → ℕ → ℕ
+ends_at None end = 64 * end + 63
+ends_at (Some r) end = 64 * r.last + 63
+
+abbrev pub entry_at : Observation → Reply → ℕ → ℕ → Entry
+entry_at e reply end p = record {
+  thread = e.thread;
+  call = e.call;
+  reply = reply;
+  first = 64 * e.first;
+  point = p;
+  last = ends_at e.returned end;
+}
+
+-- a record of the history, with points that linearize it
+pub record HasPoints (h : ObservedHistory) (r : Recorded) : Type 0 where
+  pub of : IsRecordOf h r
+  pub linearized : IsLinearized r

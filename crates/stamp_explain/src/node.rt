@@ -12,6 +12,21 @@ pub(crate) struct Node {
     pub(crate) threads: u64,
 }
 
+/// A node that comes next, and the entry whose call takes effect there; none where a return is past.
+#[derive(Clone, Copy, Debug, PartialEq, Eq)]
+pub(crate) struct Next {
+    pub(crate) node: Node,
+    pub(crate) took: Option<usize>,
+}
+
+/// Where a node comes from: the place of that node among those seen, and the entry whose call took
+/// effect on the way, if one did.
+#[derive(Clone, Copy, Debug, PartialEq, Eq)]
+pub(crate) struct Origin {
+    pub(crate) from: usize,
+    pub(crate) took: Option<usize>,
+}
+
 /// What a call does: the number of the word and the writer afterwards, and the reply.
 #[derive(Clone, Copy, Debug, PartialEq, Eq)]
 pub(crate) struct Step {

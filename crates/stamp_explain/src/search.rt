@@ -9,8 +9,9 @@ ghost use Rattle.stamp_explain.specs.Plan.{IsPlan, IsAwaitedAt};
 ghost use Rattle.stamp_explain.specs.Store.{Keeps};
 ghost use Rattle.stamp_explain.specs.Expand.{Expands, Takes, IsFound, Enters};
 
-use crate::node::Node;
+use crate::node::{Next, Node, Origin};
 use crate::observed::{Observation, Observed};
+use crate::order::{Taken, order_to};
 use crate::plan::{Plan, has_bit, next_call, with_bit, without_bit};
 use crate::stepping::step_of;
 use crate::store::Store;
@@ -18,24 +19,35 @@ use stamp_core::Word;
 use std::alloc::{AllocError, Global};
 
 /// What a search finds.
-#[derive(Clone, Copy, Debug, PartialEq, Eq)]
+#[derive(Drop)]
 pub(crate) enum Found {
-    /// An order explains the history.
-    Order,
+    /// An order that explains the history.
+    Order(Vec<Taken>),
     /// None does.
     Nothing,
     /// So many configurations were looked at, and the search had not ended.
     Undecided,
 }
 
-/// Adds the nodes that were not seen to those seen and to those that wait.
-fn enter(store: &mut Store, waiting: &mut Vec<Node>, nexts: &[Node]) -> Result<(), AllocError>
+/// Adds the nodes that were not seen, which come from this place, to those seen, and their places to
+/// those that wait.
+fn enter(
+    store: &mut Store,
+    waiting: &mut Vec<usize>,
+    from: usize,
+    nexts: &[Next],
+) -> Result<(), AllocError>
     requires { Keeps store.old }
-    ensures { IfOk result (λ _. Enters store.old store.new waiting.old.items waiting.new.items nexts.now) }
+    ensures { IfOk result (λ _. Enters store.old store.new from waiting.old.items waiting.new.items nexts.now) }
 {
     for next in nexts {
-        if store.add(*next)? {
-            waiting.push(*next)?;
+        let place = store.nodes.len();
+        let origin = Origin {
+            from,
+            took: next.took,
+        };
+        if store.add(next.node, origin)? {
+            waiting.push(place)?;
         }
     }
     Ok(())
@@ -43,7 +55,7 @@ fn enter(store: &mut Store, waiting: &mut Vec<Node>, nexts: &[Node]) -> Result<(
 
 /// What becomes of a node if the next call of this thread takes effect; nothing where it can't before
 /// the awaited call returns.
-fn take_of(observed: &Observed, plan: &Plan, node: &Node, thread: u64, last: u64) -> Option<Node>
+fn take_of(observed: &Observed, plan: &Plan, node: &Node, thread: u64, last: u64) -> Option<Next>
     requires observed { IsObserved observed.now }
     requires plan { IsPlan observed.now plan.now }
     requires admitted { IsAdmitted observed.now.limits (word_at observed.now.limits node.now.bits) }
@@ -66,11 +78,14 @@ fn take_of(observed: &Observed, plan: &Plan, node: &Node, thread: u64, last: u64
     }
     match step_of(observed, node.bits, node.writer, i) {
         None => None,
-        Some(step) => Some(Node {
-            past: node.past,
-            bits: step.bits,
-            writer: step.writer,
-            threads: with_bit(node.threads, thread),
+        Some(step) => Some(Next {
+            node: Node {
+                past: node.past,
+                bits: step.bits,
+                writer: step.writer,
+                threads: with_bit(node.threads, thread),
+            },
+            took: Some(i),
         }),
     }
 }
@@ -82,7 +97,7 @@ fn successors(
     observed: &Observed,
     plan: &Plan,
     node: &Node,
-) -> Result<Vec<Node>, AllocError>
+) -> Result<Vec<Next>, AllocError>
     requires observed { IsObserved observed.now }
     requires plan { IsPlan observed.now plan.now }
     requires reached { IsReached observed.now plan.now.returns.items node.now }
@@ -92,11 +107,14 @@ fn successors(
     let entry = &observed.entries()[plan.returns[node.past]];
     let mut nexts = Vec::new(alloc);
     if has_bit(node.threads, entry.thread) {
-        nexts.push(Node {
-            past: node.past + 1,
-            bits: node.bits,
-            writer: node.writer,
-            threads: without_bit(node.threads, entry.thread),
+        nexts.push(Next {
+            node: Node {
+                past: node.past + 1,
+                bits: node.bits,
+                writer: node.writer,
+                threads: without_bit(node.threads, entry.thread),
+            },
+            took: None,
         })?;
         return Ok(nexts);
     }
@@ -125,16 +143,22 @@ pub(crate) fn search(
     let returns = plan.returns.as_slice();
     let mut store = Store::new(alloc);
     let mut waiting = Vec::new(alloc);
-    enter(&mut store, &mut waiting, &[opening(observed)])?;
+    let first = Next {
+        node: opening(observed),
+        took: None,
+    };
+    enter(&mut store, &mut waiting, 0, &[first])?;
     for _ in 0..most {
-        let Some(node) = waiting.pop() else {
+        let Some(place) = waiting.pop() else {
             return Ok(Found::Nothing);
         };
+        let node = store.nodes[place];
         if node.past >= returns.len() {
-            return Ok(Found::Order);
+            let order = order_to(alloc, observed, plan, &store, place)?;
+            return Ok(Found::Order(order));
         }
         let nexts = successors(alloc, observed, plan, &node)?;
-        enter(&mut store, &mut waiting, nexts.as_slice())?;
+        enter(&mut store, &mut waiting, place, nexts.as_slice())?;
     }
     Ok(Found::Undecided)
 }

@@ -2,14 +2,15 @@
 ghost use Rattle.std.specs.Prelude.{◌≡◌, [], IfOk};
 ghost use Rattle.stamp_explain.specs.Store.{Keeps, IsStored, key_of};
 
-use crate::node::Node;
+use crate::node::{Node, Origin};
 use std::alloc::{AllocError, Global};
 use std::collections::HashSet;
 
-/// The nodes in the order in which they were seen, and the same as a set.
+/// The nodes in the order in which they were seen, where each comes from, and the same as a set.
 #[derive(Drop)]
 pub(crate) struct Store {
     pub(crate) nodes: Vec<Node>,
+    pub(crate) origins: Vec<Origin>,
     pub(crate) known: HashSet<(usize, u64, Option<usize>, u64)>,
 }
 
@@ -22,23 +23,26 @@ fn key(node: Node) -> (usize, u64, Option<usize>, u64)
 impl Store {
     pub(crate) fn new(alloc: Global) -> Store
         ensures nodes { result.nodes.items ≡ [] }
+        ensures origins { result.origins.items ≡ [] }
         ensures keeps { Keeps result }
     {
         Store {
             nodes: Vec::new(alloc),
+            origins: Vec::new(alloc),
             known: HashSet::new(alloc),
         }
     }
 
     /// Adds a node, unless it is there: whether it was added.
-    pub(crate) fn add(&mut self, node: Node) -> Result<bool, AllocError>
+    pub(crate) fn add(&mut self, node: Node, origin: Origin) -> Result<bool, AllocError>
         requires { Keeps self.old }
-        ensures { IfOk result (λ added. IsStored self.old self.new node added) }
+        ensures { IfOk result (λ added. IsStored self.old self.new node origin added) }
     {
         if !self.known.insert(key(node))? {
             return Ok(false);
         }
         self.nodes.push(node)?;
+        self.origins.push(origin)?;
         Ok(true)
     }
 }

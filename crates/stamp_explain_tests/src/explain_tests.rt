@@ -1,5 +1,8 @@
-use stamp_core::{Call, Limits, Reply, Words};
-use stamp_explain::{ExplainError, Observation, Observed, Returned, is_explained, is_observed};
+use stamp_core::{Call, Entry, Limits, Reply, Words};
+use stamp_explain::{
+    END_OF_POSITIONS, ExplainError, Observation, Observed, Returned, explanation, is_explained,
+    is_observed,
+};
 use std::test::Fail;
 
 fn words(word: u64) -> Result<Words, Fail> {
@@ -29,7 +32,12 @@ fn under_way(thread: u64, call: Call, first: u64) -> Observation {
     }
 }
 
-fn observed(rt: &impl AllocGlobal, width: u64, entries: &[Observation]) -> Result<Observed, Fail> {
+/// None where it can't be observed so.
+fn made(
+    rt: &impl AllocGlobal,
+    width: u64,
+    entries: &[Observation],
+) -> Result<Option<Observed>, Fail> {
     let Ok(limits) = Limits::new(127, 1000) else {
         return Err(Fail::from("limits"));
     };
@@ -37,7 +45,11 @@ fn observed(rt: &impl AllocGlobal, width: u64, entries: &[Observation]) -> Resul
     for entry in entries {
         held.push(*entry)?;
     }
-    match Observed::of(limits, width, held) {
+    Ok(Observed::of(limits, width, held))
+}
+
+fn observed(rt: &impl AllocGlobal, width: u64, entries: &[Observation]) -> Result<Observed, Fail> {
+    match made(rt, width, entries)? {
         Some(observed) => Ok(observed),
         None => Err(Fail::from("observed")),
     }
@@ -143,6 +155,85 @@ fn calls_of_a_thread_do_not_overlap(rt: HostRuntime) -> Result<(), Fail> {
             is_observed(&observed(&rt, 0, &[first_write(), entry])?),
             false
         );
+    }
+    Ok(())
+}
+
+/// The entries of the record that explains the history.
+fn explained(
+    rt: &impl AllocGlobal,
+    width: u64,
+    history: &[Observation],
+) -> Result<Vec<Entry>, Fail> {
+    let observed = observed(rt, width, history)?;
+    if !is_observed(&observed) {
+        return Err(Fail::from("not observed"));
+    }
+    let Ok(Some(record)) = explanation(rt.alloc(), &observed, 100) else {
+        return Err(Fail::from("no record"));
+    };
+    let mut entries = Vec::new(rt.alloc());
+    for entry in record.entries() {
+        entries.push(*entry)?;
+    }
+    Ok(entries)
+}
+
+fn entry(thread: u64, call: Call, reply: Reply, moments: (u64, u64, u64)) -> Entry {
+    let (first, point, last) = moments;
+    Entry {
+        thread,
+        call,
+        reply,
+        first,
+        point,
+        last,
+    }
+}
+
+#[test]
+fn calls_of_one_position_have_points_one_after_the_other(rt: HostRuntime) -> Result<(), Fail> {
+    let during = returned(1, Call::Optimistic, Reply::Stamp(256), (1, 2));
+    let entries = explained(&rt, 0, &[first_write(), during])?;
+    assert_eq!(rt; entries.len(), 2);
+    assert_eq!(rt;
+        entries.get(0).copied(),
+        Some(entry(1, Call::Optimistic, Reply::Stamp(256), (64, 64, 191)))
+    );
+    assert_eq!(rt;
+        entries.get(1).copied(),
+        Some(entry(0, Call::TryWrite, Reply::Stamp(384), (0, 65, 255)))
+    );
+    Ok(())
+}
+
+#[test]
+fn a_call_under_way_that_took_effect_ends_with_the_history(rt: HostRuntime) -> Result<(), Fail> {
+    let begun = under_way(0, Call::WriteLock, 1);
+    let failed = returned(1, Call::TryWrite, Reply::Stamp(0), (2, 3));
+    let entries = explained(&rt, 0, &[begun, failed])?;
+    assert_eq!(rt; entries.len(), 2);
+    assert_eq!(rt;
+        entries.get(0).copied(),
+        Some(entry(0, Call::WriteLock, Reply::Stamp(384), (64, 64, 255)))
+    );
+    assert_eq!(rt;
+        entries.get(1).copied(),
+        Some(entry(1, Call::TryWrite, Reply::Stamp(0), (128, 128, 255)))
+    );
+    Ok(())
+}
+
+#[test]
+fn positions_are_below_2_to_the_58(rt: HostRuntime) -> Result<(), Fail> {
+    let table = [
+        (END_OF_POSITIONS - 1, END_OF_POSITIONS - 1, true),
+        (END_OF_POSITIONS - 1, END_OF_POSITIONS, false),
+        (END_OF_POSITIONS, END_OF_POSITIONS, false),
+    ];
+    for (first, last, fits) in table {
+        let last_call = returned(0, Call::ReadCount, Reply::Count(0), (first, last));
+        assert_eq!(rt; made(&rt, 0, &[last_call])?.is_some(), fits);
     }
     Ok(())
 }

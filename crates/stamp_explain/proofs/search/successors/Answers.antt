@@ -1,7 +1,7 @@
 use Rattle.std.proofs.Common.{◌+◌, ◌≡◌, ◌∷◌, ◌++◌, [], ℕ, List, true, false, sym, ◌∙◌}
-use Rattle.std.proofs.Common.{ap, subst, arith, Vec, Global}
+use Rattle.std.proofs.Common.{ap, subst, arith, Vec, Global, None}
 use Rattle.std.proofs.lemmas.Option.{none-some}
-use Rattle.stamp_explain.specs.declared.node.Node.{Node}
+use Rattle.stamp_explain.specs.declared.node.Next.{Next}
 use Rattle.stamp_explain.specs.Observed.{HasReturned}
 use Rattle.stamp_explain.proofs.Succeeding.{Awaits, Tries, awaits_of, awaited_returned, awaited_at, tried_none}
 use Rattle.stamp_explain.proofs.Succeeding.{tried_some, expands_past, expands_taken}
@@ -17,13 +17,15 @@ returns-then-has_bit c =
     c.entries.ensures.entries in
     expands_past c.args.observed.now c.args.plan.now c.args.node.now c.index-entries-index.result
     c.without_bit.result c.push.new.self.items is
-    (c.has_bit.ensures.0 c.if-has_bit.true) c.without_bit.ensures c.requires.reached
-    (c.in_ok-push.ensures.items ∙ ap (λ (ns : List Node). ns ++ record {
-      past = c.args.node.now.past + 1;
-      bits =
-          c.args.node.now.bits;
-      writer = c.args.node.now.writer;
-      threads = c.without_bit.result;
+    (c.has_bit.ensures.0 c.if-has_bit.true) c.without_bit.ensures
+    (c.in_ok-push.ensures.items ∙ ap (λ (ns : List Next). ns ++ record {
+      node = record {
+        past = c.args.node.now.past + 1;
+        bits = c.args.node.now.bits;
+        writer = c.args.node.now.writer;
+        threads = c.without_bit.result;
+      };
+      took = None;
     } ∷ [])
     c.new-nexts.ensures.items)
 
@@ -46,15 +48,15 @@ loop-thread-preserved c =
     elim c.match-take_of.branch [
       | in-Some-take_of+in_ok-push-2 w ↦
           let same : c.match-take_of.nexts.items ≡ c.loop-thread.nexts.items ++ w.in-Some-take_of.next ∷ [] =
-          ap (λ (v : Vec Node Global). v.items) w.nexts-is ∙ w.in_ok-push-2.ensures.items in
-          subst (λ (ns : List Node). Tries h returns node c.in-Some.returned.last (c.loop-thread.thread + 1) ns)
+          ap (λ (v : Vec Next Global). v.items) w.nexts-is ∙ w.in_ok-push-2.ensures.items in
+          subst (λ (ns : List Next). Tries h returns node c.in-Some.returned.last (c.loop-thread.thread + 1) ns)
           (sym same)
           (tried_some h returns node c.in-Some.returned.last c.loop-thread.thread c.loop-thread.nexts.items
           w.in-Some-take_of.next c.loop-thread.invariant w.in-Some-take_of.ensures)
       | in_default-take_of w ↦
           let same : c.match-take_of.nexts.items ≡ c.loop-thread.nexts.items =
-          ap (λ (v : Vec Node Global). v.items) w.nexts-is in
-          subst (λ (ns : List Node). Tries h returns node c.in-Some.returned.last (c.loop-thread.thread + 1) ns)
+          ap (λ (v : Vec Next Global). v.items) w.nexts-is in
+          subst (λ (ns : List Next). Tries h returns node c.in-Some.returned.last (c.loop-thread.thread + 1) ns)
           (sym same)
           (tried_none h returns node c.in-Some.returned.last c.loop-thread.thread c.loop-thread.nexts.items
           c.loop-thread.invariant w.in_default-take_of.ensures)
@@ -72,7 +74,7 @@ returns c =
     c.in-Some.returned.last c.loop-thread.nexts.items is
     (awaited_at c.args.observed.now c.args.plan.now c.args.node.now c.index-entries-index.result c.in-Some.returned
     is c.in-Some.is)
-    (λ bit. false_true (sym c.if-has_bit.false ∙ c.has_bit.ensures.1 bit)) c.requires.reached
+    (λ bit. false_true (sym c.if-has_bit.false ∙ c.has_bit.ensures.1 bit))
     (subst (λ (k : ℕ). Tries c.args.observed.now c.args.plan.now.returns.items c.args.node.now
     c.in-Some.returned.last k c.loop-thread.nexts.items) all c.loop-thread.invariant)
   where

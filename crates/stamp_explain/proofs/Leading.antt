@@ -1,0 +1,170 @@
+-- From one node of a search to the next, and back.
+use Rattle.std.proofs.Common.{◌≡◌, ℕ, ◌+◌, ◌<◌, ◌≤◌, suc, List, [], ◌∷◌, length, refl, sym, ◌∙◌, ap, subst}
+use Rattle.std.proofs.Common.{arith, Option, None, Some}
+use Rattle.std.specs.Prelude.{drop, slice_get, slice_index}
+use Rattle.std.proofs.Math.Seq.{drop-cons}
+use Rattle.std.proofs.lemmas.List.{length-drop}
+use Rattle.stamp_core.specs.declared.reply.Reply.{Reply}
+use Rattle.stamp_explain.specs.declared.node.Node.{Node}
+use Rattle.stamp_explain.specs.declared.node.Next.{Next}
+use Rattle.stamp_explain.specs.declared.order.Taken.{Taken}
+use Rattle.stamp_explain.specs.Observed.{ObservedHistory}
+use Rattle.stamp_explain.specs.Explained.{Effect}
+use Rattle.stamp_explain.specs.Search.{LockState, LockSteps, IsCompletedBy}
+use Rattle.stamp_explain.specs.Node.{StandsFor, IsReached, Reaches}
+use Rattle.stamp_explain.specs.Node.Reaches.{goes_past, goes_on_by}
+use Rattle.stamp_explain.specs.Expand.{Leads, LeadsBy, LeadsByCall, LeadsByReturn, IsLed}
+use Rattle.stamp_explain.specs.Order.{taken_of, RepliesAt}
+use Rattle.stamp_explain.proofs.Completing.{completed_by_none, before_return, puts_first}
+use Rattle.stamp_explain.proofs.Finding.{ArePending, first_of_pending, past_pending, taken_pending}
+use Rattle.stamp_explain.proofs.Expanding.{one_reply}
+
+-- the returns to come, by their first
+come : (returns : List ℕ) (past : ℕ) → past < length returns →
+    drop past returns ≡ slice_index returns past ∷ drop (suc past) returns
+come returns past lt = drop-cons returns past 0 lt
+
+come_less : (returns : List ℕ) (past w : ℕ) → w ≡ past + 1 → drop (suc past) returns ≡ drop w returns
+come_less returns past w same =
+    let e : suc past ≡ w = omega (arith, same) in ap (λ (n : ℕ). drop n returns) e
+
+come_as_well : (returns : List ℕ) (past w : ℕ) → past < length returns → w ≡ past →
+    slice_index returns past ∷ drop (suc past) returns ≡ drop w returns
+come_as_well returns past w lt same = sym (come returns past lt) ∙ ap (λ (n : ℕ). drop n returns) (sym same)
+
+-- what comes from a node that is reached is reached
+pub leads_reached : (h : ObservedHistory) (returns : List ℕ) (node : Node) (next : Next) →
+    IsReached h returns node → Leads h returns node next → IsReached h returns next.node
+leads_reached h returns node next reached leads =
+    by next.took (leads.leads reached.state reached.taken reached.stands)
+  where
+    way : Reaches h returns (slice_index returns node.past ∷ drop (suc node.past) returns) reached.state reached.taken
+    way = subst (λ (to_come : List ℕ). Reaches h returns to_come reached.state reached.taken)
+        (come returns node.past leads.inside) reached.way
+
+    by : (o : Option ℕ) → LeadsBy h returns node next.node reached.state reached.taken o →
+        IsReached h returns next.node
+    by None l = record {
+      state = reached.state;
+      taken = reached.taken;
+      stands = l.stands;
+      way = goes_past (subst (λ (to_come : List ℕ). Reaches h returns (slice_index returns node.past ∷ to_come)
+          reached.state reached.taken) (come_less returns node.past next.node.past l.past) way) l.in_effect;
+    }
+    by (Some i) l = record {
+      state = l.state;
+      taken = l.effect.index ∷ reached.taken;
+      stands = l.stands;
+      way = subst (λ (to_come : List ℕ). Reaches h returns to_come l.state (l.effect.index ∷ reached.taken))
+          (come_as_well returns node.past next.node.past leads.inside l.past)
+          (goes_on_by way l.awaited l.effect l.state l.is_awaited l.not_yet l.may);
+    }
+
+-- so a call that took effect there did so in some state
+pub led_by : (h : ObservedHistory) (returns : List ℕ) (node w : Node) (took : Option ℕ) →
+    IsReached h returns node → Leads h returns node (record { node = w; took = took }) → IsLed h node took
+led_by h returns node w None reached leads = tt
+led_by h returns node w (Some i) reached leads =
+    let l : LeadsByCall h returns node w reached.state reached.taken i =
+    leads.leads reached.state reached.taken reached.stands in
+    record {
+      state = reached.state;
+      at = reached.stands.at;
+      effect = l.effect;
+      next = l.state;
+      index = l.index;
+      is_effect = l.may.effect;
+      steps = l.may.steps;
+    }
+
+-- these calls, with these replies, complete what a node stands for
+pub record EndsFor (h : ObservedHistory) (returns : List ℕ) (v : Node) (s : LockState) (taken : List ℕ)
+    (left : List Taken) : Type 0 where
+  pub rest : List Effect
+  pub by : IsCompletedBy (LockSteps h.limits) h.entries (drop v.past returns) s taken rest
+  pub are : left ≡ taken_of rest
+
+pub record Ends (h : ObservedHistory) (returns : List ℕ) (v : Node) (left : List Taken) : Type 0 where
+  pub ends : (s : LockState) (taken : List ℕ) → StandsFor h returns v s taken →
+      ArePending h.entries (drop v.past returns) taken → EndsFor h returns v s taken left
+
+none_after : (xs : List ℕ) (n : ℕ) → length xs ≤ n → drop n xs ≡ []
+none_after xs n same = empty (drop n xs) (omega (arith, length-drop n xs, same))
+  where
+    empty : (ys : List ℕ) → length ys ≡ 0 → ys ≡ []
+    empty [] h = refl
+    empty (y ∷ ys) h = absurd (omega arith)
+
+-- nothing is left at a node with no return to come
+pub ends_last : (h : ObservedHistory) (returns : List ℕ) (v : Node) → length returns ≤ v.past → Ends h returns v []
+ends_last h returns v all = record {
+  ends = λ s taken stands pending. record {
+    rest = [];
+    by = subst (λ (to_come : List ℕ). IsCompletedBy (LockSteps h.limits) h.entries to_come s taken [])
+        (sym (none_after returns v.past all)) (completed_by_none (LockSteps h.limits) h.entries s taken);
+    are = refl;
+  };
+}
+
+-- as much is left where a return was passed
+pub ends_past : (h : ObservedHistory) (returns : List ℕ) (node w : Node) (left : List Taken) →
+    Leads h returns node (record { node = w; took = None }) → Ends h returns w left → Ends h returns node left
+ends_past h returns node w left leads after = record {
+  ends = λ s taken stands pending. by s taken stands pending (leads.leads s taken stands);
+}
+  where
+    i : ℕ
+    i = slice_index returns node.past
+
+    by : (s : LockState) (taken : List ℕ) → StandsFor h returns node s taken →
+        ArePending h.entries (drop node.past returns) taken → LeadsByReturn h returns node w s taken →
+        EndsFor h returns node s taken left
+    by s taken stands pending l =
+        let to_come : drop node.past returns ≡ i ∷ drop w.past returns = come returns node.past leads.inside ∙
+        ap (λ (rest : List ℕ). i ∷ rest) (come_less returns node.past w.past l.past) in
+        let end : EndsFor h returns w s taken left = after.ends s taken l.stands
+        (past_pending h.entries i (drop w.past returns) taken l.in_effect
+        (subst (λ (rest : List ℕ). ArePending h.entries rest taken) to_come pending)) in
+        record {
+          rest = end.rest;
+          by = subst (λ (rest : List ℕ). IsCompletedBy (LockSteps h.limits) h.entries rest s taken end.rest)
+              (sym to_come)
+              (before_return (LockSteps h.limits) h.entries i (drop w.past returns) s taken end.rest l.in_effect
+              end.by);
+          are = end.are;
+        }
+
+-- and one more call where it took effect
+pub ends_call : (h : ObservedHistory) (returns : List ℕ) (node w : Node) (i : ℕ) (one : Taken) (left : List Taken) →
+    Leads h returns node (record { node = w; took = Some i }) → one.entry ≡ i → RepliesAt h node one →
+    Ends h returns w left → Ends h returns node (one ∷ left)
+ends_call h returns node w i one left leads same replies after = record {
+  ends = λ s taken stands pending. by s taken stands pending (leads.leads s taken stands);
+}
+  where
+    by : (s : LockState) (taken : List ℕ) → StandsFor h returns node s taken →
+        ArePending h.entries (drop node.past returns) taken → LeadsByCall h returns node w s taken i →
+        EndsFor h returns node s taken (one ∷ left)
+    by s taken stands pending l =
+        let x : Effect = l.effect in
+        let to_come : drop w.past returns ≡ drop node.past returns = ap (λ (n : ℕ). drop n returns) l.past in
+        let end : EndsFor h returns w l.state (x.index ∷ taken) left = after.ends l.state (x.index ∷ taken) l.stands
+        (subst (λ (rest : List ℕ). ArePending h.entries rest (x.index ∷ taken)) (sym to_come)
+        (taken_pending h.entries (drop node.past returns) taken x.index pending)) in
+        let entry : one.entry ≡ x.index = same ∙ sym l.index in
+        let at : slice_get h.entries one.entry ≡ Some x.entry =
+        ap (λ (k : ℕ). slice_get h.entries k) entry ∙ l.may.effect.is_entry in
+        let reply : one.reply ≡ x.reply = one_reply h.limits s.0 s.1 x.entry.call one.reply x.reply
+        (replies x.entry s at stands.at) l.may.steps.replies in
+        record {
+          rest = x ∷ end.rest;
+          by = puts_first (LockSteps h.limits) h.entries l.awaited (drop node.past returns) s l.state taken x end.rest
+              (first_of_pending h.entries (slice_index returns node.past) l.awaited (drop (suc node.past) returns)
+              taken l.is_awaited (subst (λ (rest : List ℕ). ArePending h.entries rest taken)
+              (come returns node.past leads.inside) pending)) l.may
+              (subst (λ (rest : List ℕ). IsCompletedBy (LockSteps h.limits) h.entries rest l.state
+              (x.index ∷ taken) end.rest) to_come end.by);
+          are = ap (λ (n : ℕ). record { entry = n; reply = one.reply } ∷ left) entry ∙
+              ap (λ (r : Reply). record { entry = x.index; reply = r } ∷ left) reply ∙
+              ap (λ (rest : List Taken). record { entry = x.index; reply = x.reply } ∷ rest) end.are;
+        }

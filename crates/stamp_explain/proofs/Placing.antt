@@ -1,0 +1,226 @@
+-- The record of an order.
+use Rattle.std.proofs.Common.{◌≡◌, ℕ, ◌+◌, ◌*◌, ◌<◌, ◌≤◌, suc, List, [], ◌∷◌, ◌++◌, length, get_or, refl, sym, ◌∙◌}
+use Rattle.std.proofs.Common.{ap, subst, arith, inl, Option, None, Some}
+use Rattle.std.specs.Prelude.{drop, slice_get, IsTrue}
+use Rattle.std.specs.Option.{option_map}
+use Rattle.std.specs.List.{All, AllZip}
+use Rattle.std.proofs.Math.Seq.{drop-cons}
+use Rattle.std.proofs.lemmas.List.{append_assoc, append-nil, length-map, length-drop}
+use Rattle.std.proofs.lemmas.List.Elements.{All-nil, All-cons}
+use Rattle.std.proofs.lemmas.Option.{slice_get_read, none-some, same_Some, slice_get-map, slice_get_within, get_or_from_slice_get}
+use Rattle.stamp_core.specs.Call.{call_suits}
+use Rattle.stamp_core.specs.Record.{recorded, IsRecorded, SuitsRecord}
+use Rattle.stamp_core.specs.declared.entry.Entry.{Entry}
+use Rattle.stamp_core.specs.declared.call.Call.{Call}
+use Rattle.stamp_core.specs.declared.reply.Reply.{Reply}
+use Rattle.stamp_explain.specs.declared.observed.Observation.{Observation}
+use Rattle.stamp_explain.specs.declared.order.Taken.{Taken}
+use Rattle.stamp_explain.specs.Observed.{ObservedHistory, IsObserved, IsSmall}
+use Rattle.stamp_explain.specs.Explained.{Effect, IsExplainedBy}
+use Rattle.stamp_explain.specs.Order.{IsOrderOf, taken_of}
+use Rattle.stamp_explain.specs.Points.{IsEntryOf, HasPoints, entry_at, position_at, there_at}
+use Rattle.stamp_explain.proofs.Threads.{few_threads}
+use Rattle.stamp_explain.proofs.Expanding.{at_place}
+use Rattle.stamp_explain.proofs.Spreading.{IsReady, TakesEffect, points_from, takes_effect, ready_of, points_are_of}
+use Rattle.stamp_explain.proofs.Spreading.{points_are_linearized}
+
+-- of k calls of an order the entries are made, and the next takes effect from this position on
+pub record PlacesTo (h : ObservedHistory) (taken : List Taken) (end k : ℕ) (entries : List Entry) (q n : ℕ) : Type 0
+  where
+    pub order : List Effect
+    pub explains : IsExplainedBy h order
+    pub are : taken ≡ taken_of order
+    pub begun : All (λ (y : Effect). y.entry.first ≤ end) order
+    pub threads : List ℕ
+    pub many : length threads ≡ n
+    pub ready : IsReady end q threads (drop k order)
+    pub points : entries ++ points_from end q n (drop k order) ≡ points_from end 0 0 order
+
+pub places_first : (h : ObservedHistory) (taken : List Taken) (end : ℕ) (entries : List Entry) → IsObserved h →
+    IsOrderOf h taken → All (λ (e : Observation). e.first ≤ end) h.entries → entries ≡ [] →
+    PlacesTo h taken end 0 entries 0 0
+places_first h taken end entries observed is begun empty = record {
+  order = is.order;
+  explains = is.explains;
+  are = is.are;
+  begun = all_begun;
+  threads = [];
+  many = refl;
+  ready = ready_of h end is.order observed is.explains all_begun;
+  points = ap (λ (es : List Entry). es ++ points_from end 0 0 is.order) empty;
+}
+  where
+    all_begun : All (λ (y : Effect). y.entry.first ≤ end) is.order
+    all_begun k d lt = at_place (λ (e : Observation). e.first ≤ end) h.entries (get_or is.order k d).index
+        (get_or is.order k d).entry begun (is.explains.effects k d lt).is_entry
+
+-- the effect whose entry and reply these are
+effect_at : (order : List Effect) (k : ℕ) (t : Taken) → slice_get (taken_of order) k ≡ Some t →
+    (x : Effect) × ((slice_get order k ≡ Some x) × (record { entry = x.index; reply = x.reply } ≡ t))
+effect_at order k t at = by (slice_get order k) refl
+    (sym (slice_get-map (λ (x : Effect). record { entry = x.index; reply = x.reply }) order k) ∙ at)
+  where
+    by : (o : Option Effect) → slice_get order k ≡ o →
+        option_map (λ (x : Effect). record { entry = x.index; reply = x.reply }) o ≡ Some t →
+        (x : Effect) × ((slice_get order k ≡ Some x) × (record { entry = x.index; reply = x.reply } ≡ t))
+    by None e h = absurd (none-some t h)
+    by (Some x) e h = (x, (e, same_Some (record { entry = x.index; reply = x.reply }) t h))
+
+-- the call of this entry takes effect next
+pub record IsPlacedAt (h : ObservedHistory) (taken : List Taken) (end k : ℕ) (t : Taken) (entries : List Entry)
+    (q n : ℕ) (e : Observation) : Type 0 where
+  pub position : position_at q e.first ≤ end
+  pub few : there_at q n e.first < 64
+  pub next : PlacesTo h taken end (k + 1) (entries ++ entry_at e t.reply end (64 * position_at q e.first +
+      there_at q n e.first) ∷ []) (position_at q e.first) (there_at q n e.first + 1)
+
+pub record IsPlacedNext (h : ObservedHistory) (taken : List Taken) (end k : ℕ) (t : Taken) (entries : List Entry)
+    (q n : ℕ) : Type 0 where
+  pub entry : Observation
+  pub is_entry : slice_get h.entries t.entry ≡ Some entry
+  pub placed : IsPlacedAt h taken end k t entries q n entry
+
+pub places_next : (h : ObservedHistory) (taken : List Taken) (end k : ℕ) (t : Taken) (entries : List Entry)
+    (q n : ℕ) → PlacesTo h taken end k entries q n → slice_get taken k ≡ Some t →
+    IsPlacedNext h taken end k t entries q n
+places_next h taken end k t entries q n is at =
+    let found : (x : Effect) × ((slice_get is.order k ≡ Some x) × (record { entry = x.index; reply = x.reply } ≡ t)) =
+    effect_at is.order k t (ap (λ (ts : List Taken). slice_get ts k) (sym is.are) ∙ at) in
+    by found.0 found.1.0 (ap (λ (u : Taken). u.entry) found.1.1) (ap (λ (u : Taken). u.reply) found.1.1)
+  where
+    by : (x : Effect) → slice_get is.order k ≡ Some x → x.index ≡ t.entry → x.reply ≡ t.reply →
+        IsPlacedNext h taken end k t entries q n
+    by x here index reply =
+        let lt : k < length is.order = slice_get_within is.order k x here in
+        let more : suc k ≡ k + 1 = omega arith in
+        let left : drop k is.order ≡ x ∷ drop (k + 1) is.order = drop-cons is.order k x lt ∙
+        ap (λ (y : Effect). y ∷ drop (suc k) is.order) (get_or_from_slice_get is.order k x x here) ∙
+        ap (λ (m : ℕ). x ∷ drop m is.order) more in
+        let step : TakesEffect end q n x (drop (k + 1) is.order) =
+        takes_effect end q is.threads n x (drop (k + 1) is.order) is.many
+        (subst (λ (xs : List Effect). IsReady end q is.threads xs) left is.ready) in
+        let p : ℕ = 64 * position_at q x.entry.first + there_at q n x.entry.first in
+        let rest : List Entry = points_from end (position_at q x.entry.first) (there_at q n x.entry.first + 1)
+        (drop (k + 1) is.order) in
+        record {
+          entry = x.entry;
+          is_entry = ap (λ (i : ℕ). slice_get h.entries i) (sym index) ∙ is_effect x here;
+          placed = record {
+            position = step.ready.reached;
+            few = step.few;
+            next = record {
+              order = is.order;
+              explains = is.explains;
+              are = is.are;
+              begun = is.begun;
+              threads = step.threads;
+              many = step.many;
+              ready = step.ready;
+              points = append_assoc entries (entry_at x.entry t.reply end p ∷ []) rest ∙
+                  ap (λ (r : Reply). entries ++ entry_at x.entry r end p ∷ rest) (sym reply) ∙
+                  ap (λ (xs : List Effect). entries ++ points_from end q n xs) (sym left) ∙ is.points;
+            };
+          };
+        }
+      where
+        is_effect : (x : Effect) → slice_get is.order k ≡ Some x → slice_get h.entries x.index ≡ Some x.entry
+        is_effect x here = subst (λ (y : Effect). slice_get h.entries y.index ≡ Some y.entry)
+            (get_or_from_slice_get is.order k x x here)
+            (is.explains.effects k x (slice_get_within is.order k x here)).is_entry
+
+-- the call that was read, and its entry
+pub call_read : (taken : List Taken) (k : ℕ) (t : Taken) → k < length taken → t ≡ get_or taken k t →
+    slice_get taken k ≡ Some t
+call_read taken k t lt read = slice_get_read taken (length taken) k t refl lt read
+
+pub places_inside : (h : ObservedHistory) (taken : List Taken) (end k : ℕ) (t : Taken) (entries : List Entry)
+    (q n : ℕ) → PlacesTo h taken end k entries q n → slice_get taken k ≡ Some t → t.entry < length h.entries
+places_inside h taken end k t entries q n is at =
+    let step : IsPlacedNext h taken end k t entries q n = places_next h taken end k t entries q n is at in
+    slice_get_within h.entries t.entry step.entry step.is_entry
+
+pub places_at : (h : ObservedHistory) (taken : List Taken) (end k : ℕ) (t : Taken) (entries : List Entry)
+    (q n : ℕ) (e : Observation) (read : List Observation) → PlacesTo h taken end k entries q n →
+    slice_get taken k ≡ Some t → read ≡ h.entries → e ≡ get_or read t.entry e →
+    IsPlacedAt h taken end k t entries q n e
+places_at h taken end k t entries q n e read is at same is_read =
+    let step : IsPlacedNext h taken end k t entries q n = places_next h taken end k t entries q n is at in
+    let here : slice_get h.entries t.entry ≡ Some e = slice_get_read h.entries (length h.entries) t.entry e refl
+    (slice_get_within h.entries t.entry step.entry step.is_entry)
+    (is_read ∙ ap (λ (xs : List Observation). get_or xs t.entry e) same) in
+    subst (λ (o : Observation). IsPlacedAt h taken end k t entries q n o)
+    (same_Some step.entry e (sym step.is_entry ∙ here)) step.placed
+
+none_left : (xs : List Effect) (k : ℕ) → length xs ≤ k → drop k xs ≡ []
+none_left xs k le = empty (drop k xs) (omega (arith, length-drop k xs, le))
+  where
+    empty : (ys : List Effect) → length ys ≡ 0 → ys ≡ []
+    empty [] h = refl
+    empty (y ∷ ys) h = absurd (omega arith)
+
+pub all_placed : (h : ObservedHistory) (taken : List Taken) (end k : ℕ) (entries : List Entry) (q n : ℕ) →
+    IsObserved h → PlacesTo h taken end k entries q n → length taken ≤ k →
+    HasPoints h (recorded h.limits h.width entries [])
+all_placed h taken end k entries q n observed is all =
+    subst (λ (es : List Entry). HasPoints h (recorded h.limits h.width es [])) (sym made) (record {
+      of = points_are_of h end is.order observed is.explains is.begun;
+      linearized = points_are_linearized h end is.order observed is.explains is.begun;
+    })
+  where
+    many : length (taken_of is.order) ≡ length is.order
+    many = length-map {B = Taken} is.order (λ (x : Effect). record { entry = x.index; reply = x.reply })
+
+    over : length is.order ≤ k
+    over = omega (
+      arith,
+      all,
+      ap (λ (ts : List Taken). length ts) is.are,
+      many,
+    )
+
+    made : entries ≡ points_from end 0 0 is.order
+    made = sym (append-nil entries) ∙
+        ap (λ (xs : List Effect). entries ++ points_from end q n xs) (sym (none_left is.order k over)) ∙ is.points
+
+-- it is a record
+zip_lengths : {A B : Type 0} (R : A → B → Type 0) (xs : List A) (ys : List B) → AllZip R xs ys →
+    length xs ≡ length ys
+zip_lengths R [] [] z = refl
+zip_lengths R [] (y ∷ ys) z = absurd z
+zip_lengths R (x ∷ xs) [] z = absurd z
+zip_lengths R (x ∷ xs) (y ∷ ys) z = omega (arith, zip_lengths R xs ys z.1)
+
+all_suit : (h : ObservedHistory) (is : List ℕ) (es : List Entry) → IsObserved h → AllZip (IsEntryOf h.entries) is es →
+    All (SuitsRecord h.width) es
+all_suit h [] [] observed z = All-nil (SuitsRecord h.width)
+all_suit h [] (e ∷ es) observed z = absurd z
+all_suit h (i ∷ is) [] observed z = absurd z
+all_suit h (i ∷ is) (e ∷ es) observed z = All-cons (SuitsRecord h.width) e es (record {
+  thread = subst (λ (t : ℕ). t < 64) (sym z.0.thread)
+      (at_place (λ (o : Observation). o.thread < 64) h.entries i z.0.observed observed.threads z.0.is_entry);
+  call = subst (λ (call : Call). IsTrue (call_suits h.width call)) (sym z.0.call)
+      (at_place (λ (o : Observation). IsTrue (call_suits h.width o.call)) h.entries i z.0.observed observed.suit
+      z.0.is_entry);
+}) (all_suit h is es observed z.1)
+
+all_inside : (h : ObservedHistory) (is : List ℕ) (es : List Entry) → AllZip (IsEntryOf h.entries) is es →
+    All (λ (i : ℕ). i < length h.entries) is
+all_inside h [] es z = All-nil (λ (i : ℕ). i < length h.entries)
+all_inside h (i ∷ is) [] z = absurd z
+all_inside h (i ∷ is) (e ∷ es) z = All-cons (λ (i : ℕ). i < length h.entries) i is
+    (slice_get_within h.entries i z.0.observed z.0.is_entry) (all_inside h is es z.1)
+
+pub points_are_recorded : (h : ObservedHistory) (entries : List Entry) → IsObserved h → IsSmall h →
+    HasPoints h (recorded h.limits h.width entries []) → IsRecorded (recorded h.limits h.width entries [])
+points_are_recorded h entries observed small has = record {
+  width = small.width;
+  entries = omega (
+    arith,
+    small.entries,
+    zip_lengths (IsEntryOf h.entries) has.of.indices entries has.of.entries,
+    few_threads has.of.indices (length h.entries) has.of.once
+        (all_inside h has.of.indices entries has.of.entries),
+  );
+  report = inl refl;
+  suit = all_suit h has.of.indices entries observed has.of.entries;
+}

@@ -1,0 +1,69 @@
+//! The order that a search found.
+ghost use Rattle.std.specs.Prelude.{ℕ, ◌≡◌, ◌≤◌, ◌<◌, IfOk, Some, slice_get, length};
+ghost use Rattle.stamp_explain.specs.Observed.{IsObserved};
+ghost use Rattle.stamp_explain.specs.Node.{IsReached};
+ghost use Rattle.stamp_explain.specs.Plan.{IsPlan};
+ghost use Rattle.stamp_explain.specs.Expand.{AreLinked, IsLed};
+ghost use Rattle.stamp_explain.specs.Order.{IsOrderOf, IsTakenAt, IsEnd};
+
+use crate::node::Node;
+use crate::observed::Observed;
+use crate::plan::Plan;
+use crate::stepping::step_of;
+use crate::store::Store;
+use stamp_core::Reply;
+use std::alloc::{AllocError, Global};
+
+/// A call that took effect: its entry in the history, and its reply.
+#[derive(Clone, Copy, Debug, PartialEq, Eq)]
+pub struct Taken {
+    pub entry: usize,
+    pub reply: Reply,
+}
+
+/// The call that took effect when the search left this node, with its reply; none where a return was
+/// passed.
+fn taken_at(observed: &Observed, node: &Node, took: Option<usize>) -> Option<Taken>
+    requires observed { IsObserved observed.now }
+    requires led { IsLed observed.now node.now took }
+    ensures { IsTakenAt observed.now node.now took result }
+{
+    let Some(i) = took else {
+        return None;
+    };
+    let Some(step) = step_of(observed, node.bits, node.writer, i) else {
+        unreachable!();
+    };
+    Some(Taken {
+        entry: i,
+        reply: step.reply,
+    })
+}
+
+/// The calls that took effect on the way to the last node of an order.
+pub(crate) fn order_to(
+    alloc: Global,
+    observed: &Observed,
+    plan: &Plan,
+    store: &Store,
+    place: usize,
+) -> Result<Vec<Taken>, AllocError>
+    requires observed { IsObserved observed.now }
+    requires plan { IsPlan observed.now plan.now }
+    requires linked { AreLinked observed.now plan.now.returns.items store.now }
+    requires end { IsEnd plan.now.returns.items store.now place }
+    ensures { IfOk result (λ order. IsOrderOf observed.now order.items) }
+{
+    let mut order = Vec::new(alloc);
+    let mut at = place;
+    while at > 0 {
+        let origin = store.origins[at];
+        let node = &store.nodes[origin.from];
+        if let Some(Taken { entry, reply }) = taken_at(observed, node, origin.took) {
+            order.push(Taken { entry, reply })?;
+        }
+        at = origin.from;
+    }
+    order.reverse();
+    Ok(order)
+}

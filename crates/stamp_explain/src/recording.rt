@@ -1,0 +1,125 @@
+//! The record of an order, with points.
+ghost use Rattle.std.specs.Prelude.{◌≡◌, ◌≤◌, ◌<◌, [], IfOk};
+ghost use Rattle.std.specs.List.{All};
+ghost use Rattle.stamp_core.specs.Record.{recorded, IsRecorded};
+ghost use Rattle.stamp_explain.specs.Observed.{IsObserved, IsLow};
+ghost use Rattle.stamp_explain.specs.Order.{IsOrderOf};
+ghost use Rattle.stamp_explain.specs.Points.{HasPoints, entry_at, position_at, there_at};
+
+use crate::observed::{Observation, Observed};
+use crate::order::Taken;
+use stamp_core::{Entry, Record, Reply};
+use std::alloc::{AllocError, Global};
+
+/// A position, and how many calls took effect at it.
+#[derive(Clone, Copy, Debug, PartialEq, Eq)]
+struct Place {
+    position: u64,
+    before: u64,
+}
+
+/// Where a call that began at this position takes effect, after those before it.
+fn place_for(after: Place, first: u64) -> Place
+    ensures position { result.position ≡ position_at after.position first }
+    ensures before { result.before ≡ there_at after.position after.before first }
+{
+    if after.position < first {
+        Place {
+            position: first,
+            before: 0,
+        }
+    } else {
+        after
+    }
+}
+
+/// The last position of a call that is known.
+fn last_of(entry: &Observation) -> u64
+    requires { IsLow entry.now }
+    ensures begun { entry.now.first ≤ result }
+    ensures low { result < 288230376151711744 }
+{
+    match &entry.returned {
+        None => entry.first,
+        Some(returned) => entry.first.max(returned.last),
+    }
+}
+
+/// The last position of a history.
+fn end_of(entries: &[Observation]) -> u64
+    requires { All IsLow entries.now }
+    ensures begun { All (λ e. e.first ≤ result) entries.now }
+    ensures low { result < 288230376151711744 }
+{
+    let mut end = 0;
+    for entry in entries {
+        end = end.max(last_of(entry));
+    }
+    end
+}
+
+/// The entry of a call that takes effect at this point, in a history that ends at this position.
+fn entry_of(entry: &Observation, reply: Reply, end: u64, point: u64) -> Entry
+    requires low { IsLow entry.now }
+    requires end { end < 288230376151711744 }
+    ensures { result ≡ entry_at entry.now reply end point }
+{
+    let last = match &entry.returned {
+        None => end,
+        Some(returned) => returned.last,
+    };
+    Entry {
+        thread: entry.thread,
+        call: entry.call,
+        reply,
+        first: 64 * entry.first,
+        point,
+        last: 64 * last + 63,
+    }
+}
+
+/// The entries of the calls of an order, with their points.
+fn entries_of(alloc: Global, observed: &Observed, order: &[Taken]) -> Result<Vec<Entry>, AllocError>
+    requires observed { IsObserved observed.now }
+    requires order { IsOrderOf observed.now order.now }
+    ensures points { IfOk result (λ es. HasPoints observed.now
+        (recorded observed.now.limits observed.now.width es.items [])) }
+    ensures recorded { IfOk result (λ es. IsRecorded (recorded observed.now.limits observed.now.width es.items [])) }
+{
+    let entries = observed.entries();
+    let end = end_of(entries);
+    let mut at = Place {
+        position: 0,
+        before: 0,
+    };
+    let mut placed = Vec::new(alloc);
+    for taken in order {
+        let entry = &entries[taken.entry];
+        let place = place_for(at, entry.first);
+        let point = 64 * place.position + place.before;
+        placed.push(entry_of(entry, taken.reply, end, point))?;
+        at = Place {
+            position: place.position,
+            before: place.before + 1,
+        };
+    }
+    Ok(placed)
+}
+
+/// The record of an order: each call takes effect at the position where it began, or at that of the
+/// call before it, if that is later.
+pub(crate) fn record_of(
+    alloc: Global,
+    observed: &Observed,
+    order: &[Taken],
+) -> Result<Record, AllocError>
+    requires observed { IsObserved observed.now }
+    requires order { IsOrderOf observed.now order.now }
+    ensures { IfOk result (λ made. HasPoints observed.now made) }
+{
+    let entries = entries_of(alloc, observed, order)?;
+    let Some(record) = Record::of(observed.limits(), observed.width(), entries) else {
+        unreachable!();
+    };
+    Ok(record)
+}
