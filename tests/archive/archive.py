@@ -313,6 +313,13 @@ def try_header(archive, room):
         print(f"header: {standard} without a warning")
 
 
+def try_shared(archive, room):
+    """The archive as a shared library."""
+    subprocess.run(["cc", "-shared", "-Wl,--whole-archive", archive, "-Wl,--no-whole-archive", "-o",
+                    os.path.join(room, "libshared.so")], check=True)
+    print("archive: links into a shared library")
+
+
 def try_examples(archive, room):
     count = os.path.join(room, "count")
     build_and_run("examples/c", ["cc", "-std=c11", "-pthread", *C_FLAGS, "-o", count, "examples/c/count.c", archive])
@@ -347,6 +354,7 @@ def main():
         compare_walks(library, stamped)
         try_page()
         try_header(archive, room)
+        try_shared(archive, room)
         try_examples(archive, room)
 
 

@@ -6,7 +6,7 @@
  * word, usually in an _Atomic uint64_t, and put the new one in its place by compare-and-exchange.
  *
  * The functions allocate nothing, take no pointers, take no locks, start no threads and call nothing.
- * Any thread may call them at any time. They test every number that they are given, and return an error
+ * Any thread may call them at any time, a signal handler too. They test every number that they are given, and return an error
  * for what they don't know.
  *
  * Where a result may be an error, a number from 1 to 5 is one.
@@ -71,24 +71,25 @@ enum {
 
 /* What a call does with the word that it found. Look at `word` in this order:
 
-     below STAMPED_LEAST_WORD   no word: STAMPED_WAIT, or an error
-     the word that you gave     the call is answered; leave the word
-     another word               put it in the place of the one that you gave; then the call is answered
+     below STAMPED_LEAST_WORD   no word: STAMPED_WAIT, or an error; nothing is changed
+     the word that you gave     the call returns `reply`, and leaves the word
+     another word               exchange it for the one that you gave; then the call returns `reply`
 
-   The order matters if what you gave was no word itself: 3 is answered STAMPED_NO_WORD, which is 3. */
+   The order matters if what you gave was no word itself: on 3 the error is STAMPED_NO_WORD, which is 3. */
 struct stamped_decision {
     uint64_t word;
-    uint64_t reply; /* what the call is answered; 0 with a wait or an error */
+    uint64_t reply; /* what the call returns; 0 with a wait or an error */
 };
 
 /* Every word is at least this. */
 #define STAMPED_LEAST_WORD UINT64_C(256)
 
-/* Look again later: STAMPED_WRITE_LOCK and STAMPED_READ_LOCK alone. */
+/* The mode isn't free: look again later, or give up. STAMPED_WRITE_LOCK and STAMPED_READ_LOCK alone. */
 #define STAMPED_WAIT UINT64_C(16)
 
-/* Replies. 0 says no. Acquisitions and conversions are answered a stamp, or 0 where the mode was not
-   acquired; STAMPED_READ_COUNT is answered how many hold read mode; the other calls, one of these. */
+/* Replies. 0 says no. Acquisitions and conversions return a stamp, or 0 where they fail; after a
+   conversion that fails, what the stamp holds is still held. STAMPED_READ_COUNT returns how many hold read
+   mode. The other calls return one of these. */
 enum {
     STAMPED_NO = 0,       /* STAMPED_VALIDATE, the queries, STAMPED_TRY_UNLOCK_WRITE and _READ */
     STAMPED_YES = 1,
