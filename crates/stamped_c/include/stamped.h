@@ -6,15 +6,19 @@
  * word, usually in an _Atomic uint64_t, and put the new one in its place by compare-and-exchange.
  *
  * The functions allocate nothing, take no pointers, take no locks, start no threads and call nothing.
- * Any thread may call them at any time, a signal handler too. They test every number that they are given, and return an error
- * for what they don't know.
+ * Any thread may call them at any time, a signal handler too. They test limits, words and codes, and
+ * return an error for what they don't know. A stamp may be any number: it is compared with the word, and
+ * no list of issued stamps is kept. So any read stamp of the current version releases one of its readers.
  *
  * Where a result may be an error, a number from 1 to 5 is one.
  *
- * Replies differ from Java's in four cases. A write stamp stays valid after its release, until write mode
- * is acquired again (in Java it doesn't). In layout 1 a 128th reader gets no stamp. Once all versions of the
- * limits are spent, no call acquires write mode: STAMPED_WRITE_LOCK then returns 0 and doesn't wait. In
- * layout 2 stamps are other numbers.
+ * Replies differ from those of the JDK's class in few cases (docs/JDK.md). A write stamp stays valid after
+ * its release, until write mode is acquired again; the JDK's doesn't. While write mode is held, its stamp
+ * alone is valid. In layout 1 a 128th reader gets no stamp, and the 127th gets another number. Once all
+ * versions of the limits are spent, no call acquires write mode: STAMPED_WRITE_LOCK then returns 0 and
+ * doesn't wait. In layout 2 stamps are other numbers.
+ *
+ * The lock isn't reentrant: while you hold read mode, STAMPED_WRITE_LOCK waits for yourself.
  */
 #ifndef STAMPED_H
 #define STAMPED_H
@@ -29,7 +33,7 @@ extern "C" {
 enum {
     STAMPED_OK = 0,
     STAMPED_UNKNOWN_LAYOUT = 1,      /* the layout isn't 1 or 2 */
-    STAMPED_LIMITS_OUT_OF_RANGE = 2, /* no reader, or more readers or versions than the layout has room for */
+    STAMPED_LIMITS_OUT_OF_RANGE = 2, /* `readers` is 0, or there are more of either than the layout has room for */
     STAMPED_NO_WORD = 3,             /* no lock of the layout ever has this word */
     STAMPED_BEYOND_LIMITS = 4,       /* a word of the layout, with more readers or versions than the limits */
     STAMPED_UNKNOWN_CALL = 5         /* no code of a call */
@@ -59,7 +63,7 @@ enum {
     STAMPED_UNLOCK_WRITE = 7,     /* unlockWrite(stamp) */
     STAMPED_UNLOCK_READ = 8,      /* unlockRead(stamp) */
     STAMPED_UNLOCK = 9,           /* unlock(stamp) */
-    STAMPED_TO_WRITE = 10,        /* tryConvertToWriteLock(stamp) */
+    STAMPED_TO_WRITE = 10,        /* tryConvertToWriteLock(stamp): of a read stamp if there is no other reader */
     STAMPED_TO_READ = 11,         /* tryConvertToReadLock(stamp) */
     STAMPED_TO_OPTIMISTIC = 12,   /* tryConvertToOptimisticRead(stamp) */
     STAMPED_TRY_UNLOCK_WRITE = 13, /* tryUnlockWrite() */
@@ -87,9 +91,10 @@ struct stamped_decision {
 /* The mode isn't free: look again later, or give up. STAMPED_WRITE_LOCK and STAMPED_READ_LOCK alone. */
 #define STAMPED_WAIT UINT64_C(16)
 
-/* Replies. 0 says no. Acquisitions and conversions return a stamp, or 0 where they fail; after a
-   conversion that fails, what the stamp holds is still held. STAMPED_READ_COUNT returns how many hold read
-   mode. The other calls return one of these. */
+/* Replies. 0 says no. Acquisitions and conversions return a stamp, or 0 where they fail, and so does
+   STAMPED_OPTIMISTIC, which fails while write mode is held. The stamp of a conversion takes the place of the
+   one that was given; where it fails, what that one holds is still held. STAMPED_READ_COUNT returns how many
+   hold read mode. The other calls return one of these. */
 enum {
     STAMPED_NO = 0,       /* STAMPED_VALIDATE, the queries, STAMPED_TRY_UNLOCK_WRITE and _READ */
     STAMPED_YES = 1,
