@@ -22,7 +22,7 @@ use Rattle.stamp_history.specs.Reading.{◌>>=◌, kind, ranged, each}
 use Rattle.stamp_history.proofs.EachItem.{bind_ok}
 
 -- what is in range was found, and passes the test
-ranged_ok : {A : Type 0} (mistake over : ReadError) (fits : A → Bool) (found : Option A) (x : A) →
+pub ranged_ok : {A : Type 0} (mistake over : ReadError) (fits : A → Bool) (found : Option A) (x : A) →
     ranged mistake over fits found ≡ Ok x → (found ≡ Some x) × (fits x ≡ true)
 ranged_ok mistake over fits None x e = cc
 ranged_ok {A} mistake over fits (Some y) x e = by (fits y) refl e
@@ -31,7 +31,7 @@ ranged_ok {A} mistake over fits (Some y) x e = by (fits y) refl e
     by true test e = let same : y ≡ x = cc in (ap Some same, subst (λ (z : A). fits z ≡ true) same test)
     by false test e = cc
 
-each_len : {A : Type 0} (one : ℕ → Data → Result A ReadError) (i : ℕ) (ds : Items) (xs : List A) → each one i ds ≡
+pub each_len : {A : Type 0} (one : ℕ → Data → Result A ReadError) (i : ℕ) (ds : Items) (xs : List A) → each one i ds ≡
     Ok xs → length xs ≡ items_len ds
 each_len one i no_items xs e = let none : [] ≡ xs = cc in sym (ap length none)
 each_len one i (item d ds) xs e =
@@ -42,7 +42,7 @@ each_len one i (item d ds) xs e =
     let all : first.0 ∷ rest.0 ≡ xs = cc in
     sym (ap length all) ∙ ap suc n
 
-each_all : {A : Type 0} (P : A → Type 0) (one : ℕ → Data → Result A ReadError) →
+pub each_all : {A : Type 0} (P : A → Type 0) (one : ℕ → Data → Result A ReadError) →
     ((j : ℕ) (d : Data) (x : A) → one j d ≡ Ok x → P x) → (i : ℕ) (ds : Items) (xs : List A) → each one i ds ≡
     Ok xs → All P xs
 each_all P one holds i no_items xs e = let none : [] ≡ xs = cc in subst (All P) none (All-nil P)
@@ -72,7 +72,7 @@ entry_suits w i d e h =
     below : (n : ℕ) → nat_lt n 64 ≡ true → n < 64
     below n t = grind (arith, nat_tests)
 
-at_most : (n m : ℕ) → nat_le n m ≡ true → n ≤ m
+pub at_most : (n m : ℕ) → nat_le n m ≡ true → n ≤ m
 at_most n m t = grind (arith, nat_tests)
 
 pub known_width : (d : Data) (w : ℕ) → width d ≡ Ok w → w ≤ 16

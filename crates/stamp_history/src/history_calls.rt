@@ -48,7 +48,7 @@ fn as_call(call: ScriptCall) -> Option<Call>
 }
 
 /// The call that the value is, if it is one of the twenty and its stamp is a number.
-pub(crate) fn history_call_of(value: &Value) -> Option<Call>
+pub fn history_call_of(value: &Value) -> Option<Call>
     ensures { result ≡ spec.history_call (view value.now) }
 {
     as_call(script_call_of(value)?)

@@ -33,7 +33,8 @@ fn counted(value: &Value) -> Option<Reply>
     }
 }
 
-fn reply_of(value: &Value) -> Option<Reply>
+/// The reply that the value is: a stamp, a name, a count or words.
+pub fn reply_of(value: &Value) -> Option<Reply>
     ensures { result ≡ reply.reply (view value.now) }
 {
     match value {

@@ -70,7 +70,9 @@ fn is_number(found: Option<u64>, number: u64) -> bool
     }
 }
 
-pub(crate) fn check_format(value: &Value) -> Result<(), ReadError>
+/// Errors: `NotHistory`, unless the key `format` has the number 2 beside the key `layout`, and 1
+/// without it.
+pub fn check_format(value: &Value) -> Result<(), ReadError>
     ensures { result ≡ field.format (view value.now) }
 {
     let format = if has_key(value, "layout") { 2 } else { 1 };
@@ -81,7 +83,9 @@ pub(crate) fn check_format(value: &Value) -> Result<(), ReadError>
     }
 }
 
-pub(crate) fn read_width(value: &Value) -> Result<u64, ReadError>
+/// The words of the guarded record, 0 where there is none. Errors: `NotHistory` where the key `width`
+/// has no whole number, and `Limit` where that is over 16.
+pub fn read_width(value: &Value) -> Result<u64, ReadError>
     ensures { result ≡ field.width (view value.now) }
 {
     match whole_under(value, "width") {
@@ -91,8 +95,10 @@ pub(crate) fn read_width(value: &Value) -> Result<u64, ReadError>
     }
 }
 
+/// The items under the key `entries`. Errors: `NotHistory` where there is no list, and `Limit` where it
+/// has over 640,000.
 #[tactic(auto, using(crate::proofs::ItemLengths::lengths))]
-fn listed_entries(value: &Value) -> Result<&[Value], ReadError>
+pub fn listed_entries(value: &Value) -> Result<&[Value], ReadError>
     ensures { Gives ReadError.Memory (λ list. items_view list.now) result
         (field.listed_entries (view value.now)) }
 {

@@ -12,8 +12,8 @@ use crate::read_error::ReadError;
 use serde_json::{Map, Value};
 use std::alloc::Global;
 
-/// The JSON value that the bytes are.
-pub(crate) fn json(alloc: Global, bytes: &[u8]) -> Result<Value, ReadError>
+/// The JSON value that the bytes are. Errors: `NotJson`, and `Memory`, never of no bytes.
+pub fn json(alloc: Global, bytes: &[u8]) -> Result<Value, ReadError>
     ensures read { Gives ReadError.Memory view result (json_of bytes.now) }
     ensures some { IfOk result (λ _. 0 < length bytes.now) }
     ensures memory { IfErr result (λ e. e ≡ ReadError.Memory → 0 < length bytes.now) }
@@ -25,7 +25,8 @@ pub(crate) fn json(alloc: Global, bytes: &[u8]) -> Result<Value, ReadError>
     }
 }
 
-pub(crate) fn has_members(value: &Value, count: usize) -> bool
+/// Whether the value is an object of so many members.
+pub fn has_members(value: &Value, count: usize) -> bool
     ensures { result ≡ spec.has_members count (view value.now) }
 {
     match value.as_object() {
@@ -48,14 +49,14 @@ fn has_each(value: &Value, keys: &[&str]) -> bool
 }
 
 /// Whether the value is an object with these keys and no others.
-pub(crate) fn has_keys(value: &Value, keys: &[&str]) -> bool
+pub fn has_keys(value: &Value, keys: &[&str]) -> bool
     ensures { result ≡ spec.has_keys (map (λ key. key.now) keys.now) (view value.now) }
 {
     has_members(value, keys.len()) && has_each(value, keys)
 }
 
-/// The whole number under a key.
-pub(crate) fn whole_under(value: &Value, key: &str) -> Option<u64>
+/// The whole number under a key, if the value is an object that has one there.
+pub fn whole_under(value: &Value, key: &str) -> Option<u64>
     ensures { result ≡ spec.whole_under key.now (view value.now) }
 {
     value.get(key)?.as_u64()

@@ -1,4 +1,5 @@
-//! Replays, scripts and recorded histories as JSON, and what a replay answered as JSON.
+//! Replays, scripts and recorded histories as JSON, and what a replay answered as JSON; and the parts of
+//! which the reading of a history is made, for texts that have them too.
 #![tactic(auto)]
 
 mod answer_error;
@@ -28,8 +29,13 @@ mod words_value;
 
 pub use answer_error::AnswerError;
 pub use field::Field;
+pub use history_calls::history_call_of;
+pub use history_entries::reply_of;
+pub use history_fields::{check_format, listed_entries, read_width};
 pub use history_reading::read_history;
 pub use history_writing::write_history;
+pub use json_values::{has_keys, has_members, json, whole_under};
+pub use limit_fields::read_limits;
 pub use read_error::ReadError;
 pub use replay_answer::replay_text;
 pub use replay_reading::read_replay;
@@ -37,3 +43,4 @@ pub use replay_writing::write_replay;
 pub use run_writing::write_run;
 pub use script_reading::read_script;
 pub use stamp_check::{Bad, BadReply, Why, check, migrate};
+pub use text_kind::TextKind;

@@ -74,9 +74,10 @@ fn limits_of(layout: Layout, readers: u64, versions: u64) -> Limits
     }
 }
 
-/// The limits that the fields of a text of this kind give.
+/// The limits that the fields `layout`, `readers` and `versions` of a text of this kind give, or the
+/// first fault in this order.
 #[tactic(auto, unfolding(crate::specs::LimitFields::limits))]
-pub(crate) fn read_limits(text: TextKind, value: &Value) -> Result<Limits, ReadError>
+pub fn read_limits(text: TextKind, value: &Value) -> Result<Limits, ReadError>
     ensures { Gives ReadError.Memory (λ limits. limits) result (field.limits text (view value.now)) }
 {
     let layout = read_layout(text, value)?;

@@ -8,7 +8,7 @@ use crate::read_error::ReadError;
 
 /// What a text is read as, which names the fault of a field of another kind.
 #[derive(Clone, Copy)]
-pub(crate) enum TextKind {
+pub enum TextKind {
     /// A replay or a script.
     Script,
     History,

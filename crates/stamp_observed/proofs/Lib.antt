@@ -1,0 +1,5 @@
+pub mod Apart
+pub mod Following
+pub mod Seen
+pub mod Known
+pub mod OneFault

@@ -1,0 +1,43 @@
+-- The first call of an observed history that an observer can't have seen, and why.
+use Rattle.std.specs.Prelude.{ℕ, ◌≡◌, ◌+◌, ◌≤◌, ◌<◌, List, take, length, slice_get, Option, None, Some}
+use Rattle.std.specs.List.{All, AllPairs}
+use Rattle.stamp_explain.specs.declared.observed.Observation.{Observation}
+use Rattle.stamp_explain.specs.Observed.{ObservedHistory, IsInterval, DoNotOverlap, IsObserved}
+use Rattle.stamp_observed.specs.declared.judging.Cause.{Cause}
+use Rattle.stamp_observed.specs.declared.judging.Cause.TheVariants.{Interval, Overlap}
+use Rattle.stamp_observed.specs.declared.judging.ObservedFault.{ObservedFault}
+
+-- no call is over before it began, and none overlaps another one of its thread
+pub record AreSeen (entries : List Observation) : Type 0 where
+  pub intervals : All IsInterval entries
+  pub apart : AllPairs DoNotOverlap entries
+
+-- the first thing that a call breaks beside those listed before it: it is over before it began; or it overlaps
+-- one of them that is of its thread
+abbrev pub Breaks : List Observation → Observation → Cause → Type 0
+Breaks before e Interval = ¬ IsInterval e
+Breaks before e Overlap = IsInterval e × ¬ All (λ (other : Observation). DoNotOverlap other e) before
+
+-- the calls listed before call i can be seen, and beside them it breaks this first
+pub record IsFirstFault (h : ObservedHistory) (i : ℕ) (cause : Cause) : Type 0 where
+  pub entry : Observation
+  pub is_entry : slice_get h.entries i ≡ Some entry
+  pub before : AreSeen (take i h.entries)
+  pub breaks : Breaks (take i h.entries) entry cause
+
+-- it may be observed; or its first fault
+abbrev pub IsJudged : ObservedHistory → Option ObservedFault → Type 0
+IsJudged h None = IsObserved h
+IsJudged h (Some fault) = IsFirstFault h fault.entry fault.cause
+
+-- the calls before this place are intervals, and the one there, if there is one, is none
+pub record AreIntervalsTo (entries : List Observation) (place : ℕ) : Type 0 where
+  pub within : place ≤ length entries
+  pub before : All IsInterval (take place entries)
+  pub broken : (e : Observation) → slice_get entries place ≡ Some e → ¬ IsInterval e
+
+-- the calls before this place are apart, and with the one there they are not
+pub record IsFirstOverlap (entries : List Observation) (place : ℕ) : Type 0 where
+  pub within : place < length entries
+  pub before : AllPairs DoNotOverlap (take place entries)
+  pub broken : ¬ AllPairs DoNotOverlap (take (place + 1) entries)

@@ -1,0 +1,14 @@
+-- The laws of the faults of observed histories, over the definitions alone.
+use Rattle.std.specs.Prelude.{ℕ, ◌≡◌, Option}
+use Rattle.stamp_explain.specs.Observed.{ObservedHistory, IsObserved}
+use Rattle.stamp_observed.specs.declared.judging.Cause.{Cause}
+use Rattle.stamp_observed.specs.declared.judging.ObservedFault.{ObservedFault}
+use Rattle.stamp_observed.specs.ObservedFault.{IsFirstFault, IsJudged}
+
+-- What has a fault can't have been observed.
+abbrev pub FaultsAreExact : Type 0
+FaultsAreExact = (h : ObservedHistory) (i : ℕ) (cause : Cause) → IsFirstFault h i cause → ¬ IsObserved h
+
+-- Of each observed history there is one verdict at most.
+abbrev pub OneVerdict : Type 0
+OneVerdict = (h : ObservedHistory) (a b : Option ObservedFault) → IsJudged h a → IsJudged h b → a ≡ b

@@ -1,0 +1,99 @@
+//! The first call of an observed history that an observer can't have seen.
+
+ghost use Rattle.std.specs.Prelude.{◌<◌, ◌↔◌, IsTrue, IfOk, MatchOption};
+ghost use Rattle.std.specs.List.{All, AllPairs};
+ghost use Rattle.stamp_explain.specs.Observed.{IsLow, IsInterval, DoNotOverlap};
+ghost use Rattle.stamp_observed.specs.Suited.{AreSuited};
+ghost use Rattle.stamp_observed.specs.ObservedFault.{IsJudged, AreIntervalsTo, IsFirstOverlap};
+
+use crate::spans::are_apart;
+use stamp_explain::{Observation, Observed};
+use std::alloc::{AllocError, Global};
+
+/// What a call of an observed history breaks.
+#[derive(Clone, Copy, Debug, PartialEq, Eq)]
+pub enum Cause {
+    /// 1: it was over before it began.
+    Interval,
+    /// 2: it overlaps a call of its thread that is listed before it. A call that is under way overlaps
+    /// each that begins later.
+    Overlap,
+}
+
+/// The first fault of an observed history.
+#[derive(Clone, Copy, Debug, PartialEq, Eq)]
+pub struct ObservedFault {
+    /// The first entry that breaks something beside those listed before it, counted from 0.
+    pub entry: u64,
+    /// The first thing that it breaks.
+    pub cause: Cause,
+}
+
+/// Whether it isn't over before it began.
+fn is_interval(entry: &Observation) -> bool
+    ensures { IsTrue result ↔ IsInterval entry.now }
+{
+    match &entry.returned {
+        None => true,
+        Some(returned) => entry.first <= returned.last,
+    }
+}
+
+/// How many calls come before the first that is over before it began.
+fn intervals_of(entries: &[Observation]) -> usize
+    ensures { AreIntervalsTo entries.now result }
+{
+    for (i, entry) in entries.iter().enumerate() {
+        if !is_interval(entry) {
+            return i;
+        }
+    }
+    entries.len()
+}
+
+/// The first call that overlaps one of its thread before it.
+fn first_overlap(alloc: Global, entries: &[Observation]) -> Result<Option<usize>, AllocError>
+    requires low { All IsLow entries.now }
+    requires intervals { All IsInterval entries.now }
+    requires threads { All (λ e. e.thread < 64) entries.now }
+    ensures { IfOk result (λ found. MatchOption found (AllPairs DoNotOverlap entries.now)
+        (λ i. IsFirstOverlap entries.now i)) }
+{
+    if are_apart(alloc, entries)? {
+        return Ok(None);
+    }
+    // So many are apart, and so many are not.
+    let mut apart = 0;
+    let mut too_many = entries.len();
+    while too_many - apart > 1 {
+        let middle = apart + (too_many - apart) / 2;
+        if are_apart(alloc, &entries[..middle])? {
+            apart = middle;
+        } else {
+            too_many = middle;
+        }
+    }
+    Ok(Some(apart))
+}
+
+/// The first entry, in the order in which they are listed, that is over before it began or that
+/// overlaps one of its thread that is listed before it; none where the history may be observed. It
+/// sorts the entries, some twenty times where two overlap. It refuses only for want of memory.
+pub fn fault_of(alloc: Global, observed: &Observed) -> Result<Option<ObservedFault>, AllocError>
+    requires { AreSuited observed.now }
+    ensures { IfOk result (λ found. IsJudged observed.now found) }
+{
+    let entries = observed.entries();
+    let count = intervals_of(entries);
+    match first_overlap(alloc, &entries[..count])? {
+        Some(i) => Ok(Some(ObservedFault {
+            entry: i as u64,
+            cause: Cause::Overlap,
+        })),
+        None if count < entries.len() => Ok(Some(ObservedFault {
+            entry: count as u64,
+            cause: Cause::Interval,
+        })),
+        None => Ok(None),
+    }
+}

@@ -1,0 +1,12 @@
+//! Observed histories as JSON, and what an observer can't have seen.
+#![tactic(auto)]
+
+mod judging;
+pub mod laws;
+mod observations;
+mod observed_fields;
+mod observed_reading;
+mod spans;
+
+pub use judging::{Cause, ObservedFault, fault_of};
+pub use observed_reading::read_observed;
