@@ -44,8 +44,9 @@ fn read_more<S: Source>(
     Ok(taken > 0)
 }
 
-/// The input to its end, or to one byte past the most.
-pub(crate) fn read_input<S: Source>(alloc: Global, source: &mut S) -> Result<Vec<u8>, ServeFault>
+/// The input to its end, or to one byte past the most, 16,777,216. Errors: `ReadFault` where a read
+/// answered one, and `Memory`. What was read is gone after either.
+pub fn read_input<S: Source>(alloc: Global, source: &mut S) -> Result<Vec<u8>, ServeFault>
     ensures reads { MakesAtMost (S.reads source.old) (S.reads source.new) most_reads most_taken }
     ensures took { TakesAtMost (S.left source.old) (S.left source.new) most_taken }
     ensures read { IfOk result (λ input. Reads (S.left source.old) (S.left source.new) input.items) }

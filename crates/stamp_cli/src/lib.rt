@@ -1,4 +1,5 @@
-//! The engine of the program `stamped`: its command line, its input, and the line that answers it.
+//! The engine of the program `stamped`: its command line, its input, and the line that answers it; and
+//! the ends of that, which other programs have too.
 #![tactic(auto)]
 
 mod answer;
@@ -15,9 +16,12 @@ mod sinks;
 mod sources;
 mod stamp_text;
 
+pub use answer::within;
 pub use faults::{ServeFault, fault_line};
-pub use line::Verdict;
-pub use orders::{CommandFault, Order, order_of};
+pub use input::read_input;
+pub use line::{Line, Verdict, accepted};
+pub use orders::{CommandFault, Order, number_in, order_of};
+pub use output::write_line;
 pub use serving::serve;
 pub use sinks::{Sink, WriteSink};
 pub use sources::{ReadSource, Source};

@@ -13,12 +13,13 @@ pub enum Verdict {
 
 /// A line without its line feed, and what it says.
 #[derive(Drop)]
-pub(crate) struct Line {
-    pub(crate) text: Vec<u8>,
-    pub(crate) verdict: Verdict,
+pub struct Line {
+    pub text: Vec<u8>,
+    pub verdict: Verdict,
 }
 
-pub(crate) fn accepted(text: Vec<u8>) -> Line
+/// The line of an answer.
+pub fn accepted(text: Vec<u8>) -> Line
     ensures text { result.text ≡ text }
     ensures verdict { result.verdict ≡ Verdict.Accepted }
 {

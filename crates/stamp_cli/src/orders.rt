@@ -53,7 +53,7 @@ fn is_digits(text: &str) -> bool
 
 /// The number below 2^64 that the text is in decimal digits alone.
 #[tactic(auto, using(crate::proofs::Digits::number_parsed))]
-fn number_in(text: &str) -> Option<u64>
+pub fn number_in(text: &str) -> Option<u64>
     ensures { result ≡ order.number_in text.now }
 {
     // A sign is no digit, and `parse` would take it.

@@ -1,0 +1,30 @@
+-- The line of what is found of an observed history, and what it says.
+use Rattle.std.specs.Prelude.{ℕ, List, ◌++◌, codes, decimal}
+use Rattle.stamp_cli.specs.declared.line.Verdict.{Verdict}
+use Rattle.stamp_cli.specs.declared.line.Verdict.TheVariants.{Accepted, Bad}
+use Rattle.stamp_history.specs.HistoryText.{history_text}
+use Rattle.stamp_observed.specs.declared.judging.Cause.{Cause}
+use Rattle.stamp_observed.specs.declared.judging.Cause.TheVariants.{Interval, Overlap}
+use Rattle.stamp_observed.specs.declared.judging.ObservedFault.{ObservedFault}
+use Rattle.stamp_explain_cli.specs.declared.finding.Finding.{Finding}
+use Rattle.stamp_explain_cli.specs.declared.finding.Finding.TheVariants.{Unseen, Explained, Stuck, Undecided}
+
+abbrev pub cause_text : Cause → List ℕ
+cause_text Interval = codes "interval"
+cause_text Overlap = codes "overlap"
+
+abbrev pub fault_text : ObservedFault → List ℕ
+fault_text fault = codes "bad " ++ decimal fault.entry ++ codes " " ++ cause_text fault.cause
+
+-- a record as its history
+abbrev pub finding_text : Finding → List ℕ
+finding_text (Unseen fault) = fault_text fault
+finding_text (Explained made) = history_text made
+finding_text Stuck = codes "stuck"
+finding_text Undecided = codes "undecided"
+
+abbrev pub finding_verdict : Finding → Verdict
+finding_verdict (Unseen fault) = Bad
+finding_verdict (Explained made) = Accepted
+finding_verdict Stuck = Bad
+finding_verdict Undecided = Bad

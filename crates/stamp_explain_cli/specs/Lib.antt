@@ -1,0 +1,4 @@
+pub mod Order
+pub mod Finding
+pub mod FindingText
+pub mod Answer

@@ -1,0 +1,51 @@
+//! What is found of an observed history.
+
+ghost use Rattle.std.specs.Prelude.{IfOk};
+ghost use Rattle.stamp_explain.specs.Observed.{IsObserved};
+ghost use Rattle.stamp_observed.specs.Suited.{AreSuited};
+ghost use Rattle.stamp_explain_cli.specs.Finding.{IsFound};
+
+use stamp_core::Record;
+use stamp_explain::{ExplainError, Observed, explanation};
+use stamp_observed::{ObservedFault, fault_of};
+use std::alloc::{AllocError, Global};
+
+/// What is found of an observed history.
+#[derive(Drop)]
+pub(crate) enum Finding {
+    /// An observer can't have seen it, for this fault.
+    Unseen(ObservedFault),
+    /// A record that explains it.
+    Explained(Record),
+    /// No order explains it.
+    Stuck,
+    /// So many configurations were looked at, and it isn't known.
+    Undecided,
+}
+
+/// What the search finds.
+fn searched(alloc: Global, observed: &Observed, most: u64) -> Result<Finding, AllocError>
+    requires { IsObserved observed.now }
+    ensures { IfOk result (λ found. IsFound observed.now most found) }
+{
+    match explanation(alloc, observed, most) {
+        Ok(Some(record)) => Ok(Finding::Explained(record)),
+        Ok(None) => Ok(Finding::Stuck),
+        Err(ExplainError::Undecided) => Ok(Finding::Undecided),
+        Err(ExplainError::Memory) => Err(AllocError),
+    }
+}
+
+pub(crate) fn finding_of(
+    alloc: Global,
+    observed: &Observed,
+    most: u64,
+) -> Result<Finding, AllocError>
+    requires { AreSuited observed.now }
+    ensures { IfOk result (λ found. IsFound observed.now most found) }
+{
+    match fault_of(alloc, observed)? {
+        Some(fault) => Ok(Finding::Unseen(fault)),
+        None => searched(alloc, observed, most),
+    }
+}

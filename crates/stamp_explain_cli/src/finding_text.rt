@@ -1,0 +1,61 @@
+//! What is found, in words.
+
+ghost use Rattle.std.specs.Prelude.{◌≡◌, Some, IfOk, IfErr, string_bytes};
+ghost use Rattle.stamp_explain_cli.specs.FindingText.{cause_text, fault_text, finding_text, finding_verdict};
+
+use crate::finding::Finding;
+use stamp_cli::{Line, ServeFault, Verdict, accepted};
+use stamp_history::write_history;
+use stamp_observed::{Cause, ObservedFault};
+use std::alloc::Global;
+use std::fmt;
+
+#[derive(Drop)]
+struct CauseText(Cause);
+
+impl fmt::Display for CauseText {
+    ghost output = { λ text. Some (cause_text text.0) };
+
+    fn fmt<W: fmt::Write>(&self, f: &mut fmt::Formatter<W>) -> fmt::Result {
+        match self.0 {
+            Cause::Interval => write!(f, "interval"),
+            Cause::Overlap => write!(f, "overlap"),
+        }
+    }
+}
+
+#[derive(Drop)]
+struct FaultText(ObservedFault);
+
+impl fmt::Display for FaultText {
+    ghost output = { λ text. Some (fault_text text.0) };
+
+    fn fmt<W: fmt::Write>(&self, f: &mut fmt::Formatter<W>) -> fmt::Result {
+        write!(f, "bad {} {}", self.0.entry, CauseText(self.0.cause))
+    }
+}
+
+/// The line of a history that isn't explained.
+fn refused(text: String) -> Line
+    ensures text { result.text.items ≡ string_bytes text }
+    ensures verdict { result.verdict ≡ Verdict.Bad }
+{
+    Line {
+        text: text.into_bytes(),
+        verdict: Verdict::Bad,
+    }
+}
+
+/// The line of what was found.
+pub(crate) fn line_of_finding(alloc: Global, finding: &Finding) -> Result<Line, ServeFault>
+    ensures text { IfOk result (λ line. line.text.items ≡ finding_text finding.now) }
+    ensures verdict { IfOk result (λ line. line.verdict ≡ finding_verdict finding.now) }
+    ensures memory { IfErr result (λ e. e ≡ ServeFault.Memory) }
+{
+    match finding {
+        Finding::Explained(record) => Ok(accepted(write_history(alloc, record)?)),
+        Finding::Unseen(fault) => Ok(refused(FaultText(*fault).to_string(alloc)?)),
+        Finding::Stuck => Ok(refused(format!(in alloc; "stuck")?)),
+        Finding::Undecided => Ok(refused(format!(in alloc; "undecided")?)),
+    }
+}

@@ -1,0 +1,61 @@
+//! Finds an order that explains an observed history: standard input in, one line out.
+#![tactic(auto)]
+
+use stamp_cli::{CommandFault, ReadSource, ServeFault, Verdict, WriteSink, fault_line};
+use stamp_explain_cli::{most_of, serve_explanation};
+use std::alloc::AllocError;
+use std::process::ExitCode;
+use std::rt::Env;
+use std::{env, io};
+
+/// The most configurations that the words after the program's name allow. Words that are no text allow
+/// none.
+fn most_given(rt: &(impl Env + AllocGlobal)) -> Result<Result<u64, CommandFault>, AllocError> {
+    let args: Vec<String> = match env::args(rt) {
+        Ok(args) => args.collect(rt.alloc())?,
+        Err(fault) if fault.kind() == io::ErrorKind::OutOfMemory => return Err(AllocError),
+        Err(_) => return Ok(Err(CommandFault::Bad)),
+    };
+    let words: Vec<&str> = args
+        .iter()
+        .skip(1)
+        .map(|word| word.as_str())
+        .collect(rt.alloc())?;
+    Ok(most_of(&words))
+}
+
+/// Explains what comes from standard input to standard output.
+fn run(rt: &(impl Input + Print + AllocGlobal), most: u64) -> Result<Verdict, ServeFault> {
+    let mut source = ReadSource::new(rt.reader());
+    let mut sink = WriteSink::new(io::writer(rt));
+    serve_explanation(rt.alloc(), most, &mut source, &mut sink)
+}
+
+/// Prints the fault's line, if there is memory for it.
+fn report(rt: &(impl Eprint + AllocGlobal), fault: &ServeFault) {
+    if let Ok(line) = fault_line(rt.alloc(), fault) {
+        let _ = rt.eprintln(line);
+    }
+}
+
+fn main(rt: HostRuntime) -> ExitCode {
+    let most = match most_given(&rt) {
+        Ok(Ok(most)) => most,
+        Ok(Err(CommandFault::Bad)) => {
+            let _ = rt.eprintln("stamped: bad command line");
+            return ExitCode::from(2);
+        }
+        Err(AllocError) => {
+            report(&rt, &ServeFault::Memory);
+            return ExitCode::FAILURE;
+        }
+    };
+    match run(&rt, most) {
+        Ok(Verdict::Accepted) => ExitCode::SUCCESS,
+        Ok(Verdict::Bad) => ExitCode::FAILURE,
+        Err(fault) => {
+            report(&rt, &fault);
+            ExitCode::FAILURE
+        }
+    }
+}
