@@ -1,6 +1,6 @@
-"""Gives the program broken replays, scripts and histories of both layouts, and compares what is told.
+"""Gives the programs broken replays, scripts and histories of both layouts, and compares what is told.
 
-    broken_inputs.py SHIM STAMPED
+    broken_inputs.py SHIM STAMPED EXPLAIN
 
 Each field's faults alone and in pairs (the earlier one of the table of FORMATS is told, whichever
 stands first in the text), numbers at their edges, keys that stand twice, texts that are no JSON, each
@@ -17,6 +17,10 @@ from counted_runs import CountedRuns
 MOST_READERS = {1: 127, 2: 65_535}
 MOST_VERSIONS = {1: 2**55 - 2, 2: 2**46 - 2}
 NOT_JSON = "not json"
+# The order of the program that explains, which has no word.
+EXPLAIN = None
+# The fields of a history, in the order in which they are looked at.
+ORDER = ["top", "format", "layout", "readers", "versions", "width", "entries", "entry 0", "entry 1", "entry 4"]
 NO_WHOLE_NUMBER = ["-0", "-1", "0.0", "1.0", "1e0", "18446744073709551616", '"1"', "null", "true", "[]"]
 MOST_WHOLE = "18446744073709551615"
 
@@ -200,18 +204,41 @@ def history(layout):
     return Reading(["check", "migrate"], in_layout(layout, text), faults, numbers)
 
 
-class Program:
-    """The program, and its runs."""
+def observed(layout):
+    """A history without points and report, of which the last call is under way."""
+    text = history(layout).text
+    entries = [{key: of for key, of in made.items() if key != "point"} for made in text["entries"]]
+    del text["report"], entries[4]["last"], entries[4]["reply"]
+    text["entries"] = entries
+    reading = history(layout)
+    faults = [fault for fault in reading.faults if fault.touches != {"report"}]
+    kind = "not a history"
+    end = 2**58
+    faults += [
+        Fault(f"{kind}: top", {"top"}, put("report", [])),
+        Fault(f"{kind}: entry 4", {"entry 4", "entries"}, put("entries", 4, "last", 9)),
+        Fault("over a limit: entry 4", {"entry 4", "entries"}, put("entries", 4, "first", end)),
+    ]
+    faults.sort(key=lambda fault: [*ORDER, fault.line.split(": ")[1]].index(fault.line.split(": ")[1]))
+    numbers = [number for number in reading.numbers if "point" not in number[0] and "report" not in number[0]]
+    numbers = [(at, fault, "over a limit: entry 0" if at[-1] in ("first", "last") else most)
+               for at, fault, most in numbers]
+    return Reading([EXPLAIN], text, faults, numbers)
 
-    def __init__(self, shim, path):
-        self.path = os.path.abspath(path)
+
+class Program:
+    """The programs, and their runs."""
+
+    def __init__(self, shim, path, explain):
+        self.path, self.explain = os.path.abspath(path), os.path.abspath(explain)
         self.runs = CountedRuns(shim)
 
     def assert_told(self, orders, text, line):
         """The line is told of the text; of none, that it is accepted."""
         data = text if isinstance(text, bytes) else text.encode()
         for order in orders:
-            answer, _ = self.runs.ended([self.path, order], data)
+            words = [self.explain] if order is EXPLAIN else [self.path, order]
+            answer, _ = self.runs.ended(words, data)
             _, out, err = answer
             if line is None:
                 right = err == b"" and out != b""
@@ -298,7 +325,7 @@ def give_no_json(program, reading):
 
 def main():
     program = Program(*sys.argv[1:])
-    for reading_of in [replay, script, history]:
+    for reading_of in [replay, script, history, observed]:
         for layout in [1, 2]:
             reading = reading_of(layout)
             for give in [give_faults, give_numbers, give_keys, give_no_json]:

@@ -1,6 +1,6 @@
-"""Runs the program where each read gives one byte and each write takes one, and fails each in turn.
+"""Runs the programs where each read gives one byte and each write takes one, and fails each in turn.
 
-    failing_io.py NARROW REFUSE STAMPED
+    failing_io.py NARROW REFUSE STAMPED EXPLAIN
 
 A read that fails is told as `read fault`, and nothing is written; a write that fails, or that takes
 no byte, is told as `write fault`, and what went out is the front of the line that came before it. No
@@ -28,6 +28,14 @@ TABLE = [
     (["stamp", "384"], b"", b"write 1", 0),
     (["stamp", "--layout", "2", "131073"], b"", b"read 0 1", 0),
 ]
+OBSERVED = OLD.replace(b'"point":1,', b"")
+FOUND = OLD.replace(b'"last":1,"point":1', b'"last":127,"point":0')
+UNSEEN = OBSERVED.replace(b'"first":0', b'"first":2')
+EXPLAIN_TABLE = [
+    ([], OBSERVED, FOUND, 0),
+    (["--most", "9"], OBSERVED, FOUND, 0),
+    ([], UNSEEN, b"bad 0 interval", 1),
+]
 READ_FAULT = (1, b"", b"stamped: read fault\n")
 WRITE_FAULT = b"stamped: write fault\n"
 
@@ -39,7 +47,7 @@ def assert_ended(words, answer, wanted, when):
 
 def reads_of(runs, words, text, ample):
     """Fails each read in turn, that of the end among them; returns how many there were."""
-    reads = 0 if words[1] == "stamp" else len(text) + 1
+    reads = 0 if "stamp" in words[1:] else len(text) + 1
     for number in range(1, reads + 1):
         answer, _ = runs.ended(words, text, FAIL_READ=number)
         assert_ended(words, answer, READ_FAULT, f"read {number} fails")
@@ -62,14 +70,15 @@ def writes_of(runs, words, text, ample):
 
 
 def main():
-    narrow, refuse, stamped = (os.path.abspath(path) for path in sys.argv[1:])
+    narrow, refuse, stamped, explain = (os.path.abspath(path) for path in sys.argv[1:])
     runs = CountedRuns(narrow, refuse)
-    for order, text, line, status in TABLE:
-        words = [stamped, *order]
+    rows = [([stamped, *order], *row) for order, *row in TABLE]
+    rows += [([explain, *order], *row) for order, *row in EXPLAIN_TABLE]
+    for words, text, line, status in rows:
         ample = (status, line + b"\n", b"")
         reads = reads_of(runs, words, text, ample)
         writes = writes_of(runs, words, text, ample)
-        print(f"{order}: {reads} reads and {writes} writes failed in turn")
+        print(f"{[os.path.basename(words[0]), *words[1:]]}: {reads} reads and {writes} writes failed in turn")
     runs.tell()
 
 

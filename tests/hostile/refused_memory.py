@@ -1,8 +1,8 @@
 """Runs programs with each of their allocations refused in turn, until a run makes fewer.
 
-    refused_memory.py SHIM STAMPED TRIAL
+    refused_memory.py SHIM STAMPED EXPLAIN TRIAL
 
-With ample memory each ends as the table says. A refused run of `stamped` ends with the memory line
+With ample memory each ends as the table says. A refused run of `stamped` or `stamped_explain` ends with the memory line
 (or with none, where memory for the line is refused too), status 1 and nothing on standard output, or
 as with ample memory. One of TRIAL ends with status 1 and no output, or as with ample memory. A
 refused step of a schedule is made again there, so some refused runs end as with ample memory.
@@ -45,6 +45,18 @@ FOREIGN_LINE = b"stamped: bad reply at entry 0\n"
 NO_THREAD = b'{"readers":1,"steps":[0,64],"threads":[[]],"versions":1,"width":0}'
 NO_THREAD_LINE = b"stamped: script refused: no thread at step 1\n"
 NO_HISTORY_LINE = b"stamped: not a history: top\n"
+OBSERVED = (
+    b'{"entries":[{"call":["unlock",384],"first":3,"last":5,"reply":"done","thread":0},'
+    b'{"call":["try_write"],"first":0,"last":2,"reply":%s,"thread":0},'
+    b'{"call":["try_read"],"first":9,"thread":1}],'
+    b'"format":1,"readers":1,"versions":1,"width":0}'
+)
+OVERLAPPING = (OBSERVED % b"384").replace(b'"first":3', b'"first":2')
+FOUND = (
+    b'{"entries":[{"call":["try_write"],"first":0,"last":191,"point":0,"reply":384,"thread":0},'
+    b'{"call":["unlock",384],"first":192,"last":383,"point":192,"reply":"done","thread":0}],'
+    b'"format":1,"readers":1,"versions":1,"width":0}\n'
+)
 BAD_LINE = (2, b"", b"stamped: bad command line\n")
 REFUSALS = [
     "record",
@@ -84,7 +96,7 @@ def runs_of(runs, words, text, wanted, refusals):
 
 
 def main():
-    shim, stamped, trial = (os.path.abspath(path) for path in sys.argv[1:])
+    shim, stamped, explain, trial = (os.path.abspath(path) for path in sys.argv[1:])
     runs = CountedRuns(shim)
     told = [(1, b"", b"stamped: memory\n"), (1, b"", b"")]
     table = [
@@ -104,6 +116,16 @@ def main():
         ([stamped, "lock"], b"", BAD_LINE, told),
         ([stamped], b"", BAD_LINE, told),
         ([stamped, b"\xff"], b"", BAD_LINE, told),
+    ]
+    table += [
+        ([explain], OBSERVED % b"384", (0, FOUND, b""), told),
+        ([explain, "--most", "100"], OBSERVED % b"385", (1, b"stuck\n", b""), told),
+        ([explain, "--most", "1"], OBSERVED % b"384", (1, b"undecided\n", b""), told),
+        ([explain], OVERLAPPING, (1, b"bad 1 overlap\n", b""), told),
+        ([explain], NO_THREAD, (1, b"", NO_HISTORY_LINE), told),
+        ([explain, "--most"], b"", BAD_LINE, told),
+        ([explain, "--most", "-1"], b"", BAD_LINE, told),
+        ([explain, b"\xff"], b"", BAD_LINE, told),
     ]
     right = b"", (0, b"right\n", b""), [(1, b"", b"")]
     table += [([trial, word], *right) for word in [*REFUSALS, "make", "check", "migrate"]]

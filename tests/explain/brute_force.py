@@ -1,0 +1,224 @@
+"""Small observed histories, judged by the program and by trying all orders.
+
+    brute_force.py EXPLAIN STAMPED [COUNT [SEED]]
+
+Run at the top of the repository. Each history is made by threads that call a lock and a record at random,
+so it is right; half of them are then changed in a reply, a position, a thread, or by what is under way.
+The verdict is the same: a history that can't be observed so (the first entry that is over before it
+began, or overlaps one of its thread that is listed before it), one that no order explains (and the first
+return at which that is known, where the program names it), or a record, which is of this history and
+which `stamped check` accepts. The model of the lock is the call table in python (bench/common)."""
+import json
+import random
+import subprocess
+import sys
+from dataclasses import dataclass
+
+sys.path.insert(0, "bench/common")
+import call_table  # noqa: E402 (a file of bench/common)
+
+BARE = [name for name in call_table.TABLE if name.startswith(("try_", "is_"))] + [
+    "write_lock", "read_lock", "optimistic", "read_count"]
+STAMPED = [name for name in call_table.TABLE if name not in BARE]
+MOST = 1_000_000
+
+
+@dataclass(frozen=True)
+class Model:
+    """A lock of these limits, and a record of this width that it guards, if that is over 0."""
+
+    limits: tuple
+    width: int
+
+    def start(self):
+        return call_table.VERSION, (0,) * self.width
+
+    def step(self, state, call):
+        """The state after a call, and its reply; none where it waits."""
+        word, words = state
+        name = call[0]
+        if name == "get":
+            return state, list(words)
+        if name == "put":
+            return (word, tuple(call[1])), "done"
+        if name == "put_if":
+            return ((word, tuple(call[2])), "yes") if words == tuple(call[1]) else (state, "no")
+        decision = call_table.TABLE[name](self.limits, word, call[1] if len(call) > 1 else 0)
+        if decision is None:
+            return None
+        new, reply = decision
+        return (word if new is None else new, words), reply
+
+
+def has_returned(entry):
+    return "last" in entry
+
+
+def comes_before(one, other):
+    return has_returned(one) and one["last"] < other["first"]
+
+
+def fault_of(entries):
+    """The first entry that can't have been seen beside those before it, and why."""
+    for i, entry in enumerate(entries):
+        if has_returned(entry) and entry["last"] < entry["first"]:
+            return f"bad {i} interval"
+        for other in entries[:i]:
+            apart = comes_before(entry, other) or comes_before(other, entry)
+            if entry["thread"] == other["thread"] and not apart:
+                return f"bad {i} overlap"
+    return None
+
+
+def is_explained(model, entries):
+    """Whether some order of the returned calls and of some under way is legal; all are tried."""
+    dead = set()
+
+    def goes_on(taken, state):
+        left = [i for i in range(len(entries)) if not taken >> i & 1]
+        if all(not has_returned(entries[i]) for i in left):
+            return True
+        if (taken, state) in dead:
+            return False
+        for i in left:
+            entry = entries[i]
+            if any(comes_before(entries[j], entry) for j in left):
+                continue
+            after = model.step(state, entry["call"])
+            if after is None or has_returned(entry) and after[1] != entry["reply"]:
+                continue
+            if goes_on(taken | 1 << i, after[0]):
+                return True
+        dead.add((taken, state))
+        return False
+
+    return goes_on(0, model.start())
+
+
+def stuck_at(model, entries):
+    """The first return at which the history is no longer explained."""
+    returns = sorted((entry["last"], i) for i, entry in enumerate(entries) if has_returned(entry))
+    for n in range(len(returns)):
+        known = {i for _, i in returns[: n + 1]}
+        cut = [entry if i in known else {key: entry[key] for key in ("call", "first", "thread")}
+               for i, entry in enumerate(entries)]
+        if not is_explained(model, cut):
+            return returns[n][1]
+    return None
+
+
+def random_call(chance, model, stamps):
+    draw = chance.random()
+    if model.width and draw < 0.4:
+        words = [[chance.randrange(2) for _ in range(model.width)] for _ in range(2)]
+        return chance.choice([["get"], ["get"], ["put", words[0]], ["put_if", *words]])
+    if draw < 0.7:
+        return [chance.choice(BARE)]
+    known = chance.choice(stamps) if stamps and chance.random() < 0.9 else chance.randrange(0, 1200)
+    return [chance.choice(STAMPED), known]
+
+
+def made(chance, model):
+    """What threads observe of their calls: each begins, takes effect and returns at random moments."""
+    threads, most, stamps, state = chance.randint(1, 4), chance.randint(0, 8), [], model.start()
+    going, entries, moment = {}, [], 0
+    while len(entries) < most and moment < 80:
+        moment += chance.randint(0, 2)
+        thread = chance.randrange(threads)
+        entry = going.get(thread)
+        if entry is None:
+            entries.append({"call": random_call(chance, model, stamps), "first": moment, "thread": thread})
+            going[thread] = entries[-1]
+        elif "reply" not in entry:
+            after = model.step(state, entry["call"])
+            if after is not None:
+                state, entry["reply"] = after
+                if isinstance(entry["reply"], int):
+                    stamps.append(entry["reply"])
+        elif chance.random() < 0.6:
+            entry["last"] = moment
+            del going[thread]
+            moment += 1
+    for entry in going.values():
+        entry.pop("reply", None)
+    chance.shuffle(entries)
+    return entries
+
+
+def change(chance, entries):
+    """One thing is told otherwise."""
+    entry = chance.choice(entries)
+    replies = [other["reply"] for other in entries if has_returned(other)] + [0, 384, 257, "yes", "no", "mismatch"]
+    kind = chance.choice([0, 0, 0, 0, 1, 2, 2, 3, 3, 4])
+    if kind == 0 and has_returned(entry):
+        entry["reply"] = chance.choice(replies)
+    elif kind == 1 and has_returned(entry):
+        del entry["reply"], entry["last"]
+    elif kind == 2 and has_returned(entry):
+        entry["last"] = max(0, entry["last"] + chance.randint(-6, 3))
+    elif kind == 3:
+        entry["first"] = max(0, entry["first"] + chance.randint(-3, 6))
+    else:
+        entry["thread"] = chance.randrange(5)
+
+
+def output_of(words, text):
+    run = subprocess.run(words, input=text.encode(), capture_output=True, timeout=60)
+    return run.returncode, run.stdout.decode()
+
+
+def is_of(record, entries):
+    """The record has the returned calls, some under way, and nothing else."""
+    left = [dict(entry) for entry in entries]
+    for made_entry in record["entries"]:
+        for entry in left:
+            if made_entry["first"] != 64 * entry["first"] or any(
+                    made_entry[key] != entry[key] for key in ("call", "thread")):
+                continue
+            if has_returned(entry) and (made_entry["last"], made_entry["reply"]) != (
+                    64 * entry["last"] + 63, entry["reply"]):
+                continue
+            left.remove(entry)
+            break
+        else:
+            return False
+    return not any(has_returned(entry) for entry in left)
+
+
+def judge(explain, stamped, model, entries):
+    """Compares the verdicts; returns which it was."""
+    text = json.dumps({"entries": entries, "format": 1, "readers": model.limits[0],
+                       "versions": model.limits[1], "width": model.width})
+    status, line = output_of([explain, "--most", str(MOST)], text)
+    fault = fault_of(entries)
+    if fault is not None:
+        right, kind = (status, line) == (1, fault + "\n"), fault.split()[2]
+    elif is_explained(model, entries):
+        kind = "explained"
+        right = status == 0 and is_of(json.loads(line), entries)
+        right = right and output_of([stamped, "check"], line) == (0, f"ok {len(json.loads(line)['entries'])}\n")
+    else:
+        kind = "stuck"
+        right = status == 1 and line in ("stuck\n", f"stuck {stuck_at(model, entries)}\n")
+    if not right:
+        sys.exit(f"{kind}, and not {line!r} with status {status}, of {text}")
+    return kind
+
+
+def main():
+    explain, stamped = sys.argv[1:3]
+    count = int(sys.argv[3]) if len(sys.argv) > 3 else 10_000
+    chance = random.Random(int(sys.argv[4]) if len(sys.argv) > 4 else 1)
+    kinds = {}
+    for number in range(count):
+        model = Model(chance.choice([(1, 1), (2, 3), (127, 1000)]), chance.choice([0, 0, 1, 2]))
+        entries = made(chance, model)
+        if number % 2 and entries:
+            for _ in range(chance.randint(1, 2)):
+                change(chance, entries)
+        kind = judge(explain, stamped, model, entries)
+        kinds[kind] = kinds.get(kind, 0) + 1
+    print(f"brute_force: {count} small histories judged alike: {dict(sorted(kinds.items()))}")
+
+
+main()
