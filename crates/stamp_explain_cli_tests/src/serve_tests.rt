@@ -1,0 +1,67 @@
+use stamp_cli::{CommandFault, ReadSource, ServeFault, Verdict, WriteSink};
+use stamp_explain_cli::{MOST, most_of, serve_explanation};
+use stamp_history::{Field, ReadError};
+use std::alloc::Global;
+use std::test::Fail;
+
+/// What was written of an observed history, and the verdict.
+type Told = (String, Result<Verdict, ServeFault>);
+
+fn told(alloc: Global, most: u64, input: &str) -> Result<Told, Fail> {
+    let mut source = ReadSource::new(input.as_bytes());
+    let mut sink = WriteSink::new(Vec::new(alloc));
+    let verdict = serve_explanation(alloc, most, &mut source, &mut sink);
+    let written = String::from_utf8(sink.into_inner())?;
+    Ok((written, verdict))
+}
+
+/// A write that another thread's optimistic read overlaps, and its release.
+const SEEN: &str = r#"{"entries":[
+    {"call":["unlock",384],"first":3,"last":5,"reply":"done","thread":0},
+    {"call":["try_write"],"first":0,"last":2,"reply":384,"thread":0},
+    {"call":["optimistic"],"first":1,"last":4,"reply":0,"thread":1}],
+    "format":1,"readers":1,"versions":1,"width":0}"#;
+
+/// The same calls, with points.
+const FOUND: &str =
+    "{\"entries\":[{\"call\":[\"try_write\"],\"first\":0,\"last\":191,\"point\":0,\"reply\":384,\"thread\":0},{\"call\":[\"optimistic\"],\"first\":64,\"last\":319,\"point\":64,\"reply\":0,\"thread\":1},{\"call\":[\"unlock\",384],\"first\":192,\"last\":383,\"point\":192,\"reply\":\"done\",\"thread\":0}],\"format\":1,\"readers\":1,\"versions\":1,\"width\":0}\n";
+
+/// What is put in the place of what, the most configurations, and the line that is told.
+const TOLD: [(&str, &str, u64, &str); 6] = [
+    ("384", "384", MOST, FOUND),
+    ("\"reply\":0", "\"reply\":768", MOST, "stuck\n"),
+    ("384", "384", 1, "undecided\n"),
+    ("\"thread\":1", "\"thread\":0", MOST, "bad 2 overlap\n"),
+    ("\"first\":3", "\"first\":6", MOST, "bad 0 interval\n"),
+    ("\"first\":1,", "", MOST, ""),
+];
+
+#[test]
+fn what_is_found_is_told_in_one_line(rt: HostRuntime) -> Result<(), Fail> {
+    let bad = Ok(Verdict::Bad);
+    let refused = ServeFault::Refused(ReadError::NotHistory(Field::Entry(2)));
+    let verdicts = [Ok(Verdict::Accepted), bad, bad, bad, bad, Err(refused)];
+    for ((old, new, most, line), verdict) in TOLD.iter().zip(verdicts) {
+        let input = SEEN.replace(rt.alloc(), old, new)?;
+        let (written, answered) = told(rt.alloc(), *most, &input)?;
+        assert_eq!(rt; written.as_str(), *line);
+        assert_eq!(rt; answered, verdict, "{line}");
+    }
+    Ok(())
+}
+
+#[test]
+fn no_word_and_a_number_are_the_forms_of_the_command_line(rt: HostRuntime) {
+    let table: [(&[&str], Result<u64, CommandFault>); 7] = [
+        (&[], Ok(4_000_000)),
+        (&["--most", "0"], Ok(0)),
+        (&["--most", "18446744073709551615"], Ok(u64::MAX)),
+        (&["--most", "18446744073709551616"], Err(CommandFault::Bad)),
+        (&["--most", "+1"], Err(CommandFault::Bad)),
+        (&["--most"], Err(CommandFault::Bad)),
+        (&["--more", "1"], Err(CommandFault::Bad)),
+    ];
+    for (words, most) in table {
+        assert_eq!(rt; most_of(words), most);
+    }
+}
