@@ -10,11 +10,25 @@
 
 enum { TURNS = 20 };
 
-static const uint32_t cycle[TURNS] = {
-    STAMPED_OPTIMISTIC, STAMPED_VALIDATE, STAMPED_TRY_READ, STAMPED_READ_LOCK, STAMPED_IS_READ_LOCKED,
-    STAMPED_UNLOCK_READ, STAMPED_READ_COUNT, STAMPED_TO_WRITE, STAMPED_IS_WRITE_LOCKED, STAMPED_TO_READ,
-    STAMPED_TO_OPTIMISTIC, STAMPED_WRITE_LOCK, STAMPED_VALIDATE, STAMPED_UNLOCK_WRITE, STAMPED_TRY_WRITE,
-    STAMPED_UNLOCK, STAMPED_TRY_READ, STAMPED_TRY_UNLOCK_READ, STAMPED_TRY_UNLOCK_WRITE, STAMPED_UNLOCK_WRITE,
+/* A call of the cycle; whether its reply is a stamp; and the number that decide.c counts its reply as, which is
+   the base and the reply, added or taken away: yes, no, done, mismatch and counts from 1 on. */
+struct turn {
+    uint32_t call, stamped;
+    uint64_t base, sign;
+};
+
+#define STAMP(call) {call, 1, 0, 1}
+#define YES_OR_NO(call) {call, 0, 2, UINT64_MAX}
+#define DONE_OR_MISMATCH(call) {call, 0, 4, UINT64_MAX}
+#define COUNT(call) {call, 0, 5, 1}
+
+static const struct turn cycle[TURNS] = {
+    STAMP(STAMPED_OPTIMISTIC), YES_OR_NO(STAMPED_VALIDATE), STAMP(STAMPED_TRY_READ), STAMP(STAMPED_READ_LOCK),
+    YES_OR_NO(STAMPED_IS_READ_LOCKED), DONE_OR_MISMATCH(STAMPED_UNLOCK_READ), COUNT(STAMPED_READ_COUNT),
+    STAMP(STAMPED_TO_WRITE), YES_OR_NO(STAMPED_IS_WRITE_LOCKED), STAMP(STAMPED_TO_READ), STAMP(STAMPED_TO_OPTIMISTIC),
+    STAMP(STAMPED_WRITE_LOCK), YES_OR_NO(STAMPED_VALIDATE), DONE_OR_MISMATCH(STAMPED_UNLOCK_WRITE),
+    STAMP(STAMPED_TRY_WRITE), DONE_OR_MISMATCH(STAMPED_UNLOCK), STAMP(STAMPED_TRY_READ),
+    YES_OR_NO(STAMPED_TRY_UNLOCK_READ), YES_OR_NO(STAMPED_TRY_UNLOCK_WRITE), DONE_OR_MISMATCH(STAMPED_UNLOCK_WRITE),
 };
 
 static const struct stamped_limits limits = {1, STAMPED_READERS_1, STAMPED_VERSIONS_1};
@@ -25,29 +39,17 @@ static int64_t now(void) {
     return at.tv_sec * INT64_C(1000000000) + at.tv_nsec;
 }
 
-// Whether a call is answered a stamp.
-static int has_stamp(uint32_t call) {
-    return call <= STAMPED_OPTIMISTIC || (call >= STAMPED_TO_WRITE && call <= STAMPED_TO_OPTIMISTIC);
-}
-
-// A reply as decide.c counts it: yes, no, done, mismatch and counts from 1 on.
-static uint64_t number_of(uint32_t call, uint64_t reply) {
-    if (has_stamp(call)) return reply;
-    if (call == STAMPED_READ_COUNT) return reply + 5;
-    return (call >= STAMPED_UNLOCK_WRITE && call <= STAMPED_UNLOCK ? 4 : 2) - reply;
-}
-
 // One that waits is passed over.
 static void decide(uint64_t calls) {
     uint64_t word = stamped_opening(limits.layout), stamp = 0, sum = 0;
     int64_t start = now();
     for (uint64_t i = 0; i < calls; i++) {
-        uint32_t call = cycle[i % TURNS];
-        struct stamped_decision made = stamped_decide(limits, word, call, stamp);
+        const struct turn *turn = &cycle[i % TURNS];
+        struct stamped_decision made = stamped_decide(limits, word, turn->call, stamp);
         if (made.word == STAMPED_WAIT) continue;
         word = made.word;
-        if (has_stamp(call)) stamp = made.reply;
-        sum = sum * 31 + number_of(call, made.reply);
+        if (turn->stamped) stamp = made.reply;
+        sum = sum * 31 + turn->base + turn->sign * made.reply;
     }
     fprintf(stderr, "calls %" PRIu64 " nanoseconds %" PRId64 " sum %" PRIu64 "\n", calls, now() - start, sum);
 }

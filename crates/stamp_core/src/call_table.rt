@@ -1,4 +1,6 @@
-//! The call table on the word: one function for each row, without a quantifier.
+//! The call table on the word: one function for each row, without a quantifier. The longest rows are
+//! built into the table here, the others by LLVM: all of them would be too long for a caller that
+//! builds in the table.
 #![tactic(auto, using(crate::proofs::OneHolder::one_holder))]
 
 ghost use Rattle.std.specs.Prelude.{◌≡◌, if◌then◌else◌};
@@ -37,14 +39,12 @@ pub(crate) fn decided(limits: Limits, word: Word, call: &Call) -> LockDecision
     }
 }
 
-#[inline(always)]
 fn zero() -> LockDecision
     ensures { result ≡ LockDecision.Answer (LockReply.Stamp 0) }
 {
     LockDecision::Answer(LockReply::Stamp(0))
 }
 
-#[inline(always)]
 fn yes_where(holds: bool) -> LockDecision
     ensures { result ≡ LockDecision.Answer (if holds then LockReply.Yes else LockReply.No) }
 {
@@ -52,14 +52,12 @@ fn yes_where(holds: bool) -> LockDecision
 }
 
 /// Answers the stamp that the new word is.
-#[inline(always)]
 fn gets(word: Word) -> LockDecision
     ensures { result ≡ LockDecision.Change word (LockReply.Stamp word.bits) }
 {
     LockDecision::Change(word, LockReply::Stamp(word.bits()))
 }
 
-#[inline(always)]
 fn try_write(limits: Limits, word: Word) -> LockDecision
     requires { word.layout ≡ limits.layout }
     ensures { decision_as result ≡ decision_of limits word Call.TryWrite }
@@ -71,7 +69,6 @@ fn try_write(limits: Limits, word: Word) -> LockDecision
     }
 }
 
-#[inline(always)]
 fn try_read(limits: Limits, word: Word) -> LockDecision
     requires { word.layout ≡ limits.layout }
     ensures { decision_as result ≡ decision_of limits word Call.TryRead }
@@ -97,7 +94,6 @@ fn write_lock(limits: Limits, word: Word) -> LockDecision
     }
 }
 
-#[inline(always)]
 fn read_lock(limits: Limits, word: Word) -> LockDecision
     requires { word.layout ≡ limits.layout }
     ensures { decision_as result ≡ decision_of limits word Call.ReadLock }
@@ -109,7 +105,6 @@ fn read_lock(limits: Limits, word: Word) -> LockDecision
     }
 }
 
-#[inline(always)]
 fn optimistic(limits: Limits, word: Word) -> LockDecision
     requires { word.layout ≡ limits.layout }
     ensures { decision_as result ≡ decision_of limits word Call.Optimistic }
@@ -121,7 +116,6 @@ fn optimistic(limits: Limits, word: Word) -> LockDecision
     }
 }
 
-#[inline(always)]
 fn validate(limits: Limits, word: Word, stamp: u64) -> LockDecision
     requires { word.layout ≡ limits.layout }
     ensures { decision_as result ≡ decision_of limits word (Call.Validate stamp) }
@@ -129,7 +123,6 @@ fn validate(limits: Limits, word: Word, stamp: u64) -> LockDecision
     yes_where(word.validates(stamp))
 }
 
-#[inline(always)]
 fn unlock_write(limits: Limits, word: Word, stamp: u64) -> LockDecision
     requires { word.layout ≡ limits.layout }
     ensures { decision_as result ≡ decision_of limits word (Call.UnlockWrite stamp) }
@@ -141,7 +134,6 @@ fn unlock_write(limits: Limits, word: Word, stamp: u64) -> LockDecision
     }
 }
 
-#[inline(always)]
 fn unlock_read(limits: Limits, word: Word, stamp: u64) -> LockDecision
     requires { word.layout ≡ limits.layout }
     ensures { decision_as result ≡ decision_of limits word (Call.UnlockRead stamp) }
@@ -153,7 +145,6 @@ fn unlock_read(limits: Limits, word: Word, stamp: u64) -> LockDecision
     }
 }
 
-#[inline(always)]
 fn unlock(limits: Limits, word: Word, stamp: u64) -> LockDecision
     requires { word.layout ≡ limits.layout }
     ensures { decision_as result ≡ decision_of limits word (Call.Unlock stamp) }
@@ -220,7 +211,6 @@ fn to_optimistic(limits: Limits, word: Word, stamp: u64) -> LockDecision
     }
 }
 
-#[inline(always)]
 fn try_unlock_write(limits: Limits, word: Word) -> LockDecision
     requires { word.layout ≡ limits.layout }
     ensures { decision_as result ≡ decision_of limits word Call.TryUnlockWrite }
@@ -232,7 +222,6 @@ fn try_unlock_write(limits: Limits, word: Word) -> LockDecision
     }
 }
 
-#[inline(always)]
 fn try_unlock_read(limits: Limits, word: Word) -> LockDecision
     requires { word.layout ≡ limits.layout }
     ensures { decision_as result ≡ decision_of limits word Call.TryUnlockRead }

@@ -59,7 +59,7 @@ pub same_entry : (entries : List Observation) (x : Effect) (i : ℕ) (a : Observ
 same_entry entries x i a is e at = some_inj x.entry a (sym is.is_entry ∙ ap (λ (k : ℕ). slice_get entries k) e ∙ at)
 
 -- what comes later of an order had not returned when an earlier call of it began
-later_of : (entries : List Observation) (i : ℕ) (a e : Observation) (rest : List Effect) →
+pub later_of : (entries : List Observation) (i : ℕ) (a e : Observation) (rest : List Effect) →
     slice_get entries i ≡ Some a → All (IsEffectOf entries) rest → All (λ (y : Effect). ¬ IsBefore y.entry e) rest →
     Contains (indices_of rest) i → ¬ IsBefore a e
 later_of entries i a e [] at effects after has = absurd (none_in_empty i has)

@@ -19,10 +19,10 @@ use Rattle.stamp_explain.specs.ExplainLaws.{CutsStayExplained, ExplainedIsNotStu
 use Rattle.stamp_explain.proofs.Lists.{pairs_none, pairs_cons, pairs_head, pairs_tail}
 
 -- the second is the same call, and returned only as the first did
-record IsLessKnown (e k : Observation) : Type 0 where
-  call : k.call ≡ e.call
-  first : k.first ≡ e.first
-  returned : (r : Returned) → k.returned ≡ Some r → e.returned ≡ Some r
+pub record IsLessKnown (e k : Observation) : Type 0 where
+  pub call : k.call ≡ e.call
+  pub first : k.first ≡ e.first
+  pub returned : (r : Returned) → k.returned ≡ Some r → e.returned ≡ Some r
 
 less_may : (e k : Observation) (reply : Reply) → IsLessKnown e k → MayReply e reply → MayReply k reply
 less_may e k reply less may = by k.returned refl
@@ -54,7 +54,7 @@ there R (x ∷ es) (y ∷ ks) zero e all at = (y, (refl, subst (λ (o : Observat
     same h = cc
 there R (x ∷ es) (y ∷ ks) (suc i) e all at = there R es ks i e all.1 at
 
-back : (R : Observation → Observation → Type 0) (es ks : List Observation) (i : ℕ) (k : Observation) →
+pub back : (R : Observation → Observation → Type 0) (es ks : List Observation) (i : ℕ) (k : Observation) →
     AllZip R es ks → slice_get ks i ≡ Some k → (e : Observation) × ((slice_get es i ≡ Some e) × R e k)
 back R [] [] i k all at = absurd (none_is (sym at))
   where
@@ -87,7 +87,7 @@ relax es ks x all is =
       less = subst (λ (o : Observation). IsLessKnown x.entry o) same found.1.1;
     }
 
-pairs_map : {X Y : Type 0} (R : X → X → Type 0) (Q : Y → Y → Type 0) (E : X → Type 0) (f : X → Y) (xs : List X) →
+pub pairs_map : {X Y : Type 0} (R : X → X → Type 0) (Q : Y → Y → Type 0) (E : X → Type 0) (f : X → Y) (xs : List X) →
     ((x y : X) → E x → E y → R x y → Q (f x) (f y)) → All E xs → AllPairs R xs → AllPairs Q (map f xs)
 pairs_map R Q E f [] step each all = pairs_none Q
 pairs_map R Q E f (x ∷ xs) step each all =
@@ -110,7 +110,7 @@ same_history ks (x ∷ xs) each =
     ap (λ (h : History). (x.entry.call, x.reply) ∷ h) (same_history ks xs (All-tail (AreRelaxed ks) x xs each)) ∙
     ap (λ (o : Call). (o, x.reply) ∷ history_of (map (relaxed ks) xs)) (sym c)
 
-less_known : (h : ObservedHistory) (ks : List Observation) → AllZip IsLessKnown h.entries ks → IsExplained h →
+pub less_known : (h : ObservedHistory) (ks : List Observation) → AllZip IsLessKnown h.entries ks → IsExplained h →
     IsExplained (record h { entries = ks })
 unfolding relaxed
 less_known h ks all explained = record {
@@ -149,7 +149,7 @@ less_known h ks all explained = record {
         }
 
 -- of two cuts the earlier one
-less_by : (e : Observation) (t u : Bool) → (t ≡ true → u ≡ true) →
+pub less_by : (e : Observation) (t u : Bool) → (t ≡ true → u ≡ true) →
     IsLessKnown (if u then e else record e { returned = None }) (if t then e else record e { returned = None })
 less_by e false true sooner = record { call = refl; first = refl; returned = λ r at. cc }
 less_by e false false sooner = record { call = refl; first = refl; returned = λ r at. at }

@@ -3,7 +3,7 @@ use Rattle.std.proofs.Common.{◌≡◌, ◌≢◌, ◌⊎◌, ℕ, ◌+◌, ◌
 use Rattle.std.proofs.Common.{◌++◌, get_or, refl, sym, ◌∙◌, ap, subst, inl, inr, arith, Some, None}
 use Rattle.std.specs.Prelude.{slice_get, nat_eq}
 use Rattle.std.specs.List.{AllPairs, Contains}
-use Rattle.std.specs.List.Sorted.{IsNonDecreasingBy}
+use Rattle.std.specs.List.Sorted.{IsPermutation, IsNonDecreasingBy}
 use Rattle.std.specs.Bool.{Decides}
 use Rattle.std.proofs.lemmas.Bool.Decides.{nat_tests, Decides-eqb}
 use Rattle.std.proofs.lemmas.Option.{none-some}
@@ -118,21 +118,25 @@ no_key Has entries k keys e are at none = record {
         let both : f ≡ e = same_some f e (sym at_i ∙ ap (λ (j : ℕ). slice_get entries j) same ∙ at) in
         absurd (none m (subst (λ (o : Observation). Has o m) both has_m))
 
--- places in order stand once each, and are those of the keys
-pub placed_once : (keys : List (ℕ × ℕ)) (places : List ℕ) → ArePlaced keys places →
-    AllPairs (λ (i j : ℕ). i ≢ j) (places_of keys) → AllPairs (λ (i j : ℕ). i ≢ j) places
-placed_once keys places placed once =
-    subst (AllPairs (λ (i j : ℕ). i ≢ j)) (sym placed.are)
-    (AllPairs-from_IsDistinct decides (places_of placed.sorted)
-    (IsDistinct-IsPermutation nat_eq flips (places_of keys) (places_of placed.sorted)
-    (IsPermutation-map (λ (p : ℕ × ℕ). p.1) keys placed.sorted placed.moved)
-    (IsDistinct-from_AllPairs decides (places_of keys) once)))
+-- places stand once each in whatever order
+pub permuted_once : (keys sorted : List (ℕ × ℕ)) → IsPermutation keys sorted →
+    AllPairs (λ (i j : ℕ). i ≢ j) (places_of keys) → AllPairs (λ (i j : ℕ). i ≢ j) (places_of sorted)
+permuted_once keys sorted moved once = AllPairs-from_IsDistinct decides (places_of sorted)
+    (IsDistinct-IsPermutation nat_eq flips (places_of keys) (places_of sorted)
+    (IsPermutation-map (λ (p : ℕ × ℕ). p.1) keys sorted moved)
+    (IsDistinct-from_AllPairs decides (places_of keys) once))
   where
     flips : (x y : ℕ) → nat_eq x y ≡ nat_eq y x
     flips x y = grind (arith, nat_tests)
 
     decides : (a b : ℕ) → Decides (nat_eq a b) (a ≡ b)
     decides a b = Decides-eqb a b
+
+-- so they do in order
+pub placed_once : (keys : List (ℕ × ℕ)) (places : List ℕ) → ArePlaced keys places →
+    AllPairs (λ (i j : ℕ). i ≢ j) (places_of keys) → AllPairs (λ (i j : ℕ). i ≢ j) places
+placed_once keys places placed once = subst (AllPairs (λ (i j : ℕ). i ≢ j)) (sym placed.are)
+    (permuted_once keys placed.sorted placed.moved once)
 
 pub placed_has : (keys : List (ℕ × ℕ)) (places : List ℕ) (p : ℕ × ℕ) → ArePlaced keys places → Contains keys p →
     Contains places p.1

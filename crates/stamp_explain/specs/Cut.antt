@@ -1,6 +1,6 @@
 -- What is known of a history at one of its returns, and the first return at which it is no longer explained.
 use Rattle.std.specs.Prelude.{ℕ, ◌≡◌, ◌+◌, ◌==◌, ◌&&◌, ◌||◌, nat_lt, Bool, false, List, [], ◌∷◌, slice_get}
-use Rattle.std.specs.Prelude.{Option, Some, None, if◌then◌else◌}
+use Rattle.std.specs.Prelude.{Option, Some, None, if◌then◌else◌, filter, not}
 use Rattle.stamp_explain.specs.declared.observed.Observation.{Observation}
 use Rattle.stamp_explain.specs.declared.observed.Returned.{Returned}
 use Rattle.stamp_explain.specs.Observed.{ObservedHistory}
@@ -30,6 +30,14 @@ cut_after r i h = cut r.last (i + 1) h
 
 abbrev pub cut_before : Returned → ℕ → ObservedHistory → ObservedHistory
 cut_before r i h = cut r.last i h
+
+-- of these calls, those that had begun by this position
+abbrev pub begun_by : ℕ → List Observation → List Observation
+begun_by last es = filter (λ (e : Observation). not (nat_lt last e.first)) es
+
+-- what an observer has seen then: a call that begins later isn't there
+abbrev pub seen_at : ℕ → ℕ → ObservedHistory → ObservedHistory
+seen_at last bound h = record h { entries = begun_by last (known_from last bound 0 h.entries) }
 
 -- the history is explained until this entry returns, and no longer
 pub record IsStuck (h : ObservedHistory) (i : ℕ) : Type 0 where

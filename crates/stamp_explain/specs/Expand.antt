@@ -11,8 +11,8 @@ use Rattle.stamp_explain.specs.declared.search.Found.{Found}
 use Rattle.stamp_explain.specs.declared.search.Found.TheVariants.{Order, Nothing, Undecided}
 use Rattle.stamp_explain.specs.Observed.{ObservedHistory}
 use Rattle.stamp_explain.specs.Explained.{Effect, IsEffectOf, IsExplained}
-use Rattle.stamp_explain.specs.Search.{LockState, LockSteps, MayTake, IsCompletedBy, AreReturns}
-use Rattle.stamp_explain.specs.Node.{IsAt, StandsFor, IsReached, IsOpening, AreReached}
+use Rattle.stamp_explain.specs.Search.{LockState, LockSteps, MayTake, IsCompletedBy}
+use Rattle.stamp_explain.specs.Node.{IsAt, StandsFor, IsReached, IsOpening, ReachesMany}
 use Rattle.stamp_explain.specs.Store.{Keeps}
 use Rattle.stamp_explain.specs.Order.{IsOrderOf}
 
@@ -111,7 +111,7 @@ pub record Tried (h : ObservedHistory) (returns : List ℕ) (node : Node) (a : O
 abbrev pub IsFound : ObservedHistory → ℕ → Found → Type 0
 IsFound h most (Order order) = IsOrderOf h order.items
 IsFound h most Nothing = ¬ IsExplained h
-IsFound h most Undecided = (returns : List ℕ) × (AreReturns h.entries returns × AreReached h returns most)
+IsFound h most Undecided = ReachesMany h most
 
 abbrev pub nodes_of : List Next → List Node
 nodes_of nexts = map (λ (w : Next). w.node) nexts

@@ -9,7 +9,7 @@ use Rattle.stamp_explain.specs.Explained.{Effect, IsExplained}
 use Rattle.stamp_core.specs.Record.{Recorded}
 use Rattle.stamp_core.specs.Linearized.{IsLinearized}
 use Rattle.stamp_explain.specs.Points.{IsRecordOf}
-use Rattle.stamp_explain.specs.Cut.{cut, IsStuck}
+use Rattle.stamp_explain.specs.Cut.{cut, seen_at, IsStuck}
 use Rattle.stamp_explain.specs.Search.{LockState, FindsOrder, CanComplete, MayTake, AreReturns, AreReturnsOf}
 use Rattle.stamp_explain.specs.Search.{LockSteps, LockAlone, RecordAlone, opening}
 use Rattle.stamp_core.specs.Content.{zeros}
@@ -18,6 +18,12 @@ use Rattle.stamp_explain.specs.Observer.{changes_nothing}
 -- Each cut of an explained history is explained.
 abbrev pub CutsStayExplained : Type 0
 CutsStayExplained = (h : ObservedHistory) (last bound : ℕ) → IsExplained h → IsExplained (cut last bound h)
+
+-- What an observer has seen by a position is an observed history of its own, and explained exactly where the cut is.
+abbrev pub SeenExplainsAsMuch : Type 0
+SeenExplainsAsMuch =
+    (h : ObservedHistory) (last bound : ℕ) → IsObserved h →
+    IsObserved (seen_at last bound h) × (IsExplained (cut last bound h) ↔ IsExplained (seen_at last bound h))
 
 -- What is explained is stuck nowhere.
 abbrev pub ExplainedIsNotStuck : Type 0

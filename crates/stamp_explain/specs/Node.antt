@@ -13,7 +13,7 @@ use Rattle.stamp_explain.specs.declared.node.Node.{Node}
 use Rattle.stamp_explain.specs.declared.node.Step.{Step}
 use Rattle.stamp_explain.specs.Observed.{ObservedHistory, IsBefore, MayReply}
 use Rattle.stamp_explain.specs.Explained.{Effect}
-use Rattle.stamp_explain.specs.Search.{LockState, LockSteps, MayTake, opening, after_call}
+use Rattle.stamp_explain.specs.Search.{LockState, LockSteps, MayTake, AreReturns, opening, after_call}
 
 -- the words that a call puts; zeros where it is no put
 abbrev pub words_put : ℕ → Call → List ℕ
@@ -96,3 +96,7 @@ pub record AreReached (h : ObservedHistory) (returns : List ℕ) (most : ℕ) : 
   pub different : AllPairs (λ (v w : Node). v ≢ w) nodes
   pub each : All (IsReached h returns) nodes
   pub many : most ≤ length nodes
+
+-- so a search for an order reaches so many
+abbrev pub ReachesMany : ObservedHistory → ℕ → Type 0
+ReachesMany h most = (returns : List ℕ) × (AreReturns h.entries returns × AreReached h returns most)

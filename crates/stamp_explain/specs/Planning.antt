@@ -54,3 +54,13 @@ calls_in entries thread order = filter (λ (i : ℕ). is_of entries thread i) or
 pub record AreListed (entries : List Observation) (order : List ℕ) (calls : List (Vec ℕ Global)) : Type 0 where
   pub threads : length calls ≡ 64
   pub each : (t : ℕ) (v : Vec ℕ Global) → slice_get calls t ≡ Some v → v.items ≡ calls_in entries t order
+
+-- one returned before the other; of two at one position, that which is listed first
+abbrev pub IsSooner : ℕ × ℕ → ℕ × ℕ → Type 0
+IsSooner p q = (p.0 < q.0) ⊎ ((p.0 ≡ q.0) × (p.1 < q.1))
+
+-- where each returned call returned and its place, in this order
+pub record AreEnds (entries : List Observation) (ends : List (ℕ × ℕ)) : Type 0 where
+  pub each : (p : ℕ × ℕ) → Contains ends p → (e : Observation) × ((slice_get entries p.1 ≡ Some e) × EndsAt e p.0)
+  pub whole : (i : ℕ) (e : Observation) (n : ℕ) → slice_get entries i ≡ Some e → EndsAt e n → Contains ends (n, i)
+  pub in_order : AllPairs IsSooner ends

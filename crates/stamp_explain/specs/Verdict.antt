@@ -1,24 +1,41 @@
 -- What is answered of an observed history.
-use Rattle.std.specs.Prelude.{ℕ, Bool, true, false, List, Result, Ok, Err, Option, Some, None}
+use Rattle.std.specs.Prelude.{ℕ, ◌≡◌, ◌+◌, ◌⊎◌, Bool, true, false, slice_get, Result, Ok, Err, Some}
 use Rattle.stamp_core.specs.Record.{Recorded}
-use Rattle.stamp_explain.specs.Observed.{ObservedHistory}
-use Rattle.stamp_explain.specs.Points.{HasPoints}
-use Rattle.stamp_explain.specs.Explained.{IsExplained}
-use Rattle.stamp_explain.specs.Search.{AreReturns}
-use Rattle.stamp_explain.specs.Node.{AreReached}
+use Rattle.stamp_explain.specs.declared.observed.Observation.{Observation}
+use Rattle.stamp_explain.specs.declared.observed.Returned.{Returned}
 use Rattle.stamp_explain.specs.declared.explaining.ExplainError.{ExplainError}
-use Rattle.stamp_explain.specs.declared.explaining.ExplainError.TheVariants.{Undecided, Memory}
+use Rattle.stamp_explain.specs.declared.explaining.ExplainError.TheVariants.{Stuck, Undecided, Memory}
+use Rattle.stamp_explain.specs.Observed.{ObservedHistory}
+use Rattle.stamp_explain.specs.Explained.{IsExplained}
+use Rattle.stamp_explain.specs.Cut.{IsStuck, cut_before, seen_at}
+use Rattle.stamp_explain.specs.Points.{HasPoints}
+use Rattle.stamp_explain.specs.Node.{ReachesMany}
 
--- whether an order explains it; or, memory aside, so many configurations, all of them different, are reached
-abbrev pub IsVerdict : ObservedHistory → ℕ → Result Bool ExplainError → Type 0
-IsVerdict h most (Ok true) = IsExplained h
-IsVerdict h most (Ok false) = ¬ IsExplained h
-IsVerdict h most (Err Undecided) = (returns : List ℕ) × (AreReturns h.entries returns × AreReached h returns most)
-IsVerdict h most (Err Memory) = Unit {0}
+-- it is explained until this entry returns; and a search of it, or of what is seen of it when the entry has
+-- returned, reaches so many configurations, all of them different
+pub record IsUndecided (h : ObservedHistory) (most i : ℕ) : Type 0 where
+  pub entry : Observation
+  pub return : Returned
+  pub is_entry : slice_get h.entries i ≡ Some entry
+  pub returned : entry.returned ≡ Some return
+  pub explained : IsExplained (cut_before return i h)
+  pub many : ReachesMany h most ⊎ ReachesMany (seen_at return.last (i + 1) h) most
 
--- a record of it that is linearized by its points; or that no order explains it; or the same
-abbrev pub IsExplanation : ObservedHistory → ℕ → Result (Option Recorded) ExplainError → Type 0
-IsExplanation h most (Ok (Some made)) = HasPoints h made
-IsExplanation h most (Ok None) = ¬ IsExplained h
-IsExplanation h most (Err Undecided) = (returns : List ℕ) × (AreReturns h.entries returns × AreReached h returns most)
-IsExplanation h most (Err Memory) = Unit {0}
+-- no order was found: since none explains it, or since the search was stopped
+abbrev pub IsNotFound : ObservedHistory → ℕ → Bool → Type 0
+IsNotFound h most true = ¬ IsExplained h
+IsNotFound h most false = ReachesMany h most
+
+-- the entry at whose return the history is stuck, or undecided
+abbrev pub IsFault : ObservedHistory → ℕ → ExplainError → Type 0
+IsFault h most (Stuck i) = IsStuck h i
+IsFault h most (Undecided i) = IsUndecided h most i
+IsFault h most Memory = ⊥
+
+-- a record of it that is linearized by its points; or the entry at whose return it is stuck, or undecided; or
+-- an allocation was refused
+abbrev pub IsAnswer : ObservedHistory → ℕ → Result Recorded ExplainError → Type 0
+IsAnswer h most (Ok made) = HasPoints h made
+IsAnswer h most (Err (Stuck i)) = IsStuck h i
+IsAnswer h most (Err (Undecided i)) = IsUndecided h most i
+IsAnswer h most (Err Memory) = Unit {0}

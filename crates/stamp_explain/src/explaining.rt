@@ -1,10 +1,11 @@
-//! Whether some order explains an observed history, and the record of one that does.
+//! The record of an order that explains an observed history, or the return at which none does.
 ghost use Rattle.std.specs.Prelude.{◌≡◌};
 ghost use Rattle.stamp_explain.specs.Observed.{IsObserved};
-ghost use Rattle.stamp_explain.specs.Verdict.{IsVerdict, IsExplanation};
+ghost use Rattle.stamp_explain.specs.Verdict.{IsAnswer};
 
+use crate::first_fault::first_fault;
 use crate::observed::Observed;
-use crate::planning::plan_of;
+use crate::planning::{ends_of, plan_of};
 use crate::recording::record_of;
 use crate::search::{Found, search};
 use stamp_core::Record;
@@ -12,19 +13,29 @@ use std::alloc::{AllocError, Global};
 use std::error::Error;
 use std::fmt;
 
-/// Why it isn't known whether a history is explained. Nothing is kept after either.
+/// Why a history isn't explained. Nothing is kept after any of them.
 #[derive(Clone, Copy, Debug, PartialEq, Eq)]
 pub enum ExplainError {
-    /// 1: so many configurations were looked at, and the search had not ended.
-    Undecided,
-    /// 2: an allocation was refused.
+    /// 1: it is explained until this entry returns, and no longer: no order explains it.
+    Stuck(usize),
+    /// 2: it is explained until this entry returns, and a search looked at the most configurations
+    /// before it ended, so that the rest isn't known.
+    Undecided(usize),
+    /// 3: an allocation was refused.
     Memory,
 }
 
 impl fmt::Display for ExplainError {
     fn fmt<W: fmt::Write>(&self, f: &mut fmt::Formatter<W>) -> fmt::Result {
         match self {
-            ExplainError::Undecided => write!(f, "undecided"),
+            ExplainError::Stuck(entry) => write!(
+                f,
+                "no order explains the return of entry {}",
+                entry
+            ),
+            ExplainError::Undecided(entry) => {
+                write!(f, "undecided at the return of entry {}", entry)
+            }
             ExplainError::Memory => write!(f, "out of memory"),
         }
     }
@@ -42,36 +53,22 @@ impl From<AllocError> for ExplainError {
     }
 }
 
-/// A record of an order that explains the history, with a point for each call; none where no order
-/// does. Position p becomes the moments 64 p to 64 p + 63; a call under way that took effect ends with
-/// the history, and one that didn't is left out. It looks at `most` configurations at most, and refuses as 1
-/// `Undecided` or 2 `Memory`.
-pub fn explanation(
-    alloc: Global,
-    observed: &Observed,
-    most: u64,
-) -> Result<Option<Record>, ExplainError>
+/// A record of an order that explains the history, with a point for each call. Position p becomes the
+/// moments 64 p to 64 p + 63; a call under way that took effect ends with the history, and one that
+/// didn't is left out. Each search looks at `most` configurations at most. Refuses as 1 `Stuck`, where no
+/// order explains the history, 2 `Undecided` or 3 `Memory`.
+pub fn explain(alloc: Global, observed: &Observed, most: u64) -> Result<Record, ExplainError>
     requires { IsObserved observed.now }
-    ensures { IsExplanation observed.now most result }
+    ensures { IsAnswer observed.now most result }
 {
-    let plan = plan_of(alloc, observed)?;
-    let found = search(alloc, observed, &plan, most)?;
-    match found {
-        Found::Order(order) => Ok(Some(record_of(alloc, observed, order.as_slice())?)),
-        Found::Nothing => Ok(None),
-        Found::Undecided => Err(ExplainError::Undecided),
+    let ends = ends_of(alloc, observed.entries())?;
+    if ends.is_empty() {
+        return Ok(record_of(alloc, observed, &[])?);
     }
-}
-
-/// Whether its calls can have taken effect in an order that respects which call had returned before
-/// which began, and is legal. It looks at `most` configurations at most, and refuses as 1 `Undecided`
-/// or 2 `Memory`.
-pub fn is_explained(alloc: Global, observed: &Observed, most: u64) -> Result<bool, ExplainError>
-    requires { IsObserved observed.now }
-    ensures { IsVerdict observed.now most result }
-{
-    match explanation(alloc, observed, most)? {
-        Some(_) => Ok(true),
-        None => Ok(false),
+    let plan = plan_of(alloc, observed)?;
+    match search(alloc, observed, &plan, most)? {
+        Found::Order(order) => Ok(record_of(alloc, observed, order.as_slice())?),
+        Found::Nothing => Err(first_fault(alloc, observed, ends.as_slice(), most, true)?),
+        Found::Undecided => Err(first_fault(alloc, observed, ends.as_slice(), most, false)?),
     }
 }

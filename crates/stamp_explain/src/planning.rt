@@ -1,7 +1,7 @@
 //! Making the plan of a search.
 ghost use Rattle.std.specs.Prelude.{◌≡◌, ◌≢◌, ◌<◌, ◌≤◌, IfOk, length};
 ghost use Rattle.std.specs.List.{All, AllPairs};
-ghost use Rattle.stamp_explain.specs.Planning.{AreKeys, ArePlaced, AreRanked, AreListed, EndsAt, BeginsAt, places_of};
+ghost use Rattle.stamp_explain.specs.Planning.{AreKeys, ArePlaced, AreRanked, AreListed, AreEnds, EndsAt, BeginsAt, places_of};
 ghost use Rattle.stamp_explain.specs.Observed.{IsObserved};
 ghost use Rattle.stamp_explain.specs.Plan.{IsPlan};
 
@@ -21,6 +21,19 @@ fn returns_of(alloc: Global, entries: &[Observation]) -> Result<Vec<(u64, usize)
         }
     }
     Ok(keys)
+}
+
+/// The same, in the order of the positions; of two calls that return at one, that which is listed
+/// first comes first.
+pub(crate) fn ends_of(
+    alloc: Global,
+    entries: &[Observation],
+) -> Result<Vec<(u64, usize)>, AllocError>
+    ensures { IfOk result (λ ends. AreEnds entries.now ends.items) }
+{
+    let mut ends = returns_of(alloc, entries)?;
+    ends.sort()?;
+    Ok(ends)
 }
 
 /// Where each call began, and its place.

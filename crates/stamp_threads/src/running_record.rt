@@ -215,11 +215,7 @@ impl<P: ContentRule> RuledRecord<P> {
             1 => self.get_fixed::<1>(pass),
             2 => self.get_fixed::<2>(pass),
             16 => self.get_fixed::<16>(pass),
-            width => {
-                let mut row = [0u64; 16];
-                self.get_into(pass, &mut row[..width])?;
-                Ok(Words::of_row(row, width))
-            }
+            _ => self.get_any(pass),
         }
     }
 
@@ -241,6 +237,22 @@ impl<P: ContentRule> RuledRecord<P> {
             Some(words) => Ok(words),
             None => unreachable!(),
         }
+    }
+
+    /// `get_once` of any width. It has code of its own, so that a get of a known width makes no room
+    /// for 16 words.
+    fn get_any(&self, pass: &mut RecordPass) -> Result<Words, GetFault>
+        requires { pass.old.table ≡ self.now.table }
+        ensures table { pass.new.table ≡ self.now.table }
+        ensures ok { let v = pass.old.view in let w = pass.new.view in
+            IfOk result (λ words. WasGot P.holds self.now.shape words v w) }
+        ensures err { let v = pass.old.view in let w = pass.new.view in
+            IfErr result (λ fault. GetRefused self.now.shape v fault w) }
+    {
+        let width = self.shape.width;
+        let mut row = [0u64; 16];
+        self.get_into(pass, &mut row[..width])?;
+        Ok(Words::of_row(row, width))
     }
 
     /// As `get_once`, into a place of the caller's that has the width.

@@ -1,7 +1,7 @@
 use Rattle.std.proofs.Common.{◌∙◌, replicate, arith, length-take-le}
 use Rattle.std.proofs.lemmas.List.{drop-replicate}
 use Rattle.std.proofs.lemmas.Slice.{drop-append-drop}
-use Rattle.stamp_threads.proofs.running_record.RuledRecord.get_once.Goals as goal
+use Rattle.stamp_threads.proofs.running_record.RuledRecord.get_any.Goals as goal
 
 pub of_row-requires-clause-zeros : goal.of_row-requires-clause-zeros
 of_row-requires-clause-zeros g c =

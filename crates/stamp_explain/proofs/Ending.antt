@@ -1,0 +1,117 @@
+-- The returned calls in the order of their returns.
+use Rattle.std.proofs.Common.{◌≡◌, ◌≢◌, ◌⊎◌, ℕ, ◌+◌, ◌<◌, ◌≤◌, zero, suc, true, false, List, [], ◌∷◌, length}
+use Rattle.std.proofs.Common.{get_or, refl, sym, ◌∙◌, ap, subst, inl, inr, arith}
+use Rattle.std.specs.List.{All, AllPairs}
+use Rattle.std.specs.List.Sorted.{IsPermutation, IsSorted}
+use Rattle.std.specs.declared.cmp.Ordering.{Ordering}
+use Rattle.std.specs.declared.cmp.Ordering.TheVariants.{Less, Equal}
+use Rattle.std.specs.Ordering.{nat_cmp, ordering_then, is_lt}
+use Rattle.std.specs.Cmp.{nat_cmp_is}
+use Rattle.std.specs.Prelude.{slice_get, Some}
+use Rattle.std.proofs.lemmas.Option.{slice_get_within}
+use Rattle.std.proofs.lemmas.List.{length-map}
+use Rattle.std.proofs.lemmas.List.Elements.{All-nil, All-cons, All-weaker}
+use Rattle.std.proofs.lemmas.List.Sorted.{Contains-permutation, IsPermutation-sym}
+use Rattle.stamp_explain.specs.declared.observed.Observation.{Observation}
+use Rattle.stamp_explain.specs.Planning.{AreKeys, AreEnds, IsSooner, EndsAt, places_of}
+use Rattle.stamp_explain.proofs.Lists.{pairs_none, pairs_cons}
+use Rattle.stamp_explain.proofs.Keyed.{permuted_once}
+
+abbrev pub pair_cmp : ℕ × ℕ → ℕ × ℕ → Ordering
+pair_cmp p q = ordering_then (nat_cmp p.0 q.0) (nat_cmp p.1 q.1)
+
+NotAfter : ℕ × ℕ → ℕ × ℕ → Type 0
+NotAfter p q = (p.0 < q.0) ⊎ ((p.0 ≡ q.0) × (p.1 ≤ q.1))
+
+true_false : true ≡ false → ⊥
+true_false h = cc
+
+three : (n m : ℕ) → (n < m) ⊎ ((n ≡ m) ⊎ (m < n))
+three n m = grind arith
+
+-- what isn't less comes no sooner
+not_after : (p q : ℕ × ℕ) → is_lt (pair_cmp q p) ≡ false → NotAfter p q
+unfolding NotAfter
+not_after p q isnt = by (three q.0 p.0)
+  where
+    then_is : (o : Ordering) → o ≡ nat_cmp q.0 p.0 → is_lt (ordering_then o (nat_cmp q.1 p.1)) ≡ false
+    then_is o is = ap (λ (x : Ordering). is_lt (ordering_then x (nat_cmp q.1 p.1))) is ∙ isnt
+
+    second : q.0 ≡ p.0 → (q.1 < p.1) ⊎ ((q.1 ≡ p.1) ⊎ (p.1 < q.1)) → p.1 ≤ q.1
+    second same (inl less) = absurd (true_false (ap (λ (x : Ordering). is_lt x) (nat_cmp_is q.1 p.1 Less less) ∙
+        then_is Equal (nat_cmp_is q.0 p.0 Equal same)))
+    second same (inr (inl both)) = omega (arith, both)
+    second same (inr (inr more)) = omega (arith, more)
+
+    by : (q.0 < p.0) ⊎ ((q.0 ≡ p.0) ⊎ (p.0 < q.0)) → (p.0 < q.0) ⊎ ((p.0 ≡ q.0) × (p.1 ≤ q.1))
+    by (inl less) = absurd (true_false (then_is Less (nat_cmp_is q.0 p.0 Less less)))
+    by (inr (inl same)) = inr (sym same, second same (three q.1 p.1))
+    by (inr (inr more)) = inl more
+
+carries : (p q r : ℕ × ℕ) → NotAfter p q → NotAfter q r → NotAfter p r
+unfolding NotAfter
+carries p q r (inl a) (inl b) = inl (omega (arith, a, b))
+carries p q r (inl a) (inr b) = inl (omega (arith, a, b.0))
+carries p q r (inr a) (inl b) = inl (omega (arith, a.0, b))
+carries p q r (inr a) (inr b) = inr (a.0 ∙ b.0, omega (arith, a.1, b.1))
+
+IsChain : List (ℕ × ℕ) → Type 0
+IsChain xs = (k : ℕ) (d : ℕ × ℕ) → suc k < length xs → NotAfter (get_or xs k d) (get_or xs (suc k) d)
+
+shorter : (x : ℕ × ℕ) (xs : List (ℕ × ℕ)) → IsChain (x ∷ xs) → IsChain xs
+unfolding IsChain
+shorter x xs chain k d lt = chain (suc k) d (omega (arith, lt))
+
+all_after : (x : ℕ × ℕ) (xs : List (ℕ × ℕ)) → IsChain (x ∷ xs) → All (NotAfter x) xs
+unfolding IsChain
+all_after x [] chain = All-nil (NotAfter x)
+all_after x (y ∷ ys) chain =
+    let next : NotAfter x y = chain 0 x (omega arith) in
+    All-cons (NotAfter x) y ys next (All-weaker (NotAfter y) (NotAfter x) (λ z after. carries x y z next after) ys
+    (all_after y ys (shorter x (y ∷ ys) chain)))
+
+all_pairs : (xs : List (ℕ × ℕ)) → IsChain xs → AllPairs NotAfter xs
+all_pairs [] chain = pairs_none NotAfter
+all_pairs (x ∷ xs) chain = pairs_cons NotAfter x xs (all_after x xs chain) (all_pairs xs (shorter x xs chain))
+
+get_place : (xs : List (ℕ × ℕ)) (k : ℕ) (d : ℕ × ℕ) → get_or (places_of xs) k d.1 ≡ (get_or xs k d).1
+get_place [] k d = refl
+get_place (x ∷ xs) zero d = refl
+get_place (x ∷ xs) (suc k) d = get_place xs k d
+
+strictly : (p q : ℕ × ℕ) → NotAfter p q → p.1 ≢ q.1 → IsSooner p q
+unfolding NotAfter
+strictly p q (inl less) apart = inl less
+strictly p q (inr (same, le)) apart = inr (same, by (three p.1 q.1))
+  where
+    by : (p.1 < q.1) ⊎ ((p.1 ≡ q.1) ⊎ (q.1 < p.1)) → p.1 < q.1
+    by (inl less) = less
+    by (inr (inl both)) = absurd (apart both)
+    by (inr (inr more)) = absurd (omega (arith, more, le))
+
+pub sorted_ends : (entries : List Observation) (keys ends : List (ℕ × ℕ)) →
+    AreKeys EndsAt entries (length entries) keys → IsPermutation keys ends → IsSorted pair_cmp ends →
+    AreEnds entries ends
+unfolding IsChain
+sorted_ends entries keys ends are moved sorted = record {
+  each = λ p has. are.each p (Contains-permutation ends keys p (IsPermutation-sym keys ends moved) has);
+  whole = λ i e n at has. Contains-permutation keys ends (n, i) moved (are.whole i e n (within i e at) at has);
+  in_order = λ i j d lt inside. strictly (get_or ends i d) (get_or ends j d) (pairs i j d lt inside)
+      (apart i j d lt inside);
+}
+  where
+    within : (i : ℕ) (e : Observation) → slice_get entries i ≡ Some e → i < length entries
+    within i e at = slice_get_within entries i e at
+
+    pairs : AllPairs NotAfter ends
+    pairs = all_pairs ends (λ k d lt. not_after (get_or ends k d) (get_or ends (suc k) d)
+        (subst (λ (n : ℕ). is_lt (pair_cmp (get_or ends n d) (get_or ends k d)) ≡ false) (more k)
+        (sorted k d (omega arith) (omega (arith, lt)))))
+      where
+        more : (k : ℕ) → k + 1 ≡ suc k
+        more k = omega arith
+
+    apart : (i j : ℕ) (d : ℕ × ℕ) → i < j → j < length ends → (get_or ends i d).1 ≢ (get_or ends j d).1
+    apart i j d lt inside same = permuted_once keys ends moved are.once i j d.1 lt
+        (omega (arith, inside, length-map {B = ℕ} ends (λ (p : ℕ × ℕ). p.1)))
+        (get_place ends i d ∙ same ∙ sym (get_place ends j d))

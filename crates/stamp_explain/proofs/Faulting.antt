@@ -1,0 +1,456 @@
+-- The first return at which no order is found.
+use Rattle.std.proofs.Common.{◌≡◌, ◌⊎◌, ℕ, ◌+◌, ◌<◌, ◌≤◌, suc, Bool, true, false, List, [], ◌∷◌, length}
+use Rattle.std.proofs.Common.{◌-◌, ◌/◌, get_or, refl, sym, ◌∙◌, ap, subst, inl, inr, arith, Option, None, Some}
+use Rattle.std.specs.Prelude.{slice_get, if◌then◌else◌, nat_lt, ◌==◌, ◌&&◌, ◌||◌}
+use Rattle.std.specs.List.{AllPairs, AllZip, Contains}
+use Rattle.std.proofs.lemmas.List.Elements.{All-nil}
+use Rattle.std.proofs.lemmas.Bool.Decides.{nat_tests}
+use Rattle.std.proofs.lemmas.Option.{none-some, slice_get_within, get_or_from_slice_get, slice_get-get_or}
+use Rattle.stamp_explain.specs.declared.observed.Observation.{Observation}
+use Rattle.stamp_explain.specs.declared.observed.Returned.{Returned}
+use Rattle.stamp_explain.specs.declared.search.Found.{Found}
+use Rattle.stamp_explain.specs.declared.search.Found.TheVariants.{Order, Nothing, Undecided}
+use Rattle.stamp_explain.specs.Observed.{ObservedHistory, IsObserved, HasReturned}
+use Rattle.stamp_explain.specs.Explained.{IsEffectOf, AreApart, RespectsBefore, IsExplained, IsExplainedBy}
+use Rattle.stamp_explain.specs.Cut.{known_of, known_from, returned_by, cut, seen_at, IsStuck}
+use Rattle.stamp_explain.specs.Planning.{IsSooner, AreEnds, EndsAt}
+use Rattle.stamp_explain.specs.Node.{ReachesMany}
+use Rattle.stamp_explain.specs.Order.{IsOrderOf}
+use Rattle.stamp_explain.specs.Expand.{IsFound}
+use Rattle.stamp_explain.specs.Verdict.{IsUndecided, IsNotFound}
+use Rattle.stamp_explain.proofs.Lists.{pairs_none, none_in_empty}
+use Rattle.stamp_explain.proofs.Cutting.{IsLessKnown, less_known, back}
+use Rattle.stamp_explain.proofs.Seeing.{seen_explains_as_much}
+
+false_true : false ≡ true → ⊥
+false_true h = cc
+
+-- a call known by one test, and known so far by another
+returned_then : (l b i : ℕ) (e : Observation) (r : Returned) → (known_of l b i e).returned ≡ Some r →
+    (e.returned ≡ Some r) × (returned_by l b i (Some r) ≡ true)
+returned_then l b i e r at = by (returned_by l b i e.returned) refl at
+  where
+    by : (t : Bool) → returned_by l b i e.returned ≡ t →
+        (if t then e else record e { returned = None }).returned ≡ Some r →
+        (e.returned ≡ Some r) × (returned_by l b i (Some r) ≡ true)
+    by true is at = (at, ap (returned_by l b i) (sym at) ∙ is)
+    by false is at = absurd (none-some r at)
+
+same_call : (l b i : ℕ) (e : Observation) → ((known_of l b i e).call ≡ e.call) × ((known_of l b i e).first ≡ e.first)
+same_call l b i e = by (returned_by l b i e.returned)
+  where
+    by : (t : Bool) → ((if t then e else record e { returned = None }).call ≡ e.call) ×
+        ((if t then e else record e { returned = None }).first ≡ e.first)
+    by true = (refl, refl)
+    by false = (refl, refl)
+
+less_known_of : (m c i : ℕ) (e k : Observation) → k.call ≡ e.call → k.first ≡ e.first →
+    ((r : Returned) → k.returned ≡ Some r → (e.returned ≡ Some r) × (returned_by m c i (Some r) ≡ true)) →
+    IsLessKnown (known_of m c i e) k
+less_known_of m c i e k call first was = by (returned_by m c i e.returned) refl
+  where
+    by : (t : Bool) → returned_by m c i e.returned ≡ t →
+        IsLessKnown (if t then e else record e { returned = None }) k
+    by true is = record { call = call; first = first; returned = λ r at. (was r at).0 }
+    by false is = record {
+      call = call;
+      first = first;
+      returned = λ r at. absurd (false_true (sym is ∙ ap (returned_by m c i) (was r at).0 ∙ (was r at).1));
+    }
+
+-- what is known by the one test is known by the other
+Knows : ℕ → ℕ → ℕ → ℕ → ℕ → List Observation → Type 0
+Knows l b m c i es = (k : ℕ) (e : Observation) (r : Returned) → slice_get es k ≡ Some e → e.returned ≡ Some r →
+    returned_by l b (i + k) (Some r) ≡ true → returned_by m c (i + k) (Some r) ≡ true
+
+knows_less : (l b m c i : ℕ) (es : List Observation) → Knows l b m c i es →
+    AllZip IsLessKnown (known_from m c i es) (known_from l b i es)
+unfolding Knows
+knows_less l b m c i [] knows = tt
+knows_less l b m c i (e ∷ es) knows = (
+  less_known_of m c i e (known_of l b i e) (same_call l b i e).0 (same_call l b i e).1 (λ r at. here r at),
+  knows_less l b m c (i + 1) es (λ k f r at returned is. subst (λ (n : ℕ). returned_by m c n (Some r) ≡ true)
+      (shifts i k) (knows (suc k) f r at returned (subst (λ (n : ℕ). returned_by l b n (Some r) ≡ true)
+      (sym (shifts i k)) is))),
+)
+  where
+    shifts : (i k : ℕ) → i + suc k ≡ i + 1 + k
+    shifts i k = omega arith
+
+    none : (i : ℕ) → i + 0 ≡ i
+    none i = omega arith
+
+    here : (r : Returned) → (known_of l b i e).returned ≡ Some r →
+        (e.returned ≡ Some r) × (returned_by m c i (Some r) ≡ true)
+    here r at =
+        let was : (e.returned ≡ Some r) × (returned_by l b i (Some r) ≡ true) = returned_then l b i e r at in (
+          was.0,
+          subst (λ (n : ℕ). returned_by m c n (Some r) ≡ true) (none i)
+              (knows 0 e r refl was.0 (subst (λ (n : ℕ). returned_by l b n (Some r) ≡ true) (sym (none i)) was.1)),
+        )
+
+-- all that returned is known
+KnowsAll : ℕ → ℕ → ℕ → List Observation → Type 0
+KnowsAll m c i es = (k : ℕ) (e : Observation) (r : Returned) → slice_get es k ≡ Some e → e.returned ≡ Some r →
+    returned_by m c (i + k) (Some r) ≡ true
+
+knows_all : (m c i : ℕ) (es : List Observation) → KnowsAll m c i es → AllZip IsLessKnown (known_from m c i es) es
+unfolding KnowsAll
+knows_all m c i [] knows = tt
+knows_all m c i (e ∷ es) knows = (
+  less_known_of m c i e e refl refl (λ r at. (
+    at,
+    subst (λ (n : ℕ). returned_by m c n (Some r) ≡ true) (none i)
+        (knows 0 e r refl at),
+  )),
+  knows_all m c (i + 1) es (λ k f r at returned. subst (λ (n : ℕ). returned_by m c n (Some r) ≡ true)
+      (shifts i k) (knows (suc k) f r at returned)),
+)
+  where
+    shifts : (i k : ℕ) → i + suc k ≡ i + 1 + k
+    shifts i k = omega arith
+
+    none : (i : ℕ) → i + 0 ≡ i
+    none i = omega arith
+
+-- nothing is known, and no call need have taken effect
+unknown : (i : ℕ) (es : List Observation) → AllZip (λ (e k : Observation). k.returned ≡ None) es (known_from 0 0 i es)
+unknown i [] = tt
+unknown i (e ∷ es) = (by (returned_by 0 0 i e.returned) (never e.returned), unknown (i + 1) es)
+  where
+    never : (o : Option Returned) → returned_by 0 0 i o ≡ false
+    never None = refl
+    never (Some r) = at r.last
+      where
+        at : (n : ℕ) → (nat_lt n 0 || ((n == 0) && nat_lt i 0)) ≡ false
+        at n = grind (arith, nat_tests)
+
+    by : (t : Bool) → t ≡ false → (if t then e else record e { returned = None }).returned ≡ None
+    by true is = absurd (false_true (sym is))
+    by false is = refl
+
+explained_by_none : (h : ObservedHistory) → ((i : ℕ) (e : Observation) → slice_get h.entries i ≡ Some e →
+    ¬ HasReturned e) → IsExplainedBy h []
+explained_by_none h none = record {
+  effects = All-nil (IsEffectOf h.entries);
+  once = pairs_none AreApart;
+  returned = λ i e at has. absurd (none i e at has);
+  ordered = pairs_none RespectsBefore;
+  legal = tt;
+}
+
+-- where no call returned
+pub order_of_none : (h : ObservedHistory) (ends : List (ℕ × ℕ)) → AreEnds h.entries ends → length ends ≡ 0 →
+    IsOrderOf h []
+order_of_none h ends are none = record {
+  order = [];
+  explains = explained_by_none h (λ i e at has. none_in_empty (has.0.last, i)
+      (subst (λ (ps : List (ℕ × ℕ)). Contains ps (has.0.last, i)) (empty ends none)
+      (are.whole i e has.0.last at (has.0, (has.1, refl)))));
+  are = refl;
+}
+  where
+    empty : (ps : List (ℕ × ℕ)) → length ps ≡ 0 → ps ≡ []
+    empty [] h = refl
+    empty (p ∷ ps) h = absurd (omega arith)
+
+explained_unknown : (h : ObservedHistory) → IsExplained (cut 0 0 h)
+explained_unknown h = record { order = []; by = explained_by_none (cut 0 0 h) (λ i k at has. none i k at has) }
+  where
+    none : (i : ℕ) (k : Observation) → slice_get (known_from 0 0 0 h.entries) i ≡ Some k → ¬ HasReturned k
+    none i k at has =
+        let was : (e : Observation) × ((slice_get h.entries i ≡ Some e) × (k.returned ≡ None)) =
+        back (λ (e k : Observation). k.returned ≡ None) h.entries (known_from 0 0 0 h.entries) i k
+        (unknown 0 h.entries) at in
+        none-some has.0 (sym was.1.1 ∙ has.1)
+
+-- the order of returns
+by_test : (p : ℕ × ℕ) (i : ℕ) (r : Returned) → returned_by p.0 p.1 i (Some r) ≡ true → IsSooner (r.last, i) p
+by_test p i r is = by r.last p.0 p.1 is
+  where
+    by : (n l b : ℕ) → (nat_lt n l || ((n == l) && nat_lt i b)) ≡ true → (n < l) ⊎ ((n ≡ l) × (i < b))
+    by n l b is = grind (arith, nat_tests)
+
+test_by : (l b i : ℕ) (r : Returned) → (r.last < l) ⊎ ((r.last ≡ l) × (i < b)) → returned_by l b i (Some r) ≡ true
+test_by l b i r (inl less) = by r.last less
+  where
+    by : (n : ℕ) → n < l → (nat_lt n l || ((n == l) && nat_lt i b)) ≡ true
+    by n less = grind (arith, nat_tests)
+test_by l b i r (inr (same, less)) = by r.last same
+  where
+    by : (n : ℕ) → n ≡ l → (nat_lt n l || ((n == l) && nat_lt i b)) ≡ true
+    by n same = grind (arith, nat_tests)
+
+never_both : (p q : ℕ × ℕ) → IsSooner p q → ¬ IsSooner q p
+never_both p q (inl a) (inl b) = omega (arith, a, b)
+never_both p q (inl a) (inr b) = omega (arith, a, b.0)
+never_both p q (inr a) (inl b) = omega (arith, a.0, b)
+never_both p q (inr a) (inr b) = omega (arith, a.1, b.1)
+
+irreflexive : (p : ℕ × ℕ) → ¬ IsSooner p p
+irreflexive p less = never_both p p less less
+
+-- where a return stands among the others
+sooner_at : (ends : List (ℕ × ℕ)) (n m : ℕ) (p x : ℕ × ℕ) → AllPairs IsSooner ends → slice_get ends m ≡ Some p →
+    get_or ends n x ≡ x → n < m → IsSooner x p
+sooner_at ends n m p x in_order at is less = subst (λ (y : ℕ × ℕ). IsSooner y p) is
+    (subst (λ (q : ℕ × ℕ). IsSooner (get_or ends n x) q) (get_or_from_slice_get ends m p x at)
+    (in_order n m x less (slice_get_within ends m p at)))
+
+same_at : (ends : List (ℕ × ℕ)) (n m : ℕ) (p x : ℕ × ℕ) → slice_get ends m ≡ Some p → get_or ends n x ≡ x → n ≡ m →
+    x ≡ p
+same_at ends n m p x at is same = sym is ∙ ap (λ (k : ℕ). get_or ends k x) same ∙ get_or_from_slice_get ends m p x at
+
+later_at : (ends : List (ℕ × ℕ)) (n m : ℕ) (p x : ℕ × ℕ) → AllPairs IsSooner ends → slice_get ends m ≡ Some p →
+    n < length ends → get_or ends n x ≡ x → m < n → IsSooner p x
+later_at ends n m p x in_order at lt is more = subst (λ (y : ℕ × ℕ). IsSooner p y) is
+    (subst (λ (q : ℕ × ℕ). IsSooner q (get_or ends n x)) (get_or_from_slice_get ends m p x at)
+    (in_order m n x more lt))
+
+three : (n m : ℕ) → (n < m) ⊎ ((n ≡ m) ⊎ (m < n))
+three n m = grind arith
+
+-- what returned no later than this is known after it
+known_after : (ends : List (ℕ × ℕ)) (n m k : ℕ) (p : ℕ × ℕ) (r : Returned) → AllPairs IsSooner ends →
+    slice_get ends m ≡ Some p → get_or ends n (r.last, k) ≡ (r.last, k) → n ≤ m →
+    returned_by p.0 (p.1 + 1) k (Some r) ≡ true
+known_after ends n m k p r in_order at is le = by (three n m)
+  where
+    more : IsSooner (r.last, k) p → (r.last < p.0) ⊎ ((r.last ≡ p.0) × (k < p.1 + 1))
+    more (inl less) = inl less
+    more (inr (same, less)) = inr (same, omega (arith, less))
+
+    there : (r.last, k) ≡ p → (r.last < p.0) ⊎ ((r.last ≡ p.0) × (k < p.1 + 1))
+    there same = inr (ap (λ (q : ℕ × ℕ). q.0) same, omega (arith, ap (λ (q : ℕ × ℕ). q.1) same))
+
+    by : (n < m) ⊎ ((n ≡ m) ⊎ (m < n)) → returned_by p.0 (p.1 + 1) k (Some r) ≡ true
+    by (inl less) = test_by p.0 (p.1 + 1) k r (more (sooner_at ends n m p (r.last, k) in_order at is less))
+    by (inr (inl same)) = test_by p.0 (p.1 + 1) k r (there (same_at ends n m p (r.last, k) at is same))
+    by (inr (inr over)) = absurd (omega (arith, over, le))
+
+from_zero : (l b k : ℕ) (r : Returned) → returned_by l b (0 + k) (Some r) ≡ true → returned_by l b k (Some r) ≡ true
+from_zero l b k r is = subst (λ (n : ℕ). returned_by l b n (Some r) ≡ true) (omega arith) is
+
+to_zero : (l b k : ℕ) (r : Returned) → returned_by l b k (Some r) ≡ true → returned_by l b (0 + k) (Some r) ≡ true
+to_zero l b k r is = subst (λ (n : ℕ). returned_by l b n (Some r) ≡ true) (omega arith) is
+
+-- until the first return nothing is known
+explained_at_first : (h : ObservedHistory) (ends : List (ℕ × ℕ)) (p : ℕ × ℕ) → AreEnds h.entries ends →
+    slice_get ends 0 ≡ Some p → IsExplained (cut p.0 p.1 h)
+unfolding Knows
+explained_at_first h ends p are at = less_known (cut 0 0 h) (known_from p.0 p.1 0 h.entries)
+    (knows_less p.0 p.1 0 0 0 h.entries (λ k e r here returned is. absurd (none k e r here returned
+    (from_zero p.0 p.1 k r is))))
+    (explained_unknown h)
+  where
+    none : (k : ℕ) (e : Observation) (r : Returned) → slice_get h.entries k ≡ Some e → e.returned ≡ Some r →
+        ¬ (returned_by p.0 p.1 k (Some r) ≡ true)
+    none k e r here returned is = by (are.whole k e r.last here (r, (returned, refl)))
+      where
+        less : IsSooner (r.last, k) p
+        less = by_test p k r is
+
+        by : Contains ends (r.last, k) → ⊥
+        by (n, lt, same) = which (three n 0)
+          where
+            which : (n < 0) ⊎ ((n ≡ 0) ⊎ (0 < n)) → ⊥
+            which (inl below) = absurd (omega (arith, below))
+            which (inr (inl zero_is)) = irreflexive p (subst (λ (x : ℕ × ℕ). IsSooner x p)
+                (same_at ends n 0 p (r.last, k) at same zero_is) less)
+            which (inr (inr more)) = never_both (r.last, k) p less
+                (later_at ends n 0 p (r.last, k) are.in_order at lt same more)
+
+-- what is known before a return was known after the one before it
+explained_at_next : (h : ObservedHistory) (ends : List (ℕ × ℕ)) (m : ℕ) (p q : ℕ × ℕ) → AreEnds h.entries ends →
+    slice_get ends m ≡ Some p → slice_get ends (m + 1) ≡ Some q → IsExplained (cut p.0 (p.1 + 1) h) →
+    IsExplained (cut q.0 q.1 h)
+unfolding Knows
+explained_at_next h ends m p q are at next explained = less_known (cut p.0 (p.1 + 1) h)
+    (known_from q.0 q.1 0 h.entries)
+    (knows_less q.0 q.1 p.0 (p.1 + 1) 0 h.entries (λ k e r here returned is. to_zero p.0 (p.1 + 1) k r
+    (known k e r here returned (from_zero q.0 q.1 k r is)))) explained
+  where
+    known : (k : ℕ) (e : Observation) (r : Returned) → slice_get h.entries k ≡ Some e → e.returned ≡ Some r →
+        returned_by q.0 q.1 k (Some r) ≡ true → returned_by p.0 (p.1 + 1) k (Some r) ≡ true
+    known k e r here returned is = by (are.whole k e r.last here (r, (returned, refl)))
+      where
+        less : IsSooner (r.last, k) q
+        less = by_test q k r is
+
+        by : Contains ends (r.last, k) → returned_by p.0 (p.1 + 1) k (Some r) ≡ true
+        by (n, lt, same) = which (three n (m + 1))
+          where
+            which : (n < m + 1) ⊎ ((n ≡ m + 1) ⊎ (m + 1 < n)) → returned_by p.0 (p.1 + 1) k (Some r) ≡ true
+            which (inl below) = known_after ends n m k p r are.in_order at same (omega (arith, below))
+            which (inr (inl next_is)) = absurd (irreflexive q (subst (λ (x : ℕ × ℕ). IsSooner x q)
+                (same_at ends n (m + 1) q (r.last, k) next same next_is) less))
+            which (inr (inr more)) = absurd (never_both (r.last, k) q less
+                (later_at ends n (m + 1) q (r.last, k) are.in_order next lt same more))
+
+-- after the last return all is known
+explained_at_last : (h : ObservedHistory) (ends : List (ℕ × ℕ)) (m : ℕ) (p : ℕ × ℕ) → AreEnds h.entries ends →
+    slice_get ends m ≡ Some p → length ends ≤ m + 1 → IsExplained (cut p.0 (p.1 + 1) h) → IsExplained h
+unfolding KnowsAll
+explained_at_last h ends m p are at last explained = less_known (cut p.0 (p.1 + 1) h) h.entries
+    (knows_all p.0 (p.1 + 1) 0 h.entries (λ k e r here returned. to_zero p.0 (p.1 + 1) k r
+    (known k e r here returned))) explained
+  where
+    known : (k : ℕ) (e : Observation) (r : Returned) → slice_get h.entries k ≡ Some e → e.returned ≡ Some r →
+        returned_by p.0 (p.1 + 1) k (Some r) ≡ true
+    known k e r here returned = by (are.whole k e r.last here (r, (returned, refl)))
+      where
+        by : Contains ends (r.last, k) → returned_by p.0 (p.1 + 1) k (Some r) ≡ true
+        by (n, lt, same) = known_after ends n m k p r are.in_order at same (omega (arith, lt, last))
+
+-- no order was found after this return
+abbrev pub IsAbove : ObservedHistory → ℕ → ℕ × ℕ → Bool → Type 0
+IsAbove h most p true = ¬ IsExplained (cut p.0 (p.1 + 1) h)
+IsAbove h most p false = ReachesMany h most ⊎ ReachesMany (seen_at p.0 (p.1 + 1) h) most
+
+contained : (ends : List (ℕ × ℕ)) (k : ℕ) (p : ℕ × ℕ) → slice_get ends k ≡ Some p → Contains ends p
+contained ends k p at = (k, slice_get_within ends k p at, get_or_from_slice_get ends k p p at)
+
+-- the history is explained until the return at `low`, and no order was found after that at `high`
+pub record IsBetween (h : ObservedHistory) (most : ℕ) (ends : List (ℕ × ℕ)) (low high : ℕ) (stuck : Bool) : Type 0
+  where
+    pub order : low ≤ high
+    pub inside : high < length ends
+    pub below : (p : ℕ × ℕ) → slice_get ends low ≡ Some p → IsExplained (cut p.0 p.1 h)
+    pub above : (p : ℕ × ℕ) → slice_get ends high ≡ Some p → IsAbove h most p stuck
+
+pub between_at_first : (h : ObservedHistory) (most : ℕ) (ends : List (ℕ × ℕ)) (high : ℕ) (stuck : Bool) →
+    AreEnds h.entries ends → IsNotFound h most stuck → high + 1 ≡ length ends → IsBetween h most ends 0 high stuck
+between_at_first h most ends high stuck are not_found last = record {
+  order = omega arith;
+  inside = omega (arith, last);
+  below = λ p at. explained_at_first h ends p are at;
+  above = λ p at. by p at stuck not_found;
+}
+  where
+    by : (p : ℕ × ℕ) → slice_get ends high ≡ Some p → (b : Bool) → IsNotFound h most b → IsAbove h most p b
+    by p at true none = λ explained. none (explained_at_last h ends high p are at (omega (arith, last)) explained)
+    by p at false many = inl many
+
+pub between_above : (h : ObservedHistory) (most : ℕ) (ends : List (ℕ × ℕ)) (low high middle : ℕ) (stuck : Bool)
+    (p : ℕ × ℕ) → IsObserved h → AreEnds h.entries ends → IsBetween h most ends low high stuck → middle < high →
+    slice_get ends middle ≡ Some p → IsExplained (seen_at p.0 (p.1 + 1) h) →
+    IsBetween h most ends (middle + 1) high stuck
+between_above h most ends low high middle stuck p observed are is less at explained = record {
+  order = omega (arith, less);
+  inside = is.inside;
+  below = λ q next. explained_at_next h ends middle p q are at next
+      ((seen_explains_as_much h p.0 (p.1 + 1) observed).1.1 explained);
+  above = is.above;
+}
+
+pub between_below : (h : ObservedHistory) (most : ℕ) (ends : List (ℕ × ℕ)) (low high middle : ℕ) (stuck : Bool)
+    (p : ℕ × ℕ) → IsObserved h → IsBetween h most ends low high stuck → low ≤ middle → middle < high →
+    slice_get ends middle ≡ Some p → ¬ IsExplained (seen_at p.0 (p.1 + 1) h) →
+    IsBetween h most ends low middle true
+between_below h most ends low high middle stuck p observed is le less at none = record {
+  order = le;
+  inside = omega (arith, less, is.inside);
+  below = is.below;
+  above = λ q here explained. none ((seen_explains_as_much h p.0 (p.1 + 1) observed).1.0
+      (subst (λ (x : ℕ × ℕ). IsExplained (cut x.0 (x.1 + 1) h)) (same q p (sym here ∙ at)) explained));
+}
+  where
+    same : (x y : ℕ × ℕ) → Some x ≡ Some y → x ≡ y
+    same x y h = cc
+
+pub between_undecided : (h : ObservedHistory) (most : ℕ) (ends : List (ℕ × ℕ)) (low high middle : ℕ) (stuck : Bool)
+    (p : ℕ × ℕ) → IsBetween h most ends low high stuck → low ≤ middle → middle < high →
+    slice_get ends middle ≡ Some p → ReachesMany (seen_at p.0 (p.1 + 1) h) most →
+    IsBetween h most ends low middle false
+between_undecided h most ends low high middle stuck p is le less at many = record {
+  order = le;
+  inside = omega (arith, less, is.inside);
+  below = is.below;
+  above = λ q here. inr (subst (λ (x : ℕ × ℕ). ReachesMany (seen_at x.0 (x.1 + 1) h) most) (same p q (sym at ∙ here))
+      many);
+}
+  where
+    same : (x y : ℕ × ℕ) → Some x ≡ Some y → x ≡ y
+    same x y h = cc
+
+pub stuck_between : (h : ObservedHistory) (most : ℕ) (ends : List (ℕ × ℕ)) (low high : ℕ) (p : ℕ × ℕ) →
+    AreEnds h.entries ends → IsBetween h most ends low high true → high ≤ low → slice_get ends low ≡ Some p →
+    IsStuck h p.1
+stuck_between h most ends low high p are is le at =
+    let found : (e : Observation) × ((slice_get h.entries p.1 ≡ Some e) × EndsAt e p.0) =
+    are.each p (contained ends low p at) in
+    let last : found.1.1.0.last ≡ p.0 = found.1.1.1.1 in
+    let same : low ≡ high = omega (arith, le, is.order) in
+    record {
+      entry = found.0;
+      return = found.1.1.0;
+      is_entry = found.1.0;
+      returned = found.1.1.1.0;
+      explained = subst (λ (n : ℕ). IsExplained (cut n p.1 h)) (sym last) (is.below p at);
+      stuck = subst (λ (n : ℕ). ¬ IsExplained (cut n (p.1 + 1) h)) (sym last)
+          (is.above p (subst (λ (n : ℕ). slice_get ends n ≡ Some p) same at));
+    }
+
+pub undecided_between : (h : ObservedHistory) (most : ℕ) (ends : List (ℕ × ℕ)) (low high : ℕ) (p : ℕ × ℕ) →
+    AreEnds h.entries ends → IsBetween h most ends low high false → high ≤ low → slice_get ends low ≡ Some p →
+    IsUndecided h most p.1
+undecided_between h most ends low high p are is le at =
+    let found : (e : Observation) × ((slice_get h.entries p.1 ≡ Some e) × EndsAt e p.0) =
+    are.each p (contained ends low p at) in
+    let last : found.1.1.0.last ≡ p.0 = found.1.1.1.1 in
+    let same : low ≡ high = omega (arith, le, is.order) in
+    record {
+      entry = found.0;
+      return = found.1.1.0;
+      is_entry = found.1.0;
+      returned = found.1.1.1.0;
+      explained = subst (λ (n : ℕ). IsExplained (cut n p.1 h)) (sym last) (is.below p at);
+      many = subst (λ (n : ℕ). ReachesMany h most ⊎ ReachesMany (seen_at n (p.1 + 1) h) most) (sym last)
+          (is.above p (subst (λ (n : ℕ). slice_get ends n ≡ Some p) same at));
+    }
+
+-- what becomes of the two by what was found between them
+abbrev pub Narrows : Found → ℕ → ℕ → Bool → ℕ → ℕ → ℕ → Bool → Type 0
+Narrows (Order order) low high stuck middle l u s = (l ≡ middle + 1) × ((u ≡ high) × (s ≡ stuck))
+Narrows Nothing low high stuck middle l u s = (l ≡ low) × ((u ≡ middle) × (s ≡ true))
+Narrows Undecided low high stuck middle l u s = (l ≡ low) × ((u ≡ middle) × (s ≡ false))
+
+pub middle_inside : (low high : ℕ) → low < high → low + (high - low) / 2 < high
+middle_inside low high less = omega (arith, less)
+
+pub end_at : (ends : List (ℕ × ℕ)) (k : ℕ) → k < length ends →
+    slice_get ends k ≡ Some (get_or ends k (0, 0))
+end_at ends k lt = slice_get-get_or ends k (0, 0) lt
+
+pub end_is_entry : (entries : List Observation) (ends : List (ℕ × ℕ)) (k : ℕ) → AreEnds entries ends →
+    k < length ends → (get_or ends k (0, 0)).1 < length entries
+end_is_entry entries ends k are lt =
+    let p : ℕ × ℕ = get_or ends k (0, 0) in
+    let found : (e : Observation) × ((slice_get entries p.1 ≡ Some e) × EndsAt e p.0) =
+    are.each p (contained ends k p (end_at ends k lt)) in
+    slice_get_within entries p.1 found.0 found.1.0
+
+same : (h : ObservedHistory) (most : ℕ) (ends : List (ℕ × ℕ)) (low high : ℕ) (stuck : Bool) (l u : ℕ) (s : Bool) →
+    l ≡ low → u ≡ high → s ≡ stuck → IsBetween h most ends low high stuck → IsBetween h most ends l u s
+same h most ends low high stuck l u s l_is u_is s_is is =
+    subst (λ (n : ℕ). IsBetween h most ends n u s) (sym l_is)
+    (subst (λ (n : ℕ). IsBetween h most ends low n s) (sym u_is)
+    (subst (λ (b : Bool). IsBetween h most ends low high b) (sym s_is) is))
+
+pub narrowed : (h : ObservedHistory) (most : ℕ) (ends : List (ℕ × ℕ)) (low high middle : ℕ) (stuck : Bool)
+    (found : Found) (l u : ℕ) (s : Bool) → IsObserved h → AreEnds h.entries ends →
+    IsBetween h most ends low high stuck → low ≤ middle → middle < high →
+    IsFound (seen_at (get_or ends middle (0, 0)).0 ((get_or ends middle (0, 0)).1 + 1) h) most found →
+    Narrows found low high stuck middle l u s → IsBetween h most ends l u s
+narrowed h most ends low high middle stuck (Order order) l u s observed are is le less found (l_is, (u_is, s_is)) =
+    same h most ends (middle + 1) high stuck l u s l_is u_is s_is
+    (between_above h most ends low high middle stuck (get_or ends middle (0, 0)) observed are is less
+    (end_at ends middle (omega (arith, less, is.inside))) (record { order = found.order; by = found.explains }))
+narrowed h most ends low high middle stuck Nothing l u s observed are is le less found (l_is, (u_is, s_is)) =
+    same h most ends low middle true l u s l_is u_is s_is
+    (between_below h most ends low high middle stuck (get_or ends middle (0, 0)) observed is le less
+    (end_at ends middle (omega (arith, less, is.inside))) found)
+narrowed h most ends low high middle stuck Undecided l u s observed are is le less found (l_is, (u_is, s_is)) =
+    same h most ends low middle false l u s l_is u_is s_is
+    (between_undecided h most ends low high middle stuck (get_or ends middle (0, 0)) is le less
+    (end_at ends middle (omega (arith, less, is.inside))) found)

@@ -1,0 +1,72 @@
+//! The return at which a history is stuck, or undecided.
+ghost use Rattle.std.specs.Prelude.{◌≡◌, ◌≤◌, ◌<◌, ◌+◌, IfOk, length};
+ghost use Rattle.stamp_explain.specs.Cut.{seen_at};
+ghost use Rattle.stamp_explain.specs.Observed.{IsObserved};
+ghost use Rattle.stamp_explain.specs.Planning.{AreEnds};
+ghost use Rattle.stamp_explain.specs.Expand.{IsFound};
+ghost use Rattle.stamp_explain.specs.Verdict.{IsNotFound, IsFault};
+
+use crate::cut::seen_at;
+use crate::explaining::ExplainError;
+use crate::observed::Observed;
+use crate::planning::plan_of;
+use crate::search::{Found, search};
+use std::alloc::{AllocError, Global};
+
+/// What a search finds of the history as it is seen when a call has returned: the position of its
+/// return, and its place.
+fn found_at(
+    alloc: Global,
+    observed: &Observed,
+    end: (u64, usize),
+    most: u64,
+) -> Result<Found, AllocError>
+    requires observed { IsObserved observed.now }
+    requires end { end.1 < length observed.now.entries }
+    ensures { IfOk result (λ found. IsFound (seen_at end.0 (end.1 + 1) observed.now) most found) }
+{
+    let _ = observed.entries();
+    let seen = seen_at(alloc, observed, end.0, end.1 + 1)?;
+    let plan = plan_of(alloc, &seen)?;
+    search(alloc, &seen, &plan, most)
+}
+
+/// The first return at which no order was found, where none was found for the whole history: since
+/// there is none, or since the search was stopped. It halves the returns again and again.
+pub(crate) fn first_fault(
+    alloc: Global,
+    observed: &Observed,
+    ends: &[(u64, usize)],
+    most: u64,
+    stuck: bool,
+) -> Result<ExplainError, AllocError>
+    requires observed { IsObserved observed.now }
+    requires ends { AreEnds observed.now.entries ends.now }
+    requires some { 0 < length ends.now }
+    requires found { IsNotFound observed.now most stuck }
+    ensures { IfOk result (λ fault. IsFault observed.now most fault) }
+{
+    let mut low = 0;
+    let mut high = ends.len() - 1;
+    let mut stuck = stuck;
+    while low < high {
+        let middle = low + (high - low) / 2;
+        match found_at(alloc, observed, ends[middle], most)? {
+            Found::Order(_) => low = middle + 1,
+            Found::Nothing => {
+                high = middle;
+                stuck = true;
+            }
+            Found::Undecided => {
+                high = middle;
+                stuck = false;
+            }
+        }
+    }
+    let entry = ends[low].1;
+    if stuck {
+        Ok(ExplainError::Stuck(entry))
+    } else {
+        Ok(ExplainError::Undecided(entry))
+    }
+}
