@@ -5,9 +5,8 @@
 Run at the top of the repository. Each history is made by threads that call a lock and a record at random,
 so it is right; half of them are then changed in a reply, a position, a thread, or by what is under way.
 The verdict is the same: a history that can't be observed so (the first entry that is over before it
-began, or overlaps one of its thread that is listed before it), one that no order explains (and the first
-return at which that is known, where the program names it), or a record, which is of this history and
-which `stamped check` accepts. The model of the lock is the call table in python (bench/common)."""
+began, or overlaps one of its thread that is listed before it), the first return at which no order explains
+it, or a record, which is of this history and which `stamped check` accepts. The model of the lock is the call table in python (bench/common)."""
 import json
 import random
 import subprocess
@@ -199,7 +198,7 @@ def judge(explain, stamped, model, entries):
         right = right and output_of([stamped, "check"], line) == (0, f"ok {len(json.loads(line)['entries'])}\n")
     else:
         kind = "stuck"
-        right = status == 1 and line in ("stuck\n", f"stuck {stuck_at(model, entries)}\n")
+        right = (status, line) == (1, f"stuck {stuck_at(model, entries)}\n")
     if not right:
         sys.exit(f"{kind}, and not {line!r} with status {status}, of {text}")
     return kind

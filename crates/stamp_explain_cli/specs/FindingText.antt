@@ -20,11 +20,11 @@ fault_text fault = codes "bad " ++ decimal fault.entry ++ codes " " ++ cause_tex
 abbrev pub finding_text : Finding → List ℕ
 finding_text (Unseen fault) = fault_text fault
 finding_text (Explained made) = history_text made
-finding_text Stuck = codes "stuck"
-finding_text Undecided = codes "undecided"
+finding_text (Stuck i) = codes "stuck " ++ decimal i
+finding_text (Undecided i) = codes "undecided " ++ decimal i
 
 abbrev pub finding_verdict : Finding → Verdict
 finding_verdict (Unseen fault) = Bad
 finding_verdict (Explained made) = Accepted
-finding_verdict Stuck = Bad
-finding_verdict Undecided = Bad
+finding_verdict (Stuck i) = Bad
+finding_verdict (Undecided i) = Bad

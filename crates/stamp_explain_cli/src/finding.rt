@@ -6,7 +6,7 @@ ghost use Rattle.stamp_observed.specs.Suited.{AreSuited};
 ghost use Rattle.stamp_explain_cli.specs.Finding.{IsFound};
 
 use stamp_core::Record;
-use stamp_explain::{ExplainError, Observed, explanation};
+use stamp_explain::{ExplainError, Observed, explain};
 use stamp_observed::{ObservedFault, fault_of};
 use std::alloc::{AllocError, Global};
 
@@ -17,10 +17,10 @@ pub(crate) enum Finding {
     Unseen(ObservedFault),
     /// A record that explains it.
     Explained(Record),
-    /// No order explains it.
-    Stuck,
-    /// So many configurations were looked at, and it isn't known.
-    Undecided,
+    /// It is explained until this entry returns, and no longer.
+    Stuck(usize),
+    /// It is explained until this entry returns, and so many configurations were looked at.
+    Undecided(usize),
 }
 
 /// What the search finds.
@@ -28,10 +28,10 @@ fn searched(alloc: Global, observed: &Observed, most: u64) -> Result<Finding, Al
     requires { IsObserved observed.now }
     ensures { IfOk result (λ found. IsFound observed.now most found) }
 {
-    match explanation(alloc, observed, most) {
-        Ok(Some(record)) => Ok(Finding::Explained(record)),
-        Ok(None) => Ok(Finding::Stuck),
-        Err(ExplainError::Undecided) => Ok(Finding::Undecided),
+    match explain(alloc, observed, most) {
+        Ok(record) => Ok(Finding::Explained(record)),
+        Err(ExplainError::Stuck(entry)) => Ok(Finding::Stuck(entry)),
+        Err(ExplainError::Undecided(entry)) => Ok(Finding::Undecided(entry)),
         Err(ExplainError::Memory) => Err(AllocError),
     }
 }

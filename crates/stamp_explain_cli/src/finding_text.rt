@@ -55,7 +55,7 @@ pub(crate) fn line_of_finding(alloc: Global, finding: &Finding) -> Result<Line, 
     match finding {
         Finding::Explained(record) => Ok(accepted(write_history(alloc, record)?)),
         Finding::Unseen(fault) => Ok(refused(FaultText(*fault).to_string(alloc)?)),
-        Finding::Stuck => Ok(refused(format!(in alloc; "stuck")?)),
-        Finding::Undecided => Ok(refused(format!(in alloc; "undecided")?)),
+        Finding::Stuck(entry) => Ok(refused(format!(in alloc; "stuck {entry}")?)),
+        Finding::Undecided(entry) => Ok(refused(format!(in alloc; "undecided {entry}")?)),
     }
 }

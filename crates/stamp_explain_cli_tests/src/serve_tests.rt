@@ -29,8 +29,8 @@ const FOUND: &str =
 /// What is put in the place of what, the most configurations, and the line that is told.
 const TOLD: [(&str, &str, u64, &str); 6] = [
     ("384", "384", MOST, FOUND),
-    ("\"reply\":0", "\"reply\":768", MOST, "stuck\n"),
-    ("384", "384", 1, "undecided\n"),
+    ("\"reply\":0", "\"reply\":768", MOST, "stuck 2\n"),
+    ("384", "384", 1, "undecided 1\n"),
     ("\"thread\":1", "\"thread\":0", MOST, "bad 2 overlap\n"),
     ("\"first\":3", "\"first\":6", MOST, "bad 0 interval\n"),
     ("\"first\":1,", "", MOST, ""),
