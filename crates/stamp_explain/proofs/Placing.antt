@@ -1,12 +1,13 @@
 -- The record of an order.
 use Rattle.std.proofs.Common.{◌≡◌, ℕ, ◌+◌, ◌*◌, ◌<◌, ◌≤◌, suc, List, [], ◌∷◌, ◌++◌, length, get_or, refl, sym, ◌∙◌}
-use Rattle.std.proofs.Common.{ap, subst, arith, inl, Option, None, Some}
-use Rattle.std.specs.Prelude.{drop, slice_get, IsTrue}
+use Rattle.std.proofs.Common.{◌⊎◌, ap, subst, arith, inl, inr, Option, None, Some}
+use Rattle.std.specs.Prelude.{drop, take, map, slice_get, IsTrue, max}
 use Rattle.std.specs.Option.{option_map}
-use Rattle.std.specs.List.{All, AllZip}
+use Rattle.std.specs.List.{All, AllZip, Contains}
 use Rattle.std.proofs.Math.Seq.{drop-cons}
-use Rattle.std.proofs.lemmas.List.{append_assoc, append-nil, length-map, length-drop}
-use Rattle.std.proofs.lemmas.List.Elements.{All-nil, All-cons}
+use Rattle.std.proofs.lemmas.List.{append_assoc, append-nil, length-map, length-drop, take_more}
+use Rattle.std.proofs.lemmas.List.Elements.{All-nil, All-cons, All-head, All-tail, All-weaker, All-more}
+use Rattle.std.proofs.lemmas.List.Elements.{Contains-push, Contains-append_left}
 use Rattle.std.proofs.lemmas.Option.{slice_get_read, none-some, same_Some, slice_get-map, slice_get_within, get_or_from_slice_get}
 use Rattle.stamp_core.specs.Call.{call_suits}
 use Rattle.stamp_core.specs.Record.{recorded, IsRecorded, SuitsRecord}
@@ -14,15 +15,74 @@ use Rattle.stamp_core.specs.declared.entry.Entry.{Entry}
 use Rattle.stamp_core.specs.declared.call.Call.{Call}
 use Rattle.stamp_core.specs.declared.reply.Reply.{Reply}
 use Rattle.stamp_explain.specs.declared.observed.Observation.{Observation}
+use Rattle.stamp_explain.specs.declared.observed.Returned.{Returned}
 use Rattle.stamp_explain.specs.declared.order.Taken.{Taken}
 use Rattle.stamp_explain.specs.Observed.{ObservedHistory, IsObserved, IsSmall}
-use Rattle.stamp_explain.specs.Explained.{Effect, IsExplainedBy}
+use Rattle.stamp_explain.specs.Explained.{Effect, IsEffectOf, IsExplainedBy, indices_of}
 use Rattle.stamp_explain.specs.Order.{IsOrderOf, taken_of}
-use Rattle.stamp_explain.specs.Points.{IsEntryOf, HasPoints, entry_at, position_at, there_at}
+use Rattle.stamp_explain.specs.Points.{IsEntryOf, HasPoints, IsLastTold, EndsAsTold, told_until, told_by, entry_at}
+use Rattle.stamp_explain.specs.Points.{ends_at, position_at, there_at}
 use Rattle.stamp_explain.proofs.Threads.{few_threads}
 use Rattle.stamp_explain.proofs.Expanding.{at_place}
-use Rattle.stamp_explain.proofs.Spreading.{IsReady, TakesEffect, points_from, takes_effect, ready_of, points_are_of}
+use Rattle.stamp_explain.proofs.Spreading.{IsReady, TakesEffect, points_from, takes_effect, ready_of, points_are_of, points_indices}
 use Rattle.stamp_explain.proofs.Spreading.{points_are_linearized}
+
+-- the last that is told of no call, and of one more
+pub none_told : (entries : List Observation) → IsLastTold (take 0 entries) 0
+none_told [] = record { over = All-nil (λ (e : Observation). told_until e ≤ 0); told = inl refl }
+none_told (e ∷ es) = record { over = All-nil (λ (o : Observation). told_until o ≤ 0); told = inl refl }
+
+map_push : (es : List Observation) (e : Observation) → map told_until (es ++ e ∷ []) ≡
+    map told_until es ++ told_until e ∷ []
+map_push [] e = refl
+map_push (x ∷ es) e = ap (λ (ns : List ℕ). told_until x ∷ ns) (map_push es e)
+
+pub told_more : (entries : List Observation) (i : ℕ) (e : Observation) (end n : ℕ) → i < length entries →
+    e ≡ get_or entries i e → IsLastTold (take i entries) end → n ≡ max end (told_until e) →
+    IsLastTold (take (i + 1) entries) n
+told_more entries i e end n lt read is n_is = record {
+  over = All-more (λ (o : Observation). told_until o ≤ n) entries i e lt
+      (All-weaker (λ (o : Observation). told_until o ≤ end) (λ (o : Observation). told_until o ≤ n)
+      (λ o le. omega (arith, le, left end (told_until e) n n_is)) (take i entries) is.over)
+      (subst (λ (o : Observation). told_until o ≤ n) read (right end (told_until e) n n_is));
+  told = by (either end (told_until e) n n_is) is.told;
+}
+  where
+    left : (a b m : ℕ) → m ≡ max a b → a ≤ m
+    left a b m is = grind arith
+
+    right : (a b m : ℕ) → m ≡ max a b → b ≤ m
+    right a b m is = grind arith
+
+    either : (a b m : ℕ) → m ≡ max a b → (m ≡ a) ⊎ (m ≡ b)
+    either a b m is = grind arith
+
+    pushed : map told_until (take (i + 1) entries) ≡ map told_until (take i entries) ++ told_until e ∷ []
+    pushed = ap (map told_until) (take_more entries i e lt ∙
+        ap (λ (o : Observation). take i entries ++ o ∷ []) (sym read)) ∙ map_push (take i entries) e
+
+    by : (n ≡ end) ⊎ (n ≡ told_until e) → (end ≡ 0) ⊎ Contains (map told_until (take i entries)) end →
+        (n ≡ 0) ⊎ Contains (map told_until (take (i + 1) entries)) n
+    by (inl same) (inl zero_is) = inl (same ∙ zero_is)
+    by (inl same) (inr has) = inr (subst (λ (ns : List ℕ). Contains ns n) (sym pushed)
+        (Contains-append_left (map told_until (take i entries)) (told_until e ∷ []) n
+        (subst (λ (m : ℕ). Contains (map told_until (take i entries)) m) (sym same) has)))
+    by (inr same) told = inr (subst (λ (ns : List ℕ). Contains ns n) (sym pushed)
+        (subst (λ (m : ℕ). Contains (map told_until (take i entries) ++ told_until e ∷ []) m) (sym same)
+        (Contains-push (map told_until (take i entries)) (told_until e))))
+
+-- a call begins no later than the last that is told
+pub begun_by_end : (entries : List Observation) (end : ℕ) → IsLastTold entries end →
+    All (λ (e : Observation). e.first ≤ end) entries
+begun_by_end entries end is = All-weaker (λ (e : Observation). told_until e ≤ end) (λ (e : Observation). e.first ≤ end)
+    (λ e le. by e e.returned refl le) entries is.over
+  where
+    by : (e : Observation) (o : Option Returned) → e.returned ≡ o → told_by o e.first ≤ end → e.first ≤ end
+    by e None at le = le
+    by e (Some r) at le = first_below e.first r.last le
+      where
+        first_below : (a b : ℕ) → max a b ≤ end → a ≤ end
+        first_below a b le = grind arith
 
 -- of k calls of an order the entries are made, and the next takes effect from this position on
 pub record PlacesTo (h : ObservedHistory) (taken : List Taken) (end k : ℕ) (entries : List Entry) (q n : ℕ) : Type 0
@@ -158,15 +218,34 @@ none_left xs k le = empty (drop k xs) (omega (arith, length-drop k xs, le))
     empty [] h = refl
     empty (y ∷ ys) h = absurd (omega arith)
 
+-- each entry ends when its call returned, or with the history
+ends_as_told : (hs : List Observation) (end q n : ℕ) (xs : List Effect) → All (IsEffectOf hs) xs →
+    AllZip (EndsAsTold hs end) (indices_of xs) (points_from end q n xs)
+ends_as_told hs end q n [] effects = tt
+ends_as_told hs end q n (x ∷ xs) effects = (
+  (λ o at. ap (λ (e : Observation). ends_at e.returned end)
+      (same_Some x.entry o (sym (All-head (IsEffectOf hs) x xs effects).is_entry ∙ at))),
+  ends_as_told hs end (position_at q x.entry.first) (there_at q n x.entry.first + 1) xs
+      (All-tail (IsEffectOf hs) x xs effects),
+)
+
 pub all_placed : (h : ObservedHistory) (taken : List Taken) (end k : ℕ) (entries : List Entry) (q n : ℕ) →
-    IsObserved h → PlacesTo h taken end k entries q n → length taken ≤ k →
+    IsObserved h → IsLastTold h.entries end → PlacesTo h taken end k entries q n → length taken ≤ k →
     HasPoints h (recorded h.limits h.width entries [])
-all_placed h taken end k entries q n observed is all =
+all_placed h taken end k entries q n observed is_end is all =
     subst (λ (es : List Entry). HasPoints h (recorded h.limits h.width es [])) (sym made) (record {
       of = points_are_of h end is.order observed is.explains is.begun;
       linearized = points_are_linearized h end is.order observed is.explains is.begun;
+      end = end;
+      is_end = is_end;
+      ends = subst (λ (is : List ℕ). AllZip (EndsAsTold h.entries end) is (points_from end 0 0 order))
+          (sym (points_indices h end order observed is.explains is.begun))
+          (ends_as_told h.entries end 0 0 order is.explains.effects);
     })
   where
+    order : List Effect
+    order = is.order
+
     many : length (taken_of is.order) ≡ length is.order
     many = length-map {B = Taken} is.order (λ (x : Effect). record { entry = x.index; reply = x.reply })
 

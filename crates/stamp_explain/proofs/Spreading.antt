@@ -469,6 +469,12 @@ points_are_of h end order observed by begun = record {
   returned = by.returned;
 }
 
+pub points_indices : (h : ObservedHistory) (end : ℕ) (order : List Effect) (observed : IsObserved h)
+    (by : IsExplainedBy h order) (begun : All (λ (y : Effect). y.entry.first ≤ end) order) →
+    (points_are_of h end order observed by begun).indices ≡ indices_of order
+unfolding points_are_of
+points_indices h end order observed by begun = refl
+
 pub points_are_linearized : (h : ObservedHistory) (end : ℕ) (order : List Effect) → IsObserved h →
     IsExplainedBy h order → All (λ (y : Effect). y.entry.first ≤ end) order →
     IsLinearized (recorded h.limits h.width (points_from end 0 0 order) [])

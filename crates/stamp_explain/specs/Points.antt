@@ -1,8 +1,9 @@
 -- Which records, with a point for each call, are of an observed history. A position p becomes the moments 64
 -- p to 64 p + 63:
 -- a call begins at the first moment of its position and ends at the last of its, and points stand between
-use Rattle.std.specs.Prelude.{ℕ, ◌≡◌, ◌≢◌, ◌+◌, ◌*◌, List, [], slice_get, Option, None, Some, MatchOption, nat_lt, if◌then◌else◌}
-use Rattle.std.specs.List.{AllPairs, AllZip, Contains}
+use Rattle.std.specs.Prelude.{ℕ, ◌≡◌, ◌≢◌, ◌≤◌, ◌⊎◌, ◌+◌, ◌*◌, max, List, [], map, slice_get, Option, None, Some}
+use Rattle.std.specs.Prelude.{MatchOption, nat_lt, if◌then◌else◌}
+use Rattle.std.specs.List.{All, AllPairs, AllZip, Contains}
 use Rattle.stamp_core.specs.Record.{Recorded}
 use Rattle.stamp_core.specs.Linearized.{IsLinearized}
 use Rattle.stamp_core.specs.declared.entry.Entry.{Entry}
@@ -55,7 +56,27 @@ entry_at e reply end p = record {
   last = ends_at e.returned end;
 }
 
--- a record of the history, with points that linearize it
+-- the last position that is told of a call
+abbrev pub told_by : Option Returned → ℕ → ℕ
+told_by None first = first
+told_by (Some r) first = max first r.last
+
+abbrev pub told_until : Observation → ℕ
+told_until e = told_by e.returned e.first
+
+-- the last position that is told of any; 0 where there is no call
+pub record IsLastTold (entries : List Observation) (end : ℕ) : Type 0 where
+  pub over : All (λ (e : Observation). told_until e ≤ end) entries
+  pub told : (end ≡ 0) ⊎ Contains (map told_until entries) end
+
+-- an entry ends when its call returned, or with the history
+abbrev pub EndsAsTold : List Observation → ℕ → ℕ → Entry → Type 0
+EndsAsTold entries end i e = (o : Observation) → slice_get entries i ≡ Some o → e.last ≡ ends_at o.returned end
+
+-- a record of the history, with points that linearize it; a call under way ends in it with the history
 pub record HasPoints (h : ObservedHistory) (r : Recorded) : Type 0 where
   pub of : IsRecordOf h r
   pub linearized : IsLinearized r
+  pub end : ℕ
+  pub is_end : IsLastTold h.entries end
+  pub ends : AllZip (EndsAsTold h.entries end) of.indices r.entries

@@ -4,7 +4,7 @@ ghost use Rattle.std.specs.List.{All};
 ghost use Rattle.stamp_core.specs.Record.{recorded, IsRecorded};
 ghost use Rattle.stamp_explain.specs.Observed.{IsObserved, IsLow};
 ghost use Rattle.stamp_explain.specs.Order.{IsOrderOf};
-ghost use Rattle.stamp_explain.specs.Points.{HasPoints, entry_at, position_at, there_at};
+ghost use Rattle.stamp_explain.specs.Points.{HasPoints, IsLastTold, told_until, entry_at, position_at, there_at};
 
 use crate::observed::{Observation, Observed};
 use crate::order::Taken;
@@ -33,10 +33,10 @@ fn place_for(after: Place, first: u64) -> Place
     }
 }
 
-/// The last position of a call that is known.
+/// The last position that is told of a call.
 fn last_of(entry: &Observation) -> u64
     requires { IsLow entry.now }
-    ensures begun { entry.now.first ≤ result }
+    ensures told { result ≡ told_until entry.now }
     ensures low { result < 288230376151711744 }
 {
     match &entry.returned {
@@ -45,10 +45,10 @@ fn last_of(entry: &Observation) -> u64
     }
 }
 
-/// The last position of a history.
+/// The last position that is told of a history.
 fn end_of(entries: &[Observation]) -> u64
     requires { All IsLow entries.now }
-    ensures begun { All (λ e. e.first ≤ result) entries.now }
+    ensures told { IsLastTold entries.now result }
     ensures low { result < 288230376151711744 }
 {
     let mut end = 0;

@@ -1,7 +1,6 @@
 use stamp_core::{Call, Entry, Limits, Reply, Words};
 use stamp_explain::{
-    END_OF_POSITIONS, ExplainError, Observation, Observed, Returned, explanation, is_explained,
-    is_observed,
+    END_OF_POSITIONS, ExplainError, Observation, Observed, Returned, explain, is_observed,
 };
 use std::test::Fail;
 
@@ -55,18 +54,18 @@ fn observed(rt: &impl AllocGlobal, width: u64, entries: &[Observation]) -> Resul
     }
 }
 
-fn verdict(
+/// Why no record was given, if none was.
+fn fault(
     rt: &impl AllocGlobal,
     width: u64,
     entries: &[Observation],
     most: u64,
-) -> Result<Result<bool, ExplainError>, Fail> {
+) -> Result<Option<ExplainError>, Fail> {
     let observed = observed(rt, width, entries)?;
-    if is_observed(&observed) {
-        Ok(is_explained(rt.alloc(), &observed, most))
-    } else {
-        Err(Fail::from("not observed"))
+    if !is_observed(&observed) {
+        return Err(Fail::from("not observed"));
     }
+    Ok(explain(rt.alloc(), &observed, most).err())
 }
 
 /// A write acquired from positions 0 to 3.
@@ -76,13 +75,13 @@ fn first_write() -> Observation {
 
 #[test]
 fn calls_one_after_the_other_are_judged_by_their_replies(rt: HostRuntime) -> Result<(), Fail> {
-    assert_eq!(rt; verdict(&rt, 0, &[], 1)?, Ok(true));
+    assert_eq!(rt; fault(&rt, 0, &[], 1)?, None);
     let released = returned(0, Call::UnlockWrite(384), Reply::Done, (4, 5));
-    assert_eq!(rt; verdict(&rt, 0, &[first_write(), released], 100)?, Ok(true));
+    assert_eq!(rt; fault(&rt, 0, &[first_write(), released], 100)?, None);
     let mismatch = returned(0, Call::UnlockWrite(384), Reply::Mismatch, (4, 5));
     assert_eq!(rt;
-        verdict(&rt, 0, &[first_write(), mismatch], 100)?,
-        Ok(false)
+        fault(&rt, 0, &[first_write(), mismatch], 100)?,
+        Some(ExplainError::Stuck(1))
     );
     Ok(())
 }
@@ -90,9 +89,12 @@ fn calls_one_after_the_other_are_judged_by_their_replies(rt: HostRuntime) -> Res
 #[test]
 fn overlapping_calls_take_effect_in_any_order(rt: HostRuntime) -> Result<(), Fail> {
     let during = returned(1, Call::Optimistic, Reply::Stamp(256), (1, 2));
-    assert_eq!(rt; verdict(&rt, 0, &[first_write(), during], 100)?, Ok(true));
+    assert_eq!(rt; fault(&rt, 0, &[first_write(), during], 100)?, None);
     let after = returned(1, Call::Optimistic, Reply::Stamp(256), (4, 5));
-    assert_eq!(rt; verdict(&rt, 0, &[first_write(), after], 100)?, Ok(false));
+    assert_eq!(rt;
+        fault(&rt, 0, &[first_write(), after], 100)?,
+        Some(ExplainError::Stuck(1))
+    );
     Ok(())
 }
 
@@ -100,9 +102,12 @@ fn overlapping_calls_take_effect_in_any_order(rt: HostRuntime) -> Result<(), Fai
 fn a_call_under_way_may_have_taken_effect(rt: HostRuntime) -> Result<(), Fail> {
     let failed = returned(1, Call::TryWrite, Reply::Stamp(0), (2, 3));
     let begun = under_way(0, Call::WriteLock, 1);
-    assert_eq!(rt; verdict(&rt, 0, &[begun, failed], 100)?, Ok(true));
+    assert_eq!(rt; fault(&rt, 0, &[begun, failed], 100)?, None);
     let later = under_way(0, Call::WriteLock, 4);
-    assert_eq!(rt; verdict(&rt, 0, &[later, failed], 100)?, Ok(false));
+    assert_eq!(rt;
+        fault(&rt, 0, &[later, failed], 100)?,
+        Some(ExplainError::Stuck(1))
+    );
     Ok(())
 }
 
@@ -111,14 +116,11 @@ fn one_hold_is_converted_once(rt: HostRuntime) -> Result<(), Fail> {
     let one = returned(1, Call::ToRead(384), Reply::Stamp(513), (6, 8));
     let other = returned(2, Call::ToRead(384), Reply::Stamp(513), (7, 9));
     assert_eq!(rt;
-        verdict(&rt, 0, &[first_write(), one, other], 100)?,
-        Ok(false)
+        fault(&rt, 0, &[first_write(), one, other], 100)?,
+        Some(ExplainError::Stuck(2))
     );
     let refused = returned(2, Call::ToRead(384), Reply::Stamp(0), (7, 9));
-    assert_eq!(rt;
-        verdict(&rt, 0, &[first_write(), one, refused], 100)?,
-        Ok(true)
-    );
+    assert_eq!(rt; fault(&rt, 0, &[first_write(), one, refused], 100)?, None);
     Ok(())
 }
 
@@ -127,20 +129,43 @@ fn a_get_after_a_get_reads_nothing_older(rt: HostRuntime) -> Result<(), Fail> {
     let put = returned(0, Call::Put(words(7)?), Reply::Done, (0, 5));
     let new = returned(1, Call::Get, Reply::Content(words(7)?), (1, 2));
     let again = returned(2, Call::Get, Reply::Content(words(7)?), (3, 4));
-    assert_eq!(rt; verdict(&rt, 1, &[put, new, again], 100)?, Ok(true));
+    assert_eq!(rt; fault(&rt, 1, &[put, new, again], 100)?, None);
     let old = returned(2, Call::Get, Reply::Content(words(0)?), (3, 4));
-    assert_eq!(rt; verdict(&rt, 1, &[put, new, old], 100)?, Ok(false));
+    assert_eq!(rt;
+        fault(&rt, 1, &[put, new, old], 100)?,
+        Some(ExplainError::Stuck(2))
+    );
     let swapped = returned(2, Call::PutIf(words(7)?, words(8)?), Reply::Yes, (3, 4));
-    assert_eq!(rt; verdict(&rt, 1, &[put, new, swapped], 100)?, Ok(true));
+    assert_eq!(rt; fault(&rt, 1, &[put, new, swapped], 100)?, None);
+    Ok(())
+}
+
+#[test]
+fn a_reply_that_comes_later_is_not_known_before(rt: HostRuntime) -> Result<(), Fail> {
+    let failed = returned(1, Call::TryRead, Reply::Stamp(0), (1, 5));
+    let table = [(10, 0), (5, 1), (4, 1)];
+    for (last, stuck) in table {
+        let refused = returned(0, Call::TryWrite, Reply::Stamp(0), (0, last));
+        assert_eq!(rt;
+            fault(&rt, 0, &[refused, failed], 100)?,
+            Some(ExplainError::Stuck(stuck))
+        );
+    }
     Ok(())
 }
 
 #[test]
 fn a_search_that_has_not_ended_is_undecided(rt: HostRuntime) -> Result<(), Fail> {
     let history = [first_write()];
-    assert_eq!(rt; verdict(&rt, 0, &history, 0)?, Err(ExplainError::Undecided));
-    assert_eq!(rt; verdict(&rt, 0, &history, 2)?, Err(ExplainError::Undecided));
-    assert_eq!(rt; verdict(&rt, 0, &history, 3)?, Ok(true));
+    assert_eq!(rt;
+        fault(&rt, 0, &history, 0)?,
+        Some(ExplainError::Undecided(0))
+    );
+    assert_eq!(rt;
+        fault(&rt, 0, &history, 2)?,
+        Some(ExplainError::Undecided(0))
+    );
+    assert_eq!(rt; fault(&rt, 0, &history, 3)?, None);
     Ok(())
 }
 
@@ -169,7 +194,7 @@ fn explained(
     if !is_observed(&observed) {
         return Err(Fail::from("not observed"));
     }
-    let Ok(Some(record)) = explanation(rt.alloc(), &observed, 100) else {
+    let Ok(record) = explain(rt.alloc(), &observed, 100) else {
         return Err(Fail::from("no record"));
     };
     let mut entries = Vec::new(rt.alloc());

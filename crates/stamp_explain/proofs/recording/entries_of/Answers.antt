@@ -1,18 +1,18 @@
-use Rattle.std.proofs.Common.{◌≡◌, ◌<◌, ◌≤◌, ℕ, ◌+◌, ◌*◌, ◌++◌, ◌∷◌, [], List, length, get_or, sym, ◌∙◌, ap, subst, arith}
-use Rattle.std.specs.List.{All}
+use Rattle.std.proofs.Common.{◌≡◌, ◌<◌, ℕ, ◌+◌, ◌*◌, ◌++◌, ◌∷◌, [], List, length, get_or, sym, ◌∙◌, ap, subst, arith}
 use Rattle.stamp_core.specs.declared.entry.Entry.{Entry}
 use Rattle.stamp_explain.specs.declared.observed.Observation.{Observation}
 use Rattle.stamp_explain.specs.Observed.{IsLow}
-use Rattle.stamp_explain.specs.Points.{entry_at, position_at, there_at}
+use Rattle.stamp_explain.specs.Points.{IsLastTold, entry_at, position_at, there_at}
 use Rattle.stamp_explain.proofs.Placing.{PlacesTo, IsPlacedAt, places_first, places_inside, places_at, call_read}
-use Rattle.stamp_explain.proofs.Placing.{all_placed, points_are_recorded}
+use Rattle.stamp_explain.proofs.Placing.{all_placed, points_are_recorded, begun_by_end}
 use Rattle.stamp_explain.proofs.recording.entries_of.Goals as goal
 
 pub loop-taken-init : goal.loop-taken-init
 loop-taken-init c = places_first c.args.observed.now c.args.order.now c.end_of-end.result c.new-placed.result.items
     c.requires.observed c.requires.order
-    (subst (All (λ (e : Observation). e.first ≤ c.end_of-end.result)) c.entries-entries.ensures.entries
-    c.end_of-end.ensures.begun) c.new-placed.ensures.items
+    (begun_by_end c.args.observed.now.entries c.end_of-end.result
+    (subst (λ (es : List Observation). IsLastTold es c.end_of-end.result) c.entries-entries.ensures.entries
+    c.end_of-end.ensures.told)) c.new-placed.ensures.items
 
 pub bounds-entries-taken : goal.bounds-entries-taken
 bounds-entries-taken c = subst (λ (es : List Observation). c.taken-item.result.entry < length es)
@@ -123,6 +123,8 @@ pub returns-clause-points : goal.returns-clause-points
 returns-clause-points c = all_placed c.args.observed.now c.args.order.now c.end_of-end.result
     c.loop-taken.taken-index
     c.loop-taken.placed.items c.loop-taken.at.position c.loop-taken.at.before c.requires.observed
+    (subst (λ (es : List Observation). IsLastTold es c.end_of-end.result) c.entries-entries.ensures.entries
+    c.end_of-end.ensures.told)
     c.loop-taken.invariant (omega (arith, c.loop-taken-test.false))
 
 pub returns-clause-recorded : goal.returns-clause-recorded
@@ -130,4 +132,6 @@ returns-clause-recorded c = points_are_recorded c.args.observed.now c.loop-taken
     c.entries-entries.ensures.small
     (all_placed c.args.observed.now c.args.order.now c.end_of-end.result c.loop-taken.taken-index
     c.loop-taken.placed.items c.loop-taken.at.position c.loop-taken.at.before c.requires.observed
+    (subst (λ (es : List Observation). IsLastTold es c.end_of-end.result) c.entries-entries.ensures.entries
+    c.end_of-end.ensures.told)
     c.loop-taken.invariant (omega (arith, c.loop-taken-test.false)))
