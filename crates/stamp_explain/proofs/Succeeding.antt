@@ -1,8 +1,9 @@
 -- The nodes that come next.
-use Rattle.std.proofs.Common.{◌≡◌, ◌≢◌, ◌⊎◌, ℕ, ◌+◌, ◌<◌, zero, suc, List, [], ◌∷◌}
+use Rattle.std.proofs.Common.{◌≡◌, ◌≢◌, ◌⊎◌, ℕ, ◌+◌, ◌-◌, ◌<◌, ◌≤◌, zero, suc, List, [], ◌∷◌}
 use Rattle.std.proofs.Common.{◌++◌, length, get_or, refl, sym, ◌∙◌, ap, subst, inl, inr, arith, None}
 use Rattle.std.proofs.Common.{Option, Some}
-use Rattle.std.specs.Prelude.{slice_get, slice_index, take, drop}
+use Rattle.std.specs.Prelude.{slice_get, slice_index, take, drop, MatchOption, true, false}
+use Rattle.std.proofs.lemmas.List.{take_all, get_or-drop, length-drop}
 use Rattle.std.specs.List.{Contains}
 use Rattle.std.specs.Int.{bit_at}
 use Rattle.std.proofs.Math.Seq.{take-suc, drop-cons}
@@ -13,8 +14,10 @@ use Rattle.stamp_explain.specs.declared.observed.Returned.{Returned}
 use Rattle.stamp_explain.specs.declared.node.Node.{Node}
 use Rattle.stamp_explain.specs.declared.node.Next.{Next}
 use Rattle.stamp_explain.specs.declared.plan.Plan.{Plan}
-use Rattle.stamp_explain.specs.Observed.{ObservedHistory, IsObserved, HasReturned}
-use Rattle.stamp_explain.specs.Explained.{Effect}
+use Rattle.stamp_core.specs.declared.reply.Reply.{Reply}
+use Rattle.stamp_explain.specs.Observed.{ObservedHistory, IsObserved, HasReturned, MayReply}
+use Rattle.stamp_explain.specs.Explained.{Effect, IsEffectOf}
+use Rattle.stamp_explain.specs.Observer.{changes_nothing, observes_by, observes, observes_in, observes_at}
 use Rattle.stamp_explain.specs.Search.{LockState, LockSteps, MayTake, IsReturnAt}
 use Rattle.stamp_explain.specs.Node.{IsNext, AreTaken, StandsFor}
 use Rattle.stamp_explain.specs.Plan.{IsPlan, IsAwaitedAt, ClearsBit}
@@ -23,7 +26,9 @@ use Rattle.stamp_explain.proofs.Finding.{not_before_itself}
 use Rattle.stamp_explain.proofs.Completing.{IsAwaited}
 use Rattle.stamp_explain.proofs.Searching.{CompletesIn, GoesPast, GoesOnBy, goes_on}
 use Rattle.stamp_explain.proofs.Standing.{taken_by_bit, taken_past}
-use Rattle.stamp_explain.proofs.Expanding.{orderly, next_awaited}
+use Rattle.stamp_explain.proofs.Staying.{observers_change_nothing}
+use Rattle.stamp_explain.proofs.Observing.{TakesAtOnce, takes_at_once}
+use Rattle.stamp_explain.proofs.Expanding.{orderly, next_awaited, in_take}
 use Rattle.stamp_explain.proofs.Lists.{none_in_empty}
 
 -- of whatever the node stands for, the threads below k were tried
@@ -287,6 +292,142 @@ expands_taken h plan node a last nexts is awaited_at bit tries = record {
             stands = found.1.1.1;
             rest =
                 left.rest;
+            by = left.by;
+            steps = left.steps;
+          };
+        }
+
+-- what is behind so many of a list is in the rest
+in_drop : (xs : List ℕ) (n k j : ℕ) → n ≤ k → k < length xs → get_or xs k j ≡ j → Contains (drop n xs) j
+in_drop xs n k j le lt is =
+    let back : n + (k - n) ≡ k = omega (arith, le) in
+    let inside : k - n < length (drop n xs) = omega (arith, le, lt, length-drop n xs) in
+    (k - n, inside, get_or-drop n xs (k - n) j ∙ ap (λ (m : ℕ). get_or xs m j) back ∙ is)
+
+-- a call that returned and is not in effect is yet to return
+due : (h : ObservedHistory) (plan : Plan) (node : Node) (s : LockState) (taken : List ℕ) (x : Effect) →
+    IsPlan h plan → StandsFor h plan.returns.items node s taken → IsEffectOf h.entries x → HasReturned x.entry →
+    ¬ Contains taken x.index → Contains (drop node.past plan.returns.items) x.index
+due h plan node s taken x is stands effect returned misses =
+    by (is.are.whole x.index x.entry effect.is_entry returned)
+  where
+    which : (k n : ℕ) → (k < n) ⊎ (n ≤ k)
+    which k n = grind arith
+
+    few : (n m : ℕ) → (n ≤ m) ⊎ (m < n)
+    few n m = grind arith
+
+    by : Contains plan.returns.items x.index → Contains (drop node.past plan.returns.items) x.index
+    by (k, lt, at) = side (which k node.past)
+      where
+        side : (k < node.past) ⊎ (node.past ≤ k) → Contains (drop node.past plan.returns.items) x.index
+        side (inl less) = absurd (misses (stands.in_effect.all_past x.index (past (few node.past
+            (length plan.returns.items)))))
+          where
+            past : (node.past ≤ length plan.returns.items) ⊎ (length plan.returns.items < node.past) →
+                Contains (take node.past plan.returns.items) x.index
+            past (inl le) = in_take plan.returns.items node.past k x.index less le at
+            past (inr over) = subst (λ (xs : List ℕ). Contains xs x.index)
+                (sym (take_all node.past plan.returns.items (omega (arith, over)))) (k, lt, at)
+        side (inr le) = in_drop plan.returns.items node.past k x.index le lt at
+
+-- an observation tells that it changed nothing
+observes_so : (e : Observation) (reply : Reply) → observes e ≡ true → MayReply e reply →
+    HasReturned e × (changes_nothing e.call reply ≡ true)
+observes_so e reply is may = by e.returned refl is may
+  where
+    false_true : false ≡ true → ⊥
+    false_true h = cc
+
+    by : (o : Option Returned) → e.returned ≡ o → observes_by e.call o ≡ true →
+        MatchOption o (Unit {0}) (λ (r : Returned). r.reply ≡ reply) →
+        HasReturned e × (changes_nothing e.call reply ≡ true)
+    by None at is may = absurd (false_true is)
+    by (Some r) at is may = ((r, at), ap (changes_nothing e.call) (sym may) ∙ is)
+
+-- a call that changes nothing takes effect at once
+pub expands_at_once : (h : ObservedHistory) (plan : Plan) (node : Node) (a : Observation) (last k : ℕ) (w : Next)
+    (nexts : List Next) → Awaits h plan node a → IsAwaitedAt h plan.returns.items node.past last a →
+    bit_at node.threads a.thread ≢ 1 → observes_at h.entries w.took ≡ true →
+    ((a : Observation) (s : LockState) (taken : List ℕ) → IsAwaitedAt h plan.returns.items node.past last a →
+    ¬ Contains taken (slice_index plan.returns.items node.past) → StandsFor h plan.returns.items node s taken →
+    Takes h plan.returns.items node a k s taken (Some w)) →
+    nexts ≡ w ∷ [] → Expands h plan.returns.items node nexts
+expands_at_once h plan node a last k w nexts is awaited_at bit observer takes made = record {
+  each = λ v has. subst (λ (n : Next). Leads h plan.returns.items node n)
+      (only v (subst (λ (ns : List Next). Contains ns v) made has)) leads;
+  whole = λ n hope. goes n hope (took hope.state hope.taken hope.stands);
+}
+  where
+    only : (v : Next) → Contains (w ∷ []) v → w ≡ v
+    only v (zero, lt, e) = e
+    only v (suc k, lt, e) = absurd (omega (arith, lt))
+
+    not_yet : (s : LockState) (taken : List ℕ) → StandsFor h plan.returns.items node s taken →
+        ¬ Contains taken (get_or plan.returns.items node.past 0)
+    not_yet s taken stands has = bit (taken_by_bit h.entries (take node.past plan.returns.items) node.threads taken
+        (get_or plan.returns.items node.past 0) a stands.in_effect is.at (the_next h plan node a is).still has).0
+
+    took : (s : LockState) (taken : List ℕ) → StandsFor h plan.returns.items node s taken →
+        IsTakenTo h plan.returns.items node a k s taken w
+    took s taken stands = takes a s taken awaited_at (not_yet s taken stands) stands
+
+    leads : Leads h plan.returns.items node w
+    leads = record {
+      inside = is.inside;
+      leads = λ s taken stands. to s taken stands (took s taken stands);
+    }
+      where
+        to : (s : LockState) (taken : List ℕ) → StandsFor h plan.returns.items node s taken →
+            IsTakenTo h plan.returns.items node a k s taken w →
+            LeadsBy h plan.returns.items node w.node s taken w.took
+        to s taken stands took =
+            subst (λ (o : Option ℕ). LeadsBy h plan.returns.items node w.node s taken o) (sym took.took) (record {
+              past = took.past;
+              awaited = a;
+              is_awaited = is.at;
+              not_yet = not_yet s taken stands;
+              effect = took.effect;
+              index = refl;
+              state = took.state;
+              may = took.may;
+              stands = took.stands;
+            })
+
+    goes : (n : ℕ) (hope : Hope h plan.returns.items node n) →
+        IsTakenTo h plan.returns.items node a k hope.state hope.taken w → GoesOn h plan.returns.items nexts n
+    goes n hope took =
+        let x : Effect = took.effect in
+        let tells : HasReturned x.entry × (changes_nothing x.entry.call x.reply ≡ true) =
+        observes_so x.entry x.reply
+        (ap observes_in (sym took.may.effect.is_entry) ∙ ap (observes_at h.entries) (sym took.took) ∙ observer)
+        took.may.effect.replies in
+        let once : TakesAtOnce (LockSteps h.limits) h.entries (drop node.past plan.returns.items) hope.state
+        (x.index ∷ hope.taken) n =
+        takes_at_once (LockSteps h.limits) h.entries (drop node.past plan.returns.items) hope.state hope.taken x n
+        took.may.effect tells.0
+        (λ s t steps. observers_change_nothing h.limits x.entry.call x.reply s t tells.1 steps) took.may.fresh
+        (due h plan node hope.state hope.taken x is.plan_is hope.stands took.may.effect tells.0 took.may.fresh)
+        (record { rest = hope.rest; by = hope.by; steps = hope.steps }) in
+        let same : took.state ≡ hope.state = observers_change_nothing h.limits x.entry.call x.reply hope.state
+        took.state tells.1 took.may.steps in
+        let P : List ℕ → Type 0 = λ (to_come : List ℕ). CompletesIn (LockSteps h.limits) h.entries to_come hope.state
+        (x.index ∷ hope.taken) once.left in
+        let left : CompletesIn (LockSteps h.limits) h.entries (drop w.node.past plan.returns.items) hope.state
+        (x.index ∷ hope.taken) once.left =
+        subst P (ap (λ (m : ℕ). drop m plan.returns.items) (sym took.past)) once.completes in
+        let one : 0 < length (w ∷ []) = omega arith in
+        record {
+          next = w;
+          left = once.left;
+          among = subst (λ (ns : List Next). Contains ns w) (sym made) (0, one, refl);
+          fewer = omega (arith, once.fewer);
+          hope = record {
+            state = hope.state;
+            taken = x.index ∷ hope.taken;
+            stands = subst (λ (t : LockState). StandsFor h plan.returns.items w.node t (x.index ∷ hope.taken)) same
+                took.stands;
+            rest = left.rest;
             by = left.by;
             steps = left.steps;
           };

@@ -1,12 +1,18 @@
 -- Calls whose reply tells that they change nothing.
-use Rattle.std.specs.Prelude.{◌==◌, ◌||◌, Bool, true, false}
+use Rattle.std.specs.Prelude.{ℕ, ◌==◌, ◌||◌, Bool, true, false, List, slice_get, Option, Some, None}
 use Rattle.stamp_core.specs.declared.call.Call.{Call}
 use Rattle.stamp_core.specs.declared.call.Call.TheVariants.{TryWrite, TryRead, WriteLock, Optimistic, Validate}
 use Rattle.stamp_core.specs.declared.call.Call.TheVariants.{UnlockWrite, UnlockRead, Unlock, ToWrite, ToRead}
 use Rattle.stamp_core.specs.declared.call.Call.TheVariants.{ToOptimistic, TryUnlockWrite, TryUnlockRead}
 use Rattle.stamp_core.specs.declared.call.Call.TheVariants.{IsWriteLocked, IsReadLocked, ReadCount, Get, PutIf}
 use Rattle.stamp_core.specs.declared.reply.Reply.{Reply}
+use Rattle.stamp_explain.specs.declared.observed.Observation.{Observation}
+use Rattle.stamp_explain.specs.declared.observed.Returned.{Returned}
 use Rattle.stamp_core.specs.declared.reply.Reply.TheVariants.{Stamp, No, Mismatch}
+
+abbrev pub is_stamp : Reply → ℕ → Bool
+is_stamp (Stamp s) stamp = s == stamp
+is_stamp _ stamp = false
 
 -- a call that acquires tells by 0 that it did not, a conversion also by its own stamp; a release by a
 -- mismatch or by no; questions change nothing.
@@ -31,3 +37,20 @@ changes_nothing ReadCount _ = true
 changes_nothing Get _ = true
 changes_nothing (PutIf expected words) No = true
 changes_nothing _ _ = false
+
+-- the call has returned, and tells so
+abbrev pub observes_by : Call → Option Returned → Bool
+observes_by call None = false
+observes_by call (Some r) = changes_nothing call r.reply
+
+abbrev pub observes : Observation → Bool
+observes e = observes_by e.call e.returned
+
+abbrev pub observes_in : Option Observation → Bool
+observes_in None = false
+observes_in (Some e) = observes e
+
+-- so does the call of this entry; where no call takes effect none does
+abbrev pub observes_at : List Observation → Option ℕ → Bool
+observes_at entries None = false
+observes_at entries (Some i) = observes_in (slice_get entries i)

@@ -1,5 +1,5 @@
 //! The search for an order.
-ghost use Rattle.std.specs.Prelude.{ℕ, ◌≡◌, ◌≤◌, ◌<◌, IfOk, List, slice_index, length};
+ghost use Rattle.std.specs.Prelude.{ℕ, ◌≡◌, ◌≤◌, ◌<◌, IfOk, List, [], ◌∷◌, slice_index, length};
 ghost use Rattle.std.specs.List.{Contains};
 ghost use Rattle.stamp_core.specs.Word.{IsAdmitted, word_at};
 ghost use Rattle.stamp_explain.specs.Observed.{IsObserved};
@@ -11,6 +11,7 @@ ghost use Rattle.stamp_explain.specs.Expand.{Expands, Takes, IsFound, Enters};
 
 use crate::node::{Next, Node, Origin};
 use crate::observed::{Observation, Observed};
+use crate::observer::observes_at;
 use crate::order::{Taken, order_to};
 use crate::plan::{Plan, has_bit, next_call, with_bit, without_bit};
 use crate::stepping::step_of;
@@ -90,8 +91,17 @@ fn take_of(observed: &Observed, plan: &Plan, node: &Node, thread: u64, last: u64
     }
 }
 
+/// One node.
+fn only(alloc: Global, next: Next) -> Result<Vec<Next>, AllocError>
+    ensures { IfOk result (λ nexts. nexts.items ≡ next ∷ []) }
+{
+    let mut nexts = Vec::new(alloc);
+    nexts.push(next)?;
+    Ok(nexts)
+}
+
 /// The nodes that come next: the awaited return is past, where its call is in effect; else an open
-/// call takes effect.
+/// call takes effect. One that changes nothing takes effect at once, and no other then.
 fn successors(
     alloc: Global,
     observed: &Observed,
@@ -105,9 +115,8 @@ fn successors(
     ensures { IfOk result (λ nexts. Expands observed.now plan.now.returns.items node.now nexts.items) }
 {
     let entry = &observed.entries()[plan.returns[node.past]];
-    let mut nexts = Vec::new(alloc);
     if has_bit(node.threads, entry.thread) {
-        nexts.push(Next {
+        let past = Next {
             node: Node {
                 past: node.past + 1,
                 bits: node.bits,
@@ -115,14 +124,18 @@ fn successors(
                 threads: without_bit(node.threads, entry.thread),
             },
             took: None,
-        })?;
-        return Ok(nexts);
+        };
+        return only(alloc, past);
     }
     let Some(returned) = &entry.returned else {
         unreachable!();
     };
+    let mut nexts = Vec::new(alloc);
     for thread in 0..64 {
         if let Some(next) = take_of(observed, plan, node, thread, returned.last) {
+            if observes_at(observed, next.took) {
+                return only(alloc, next);
+            }
             nexts.push(next)?;
         }
     }

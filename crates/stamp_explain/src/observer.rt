@@ -1,0 +1,65 @@
+//! Calls whose reply tells that they changed nothing.
+ghost use Rattle.std.specs.Prelude.{◌≡◌, ◌==◌};
+ghost use Rattle.stamp_core.specs.declared.reply.Reply.TheVariants.{Stamp};
+ghost use Rattle.stamp_explain.specs.Observer.{is_stamp, changes_nothing, observes, observes_at};
+
+use crate::observed::{Observation, Observed};
+use stamp_core::{Call, Reply};
+
+/// Whether it is this stamp.
+fn is_stamp(reply: &Reply, stamp: u64) -> bool
+    ensures { result ≡ is_stamp reply.now stamp }
+{
+    match *reply {
+        Reply::Stamp(number) => number == stamp,
+        _ => false,
+    }
+}
+
+/// Whether the reply of the call tells that it changed nothing. A put never tells.
+fn changes_nothing(call: &Call, reply: &Reply) -> bool
+    ensures { result ≡ changes_nothing call.now reply.now }
+{
+    match *call {
+        Call::TryWrite | Call::TryRead | Call::WriteLock => is_stamp(reply, 0),
+        Call::UnlockWrite(_) | Call::UnlockRead(_) | Call::Unlock(_) => {
+            matches!(*reply, Reply::Mismatch)
+        }
+        Call::ToWrite(stamp) | Call::ToRead(stamp) | Call::ToOptimistic(stamp) => {
+            is_stamp(reply, 0) || is_stamp(reply, stamp)
+        }
+        Call::TryUnlockWrite | Call::TryUnlockRead | Call::PutIf(_, _) => {
+            matches!(*reply, Reply::No)
+        }
+        Call::Optimistic
+        | Call::Validate(_)
+        | Call::IsWriteLocked
+        | Call::IsReadLocked
+        | Call::ReadCount
+        | Call::Get => true,
+        Call::ReadLock | Call::Put(_) => false,
+    }
+}
+
+/// Whether the call has returned, and its reply tells that it changed nothing.
+fn observes(entry: &Observation) -> bool
+    ensures { result ≡ observes entry.now }
+{
+    match &entry.returned {
+        None => false,
+        Some(returned) => changes_nothing(&entry.call, &returned.reply),
+    }
+}
+
+/// Whether the call that takes effect is such a one; it isn't where a return is passed.
+pub(crate) fn observes_at(observed: &Observed, took: Option<usize>) -> bool
+    ensures { result ≡ observes_at observed.now.entries took }
+{
+    let Some(i) = took else {
+        return false;
+    };
+    match observed.entries().get(i) {
+        None => false,
+        Some(entry) => observes(entry),
+    }
+}
