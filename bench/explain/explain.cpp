@@ -1,7 +1,7 @@
 // A plain search for the points of a recorded run of the lock, without proofs: what stamp_explain is
 // compared with. It reads an observed history of layout 1 and width 0 on standard input, and writes a
 // history that `stamped check` reads, or `stuck E` or `undecided E`. With --time it writes only how many
-// configurations were looked at and how long the search took.
+// configurations were looked at and how long the search took; with --most N it looks at N at most.
 #include <algorithm>
 #include <chrono>
 #include <cstdint>
@@ -364,6 +364,7 @@ void write_history(const vector<Entry> &calls, const vector<uint32_t> &order) {
 
 int main(int count, char **words) {
     const bool is_timed = count > 1 && !std::strcmp(words[1], "--time");
+    const bool is_bounded = count > 2 && !std::strcmp(words[1], "--most");
     string input;
     char some[65536];
     for (size_t n; (n = std::fread(some, 1, sizeof some, stdin)) > 0;) input.append(some, n);
@@ -371,7 +372,7 @@ int main(int count, char **words) {
     const auto begin = std::chrono::steady_clock::now();
     Search search(calls);
     bool is_over = false;
-    const uint32_t end = search.run(4000000, is_over);
+    const uint32_t end = search.run(is_bounded ? std::strtoull(words[2], nullptr, 10) : 4000000, is_over);
     const double seconds = std::chrono::duration<double>(std::chrono::steady_clock::now() - begin).count();
     const bool is_found = !search.returns.empty() ? end != 0 : true;
     if (is_timed)

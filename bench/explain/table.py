@@ -1,0 +1,111 @@
+"""Explains histories by `stamped_explain` and by the search in C++, in turns, and prints tables.
+
+    table.py PROGRAM CPP STAMPED FOLDER ROUNDS
+
+FOLDER holds runs, N.json of N calls, and NAME.case. Times are those of whole processes, on the wall, and
+medians of the rounds; memory is the most that one was resident. Reading is a run with one more entry, which
+is over before it began: the program reads it all, and searches nothing. In the cases both look at MOST
+configurations at most in a search; the search in C++ knows no record."""
+import glob
+import json
+import os
+import statistics
+import subprocess
+import sys
+import time
+
+RUNS, MOST_RATIO, MOST_MICROSECONDS, MOST_INPUT = (12_500, 50_000, 200_000), 3.0, 2.0, 16_777_216
+MOST = 200_000
+
+
+def measured(words, path, sink):
+    """The seconds that a process took, its peak memory in bytes, and its status."""
+    with open(path, "rb") as file, open(sink, "wb") as out:
+        start = time.monotonic()
+        process = subprocess.Popen(words, stdin=file, stdout=out, stderr=subprocess.DEVNULL)
+        _, status, usage = os.wait4(process.pid, 0)
+        seconds = time.monotonic() - start
+    process.returncode = os.waitstatus_to_exitcode(status)
+    return seconds, usage.ru_maxrss * 1024, process.returncode
+
+
+def told(sink):
+    """What was found, in a word."""
+    with open(sink, "rb") as file:
+        begin = file.read(40)
+    return "explained" if begin.startswith(b"{") else begin.decode().rstrip("\n")
+
+
+def add_fault(path, faulty):
+    with open(path) as file:
+        text = file.read()
+    entry = '{"call":["optimistic"],"first":288230376151711743,"last":0,"reply":256,"thread":63}],"format"'
+    with open(faulty, "w") as file:
+        file.write(text.replace('],"format"', "," + entry))
+
+
+def see_accepted(stamped, history, calls):
+    if os.path.getsize(history) > MOST_INPUT:
+        return
+    with open(history, "rb") as file:
+        line = subprocess.run([stamped, "check"], stdin=file, capture_output=True, text=True).stdout
+    if line != f"ok {calls}\n":
+        sys.exit(f"stamped check: {line!r}, and not ok {calls}")
+
+
+def run_of(ways, stamped, folder, count, rounds):
+    path, faulty, sink = (os.path.join(folder, name) for name in (f"{count}.json", "faulty", "sink"))
+    with open(path) as file:
+        calls = len(json.load(file)["entries"])
+    add_fault(path, faulty)
+    seen = {name: [] for name in (*ways, "reading")}
+    for _ in range(rounds):
+        for name, words in ways.items():
+            seen[name].append(measured(words, path, sink))
+            if told(sink) != "explained":
+                sys.exit(f"{name} of {count}: {told(sink)}")
+            see_accepted(stamped, sink, calls)
+        seen["reading"].append(measured(ways["stamped_explain"], faulty, sink))
+        if told(sink) != f"bad {calls} interval":
+            sys.exit(f"reading {count}: {told(sink)}")
+    return calls, seen
+
+
+def print_run(calls, seen):
+    ours, cpp, reading = ([row[0] for row in seen[name]] for name in ("stamped_explain", "C++", "reading"))
+    peaks = [max(row[1] for row in seen[name]) for name in ("stamped_explain", "C++", "reading")]
+    ratio = statistics.median(a / b for a, b in zip(ours, cpp))
+    above = statistics.median(a - b for a, b in zip(ours, reading)) / calls * 1e6
+    megabytes = "".join(f"{peak / 1e6:8.0f}" for peak in peaks)
+    medians = "".join(f"{statistics.median(each):9.3f}" for each in (ours, cpp, reading))
+    print(f"{calls:8}{medians}{megabytes}{ratio:8.2f}{above:10.2f}", flush=True)
+    return ratio, above
+
+
+def print_case(ways, path, sink, rounds):
+    name = os.path.basename(path).removesuffix(".case")
+    with open(path) as file:
+        width = json.load(file)["width"]
+    shown = []
+    for way, words in ways.items():
+        if width and way == "C++":
+            continue
+        rows = [measured([*words, "--most", str(MOST)], path, sink) for _ in range(rounds)]
+        seconds = statistics.median(row[0] for row in rows)
+        shown.append(f"{way} {told(sink)}, {seconds:.3f} s, {max(row[1] for row in rows) / 1e6:.0f} MB")
+    print(f"{name}: " + "; ".join(shown), flush=True)
+
+
+def main():
+    program, cpp, stamped, folder, rounds = *sys.argv[1:5], int(sys.argv[5])
+    ways = {"stamped_explain": [program], "C++": [cpp]}
+    print(f"{'calls':>8}{'ours, s':>9}{'C++, s':>9}{'reading':>9}{'MB':>8}{'C++':>8}{'reading':>8}{'ratio':>8}{'us above':>10}")
+    for count in RUNS:
+        ratio, above = print_run(*run_of(ways, stamped, folder, count, rounds))
+    for name, figure, most in (("ratio", ratio, MOST_RATIO), ("microseconds a call above reading", above, MOST_MICROSECONDS)):
+        print(f"{name}: {figure:.2f} (target: at most {most}: {'met' if figure <= most else 'MISSED'})")
+    for path in sorted(glob.glob(os.path.join(folder, "*.case"))):
+        print_case(ways, path, os.path.join(folder, "sink"), min(rounds, 3))
+
+
+main()
