@@ -21,8 +21,10 @@ room=$(mktemp -d)
 trap 'rm -rf "$room"' EXIT
 c++ -std=c++17 -O2 -o "$room/explain" "$here/explain.cpp"
 javac -d "$room" "$top"/recorders/java/{RecordedStampedLock,Trial}.java
+faulty='{"call":["optimistic"],"first":288230376151711743,"last":0,"reply":256,"thread":63}'
 for calls in 12500 50000 200000; do
     java -cp "$room" Trial 16 "$calls" 1 > "$room/$calls.json"
+    sed 's/],"format"/,'"$faulty"'],"format"/' "$room/$calls.json" > "$room/$calls.faulty"
 done
 python3 -B "$here/make_cases.py" "$room"
 python3 -B "$here/table.py" "$program" "$room/explain" "$stamped" "$room" "$rounds"
