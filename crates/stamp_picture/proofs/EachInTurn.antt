@@ -3,8 +3,12 @@ use Rattle.std.proofs.Common.{◌≡◌, ◌∙◌, ℕ, ◌+◌, ◌<◌, List,
 use Rattle.std.proofs.Common.{arith, append_assoc}
 use Rattle.std.specs.Prelude.{if◌then◌else◌}
 use Rattle.std.proofs.lemmas.List.{take_more, append-nil, length-take}
+use Rattle.std.specs.List.{All}
+use Rattle.std.proofs.lemmas.List.Elements.{All-cons, All-nil, All-tail}
 use Rattle.stamp_core.specs.Limits.{Bounds}
+use Rattle.stamp_core.specs.Record.{SuitsRecord}
 use Rattle.stamp_core.specs.declared.entry.Entry.{Entry}
+use Rattle.stamp_picture.specs.declared.bar.Bar.{Bar}
 use Rattle.stamp_picture.specs.declared.state.State.{State}
 use Rattle.stamp_picture.specs.declared.window.Window.{Window}
 use Rattle.stamp_picture.specs.Window.{meets, contains, precedes}
@@ -91,3 +95,18 @@ opening_more l n w xs i e lt is =
     let more = taken_more xs i e lt is in
     ap (λ (ys : List Entry). opening_of l n w ys) more ∙ opening_push l n w (state_after l n []) [] (take i xs) e
     ∙ ap (λ (ys : List Entry). if precedes e.point w then state_after l n ys else opening_of l n w (take i xs)) (sym more)
+
+-- the lanes are those of a record's threads
+if_all : {X : Type 0} (P : X → Type 0) (b : Bool) (x : X) (xs : List X) → P x → All P xs →
+    All P (if b then x ∷ xs else xs)
+if_all P true x xs here all = All-cons P x xs here all
+if_all P false x xs here all = all
+
+pub few_lanes : (width : ℕ) (w : Window) (n : ℕ) (xs : List Entry) → All (SuitsRecord width) xs →
+    All (λ (b : Bar). b.lane < 64) (bars_from w n xs)
+few_lanes width w n [] all = All-nil (λ (b : Bar). b.lane < 64)
+few_lanes width w n (x ∷ xs) all =
+    let first : SuitsRecord width x = all 0 x (omega arith) in
+    let rest : All (SuitsRecord width) xs = All-tail (SuitsRecord width) x xs all in
+    if_all (λ (b : Bar). b.lane < 64) (meets w x) (bar_of n x) (bars_from w (n + 1) xs) first.thread
+    (few_lanes width w (n + 1) xs rest)

@@ -1,5 +1,5 @@
 //! The picture of a recorded history.
-ghost use Rattle.std.specs.Prelude.{◌≡◌, ◌≤◌, ◌<◌, ◌+◌, [], length, take, IfOk, IfErr, IsOk, count_by, slice_get, Some};
+ghost use Rattle.std.specs.Prelude.{◌≡◌, ◌≤◌, ◌<◌, ◌+◌, [], length, take, IfOk, IfErr, IsOk, count_by, slice_get, Some, All};
 ghost use Rattle.stamp_core.specs.Record.{IsRecorded};
 ghost use Rattle.stamp_picture.specs.Bars.{bars_of};
 ghost use Rattle.stamp_picture.specs.Moment.{moments_of, opening_of};
@@ -212,6 +212,7 @@ fn counts_of(verdict: &Result<u64, Fault>) -> (usize, usize)
 pub fn picture_of(alloc: Global, history: &Record, window: Window) -> Result<Picture, PictureError>
     ensures ok { IfOk result (λ picture. IsPicture history.now window picture) }
     ensures few { IfOk result (λ picture. length picture.bars ≤ most_bars) }
+    ensures lanes { IfOk result (λ picture. All (λ bar. bar.lane < 64) picture.bars) }
     ensures refused { IfErr result (λ e. IsRefused history.now window e) }
 {
     let entries = history.entries();
