@@ -10,7 +10,7 @@ use crate::sources::Source;
 use std::alloc::{AllocError, Global};
 
 /// The most bytes of an input.
-pub(crate) const MOST_BYTES: usize = 16_777_216;
+pub const MOST_BYTES: usize = 16_777_216;
 
 /// The most bytes of one read.
 const CHUNK: usize = 65_536;
@@ -44,8 +44,9 @@ fn read_more<S: Source>(
     Ok(taken > 0)
 }
 
-/// The input to its end, or to one byte past the most.
-pub(crate) fn read_input<S: Source>(alloc: Global, source: &mut S) -> Result<Vec<u8>, ServeFault>
+/// The input to its end, or to one byte past the most, which shows that it is too long. A read that
+/// fails is 1 `ReadFault` and the last; want of memory is 5 `Memory`. What was read is gone then.
+pub fn read_input<S: Source>(alloc: Global, source: &mut S) -> Result<Vec<u8>, ServeFault>
     ensures reads { MakesAtMost (S.reads source.old) (S.reads source.new) most_reads most_taken }
     ensures took { TakesAtMost (S.left source.old) (S.left source.new) most_taken }
     ensures read { IfOk result (λ input. Reads (S.left source.old) (S.left source.new) input.items) }

@@ -16,8 +16,10 @@ mod sources;
 mod stamp_text;
 
 pub use faults::{ServeFault, fault_line};
+pub use input::{MOST_BYTES, read_input};
 pub use line::Verdict;
 pub use orders::{CommandFault, Order, order_of};
+pub use output::write_line;
 pub use serving::serve;
 pub use sinks::{Sink, WriteSink};
 pub use sources::{ReadSource, Source};

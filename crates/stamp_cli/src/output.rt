@@ -29,8 +29,9 @@ fn write_some<K: Sink>(sink: &mut K, bytes: &[u8]) -> Result<usize, ServeFault>
     }
 }
 
-/// Writes the line and nothing else.
-pub(crate) fn write_line<K: Sink>(sink: &mut K, line: &[u8]) -> Result<(), ServeFault>
+/// Writes the line and nothing else. A write that fails or takes no byte is 6 `WriteFault` and the
+/// last; a front of the line has gone out then.
+pub fn write_line<K: Sink>(sink: &mut K, line: &[u8]) -> Result<(), ServeFault>
     ensures ok { OnOk result (Appends (K.sent sink.old) (K.sent sink.new) line.now) }
     ensures whole { OnOk result (Makes (K.writes sink.old) (K.writes sink.new) (length line.now)) }
     ensures front { OnErr result (AppendsFront (K.sent sink.old) (K.sent sink.new) line.now) }
