@@ -24,12 +24,15 @@ column ends position = count_by (λ end. nat_lt end position) ends
 abbrev pub column_after : List ℕ → ℕ → ℕ
 column_after ends position = count_by (λ end. nat_le end position) ends
 
--- in pixels: a column, the left border with the lanes' names, a lane, the first lane
+-- in pixels: a column, the border with the lanes' names, the first column, a lane, the first lane
 abbrev pub unit : ℕ
 unit = 40
 
+abbrev pub border : ℕ
+border = 96
+
 abbrev pub left : ℕ
-left = 96
+left = 136
 
 abbrev pub lane_height : ℕ
 lane_height = 44
@@ -67,17 +70,18 @@ bar_place verdict ends bar = record {
   height = 36;
 }
 
--- in the middle of the column of its point
+-- the middle of the column of a point
 abbrev pub point_x : List ℕ → ℕ → ℕ
 point_x ends point = x_of (column ends point) + 20
 
+-- at its point, on the lower side of the bar
 abbrev pub mark_place : List ℕ → Bar → Place
 mark_place ends bar = record {
   class = class.Mark;
-  x = point_x ends bar.point - 2;
-  y = lane_y bar.lane;
-  width = 4;
-  height = 44;
+  x = point_x ends bar.point - 3;
+  y = lane_y bar.lane + 33;
+  width = 6;
+  height = 11;
 }
 
 abbrev pub class_of : Mode → Class
@@ -99,12 +103,12 @@ moment_place ends moment = record {
   height = 36;
 }
 
--- the state before the first of them, from the left border
+-- the state before the first of them, from the border
 abbrev pub opening_place : List ℕ → State → Place
 opening_place ends state = record {
   class = class_of state.mode;
-  x = left;
+  x = border;
   y = 32;
-  width = right_of ends - left;
+  width = right_of ends - border;
   height = 36;
 }

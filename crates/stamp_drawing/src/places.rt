@@ -7,16 +7,19 @@ use stamp_picture::{Bar, Fault, Mode, Moment};
 use std::alloc::{AllocError, Global};
 
 /// A column, in pixels.
-pub(crate) const UNIT: u64 = 40;
+const UNIT: u64 = 40;
 
 /// The border with the names of the lanes.
-pub(crate) const LEFT: u64 = 96;
+pub(crate) const BORDER: u64 = 96;
+
+/// Where the first column begins.
+const LEFT: u64 = 136;
 
 /// A lane.
 pub(crate) const LANE_HEIGHT: u64 = 44;
 
 /// Where the first lane begins.
-pub(crate) const LANES_TOP: u64 = 104;
+const LANES_TOP: u64 = 104;
 
 /// What a box is, by which it has its colour.
 #[derive(Clone, Copy, Debug, PartialEq, Eq)]
@@ -152,10 +155,10 @@ pub(crate) fn mark_place(ends: &[u64], bar: &Bar) -> Place
 {
     Place {
         class: Class::Mark,
-        x: point_x(ends, bar.point) - 2,
-        y: lane_y(bar.lane),
-        width: 4,
-        height: 44,
+        x: point_x(ends, bar.point) - 3,
+        y: lane_y(bar.lane) + 33,
+        width: 6,
+        height: 11,
     }
 }
 

@@ -9,7 +9,7 @@ use crate::labels::{
     verdict_text, version_text,
 };
 use crate::places::{
-    Class, LANE_HEIGHT, LEFT, Place, bar_place, class_of, ends_of, lane_y, mark_place,
+    BORDER, Class, LANE_HEIGHT, Place, bar_place, class_of, ends_of, lane_y, mark_place,
     moment_place, point_x, right_of,
 };
 use stamp_core::Words;
@@ -107,9 +107,9 @@ fn opening_place(ends: &[u64], state: &State) -> Place
 {
     Place {
         class: class_of(state.mode),
-        x: LEFT,
+        x: BORDER,
         y: 32,
-        width: right_of(ends) - LEFT,
+        width: right_of(ends) - BORDER,
         height: 36,
     }
 }
@@ -166,7 +166,7 @@ fn content_shapes(
     }
     let right = right_of(ends);
     let mut content = opening.content;
-    shapes.push(content_shape(alloc, LEFT, right, content)?)?;
+    shapes.push(content_shape(alloc, BORDER, right, content)?)?;
     for moment in ribbon {
         if moment.state.content != content {
             content = moment.state.content;
@@ -245,17 +245,17 @@ fn note_shapes(alloc: Global, picture: &Picture, y: u64) -> Result<Vec<Shape>, A
         Class::Bad
     };
     let mut shapes = Vec::new(alloc);
-    shapes.push(note(alloc, class, (LEFT, 4, 620), &text)?)?;
+    shapes.push(note(alloc, class, (BORDER, 4, 620), &text)?)?;
     shapes.push(note(alloc, Class::Note, (4, 40, 90), "lock")?)?;
     if picture.opening().content.is_some() {
         shapes.push(note(alloc, Class::Note, (4, 72, 90), "record")?)?;
     }
-    shapes.push(note(alloc, class_of(Mode::Free), (LEFT, y, 60), "free")?)?;
+    shapes.push(note(alloc, class_of(Mode::Free), (BORDER, y, 60), "free")?)?;
     shapes.push(note(alloc, class_of(Mode::Reading(1)), (160, y, 76), "n readers")?)?;
     shapes.push(note(alloc, class_of(Mode::Writing), (240, y, 60), "writing")?)?;
     shapes.push(note(alloc, Class::Bar, (304, y, 60), "call")?)?;
     shapes.push(note(alloc, Class::Bad, (368, y, 60), "fault")?)?;
-    shapes.push(note(alloc, Class::Mark, (440, y, 4), "")?)?;
+    shapes.push(note(alloc, Class::Mark, (440, y, 6), "")?)?;
     shapes.push(note(
         alloc,
         Class::Note,
