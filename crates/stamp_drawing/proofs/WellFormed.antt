@@ -1,10 +1,9 @@
 -- What is written is well-formed.
-use Rattle.std.proofs.Common.{◌≡◌, ℕ, List, [], ◌∷◌, ◌++◌, Bool, true, false, refl, map}
+use Rattle.std.proofs.Common.{◌≡◌, ℕ, List, [], ◌∷◌, ◌++◌, Bool, true, false, refl}
 use Rattle.std.specs.Prelude.{◌==◌, codes, string_bytes, if◌then◌else◌}
-use Rattle.std.specs.List.{concat}
 use Rattle.stamp_drawing.specs.declared.sheet.Shape.{Shape}
 use Rattle.stamp_drawing.specs.declared.sheet.Sheet.{Sheet}
-use Rattle.stamp_drawing.specs.Markup.{is_plain, IsText, escape, escaped, element_text, IsContent, IsDocument}
+use Rattle.stamp_drawing.specs.Markup.{is_plain, IsText, escape, escaped, element_text, IsContent}
 use Rattle.stamp_drawing.specs.Markup.IsText.{nothing, plain, less, greater, ampersand, quote}
 use Rattle.stamp_drawing.specs.Markup.IsContent.{text, element, both}
 use Rattle.stamp_drawing.specs.Svg.{shape_attributes, box_text, line_text, inside_text, shape_text, shapes_text}

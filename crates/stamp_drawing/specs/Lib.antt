@@ -2,4 +2,5 @@ pub mod Markup
 pub mod Places
 pub mod Sheet
 pub mod Svg
+pub mod Rows
 pub mod SvgLaws

@@ -1,7 +1,7 @@
 use Rattle.std.proofs.Common.{◌≡◌, ◌∙◌, ℕ, ◌+◌, ◌*◌, ◌-◌, ap}
 use Rattle.stamp_drawing.specs.declared.places.Class.{Class}
 use Rattle.stamp_drawing.specs.declared.places.Place.{Place}
-use Rattle.stamp_drawing.specs.Places.{column, column_after, x_of, lane_y, first_of, last_of}
+use Rattle.stamp_drawing.specs.Places.{column, column_after, x_of, first_of, last_of}
 use Rattle.stamp_drawing.proofs.places.bar_place.Goals as goal
 
 same_place : (c d : Class) (x y w x' y' w' h : ℕ) → c ≡ d → x ≡ x' → y ≡ y' → w ≡ w' →

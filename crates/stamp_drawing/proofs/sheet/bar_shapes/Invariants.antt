@@ -1,4 +1,4 @@
-use Rattle.std.proofs.Common.{◌≡◌, ◌++◌, [], map, take}
+use Rattle.std.proofs.Common.{◌≡◌, map, take}
 use Rattle.stamp_drawing.specs.Places.{bar_place}
 use Rattle.stamp_drawing.specs.Sheet.{places_of}
 use Rattle.stamp_drawing.proofs.sheet.bar_shapes.Given as goal

@@ -1,5 +1,4 @@
 use Rattle.std.proofs.Common.{◌∙◌, ◌++◌, ap, codes, List, ℕ, append_assoc}
-use Rattle.std.proofs.lemmas.List.{append-nil}
 use Rattle.stamp_drawing.specs.Markup.{escaped, attribute_text}
 use Rattle.stamp_drawing.proofs.Appending.{onto}
 use Rattle.stamp_drawing.proofs.svg.push_line.Goals as goal
