@@ -1,6 +1,6 @@
 """Runs the programs where each read gives one byte and each write takes one, and fails each in turn.
 
-    failing_io.py NARROW REFUSE STAMPED EXPLAIN
+    failing_io.py NARROW REFUSE STAMPED EXPLAIN PICTURE
 
 A read that fails is told as `read fault`, and nothing is written; a write that fails, or that takes
 no byte, is told as `write fault`, and what went out is the front of the line that came before it. No
@@ -38,6 +38,7 @@ EXPLAIN_TABLE = [
 ]
 READ_FAULT = (1, b"", b"stamped: read fault\n")
 WRITE_FAULT = b"stamped: write fault\n"
+WHOLE = ["--from", "0", "--to", "9"]
 
 
 def assert_ended(words, answer, wanted, when):
@@ -69,8 +70,16 @@ def writes_of(runs, words, text, ample):
     return len(line)
 
 
+def pictures_of(runs, picture):
+    """The same of a picture, of whose writes each 64th is failed."""
+    drawn, _ = runs.ended([picture, *WHOLE], OLD)
+    reads = reads_of(runs, [picture, *WHOLE], OLD, drawn)
+    writes = writes_of(runs, [picture, *WHOLE], OLD, drawn)
+    print(f"picture: {reads} reads and {writes} writes failed in turn")
+
+
 def main():
-    narrow, refuse, stamped, explain = (os.path.abspath(path) for path in sys.argv[1:])
+    narrow, refuse, stamped, explain, picture = (os.path.abspath(path) for path in sys.argv[1:])
     runs = CountedRuns(narrow, refuse)
     rows = [([stamped, *order], *row) for order, *row in TABLE]
     rows += [([explain, *order], *row) for order, *row in EXPLAIN_TABLE]
@@ -79,6 +88,7 @@ def main():
         reads = reads_of(runs, words, text, ample)
         writes = writes_of(runs, words, text, ample)
         print(f"{[os.path.basename(words[0]), *words[1:]]}: {reads} reads and {writes} writes failed in turn")
+    pictures_of(runs, picture)
     runs.tell()
 
 

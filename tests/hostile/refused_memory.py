@@ -1,8 +1,9 @@
 """Runs programs with each of their allocations refused in turn, until a run makes fewer.
 
-    refused_memory.py SHIM STAMPED EXPLAIN TRIAL
+    refused_memory.py SHIM STAMPED EXPLAIN PICTURE TRIAL
 
-With ample memory each ends as the table says. A refused run of `stamped` or `stamped_explain` ends with the memory line
+With ample memory each ends as the table says. A refused run of `stamped`, `stamped_explain` or
+`stamped_picture` ends with the memory line
 (or with none, where memory for the line is refused too), status 1 and nothing on standard output, or
 as with ample memory. One of TRIAL ends with status 1 and no output, or as with ample memory. A
 refused step of a schedule is made again there, so some refused runs end as with ample memory.
@@ -13,6 +14,7 @@ of REFUSALS, TRIAL makes calls that are refused for another cause than want of m
 TRIAL makes as many allocations where it makes records and judges or migrates them as where it only
 makes them: so judging and migrating take no memory."""
 import os
+import subprocess
 import sys
 
 from counted_runs import CountedRuns
@@ -77,6 +79,13 @@ REFUSALS = [
     "too_long",
 ]
 MOST = 10_000
+BAD_REPLY = (HISTORY % b"").replace(b'"done"', b'"yes"')
+
+
+def drawn(picture, text, status, *words):
+    """What the program draws with ample memory, which tests/pictures.py looks at."""
+    ran = subprocess.run([picture, *words], input=text, capture_output=True, timeout=60)
+    return status, ran.stdout, b""
 
 
 def runs_of(runs, words, text, wanted, refusals):
@@ -96,7 +105,7 @@ def runs_of(runs, words, text, wanted, refusals):
 
 
 def main():
-    shim, stamped, explain, trial = (os.path.abspath(path) for path in sys.argv[1:])
+    shim, stamped, explain, picture, trial = (os.path.abspath(path) for path in sys.argv[1:])
     runs = CountedRuns(shim)
     told = [(1, b"", b"stamped: memory\n"), (1, b"", b"")]
     table = [
@@ -126,6 +135,11 @@ def main():
         ([explain, "--most"], b"", BAD_LINE, told),
         ([explain, "--most", "-1"], b"", BAD_LINE, told),
         ([explain, b"\xff"], b"", BAD_LINE, told),
+        ([picture], HISTORY % b"", drawn(picture, HISTORY % b"", 0), told),
+        ([picture, "--from", "2", "--to", "3"], BAD_REPLY, drawn(picture, BAD_REPLY, 1, "--from", "2", "--to", "3"), told),
+        ([picture], NO_THREAD, (1, b"", NO_HISTORY_LINE), told),
+        ([picture], b"[", (1, b"", b"stamped: not json\n"), told),
+        ([picture, "--from", "2"], b"", BAD_LINE, told),
     ]
     right = b"", (0, b"right\n", b""), [(1, b"", b"")]
     table += [([trial, word], *right) for word in [*REFUSALS, "make", "check", "migrate"]]

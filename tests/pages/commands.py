@@ -1,8 +1,8 @@
 """Fails unless the command lines on the pages print what the pages say.
 
-    commands.py STAMPED
+    commands.py STAMPED EXPLAIN
 
-Run at the top of the repository, with the program `stamped`. A command stands indented behind `$ `, and what it
+Run at the top of the repository, with the programs `stamped` and `stamped_explain`. A command stands indented behind `$ `, and what it
 prints below it. `rt run --` is the program. What a run prints is the file `history.json` of the commands after it."""
 import os
 import subprocess
@@ -34,16 +34,18 @@ def commands_of(page):
     return found
 
 
-def printed_by(command, program, room):
-    words = command.replace("rt run --", program)
+def printed_by(command, programs, room):
+    words = command
+    for name, program in programs.items():
+        words = words.replace(name, program)
     run = subprocess.run(["bash", "-c", words], cwd=room, capture_output=True, text=True, timeout=120)
     return run.stdout + run.stderr
 
 
-def check_page(page, program, room):
+def check_page(page, programs, room):
     commands = commands_of(page)
     for command, wanted in commands:
-        printed = printed_by(command, program, room)
+        printed = printed_by(command, programs, room)
         if not wanted or printed != "\n".join(wanted) + "\n":
             sys.exit(f"{page}: {command}\nprints\n{printed}and not\n" + "\n".join(wanted))
         if printed.startswith('{"entries":'):
@@ -54,23 +56,24 @@ def check_page(page, program, room):
     print(f"{page}: commands that print what it says: {len(commands)}")
 
 
-def check_first_run(program, room):
+def check_first_run(programs, room):
     """The five calls of `examples/first.json` stand in the tour, and their answer on both pages."""
     first = text_of("examples/first.json").strip()
     with open(os.path.join(room, "first.json"), "w", encoding="utf-8") as file:
         file.write(first)
-    answer = printed_by("rt run -- replay < first.json", program, room)
+    answer = printed_by("rt run -- replay < first.json", programs, room)
     for page, line in [("docs/TOUR.md", first + "\n"), *((page, answer) for page in ANSWERED)]:
         if INDENT + line not in text_of(page):
             sys.exit(f"{page} doesn't have the line {line}")
 
 
 def main():
-    program = os.path.abspath(sys.argv[1])
+    stamped, explain = (os.path.abspath(path) for path in sys.argv[1:])
+    programs = {"rt run --": stamped, "stamped_explain": explain}
     with tempfile.TemporaryDirectory() as room:
         for page in PAGES:
-            check_page(page, program, room)
-        check_first_run(program, room)
+            check_page(page, programs, room)
+        check_first_run(programs, room)
 
 
 main()

@@ -10,7 +10,7 @@ use crate::sources::Source;
 use std::alloc::{AllocError, Global};
 
 /// The most bytes of an input.
-pub(crate) const MOST_BYTES: usize = 16_777_216;
+pub const MOST_BYTES: usize = 16_777_216;
 
 /// The most bytes of one read.
 const CHUNK: usize = 65_536;

@@ -4,19 +4,20 @@ ghost use Rattle.stamp_core.specs.StampKind.{HasKind};
 ghost use Rattle.stamp_core.specs.Layout.{narrow};
 ghost use Rattle.stamp_core.specs.Respelling.{respelled, IsRespelled};
 
+use crate::layout::Layout;
 use crate::stamps::{StampKind, stamp_kind};
 
-/// The most write acquisitions of layout 2.
-const MOST_VERSIONS: u64 = 70_368_744_177_662;
-
+#[tactic(auto, unfolding(crate::specs::Layout::units_of))]
 fn spelled(kind: StampKind, stamp: u64) -> u64
     requires { HasKind narrow stamp kind }
     ensures { result ≡ respelled kind }
 {
+    let most = Layout::Two.most_versions();
+    let unit = Layout::Two.version_unit();
     match kind {
-        StampKind::Write(k) if k <= MOST_VERSIONS => 131_072 * k + 65_536,
-        StampKind::Read(k, c) if k <= MOST_VERSIONS => 131_072 * (k + 1) + c,
-        StampKind::Optimistic(k) if k <= MOST_VERSIONS => 131_072 * (k + 1),
+        StampKind::Write(k) if k <= most => unit * k + Layout::Two.writer_unit(),
+        StampKind::Read(k, c) if k <= most => unit * (k + 1) + c,
+        StampKind::Optimistic(k) if k <= most => unit * (k + 1),
         _ => 0,
     }
 }

@@ -17,7 +17,7 @@ use Rattle.stamp_explain.specs.Planning.{IsSooner, AreEnds, EndsAt}
 use Rattle.stamp_explain.specs.Node.{ReachesMany}
 use Rattle.stamp_explain.specs.Order.{IsOrderOf}
 use Rattle.stamp_explain.specs.Expand.{IsFound}
-use Rattle.stamp_explain.specs.Verdict.{IsUndecided, IsNotFound}
+use Rattle.stamp_explain.specs.Verdict.{IsUndecided, IsUndecidedAt, IsNotFound}
 use Rattle.stamp_explain.proofs.Lists.{pairs_none, none_in_empty}
 use Rattle.stamp_explain.proofs.Cutting.{IsLessKnown, less_known, back}
 use Rattle.stamp_explain.proofs.Seeing.{seen_explains_as_much}
@@ -94,24 +94,30 @@ KnowsAll : ℕ → ℕ → ℕ → List Observation → Type 0
 KnowsAll m c i es = (k : ℕ) (e : Observation) (r : Returned) → slice_get es k ≡ Some e → e.returned ≡ Some r →
     returned_by m c (i + k) (Some r) ≡ true
 
-knows_all : (m c i : ℕ) (es : List Observation) → KnowsAll m c i es → AllZip IsLessKnown (known_from m c i es) es
+known_whole : (m c i : ℕ) (es : List Observation) → KnowsAll m c i es → known_from m c i es ≡ es
 unfolding KnowsAll
-knows_all m c i [] knows = tt
-knows_all m c i (e ∷ es) knows = (
-  less_known_of m c i e e refl refl (λ r at. (
-    at,
-    subst (λ (n : ℕ). returned_by m c n (Some r) ≡ true) (none i)
-        (knows 0 e r refl at),
-  )),
-  knows_all m c (i + 1) es (λ k f r at returned. subst (λ (n : ℕ). returned_by m c n (Some r) ≡ true)
-      (shifts i k) (knows (suc k) f r at returned)),
-)
+known_whole m c i [] knows = refl
+known_whole m c i (e ∷ es) knows =
+    ap (λ (k : Observation). k ∷ known_from m c (i + 1) es) (here e.returned refl) ∙
+    ap (λ (ks : List Observation). e ∷ ks) (known_whole m c (i + 1) es
+    (λ k f r at returned. subst (λ (n : ℕ). returned_by m c n (Some r) ≡ true) (shifts i k)
+    (knows (suc k) f r at returned)))
   where
     shifts : (i k : ℕ) → i + suc k ≡ i + 1 + k
     shifts i k = omega arith
 
     none : (i : ℕ) → i + 0 ≡ i
     none i = omega arith
+
+    here : (o : Option Returned) → e.returned ≡ o → known_of m c i e ≡ e
+    here None at = by (returned_by m c i e.returned)
+      where
+        by : (t : Bool) → (if t then e else record e { returned = None }) ≡ e
+        by true = refl
+        by false = ap (λ (o : Option Returned). record e { returned = o }) (sym at)
+    here (Some r) at = ap (λ (t : Bool). if t then e else record e { returned = None })
+        (ap (returned_by m c i) at ∙ subst (λ (n : ℕ). returned_by m c n (Some r) ≡ true) (none i)
+        (knows 0 e r refl at))
 
 -- nothing is known, and no call need have taken effect
 unknown : (i : ℕ) (es : List Observation) → AllZip (λ (e k : Observation). k.returned ≡ None) es (known_from 0 0 i es)
@@ -288,12 +294,12 @@ explained_at_next h ends m p q are at next explained = less_known (cut p.0 (p.1 
                 (later_at ends n (m + 1) q (r.last, k) are.in_order next lt same more))
 
 -- after the last return all is known
-explained_at_last : (h : ObservedHistory) (ends : List (ℕ × ℕ)) (m : ℕ) (p : ℕ × ℕ) → AreEnds h.entries ends →
-    slice_get ends m ≡ Some p → length ends ≤ m + 1 → IsExplained (cut p.0 (p.1 + 1) h) → IsExplained h
+known_at_last : (h : ObservedHistory) (ends : List (ℕ × ℕ)) (m : ℕ) (p : ℕ × ℕ) → AreEnds h.entries ends →
+    slice_get ends m ≡ Some p → length ends ≤ m + 1 → cut p.0 (p.1 + 1) h ≡ h
 unfolding KnowsAll
-explained_at_last h ends m p are at last explained = less_known (cut p.0 (p.1 + 1) h) h.entries
-    (knows_all p.0 (p.1 + 1) 0 h.entries (λ k e r here returned. to_zero p.0 (p.1 + 1) k r
-    (known k e r here returned))) explained
+known_at_last h ends m p are at last = ap (λ (es : List Observation). record h { entries = es })
+    (known_whole p.0 (p.1 + 1) 0 h.entries (λ k e r here returned. to_zero p.0 (p.1 + 1) k r
+    (known k e r here returned)))
   where
     known : (k : ℕ) (e : Observation) (r : Returned) → slice_get h.entries k ≡ Some e → e.returned ≡ Some r →
         returned_by p.0 (p.1 + 1) k (Some r) ≡ true
@@ -305,7 +311,7 @@ explained_at_last h ends m p are at last explained = less_known (cut p.0 (p.1 + 
 -- no order was found after this return
 abbrev pub IsAbove : ObservedHistory → ℕ → ℕ × ℕ → Bool → Type 0
 IsAbove h most p true = ¬ IsExplained (cut p.0 (p.1 + 1) h)
-IsAbove h most p false = ReachesMany h most ⊎ ReachesMany (seen_at p.0 (p.1 + 1) h) most
+IsAbove h most p false = IsUndecidedAt h most p.0 (p.1 + 1)
 
 contained : (ends : List (ℕ × ℕ)) (k : ℕ) (p : ℕ × ℕ) → slice_get ends k ≡ Some p → Contains ends p
 contained ends k p at = (k, slice_get_within ends k p at, get_or_from_slice_get ends k p p at)
@@ -328,8 +334,9 @@ between_at_first h most ends high stuck are not_found last = record {
 }
   where
     by : (p : ℕ × ℕ) → slice_get ends high ≡ Some p → (b : Bool) → IsNotFound h most b → IsAbove h most p b
-    by p at true none = λ explained. none (explained_at_last h ends high p are at (omega (arith, last)) explained)
-    by p at false many = inl many
+    by p at true none = λ explained. none (subst IsExplained (known_at_last h ends high p are at (omega (arith, last)))
+        explained)
+    by p at false many = inl (known_at_last h ends high p are at (omega (arith, last)), many)
 
 pub between_above : (h : ObservedHistory) (most : ℕ) (ends : List (ℕ × ℕ)) (low high middle : ℕ) (stuck : Bool)
     (p : ℕ × ℕ) → IsObserved h → AreEnds h.entries ends → IsBetween h most ends low high stuck → middle < high →
@@ -405,7 +412,7 @@ undecided_between h most ends low high p are is le at =
       is_entry = found.1.0;
       returned = found.1.1.1.0;
       explained = subst (λ (n : ℕ). IsExplained (cut n p.1 h)) (sym last) (is.below p at);
-      many = subst (λ (n : ℕ). ReachesMany h most ⊎ ReachesMany (seen_at n (p.1 + 1) h) most) (sym last)
+      many = subst (λ (n : ℕ). IsUndecidedAt h most n (p.1 + 1)) (sym last)
           (is.above p (subst (λ (n : ℕ). slice_get ends n ≡ Some p) same at));
     }
 

@@ -7,19 +7,24 @@ use Rattle.stamp_explain.specs.declared.explaining.ExplainError.{ExplainError}
 use Rattle.stamp_explain.specs.declared.explaining.ExplainError.TheVariants.{Stuck, Undecided, Memory}
 use Rattle.stamp_explain.specs.Observed.{ObservedHistory}
 use Rattle.stamp_explain.specs.Explained.{IsExplained}
-use Rattle.stamp_explain.specs.Cut.{IsStuck, cut_before, seen_at}
+use Rattle.stamp_explain.specs.Cut.{IsStuck, cut, cut_before, seen_at}
 use Rattle.stamp_explain.specs.Points.{HasPoints}
 use Rattle.stamp_explain.specs.Node.{ReachesMany}
 
--- it is explained until this entry returns; and a search of it, or of what is seen of it when the entry has
--- returned, reaches so many configurations, all of them different
+-- a search of what is seen then reaches so many configurations, all of them different; or one of the whole does,
+-- and all of its returns are known then
+abbrev pub IsUndecidedAt : ObservedHistory → ℕ → ℕ → ℕ → Type 0
+IsUndecidedAt h most last bound =
+    ((cut last bound h ≡ h) × ReachesMany h most) ⊎ ReachesMany (seen_at last bound h) most
+
+-- it is explained until this entry returns, and undecided then
 pub record IsUndecided (h : ObservedHistory) (most i : ℕ) : Type 0 where
   pub entry : Observation
   pub return : Returned
   pub is_entry : slice_get h.entries i ≡ Some entry
   pub returned : entry.returned ≡ Some return
   pub explained : IsExplained (cut_before return i h)
-  pub many : ReachesMany h most ⊎ ReachesMany (seen_at return.last (i + 1) h) most
+  pub many : IsUndecidedAt h most return.last (i + 1)
 
 -- no order was found: since none explains it, or since the search was stopped
 abbrev pub IsNotFound : ObservedHistory → ℕ → Bool → Type 0

@@ -14,9 +14,10 @@ use stamp_cli::{Line, ServeFault, Sink, Source, Verdict, write_line};
 use std::alloc::Global;
 
 /// Reads an observed history of the source, looks for an order that explains it, and writes one line: the
-/// record found, as a history; or the return at which none does, or at which that isn't known. Or it says why there is no line. It
-/// looks at `most` configurations at most. What was read of the source is gone also after a refusal. An
-/// input has at most 16,777,216 bytes (one more may be taken, which shows that it is too long).
+/// record found, as a history; or the first fault of what can't have been observed; or the return at which
+/// no order explains it, or at which that isn't known. Or it says why there is no line. Each search looks
+/// at `most` configurations at most. What was read of the source is gone also after a refusal. An input has
+/// at most 16,777,216 bytes (one more may be taken, which shows that it is too long).
 pub fn serve_explanation<S: Source, K: Sink>(
     alloc: Global,
     most: u64,

@@ -55,7 +55,8 @@ where_apart t u f g p q h same = by (less p g)
     by (inr lt) = let le : q ≤ f = grind (arith, nat_tests) in inr le
 
 -- a call that had returned when another began leaves its thread free for it
-before_free : (ended : Option Returned) (n : ℕ) → MatchOption ended ⊥ (λ (r : Returned). r.last < n) → free_after ended ≤ n
+before_free : (ended : Option Returned) (n : ℕ) → MatchOption ended ⊥ (λ (r : Returned). r.last < n) →
+    free_after ended ≤ n
 before_free None n before = absurd before
 before_free (Some r) n before = omega (arith, before)
 

@@ -6,7 +6,8 @@ use Rattle.std.specs.Prelude.{take}
 use Rattle.std.specs.List.{All, AllPairs}
 use Rattle.std.proofs.Math.ListN.{length-set}
 use Rattle.std.proofs.Math.Seq.{get_or-append_seam}
-use Rattle.std.proofs.lemmas.List.{take_more, get_or_append_left, get_or-take, length-replicate, get_or-replicate, take_all}
+use Rattle.std.proofs.lemmas.List.{take_more, get_or_append_left, get_or-take, length-replicate, get_or-replicate}
+use Rattle.std.proofs.lemmas.List.{take_all}
 use Rattle.std.proofs.lemmas.List.Elements.{All-push}
 use Rattle.std.proofs.lemmas.List.Quantifiers.{all_pairs_push}
 use Rattle.stamp_explain.proofs.Lists.{pairs_none}

@@ -1,5 +1,6 @@
 -- Which calls come before the first fault.
-use Rattle.std.proofs.Common.{◌≡◌, ◌≤◌, ◌<◌, ℕ, ◌+◌, ◌∙◌, List, [], ◌∷◌, ◌++◌, length, get_or, ap, sym, subst, arith, Some, length-take-le}
+use Rattle.std.proofs.Common.{◌≡◌, ◌≤◌, ◌<◌, ℕ, ◌+◌, ◌∙◌, List, [], ◌∷◌, ◌++◌, length}
+use Rattle.std.proofs.Common.{get_or, ap, sym, subst, arith, Some, length-take-le}
 use Rattle.std.specs.Prelude.{take, slice_get}
 use Rattle.std.specs.List.{All, AllPairs}
 use Rattle.std.proofs.lemmas.List.{take_more, take_all, take-take, get_or-take}

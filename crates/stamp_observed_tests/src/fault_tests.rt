@@ -52,10 +52,22 @@ fn the_first_call_that_cannot_have_been_seen_is_named(rt: HostRuntime) -> Result
         (&[(0, 4, None), (0, last, Some(last))], overlap(1)),
         (&[(0, 4, None), (0, 7, None)], overlap(1)),
         (&[(0, 0, Some(9)), (0, 5, Some(4))], interval(1)),
-        (&[(0, 0, Some(9)), (0, 5, Some(6)), (1, 3, Some(2))], overlap(1)),
-        (&[(0, 0, Some(9)), (1, 3, Some(2)), (0, 5, Some(6))], interval(1)),
         (
-            &[(0, 0, Some(1)), (0, 9, Some(9)), (1, 0, None), (0, 5, Some(9)), (1, 1, None)],
+            &[(0, 0, Some(9)), (0, 5, Some(6)), (1, 3, Some(2))],
+            overlap(1),
+        ),
+        (
+            &[(0, 0, Some(9)), (1, 3, Some(2)), (0, 5, Some(6))],
+            interval(1),
+        ),
+        (
+            &[
+                (0, 0, Some(1)),
+                (0, 9, Some(9)),
+                (1, 0, None),
+                (0, 5, Some(9)),
+                (1, 1, None),
+            ],
             overlap(3),
         ),
     ];

@@ -33,10 +33,7 @@ const FAULTS: [(&str, ReadError); 16] = [
         r#"{"entries":[],"format":2,"layout":2,"readers":1,"report":[],"versions":1,"width":0}"#,
         TOP,
     ),
-    (
-        r#"{"entries":[],"format":7,"readers":1,"versions":1}"#,
-        TOP,
-    ),
+    (r#"{"entries":[],"format":7,"readers":1,"versions":1}"#, TOP),
     (
         r#"{"entries":5,"format":2,"readers":0,"versions":1,"width":0}"#,
         ReadError::NotHistory(Field::Format),
@@ -130,7 +127,11 @@ fn the_first_fault_in_the_order_of_the_fields_is_told(rt: HostRuntime) -> Result
         let text = format!(in rt.alloc();
             "{{\"entries\":[{first},{second},0],\"format\":1,\"readers\":1,\"versions\":0,\"width\":2}}"
         )?;
-        assert_eq!(rt; refusal_of(rt.alloc(), text.as_bytes()), Some(fault), "{second}");
+        assert_eq!(rt;
+            refusal_of(rt.alloc(), text.as_bytes()),
+            Some(fault),
+            "{second}"
+        );
     }
     Ok(())
 }

@@ -55,6 +55,14 @@ pub record IsConsistentWith (limits : Bounds) (v : LockPass) : Type 0 where
   pub own : made_by every v.name v.observed ≡ v.own
   pub given : HasGivenAll v.name v.splits v.observed
 
+-- a new lock, and its first pass, which has made no call
+pub record IsNew (limits : Bounds) (enterable : Bool) (lock : LockView) (pass : Token) : Type 0 where
+  pub has_limits : lock.limits ≡ limits
+  pub opens : lock.enterable ≡ enterable
+  pub table : pass.table ≡ lock.table
+  pub view : pass.view ≡ first_pass
+  pub consistent : IsConsistentWith limits pass.view
+
 -- a legal history that begins with what the pass has observed, and whose events this word
 -- represents
 pub record LeavesWord (limits : Bounds) (v : LockPass) (word : ℕ) (log : LockLog) : Type 0 where

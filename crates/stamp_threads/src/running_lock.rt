@@ -7,7 +7,7 @@ ghost use Rattle.stamp_core.specs.CountedDecision.{decision};
 ghost use Rattle.stamp_core.specs.LockDecision.{decision_as};
 ghost use Rattle.stamp_machines.specs.declared.machine.Turn.TheVariants as Turn;
 ghost use Rattle.stamp_threads.specs.PassView.{after_split, split_off};
-ghost use Rattle.stamp_threads.specs.LockPass.{HasEntered, IsConsistentWith, first_pass};
+ghost use Rattle.stamp_threads.specs.LockPass.{HasEntered, IsConsistentWith, IsNew};
 ghost use Rattle.stamp_threads.specs.Answered.{Answered, IsWaiting, LooksOnceOrTwice, try_form};
 ghost use Rattle.stamp_threads.specs.LostExchange.{LostExchange};
 ghost use Rattle.stamp_threads.specs.LockRule.{Loaded, Exchanged};
@@ -86,11 +86,7 @@ impl RunningLock {
     /// A lock that nobody holds, and its first pass, of which all others are split off. It refuses
     /// only for want of memory.
     pub fn new(alloc: Global, limits: Limits) -> Result<(RunningLock, Pass), LockError>
-        ensures limits { IfOk result (λ r. r.0.limits ≡ limits) }
-        ensures closed { IfOk result (λ r. r.0.enterable ≡ false) }
-        ensures lock { IfOk result (λ r. r.1.table ≡ r.0.table) }
-        ensures pass { IfOk result (λ r. r.1.view ≡ first_pass) }
-        ensures consistent { IfOk result (λ r. IsConsistentWith limits r.1.view) }
+        ensures { IfOk result (λ r. IsNew limits false r.0 r.1) }
     {
         RunningLock::of_key(
             alloc,
@@ -103,11 +99,7 @@ impl RunningLock {
 
     /// As `new`, of a lock that threads may also `enter`.
     pub fn enterable(alloc: Global, limits: Limits) -> Result<(RunningLock, Pass), LockError>
-        ensures limits { IfOk result (λ r. r.0.limits ≡ limits) }
-        ensures enterable { IfOk result (λ r. r.0.enterable ≡ true) }
-        ensures lock { IfOk result (λ r. r.1.table ≡ r.0.table) }
-        ensures pass { IfOk result (λ r. r.1.view ≡ first_pass) }
-        ensures consistent { IfOk result (λ r. IsConsistentWith limits r.1.view) }
+        ensures { IfOk result (λ r. IsNew limits true r.0 r.1) }
     {
         RunningLock::of_key(
             alloc,
@@ -119,11 +111,7 @@ impl RunningLock {
     }
 
     fn of_key(alloc: Global, key: LockKey) -> Result<(RunningLock, Pass), LockError>
-        ensures limits { IfOk result (λ r. r.0.limits ≡ key.limits) }
-        ensures enterable { IfOk result (λ r. r.0.enterable ≡ key.enterable) }
-        ensures lock { IfOk result (λ r. r.1.table ≡ r.0.table) }
-        ensures pass { IfOk result (λ r. r.1.view ≡ first_pass) }
-        ensures consistent { IfOk result (λ r. IsConsistentWith key.limits r.1.view) }
+        ensures { IfOk result (λ r. IsNew key.limits key.enterable r.0 r.1) }
     {
         let limits = key.limits;
         let opening = Word::opening_in(limits.layout()).bits();

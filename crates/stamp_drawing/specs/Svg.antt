@@ -1,0 +1,62 @@
+-- The text of a sheet as SVG.
+use Rattle.std.specs.Prelude.{ℕ, List, [], ◌∷◌, ◌++◌, map, codes, decimal, string_bytes}
+use Rattle.std.specs.List.{concat}
+use Rattle.stamp_drawing.specs.declared.places.Class.{Class}
+use Rattle.stamp_drawing.specs.declared.places.Class.TheVariants.{Free, Reading, Writing, Content, Lane, Bar, Bad, Mark, Note}
+use Rattle.stamp_drawing.specs.declared.sheet.Shape.{Shape}
+use Rattle.stamp_drawing.specs.declared.sheet.Sheet.{Sheet}
+use Rattle.stamp_drawing.specs.Markup.{Attribute, escaped, element_text}
+
+abbrev pub class_name : Class → List ℕ
+class_name Free = codes "free"
+class_name Reading = codes "reading"
+class_name Writing = codes "writing"
+class_name Content = codes "content"
+class_name Lane = codes "lane"
+class_name Bar = codes "bar"
+class_name Bad = codes "bad"
+class_name Mark = codes "mark"
+class_name Note = codes "note"
+
+abbrev pub shape_attributes : Shape → List Attribute
+shape_attributes s =
+    (codes "class", class_name s.place.class) ∷ (codes "x", decimal s.place.x) ∷ (codes "y", decimal s.place.y) ∷
+    (codes "width", decimal s.place.width) ∷ (codes "height", decimal s.place.height) ∷ []
+
+-- the box fills its element
+abbrev pub box_text : List ℕ
+box_text = element_text (codes "rect") ((codes "width", codes "100%") ∷ (codes "height", codes "100%") ∷ []) []
+
+abbrev pub line_text : List ℕ → List ℕ → List ℕ
+line_text y line = element_text (codes "text") ((codes "x", codes "4") ∷ (codes "y", y) ∷ []) (escaped line)
+
+-- a title, a box and two lines
+abbrev pub inside_text : Shape → List ℕ
+inside_text s =
+    element_text (codes "title") [] (escaped (string_bytes s.title)) ++ (box_text ++
+    (line_text (codes "15") (string_bytes s.upper) ++ line_text (codes "29") (string_bytes s.lower)))
+
+unfoldable pub shape_text : Shape → List ℕ
+shape_text s = element_text (codes "svg") (shape_attributes s) (inside_text s)
+
+abbrev pub shapes_text : List Shape → List ℕ
+shapes_text shapes = concat (map shape_text shapes)
+
+abbrev pub sheet_text : Sheet → List ℕ
+sheet_text s =
+    shapes_text s.lanes.items ++ (shapes_text s.ribbon.items ++ (shapes_text s.content.items ++
+    (shapes_text s.bars.items ++ (shapes_text s.marks.items ++ shapes_text s.notes.items))))
+
+abbrev pub view_text : ℕ → ℕ → List ℕ
+view_text width height = codes "0 0 " ++ (decimal width ++ (codes " " ++ decimal height))
+
+abbrev pub root_attributes : Sheet → List Attribute
+root_attributes s =
+    (codes "xmlns", codes "http://www.w3.org/2000/svg") ∷
+    (codes "viewBox", view_text s.width s.height) ∷
+    (codes "width", decimal s.width) ∷ (codes "height", decimal s.height) ∷ []
+
+-- the sheet under a style
+unfoldable pub svg_text : List ℕ → Sheet → List ℕ
+svg_text style s = element_text (codes "svg") (root_attributes s)
+    (element_text (codes "style") [] (escaped style) ++ sheet_text s) ++ 10 ∷ []

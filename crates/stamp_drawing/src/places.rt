@@ -1,0 +1,187 @@
+//! Where bars, marks and moments stand on the sheet.
+ghost use Rattle.std.specs.Prelude.{◌≡◌, ◌≤◌, ◌<◌, ◌*◌, length, IfOk, All};
+ghost use Rattle.stamp_drawing.specs.Places as places;
+ghost use Rattle.stamp_drawing.specs.Places.{ends_of};
+
+use stamp_picture::{Bar, Fault, Mode, Moment};
+use std::alloc::{AllocError, Global};
+
+/// A column, in pixels.
+const UNIT: u64 = 40;
+
+/// The border with the names of the lanes.
+pub(crate) const BORDER: u64 = 96;
+
+/// Where the first column begins.
+const LEFT: u64 = 136;
+
+/// A lane.
+pub(crate) const LANE_HEIGHT: u64 = 44;
+
+/// Where the first lane begins.
+const LANES_TOP: u64 = 104;
+
+/// What a box is, by which it has its colour.
+#[derive(Clone, Copy, Debug, PartialEq, Eq)]
+pub enum Class {
+    /// Nobody holds the lock.
+    Free,
+    /// Readers hold it.
+    Reading,
+    /// A writer holds it.
+    Writing,
+    /// What the record holds.
+    Content,
+    /// The lane of a thread.
+    Lane,
+    /// A call.
+    Bar,
+    /// The call of the first fault.
+    Bad,
+    /// Where a call took effect.
+    Mark,
+    /// Words beside the picture.
+    Note,
+}
+
+/// A box on the sheet, in pixels from its left upper corner.
+#[derive(Clone, Copy, Debug, PartialEq, Eq)]
+pub struct Place {
+    /// What it is.
+    pub class: Class,
+    /// Its left side.
+    pub x: u64,
+    /// Its upper side.
+    pub y: u64,
+    /// How wide it is.
+    pub width: u64,
+    /// How high it is.
+    pub height: u64,
+}
+
+/// The positions at which the bars begin, take effect and end.
+pub(crate) fn ends_of(alloc: Global, bars: &[Bar]) -> Result<Vec<u64>, AllocError>
+    ensures ends { IfOk result (λ ends. ends.items ≡ ends_of bars.now) }
+    ensures three { IfOk result (λ ends. length ends.items ≡ 3 * length bars.now) }
+{
+    let mut ends = Vec::new(alloc);
+    for bar in bars {
+        ends.extend_from_slice(&[bar.first, bar.point, bar.last])?;
+    }
+    Ok(ends)
+}
+
+pub(crate) fn column(ends: &[u64], position: u64) -> u64
+    ensures is { result ≡ places.column ends.now position }
+    ensures few { result ≤ length ends.now }
+{
+    ends.iter().filter(|end| **end < position).count() as u64
+}
+
+pub(crate) fn column_after(ends: &[u64], position: u64) -> u64
+    ensures is { result ≡ places.column_after ends.now position }
+    ensures few { result ≤ length ends.now }
+{
+    ends.iter().filter(|end| **end <= position).count() as u64
+}
+
+fn x_of(columns: u64) -> u64
+    requires { columns ≤ 6000 }
+    ensures { result ≡ places.x_of columns }
+{
+    LEFT + UNIT * columns
+}
+
+pub(crate) fn lane_y(lane: u64) -> u64
+    requires { lane ≤ 64 }
+    ensures { result ≡ places.lane_y lane }
+{
+    LANES_TOP + LANE_HEIGHT * lane
+}
+
+pub(crate) fn right_of(ends: &[u64]) -> u64
+    requires { length ends.now ≤ 6000 }
+    ensures { result ≡ places.right_of ends.now }
+{
+    x_of(ends.len() as u64)
+}
+
+pub(crate) fn is_bad(verdict: &Result<u64, Fault>, bar: &Bar) -> bool
+    ensures { result ≡ places.is_bad verdict.now bar.now }
+{
+    match verdict {
+        Ok(_) => false,
+        Err(fault) => fault.bad.entry == bar.entry,
+    }
+}
+
+fn bar_class(verdict: &Result<u64, Fault>, bar: &Bar) -> Class
+    ensures { result ≡ places.bar_class verdict.now bar.now }
+{
+    if is_bad(verdict, bar) {
+        Class::Bad
+    } else {
+        Class::Bar
+    }
+}
+
+pub(crate) fn bar_place(verdict: &Result<u64, Fault>, ends: &[u64], bar: &Bar) -> Place
+    requires few { length ends.now ≤ 6000 }
+    requires lane { bar.now.lane < 64 }
+    ensures { result ≡ places.bar_place verdict.now ends.now bar.now }
+{
+    let begin = column(ends, bar.first.min(bar.last));
+    let end = column_after(ends, bar.first.max(bar.last));
+    Place {
+        class: bar_class(verdict, bar),
+        x: x_of(begin),
+        y: lane_y(bar.lane) + 4,
+        width: UNIT * end.saturating_sub(begin),
+        height: 36,
+    }
+}
+
+pub(crate) fn point_x(ends: &[u64], point: u64) -> u64
+    requires { length ends.now ≤ 6000 }
+    ensures { result ≡ places.point_x ends.now point }
+{
+    x_of(column(ends, point)) + 20
+}
+
+pub(crate) fn mark_place(ends: &[u64], bar: &Bar) -> Place
+    requires few { length ends.now ≤ 6000 }
+    requires lane { bar.now.lane < 64 }
+    ensures { result ≡ places.mark_place ends.now bar.now }
+{
+    Place {
+        class: Class::Mark,
+        x: point_x(ends, bar.point) - 3,
+        y: lane_y(bar.lane) + 33,
+        width: 6,
+        height: 11,
+    }
+}
+
+pub(crate) fn class_of(mode: Mode) -> Class
+    ensures { result ≡ places.class_of mode }
+{
+    match mode {
+        Mode::Free => Class::Free,
+        Mode::Reading(_) => Class::Reading,
+        Mode::Writing => Class::Writing,
+    }
+}
+
+pub(crate) fn moment_place(ends: &[u64], moment: &Moment) -> Place
+    requires { length ends.now ≤ 6000 }
+    ensures { result ≡ places.moment_place ends.now moment.now }
+{
+    let x = point_x(ends, moment.point);
+    Place {
+        class: class_of(moment.state.mode),
+        x,
+        y: 32,
+        width: right_of(ends).saturating_sub(x),
+        height: 36,
+    }
+}

@@ -1,0 +1,3 @@
+pub mod EachInTurn
+pub mod Tracking
+pub mod OnePicture

@@ -1,0 +1,63 @@
+-- The picture that answers an order, or why there is none.
+use Rattle.std.specs.Prelude.{ℕ, ◌≡◌, ◌≤◌, length, List, Result, Ok, Err}
+use Rattle.stamp_core.specs.Record.{Recorded}
+use Rattle.stamp_history.specs.History.{history_of}
+use Rattle.stamp_cli.specs.Answer.{IsInputAnswer, AnswersCheck}
+use Rattle.stamp_cli.specs.Source.{most_bytes}
+use Rattle.stamp_cli.specs.declared.line.Verdict.{Verdict}
+use Rattle.stamp_cli.specs.declared.line.Verdict.TheVariants.{Accepted, Bad}
+use Rattle.stamp_picture.specs.declared.picture.Fault.{Fault}
+use Rattle.stamp_picture.specs.declared.window.Window.{Window}
+use Rattle.stamp_picture.specs.Picture.{Drawn, IsPicture, IsCrowded}
+use Rattle.stamp_drawing.specs.declared.sheet.Sheet.{Sheet}
+use Rattle.stamp_drawing.specs.Markup.{IsDocument}
+use Rattle.stamp_drawing.specs.Sheet.{IsSheet}
+use Rattle.stamp_drawing.specs.Svg.{svg_text}
+use Rattle.stamped_picture.specs.declared.answer.Drawing as made
+use Rattle.stamped_picture.specs.declared.faults.PictureFault.{PictureFault}
+use Rattle.stamped_picture.specs.declared.faults.PictureFault.TheVariants.{Serve, TooMany}
+
+-- a picture's text, and what it says of the history
+pub record Drawing : Type 0 where
+  pub text : List ℕ
+  pub verdict : Verdict
+
+abbrev pub drawing_in : made.Drawing → Drawing
+drawing_in drawing = record { text = drawing.text.items; verdict = drawing.verdict }
+
+abbrev pub verdict_in : Result ℕ Fault → Verdict
+verdict_in (Ok n) = Accepted
+verdict_in (Err fault) = Bad
+
+-- the text is the SVG of the boxes of the history's picture in the window
+pub record IsDrawnText (style : List ℕ) (window : Window) (history : Recorded) (drawing : Drawing) : Type 0 where
+  pub picture : Drawn
+  pub is_picture : IsPicture history window picture
+  pub sheet : Sheet
+  pub is_sheet : IsSheet picture sheet
+  pub text : drawing.text ≡ svg_text style sheet
+  pub document : IsDocument drawing.text
+  pub verdict : drawing.verdict ≡ verdict_in picture.verdict
+
+-- the bars are too many, and the fault says how many
+abbrev pub IsUndrawn : Window → Recorded → PictureFault → Type 0
+IsUndrawn window history (TooMany n) = IsCrowded history window n
+IsUndrawn window history (Serve fault) = ⊥
+
+-- the input is a history, and this is its picture
+pub record IsAnswer (style : List ℕ) (window : Window) (input : List ℕ) (drawing : Drawing) : Type 0 where
+  pub within : length input ≤ most_bytes
+  pub history : Recorded
+  pub read : history_of input ≡ Ok history
+  pub drawn : IsDrawnText style window history drawing
+
+-- the input is a history of which there are too many bars to draw
+pub record IsTooMany (window : Window) (input : List ℕ) (n : ℕ) : Type 0 where
+  pub history : Recorded
+  pub read : history_of input ≡ Ok history
+  pub crowded : IsCrowded history window n
+
+-- the fault is the one that a check of the input is refused by, or there are too many bars
+abbrev pub IsRefused : Window → List ℕ → PictureFault → Type 0
+IsRefused window input (Serve fault) = IsInputAnswer AnswersCheck input (Err fault)
+IsRefused window input (TooMany n) = IsTooMany window input n

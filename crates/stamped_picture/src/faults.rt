@@ -1,0 +1,72 @@
+//! Why no picture was drawn, and the line that says so.
+
+ghost use Rattle.std.specs.Prelude.{◌≡◌, IfOk, string_bytes};
+ghost use Rattle.stamped_picture.specs.declared.faults.PictureFault.TheVariants.{Serve, TooMany};
+ghost use Rattle.stamped_picture.specs.FaultText.{line_text, picture_fault};
+
+use stamp_cli::ServeFault;
+use stamp_history::ReadError;
+use stamp_picture::PictureError;
+use std::alloc::{AllocError, Global};
+
+/// Why there is no picture.
+#[derive(Clone, Copy, Debug, PartialEq, Eq)]
+pub(crate) enum PictureFault {
+    /// What `stamped check` refuses too.
+    Serve(ServeFault),
+    /// So many entries were to be drawn.
+    TooMany(u64),
+}
+
+impl From<ServeFault> for PictureFault {
+    ghost from_gives = { λ fault e. e ≡ Serve fault };
+
+    fn from(fault: ServeFault) -> PictureFault {
+        PictureFault::Serve(fault)
+    }
+}
+
+impl From<ReadError> for PictureFault {
+    ghost use Rattle.stamp_cli.specs.Refusal.{refusal};
+
+    ghost from_gives = { λ error e. e ≡ Serve (refusal error) };
+
+    fn from(error: ReadError) -> PictureFault {
+        PictureFault::Serve(ServeFault::from(error))
+    }
+}
+
+impl From<AllocError> for PictureFault {
+    ghost use Rattle.stamp_cli.specs.declared.faults.ServeFault.TheVariants.{Memory};
+
+    ghost from_gives = { λ _ e. e ≡ Serve Memory };
+
+    fn from(_refused: AllocError) -> PictureFault {
+        PictureFault::Serve(ServeFault::Memory)
+    }
+}
+
+impl From<PictureError> for PictureFault {
+    ghost from_gives = { λ error e. e ≡ picture_fault error };
+
+    fn from(error: PictureError) -> PictureFault {
+        match error {
+            PictureError::Memory => PictureFault::Serve(ServeFault::Memory),
+            PictureError::TooMany(count) => PictureFault::TooMany(count),
+        }
+    }
+}
+
+/// The line for standard error, without its line feed.
+pub(crate) fn fault_line(alloc: Global, fault: &PictureFault) -> Result<String, PictureFault>
+    ensures { IfOk result (λ line. string_bytes line ≡ line_text fault.now) }
+{
+    match fault {
+        PictureFault::Serve(fault) => Ok(stamp_cli::fault_line(alloc, fault)?),
+        PictureFault::TooMany(count) => {
+            Ok(format!(in alloc;
+                "stamped: {count} entries to draw, over 2000: give --from A --to B"
+            )?)
+        }
+    }
+}

@@ -1,0 +1,74 @@
+//! Draws a recorded history: words and standard input in, one picture out.
+#![tactic(auto)]
+
+mod answer;
+mod faults;
+mod orders;
+mod serving;
+mod style;
+
+use crate::faults::{PictureFault, fault_line};
+use crate::orders::{PictureOrder, order_of};
+use crate::serving::serve;
+use crate::style::STYLE;
+use stamp_cli::{CommandFault, ReadSource, ServeFault, Verdict, WriteSink};
+use std::alloc::AllocError;
+use std::process::ExitCode;
+use std::rt::Env;
+use std::{env, io};
+
+/// The order that the words after the program's name give. Words that are no text give none.
+fn order_given(
+    rt: &(impl Env + AllocGlobal),
+) -> Result<Result<PictureOrder, CommandFault>, AllocError> {
+    let args: Vec<String> = match env::args(rt) {
+        Ok(args) => args.collect(rt.alloc())?,
+        Err(fault) if fault.kind() == io::ErrorKind::OutOfMemory => return Err(AllocError),
+        Err(_) => return Ok(Err(CommandFault::Bad)),
+    };
+    let words: Vec<&str> = args
+        .iter()
+        .skip(1)
+        .map(|word| word.as_str())
+        .collect(rt.alloc())?;
+    Ok(order_of(&words))
+}
+
+/// Serves the order between standard input and standard output.
+fn run(
+    rt: &(impl Input + Print + AllocGlobal),
+    order: PictureOrder,
+) -> Result<Verdict, PictureFault> {
+    let mut source = ReadSource::new(rt.reader());
+    let mut sink = WriteSink::new(io::writer(rt));
+    serve(rt.alloc(), order, STYLE, &mut source, &mut sink)
+}
+
+/// Prints the fault's line, if there is memory for it.
+fn report(rt: &(impl Eprint + AllocGlobal), fault: &PictureFault) {
+    if let Ok(line) = fault_line(rt.alloc(), fault) {
+        let _ = rt.eprintln(line);
+    }
+}
+
+fn main(rt: HostRuntime) -> ExitCode {
+    let order = match order_given(&rt) {
+        Ok(Ok(order)) => order,
+        Ok(Err(CommandFault::Bad)) => {
+            let _ = rt.eprintln("stamped: bad command line");
+            return ExitCode::from(2);
+        }
+        Err(AllocError) => {
+            report(&rt, &PictureFault::Serve(ServeFault::Memory));
+            return ExitCode::FAILURE;
+        }
+    };
+    match run(&rt, order) {
+        Ok(Verdict::Accepted) => ExitCode::SUCCESS,
+        Ok(Verdict::Bad) => ExitCode::FAILURE,
+        Err(fault) => {
+            report(&rt, &fault);
+            ExitCode::FAILURE
+        }
+    }
+}

@@ -1,0 +1,123 @@
+"""Draws histories by the program stamped_picture, and looks at what it drew.
+
+    pictures.py PROGRAM [FOLDER]
+
+Each picture is XML; it has a bar for each entry up to the first fault, in its thread's lane, with its
+call; a faulty entry is the one that is marked. Those of docs/pictures are made again and compared. With
+FOLDER all of them are written there: so `pictures.py PROGRAM docs/pictures` makes those pages' pictures
+again (it leaves the others there, which are not kept)."""
+import json
+import os
+import subprocess
+import sys
+import xml.etree.ElementTree as xml
+
+SVG = "{http://www.w3.org/2000/svg}"
+KEPT = os.path.join(os.path.dirname(__file__), "..", "docs", "pictures")
+LANES_TOP, LANE_HEIGHT = 104, 44
+
+
+def entry(thread, call, reply, first, point, last):
+    return {"call": call, "first": first, "last": last, "point": point, "reply": reply, "thread": thread}
+
+
+def history(entries, width=0):
+    """A history of layout 1."""
+    return {"entries": entries, "format": 1, "readers": 127, "versions": 1000, "width": width}
+
+
+def at(position, thread, call, reply):
+    """An entry that has one position."""
+    return entry(thread, call, reply, position, position, position)
+
+
+SCHEDULE = [
+    entry(1, ["try_write"], 384, 1, 2, 2),
+    entry(1, ["unlock_write", 384], "done", 3, 4, 4),
+    entry(0, ["try_write"], 640, 0, 6, 6),
+]
+TORN_GET = [
+    entry(0, ["put", [1, 2]], "done", 0, 3, 4),
+    entry(1, ["put", [3, 4]], "done", 1, 6, 7),
+    entry(2, ["get"], [1, 4], 2, 8, 9),
+]
+MANY = [entry(n, ["try_read"], 257 + n, n, 64 + n, 128 + n) for n in range(64)]
+READ = at(0, 0, ["try_read"], 257)
+FAULTS = {
+    "interval": [READ, entry(1, ["try_read"], 258, 4, 2, 6)],
+    "order": [READ, entry(1, ["try_read"], 258, 1, 5, 6), entry(2, ["try_read"], 259, 2, 4, 7)],
+    "overlap": [entry(0, ["try_read"], 257, 0, 1, 5), entry(0, ["try_read"], 258, 3, 6, 7)],
+    "reply": [*SCHEDULE[:2], entry(0, ["try_write"], 384, 0, 6, 6)],
+    "wait": [READ, at(1, 1, ["write_lock"], 384)],
+}
+PICTURES = {
+    "schedule": (history(SCHEDULE), [], None),
+    "torn_get": (history(TORN_GET, 2), [], 2),
+    "many_threads": (history(MANY), [], None),
+    "window": (history(MANY), ["--from", "130", "--to", "131"], None),
+    **{f"fault_{why}": (history(entries), [], len(entries) - 1) for why, entries in FAULTS.items()},
+    "long": (history([at(n, n % 64, ["read_count"], {"count": 0}) for n in range(2000)]), [], None),
+}
+DRAWN = {"window": 62}
+TOO_MANY = history([at(n, 0, ["read_count"], {"count": 0}) for n in range(2001)])
+TOO_MANY_LINE = b"stamped: 2001 entries to draw, over 2000: give --from A --to B\n"
+
+
+def ended(program, text, words):
+    ran = subprocess.run([program, *words], input=text, capture_output=True, timeout=60)
+    return ran.returncode, ran.stdout, ran.stderr
+
+
+def boxes(root, names):
+    return [box for box in root.iter(SVG + "svg") if box.get("class") in names and box.find(SVG + "rect") is not None]
+
+
+def bars_of(root):
+    """Each bar's lane, class and first line; notes of the legend have no second line."""
+    return [
+        ((int(box.get("y")) - LANES_TOP) // LANE_HEIGHT, box.get("class"), box.findall(SVG + "text")[0].text)
+        for box in boxes(root, ["bar", "bad"])
+        if box.findall(SVG + "text")[1].text
+    ]
+
+
+def call_text(call):
+    return " ".join([call[0], *map(str, call[1:])])
+
+
+def look(name, drawn, answer, bad):
+    """The picture's status, its bars and the fault that it marks are those of the history."""
+    status, text, told = answer
+    if (status, told) != (0 if bad is None else 1, b""):
+        sys.exit(f"{name}: status {status}, {told}")
+    marked = ["bad" if number == bad else "bar" for number in range(len(drawn))]
+    wanted = [(e["thread"], kind, call_text(e["call"])) for e, kind in zip(drawn, marked)]
+    bars = bars_of(xml.fromstring(text))
+    if bars != wanted:
+        sys.exit(f"{name}: {bars}, and not {wanted}")
+
+
+def main():
+    program, *folder = sys.argv[1:]
+    program = os.path.abspath(program)
+    for name, (told, words, bad) in PICTURES.items():
+        answer = ended(program, json.dumps(told).encode(), words)
+        drawn = told["entries"][-DRAWN[name]:] if name in DRAWN else told["entries"]
+        look(name, drawn, answer, bad)
+        kept = os.path.join(KEPT, f"{name}.svg")
+        for room in folder:
+            with open(os.path.join(room, f"{name}.svg"), "wb") as file:
+                file.write(answer[1])
+        if not folder and os.path.exists(kept):
+            with open(kept, "rb") as file:
+                if file.read() != answer[1]:
+                    sys.exit(f"{kept} is another picture than the one that is made now")
+        print(f"{name}: {len(drawn)} bars")
+    answer = ended(program, json.dumps(TOO_MANY).encode(), [])
+    if answer != (1, b"", TOO_MANY_LINE):
+        sys.exit(f"2001 entries: {answer}")
+    if ended(program, json.dumps(TOO_MANY).encode(), ["--from", "1", "--to", "2000"])[0] != 0:
+        sys.exit("2000 entries of a window are not drawn")
+
+
+main()
