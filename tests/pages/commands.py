@@ -9,7 +9,7 @@ import subprocess
 import sys
 import tempfile
 
-PAGES = ["README.md", "docs/TOUR.md", "docs/FORMATS.md"]
+PAGES = ["README.md", "docs/TOUR.md", "docs/FORMATS.md", "docs/JUDGING.md"]
 ANSWERED = ["README.md", "docs/TOUR.md"]
 INDENT = "    "
 
