@@ -2,5 +2,4 @@ pub mod Markup
 pub mod Places
 pub mod Sheet
 pub mod Svg
-pub mod Rows
 pub mod SvgLaws

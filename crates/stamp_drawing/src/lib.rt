@@ -4,12 +4,10 @@
 mod labels;
 mod markup;
 mod places;
-mod rows;
 mod sheet;
 mod svg;
 pub mod svg_laws;
 
 pub use places::{Class, Place};
-pub use rows::text_of;
 pub use sheet::{Shape, Sheet, sheet_of};
 pub use svg::svg_of;

@@ -71,14 +71,14 @@ pub(crate) fn ends_of(alloc: Global, bars: &[Bar]) -> Result<Vec<u64>, AllocErro
     Ok(ends)
 }
 
-pub(crate) fn column(ends: &[u64], position: u64) -> u64
+fn column(ends: &[u64], position: u64) -> u64
     ensures is { result ≡ places.column ends.now position }
     ensures few { result ≤ length ends.now }
 {
     ends.iter().filter(|end| **end < position).count() as u64
 }
 
-pub(crate) fn column_after(ends: &[u64], position: u64) -> u64
+fn column_after(ends: &[u64], position: u64) -> u64
     ensures is { result ≡ places.column_after ends.now position }
     ensures few { result ≤ length ends.now }
 {
@@ -106,7 +106,7 @@ pub(crate) fn right_of(ends: &[u64]) -> u64
     x_of(ends.len() as u64)
 }
 
-pub(crate) fn is_bad(verdict: &Result<u64, Fault>, bar: &Bar) -> bool
+fn is_bad(verdict: &Result<u64, Fault>, bar: &Bar) -> bool
     ensures { result ≡ places.is_bad verdict.now bar.now }
 {
     match verdict {
