@@ -8,7 +8,8 @@ use Rattle.std.proofs.Math.Seq.{drop-cons}
 use Rattle.std.proofs.lemmas.List.{append_assoc, append-nil, length-map, length-drop, take_more}
 use Rattle.std.proofs.lemmas.List.Elements.{All-nil, All-cons, All-head, All-tail, All-weaker, All-more}
 use Rattle.std.proofs.lemmas.List.Elements.{Contains-push, Contains-append_left}
-use Rattle.std.proofs.lemmas.Option.{slice_get_read, none-some, same_Some, slice_get-map, slice_get_within, get_or_from_slice_get}
+use Rattle.std.proofs.lemmas.Option.{slice_get_read, none-some, same_Some, slice_get-map, slice_get_within}
+use Rattle.std.proofs.lemmas.Option.{get_or_from_slice_get}
 use Rattle.stamp_core.specs.Call.{call_suits}
 use Rattle.stamp_core.specs.Record.{recorded, IsRecorded, SuitsRecord}
 use Rattle.stamp_core.specs.declared.entry.Entry.{Entry}
@@ -24,7 +25,8 @@ use Rattle.stamp_explain.specs.Points.{IsEntryOf, HasPoints, IsLastTold, EndsAsT
 use Rattle.stamp_explain.specs.Points.{ends_at, position_at, there_at}
 use Rattle.stamp_explain.proofs.Threads.{few_threads}
 use Rattle.stamp_explain.proofs.Expanding.{at_place}
-use Rattle.stamp_explain.proofs.Spreading.{IsReady, TakesEffect, points_from, takes_effect, ready_of, points_are_of, points_indices}
+use Rattle.stamp_explain.proofs.Spreading.{IsReady, TakesEffect, points_from, takes_effect, ready_of, points_are_of}
+use Rattle.stamp_explain.proofs.Spreading.{points_indices}
 use Rattle.stamp_explain.proofs.Spreading.{points_are_linearized}
 
 -- the last that is told of no call, and of one more

@@ -374,7 +374,8 @@ record IsUntil (last : ℕ) (e : Observation) : Type 0 where
   ended : (r : Returned) → e.returned ≡ Some r → (e.first ≤ last) × (r.last ≤ last)
 
 interval_is : (e : Observation) (r : Returned) → IsInterval e → e.returned ≡ Some r → e.first ≤ r.last
-interval_is e r is at = subst (λ (o : Option Returned). MatchOption o (Unit {0}) (λ (q : Returned). e.first ≤ q.last)) at
+interval_is e r is at = subst (λ (o : Option Returned). MatchOption o (Unit {0}) (λ (q : Returned). e.first ≤
+    q.last)) at
     is
 
 until_then : (last : ℕ) (e k : Observation) → IsSeenAs last e k → IsInterval e → IsUntil last k
@@ -519,7 +520,8 @@ filter_no_longer : (p : Observation → Bool) (xs : List Observation) → length
 filter_no_longer p [] = omega arith
 filter_no_longer p (x ∷ xs) = by (p x) (filter_no_longer p xs)
   where
-    by : (b : Bool) → length (filter p xs) ≤ length xs → length (cond b (x ∷ filter p xs) (filter p xs)) ≤ length (x ∷ xs)
+    by : (b : Bool) → length (filter p xs) ≤ length xs → length (cond b (x ∷ filter p xs) (filter p xs)) ≤ length
+        (x ∷ xs)
     by true le = omega (arith, le)
     by false le = omega (arith, le)
 

@@ -24,7 +24,8 @@ loop-next-preserved c =
           }) b) w.if-branch.true c.in_ok-add.ensures)
           (ap (λ (v : Vec ℕ Global). v.items) w.waiting-is ∙ w.in_ok-push.ensures.items ∙
           ap (λ (n : ℕ). c.loop-next.waiting.items ++ n ∷ []) (c.len-place.ensures ∙ c.loop-next.store.nodes.ok.0))
-      | else-branch w ↦ entered_seen c.args.store.now c.loop-next.store c.add.new.self c.args.from c.args.waiting.now.items
+      | else-branch w ↦ entered_seen c.args.store.now c.loop-next.store c.add.new.self c.args.from
+          c.args.waiting.now.items
           c.loop-next.waiting.items c.if-branch.waiting.items c.args.nexts.now c.loop-next.next-index blank
           c.loop-next-test.true
           c.loop-next.invariant (subst (λ (b : Bool). IsStored c.loop-next.store c.add.new.self

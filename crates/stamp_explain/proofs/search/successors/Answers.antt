@@ -8,7 +8,8 @@ use Rattle.stamp_explain.specs.Observed.{HasReturned}
 use Rattle.stamp_explain.proofs.Succeeding.{Awaits, Tries, awaits_of, awaited_returned, awaited_at, tried_none}
 use Rattle.stamp_explain.proofs.Succeeding.{tried_some, expands_past, expands_taken, expands_at_once}
 use Rattle.stamp_explain.proofs.search.successors.Goals as goal
-use Rattle.stamp_explain.proofs.search.successors.Goals.{in-Some-take_of+else-observes_at+in_ok-push, in_default-take_of}
+use Rattle.stamp_explain.proofs.search.successors.Goals.{in-Some-take_of+else-observes_at+in_ok-push}
+use Rattle.stamp_explain.proofs.search.successors.Goals.{in_default-take_of}
 
 pub returns-then-has_bit : goal.returns-then-has_bit
 returns-then-has_bit c =
