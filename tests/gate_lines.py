@@ -1,10 +1,11 @@
 """Prints the lines of `rt ci` as they come, each with the minutes so far, and says what it waits for.
 
-    rt ci 2>&1 | gate_lines.py CRATES BUILT COUNT PROGRAM..
+    rt ci 2>&1 | gate_lines.py CRATES PROVED BUILT COUNT PROGRAM..
 
-CRATES is crates.txt. Once each PROGRAM is proved, and so linked, a line is written to the pipe BUILT. The
-last two lines of a gate that passes speak of the gate alone, so they are kept from the page: how many
-things passed and failed goes to the file COUNT. After a minute without a line, one says how far it is."""
+CRATES is crates.txt. Once all of them are proved, a line is written to the pipe PROVED; once each PROGRAM
+is proved, and so linked, one to the pipe BUILT. What an earlier run proved is there at once. The last two
+lines of a gate that passes speak of the gate alone, so they are kept from the page: how many things passed
+and failed goes to the file COUNT. After a minute without a line, one says how far it is."""
 import os
 import re
 import select
@@ -17,10 +18,10 @@ QUIET = 60
 class Gate:
     """How far it is: the crates that are proved, and what is still to be built."""
 
-    def __init__(self, crates, built, count, programs):
+    def __init__(self, crates, proved, built, count, programs):
         with open(crates) as file:
             self.names = [line.split()[0].rstrip(":") for line in file if re.match(r"\w", line)]
-        self.built, self.count, self.waited = built, count, set(programs)
+        self.count, self.waited = count, {proved: set(self.names), built: set(programs)}
         self.proved, self.start = set(), time.monotonic()
 
     def tell(self, text):
@@ -36,20 +37,20 @@ class Gate:
         if line.startswith("rt: ok; "):
             return
         self.tell(line)
-        proved = re.fullmatch(r"rt: (\w+) proved", line)
+        proved = re.fullmatch(r"rt: (\w+) (?:proved|is kept: .*)", line)
         if proved:
             self.proved.add(proved[1])
-            if self.waited and self.waited <= self.proved:
-                self.waited = set()
-                with open(self.built, "w") as pipe:
-                    pipe.write("built\n")
+            for pipe in [pipe for pipe, names in self.waited.items() if names <= self.proved]:
+                del self.waited[pipe]
+                with open(pipe, "w") as file:
+                    file.write("there\n")
 
     def wait(self):
         self.tell(f"at work: {len(self.proved)} of {len(self.names)} crates proved")
 
 
 def main():
-    gate, rest = Gate(*sys.argv[1:4], sys.argv[4:]), b""
+    gate, rest = Gate(*sys.argv[1:5], sys.argv[5:]), b""
     while True:
         if not select.select([sys.stdin], [], [], QUIET)[0]:
             gate.wait()

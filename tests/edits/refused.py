@@ -1,0 +1,228 @@
+"""Tries wrong bodies, many over one load of the libraries: the prover must refuse each.
+
+    refused.py [--count FILE] [CRATE..]
+
+An edit is a file tests/edits/CRATE/NAME.edit, in the form of the kit's must-fail edits: a line `file:`, then
+pairs of lines `old:` and `new:`. It changes the body of one function. A function is proved from the contracts
+of those that it calls, so edits of several functions are tried at once, in one copy of the crate. A function
+that calls one which isn't proved isn't judged: its edit is tried again in the next round, without those that
+are settled.
+
+An edit is refused if the edited function isn't proved for what its contract says. It fails if the function is
+proved, if the edit can't be applied or compiled, or if the proof only lacks names that it took away. A crate
+fails if any other function isn't proved for its own sake. The libraries must be built: `rt ci` leaves them in
+crates/*/out. What `rt check` kept is begun with, if there is any. How many were refused and how many failed is
+the last line, and goes to the file FILE."""
+import concurrent.futures
+import os
+import re
+import shutil
+import subprocess
+import sys
+import tempfile
+import time
+
+FOLDER = os.path.dirname(os.path.abspath(__file__))
+TOP = os.path.dirname(os.path.dirname(FOLDER))
+PARTS = ("src", "specs", "proofs")
+FUNCTION = re.compile(r'^( *)(?:pub(?:\([a-z]+\))? )?(?:extern "C" )?fn (\w+)', re.M)
+IMPL = re.compile(r"^impl(?:<[^>{]*>)? (?:([\w:]+)(?:<[^>{]*>)? for )?(\w+)", re.M)
+STATED = re.compile(r"^fn (\S+): (.*)$", re.M)
+# What a proof says that cites a name which the edit took away.
+NAMES = re.compile(r"has no field|is not in scope|has no `|was not admitted")
+
+
+class Failed(Exception):
+    """What is wrong with an edit or a crate."""
+
+
+def listed():
+    """Each crate of crates.txt, with the crates and libraries that it uses."""
+    with open(f"{TOP}/crates.txt") as file:
+        lines = [line.split("#")[0].split(":") for line in file if ":" in line.split("#")[0]]
+    return {line[0].split()[0]: line[1].split() for line in lines}
+
+
+class Crate:
+    """A crate, and how the prover is called on it."""
+
+    def __init__(self, name, uses):
+        self.name, self.folder = name, f"{TOP}/crates/{name}"
+        kit = os.path.dirname(subprocess.run(["rt", "doc"], capture_output=True, text=True, check=True).stdout.strip())
+        rlibs = f"{kit}/rlibs"
+        below = []
+        for it in uses[name]:
+            below += [it for it in [*uses.get(it, []), it]] if it in uses else []
+        # (a crate's line names all that is below it)
+        libraries = [f"std={rlibs}/std.rlib"]
+        for it in uses[name]:
+            libraries.append(f"{it}={TOP}/crates/{it}/out/rlib/{it}.rlib" if it in uses else f"{it}={rlibs}/{it}.rlib")
+        folders = [rlibs, *sorted({f"{TOP}/crates/{it}/out/rlib" for it in below if it in uses})]
+        root = "src/main.rt" if os.path.isfile(f"{self.folder}/src/main.rt") else "src/lib.rt"
+        self.words = [f"{kit}/bin/rattle", "check", "--crate-name", name, root, "--links", f"{name}=", "--jobs", "1"]
+        self.words += [word for it in libraries for word in ("--extern", it)]
+        self.words += [word for it in folders for word in ("-L", f"dependency={it}")]
+        self.words += ["--antt-project", f"{kit}/rattle/logic/antt-project.json", "--logic-built", f"{kit}/logic_built"]
+
+    def check(self, room, kept, edits=()):
+        """What the prover says of the crate with the edits, over what was kept."""
+        with tempfile.TemporaryDirectory(dir=room) as copy:
+            for part in PARTS:
+                if os.path.isdir(f"{self.folder}/{part}"):
+                    shutil.copytree(f"{self.folder}/{part}", f"{copy}/{part}")
+            for file, at, old, new in sorted((it for edit in edits for it in edit.pairs), reverse=True):
+                with open(f"{copy}/{file}") as it:
+                    text = it.read()
+                with open(f"{copy}/{file}", "w") as it:
+                    it.write(text[:at] + new + text[at + len(old) :])
+            ran = subprocess.run(
+                [*self.words, "--incremental", kept], cwd=copy, stdin=subprocess.DEVNULL,
+                stdout=subprocess.PIPE, stderr=subprocess.STDOUT, text=True, errors="replace")
+        return ran.stdout
+
+
+class Edit:
+    """A wrong body: the places that it changes, and the function whose body it is."""
+
+    def __init__(self, crate, path):
+        self.name, self.pairs, functions, file = os.path.basename(path), [], set(), None
+        with open(path) as it:
+            lines = it.read().split("\n")
+        for line in lines:
+            if line.startswith("file: "):
+                file = line.removeprefix("file: ").strip()
+                with open(f"{crate.folder}/{file}") as it:
+                    text = it.read()
+            elif line.startswith("old: "):
+                old = line.removeprefix("old: ")
+                if text.count(old) != 1:
+                    raise Failed(f"{self.name}: its text stands in {file} {text.count(old)} times: {old}")
+            elif line.startswith("new:"):
+                self.pairs.append((file, text.index(old), old, line.removeprefix("new:").removeprefix(" ")))
+                functions.add(function_at(crate, file, text[: text.index(old) + len(old)]))
+        if len(functions) != 1:
+            raise Failed(f"{self.name}: it changes {len(functions)} functions")
+        self.function = functions.pop()
+
+
+def function_at(crate, file, before):
+    """The function that a file's text ends in, as the prover prints its name."""
+    found, impl = [*FUNCTION.finditer(before)], [*IMPL.finditer(before)]
+    name = found[-1][2]
+    if found[-1][1]:
+        of, trait = impl[-1][2], impl[-1][1] or ""
+        name = f"{of}{trait.split('::')[-1]}::{name}"
+    module = file.removeprefix("src/").removesuffix(".rt").replace("/", "::")
+    return "::".join([crate.name, *([] if module in ("lib", "main") else [module]), name])
+
+
+def why_of(function, crate, said):
+    """What the prover says against the function itself."""
+    stated = dict(STATED.findall(said))[function]
+    if "did not prove" in stated:
+        return stated.partition("; ")[2] or stated
+    # a proof by hand: what is wrong in its own files
+    folder = "proofs/" + function.removeprefix(f"{crate.name}::").replace("::", "/") + "/"
+    wrong = [line for line in said.split("\n") if re.match(rf"(?:note: )?(?:\./)?{re.escape(folder)}\S+: ", line)]
+    wrong = [line for line in wrong if not NAMES.search(line)]
+    return wrong[0] if wrong else None
+
+
+def round_of(edits, calls):
+    """An edit for each function, but for those that call another of the round, as far as calls are known."""
+    functions = {edit.function for edit in edits}
+    taken = {}
+    for edit in edits:
+        reached, new = set(), calls.get(edit.function, set())
+        while new:
+            reached, new = reached | new, {it for one in new for it in calls.get(one, ())} - reached - new
+        if not functions & reached:
+            taken.setdefault(edit.function, edit)
+    return [*taken.values()]
+
+
+def judged(crate, edits, said, calls):
+    """What came of the edits of a round that were judged. Of the others the calls of their functions are noted."""
+    if re.search(r"\berror\[[\w-]+\]", said):
+        raise Failed(f"an edit doesn't compile: {said[:600]}")
+    stated = dict(STATED.findall(said))
+    unproved = {function for function, word in stated.items() if not word.startswith("proved")}
+    found = {it: unproved & {*re.findall(r"`([\w:]+)`", stated[it])} - {it} for it in unproved}
+    calls.update({it: calls.get(it, set()) | below for it, below in found.items()})
+    for function in unproved - {edit.function for edit in edits}:
+        if not found[function]:
+            raise Failed(f"{function} isn't edited, and it is: {stated[function]}")
+    told = {}
+    for edit in edits:
+        word = stated.get(edit.function)
+        if word is None:
+            raise Failed(f"{edit.name}: the prover says nothing of {edit.function}: {said[-600:]}")
+        if word.startswith("proved"):
+            told[edit.name] = f"NOT REFUSED: {edit.function} is proved with it"
+        elif not found[edit.function]:
+            why = why_of(edit.function, crate, said)
+            told[edit.name] = f"refused: {why[:160]}" if why else "BAD EDIT: its function's proof only lacks names"
+    return told
+
+
+def linked(one, other):
+    """Gives what was proved a second name: the prover replaces such a file, and changes none."""
+    return os.link(one, other) if one.endswith(".oantt") else shutil.copy2(one, other)
+
+
+def tried(crate):
+    """Tries the crate's edits, round by round, and gives the lines that tell of it."""
+    folder, begun = f"{FOLDER}/{crate.name}", time.monotonic()
+    edits = [Edit(crate, f"{folder}/{name}") for name in sorted(os.listdir(folder)) if name.endswith(".edit")]
+    lines, rounds, calls = [], 0, {}
+    with tempfile.TemporaryDirectory() as room:
+        begin = f"{crate.folder}/out/incremental"
+        if os.path.isdir(begin):
+            shutil.copytree(begin, f"{room}/kept")
+        else:
+            os.mkdir(f"{room}/kept")
+        said = crate.check(room, f"{room}/kept")
+        if "\nlogic=proved" not in said:
+            raise Failed(f"{crate.name} itself isn't proved: {said[-600:]}")
+        while edits:
+            rounds += 1
+            shutil.copytree(f"{room}/kept", f"{room}/{rounds}", copy_function=linked)
+            now = round_of(edits, calls)
+            told = judged(crate, now, crate.check(room, f"{room}/{rounds}", now), calls)
+            shutil.rmtree(f"{room}/{rounds}")
+            if not told:
+                raise Failed(f"none was judged of {', '.join(edit.name for edit in now)}")
+            lines += [f"{crate.name}/{name}: {what}" for name, what in told.items()]
+            edits = [edit for edit in edits if edit.name not in told]
+    seconds = round(time.monotonic() - begun)
+    print(f"{crate.name}: {len(lines)} edits tried, in {rounds} rounds and {seconds} seconds", flush=True)
+    return lines
+
+
+def lines_of(crate, done):
+    try:
+        return done.result()
+    except Failed as fault:
+        return [f"{crate.name}: FAILED: {fault}"]
+
+
+def main():
+    words = sys.argv[1:]
+    count = words.pop(1) if words[:1] == ["--count"] else None
+    uses, there = listed(), sorted(it for it in os.listdir(FOLDER) if os.path.isdir(f"{FOLDER}/{it}"))
+    refused = failed = 0
+    with concurrent.futures.ThreadPoolExecutor(len(os.sched_getaffinity(0))) as pool:
+        crates = [Crate(name, uses) for name in [word for word in words if word != "--count"] or there]
+        for crate, done in [(crate, pool.submit(tried, crate)) for crate in crates]:
+            lines = lines_of(crate, done)
+            print("\n".join(lines), flush=True)
+            good = sum(": refused: " in line for line in lines)
+            refused, failed = refused + good, failed + len(lines) - good
+    print(f"{refused} wrong bodies refused, {failed} failed")
+    if count:
+        with open(count, "w") as file:
+            file.write(f"{refused} {failed}\n")
+    return 1 if failed else 0
+
+
+sys.exit(main())
