@@ -23,6 +23,10 @@ abbrev pub IsDecision : Bounds → LockWord → Call → Result LockDecision Fau
 IsDecision limits word call (Ok decision) = Decides limits word call (decision_as decision)
 IsDecision limits word call (Err fault) = ⊥
 
+-- what C gets of a decision on the word of this number, or of a fault, of which the fact holds
+abbrev pub InC : (Result LockDecision Fault → Type 0) → ℕ → CDecision → Type 0
+InC Holds number made = (decided : Result LockDecision Fault) × Holds decided × (made ≡ decision_in_c number decided)
+
 -- first the call, then the decision
 abbrev pub IsDecidedOn : Bounds → LockWord → ℕ → ℕ → Result LockDecision Fault → Type 0
 IsDecidedOn limits word code stamp = Then (IsCallOf code stamp) (λ call. IsDecision limits word call)

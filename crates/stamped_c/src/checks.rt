@@ -1,12 +1,12 @@
 //! Tests of the numbers that a C program gives, each of which names its fault.
 ghost use Rattle.std.specs.Prelude.{Err};
 ghost use Rattle.stamp_core.specs.Word.{IsAdmitted, word_at};
-ghost use Rattle.stamped_c.specs.Checks.{IsLayoutOf, AreLimitsIn, AreLimitsOf, IsWordUnder, IsCallOf};
+ghost use Rattle.stamped_c.specs.Checks.{IsLayoutOf, AreLimitsIn, AreLimitsOf, IsWordUnder};
 
-use crate::codes::{call_of, layout_of};
+use crate::codes::layout_of;
 use crate::fault::Fault;
 use crate::found::CLimits;
-use stamp_core::{Call, Layout, Limits, Word};
+use stamp_core::{Layout, Limits, Word};
 
 /// The layout that a number names.
 pub(crate) fn checked_layout(number: u32) -> Result<Layout, Fault>
@@ -57,16 +57,5 @@ pub(crate) fn checked_word(limits: Limits, number: u64) -> Result<Word, Fault>
     match limits.word_from_bits(number) {
         Some(word) => Ok(word),
         None => Err(word_fault(limits, number)),
-    }
-}
-
-/// The call that a number names, with its stamp.
-#[inline(always)]
-pub(crate) fn checked_call(code: u32, stamp: u64) -> Result<Call, Fault>
-    ensures { IsCallOf code stamp result }
-{
-    match call_of(code, stamp) {
-        Some(call) => Ok(call),
-        None => Err(Fault::UnknownCall),
     }
 }

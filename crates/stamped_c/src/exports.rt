@@ -1,12 +1,12 @@
 //! What C calls. Nothing is required of a caller: each function tests what it is given.
-ghost use Rattle.stamp_core.specs.Word.{IsAdmitted};
 ghost use Rattle.stamped_c.specs.Checks.{IsWordOf};
-ghost use Rattle.stamped_c.specs.Answers.{IsDecidedOn, IsDecidedUnder, IsDecidedIn, IsDecided, IsKindOf, AnswersOpening, AnswersLimits, AnswersWord, AnswersDecision, AnswersKind};
+ghost use Rattle.stamped_c.specs.Answers.{IsKindOf, AnswersOpening, AnswersLimits, AnswersWord, AnswersDecision, AnswersKind};
 
-use crate::checks::{checked_call, checked_layout, checked_limits, checked_word, limits_in};
+use crate::checks::{checked_layout, checked_limits, checked_word};
+use crate::decided::decided;
 use crate::fault::Fault;
 use crate::found::{CDecision, CKind, CLimits};
-use stamp_core::{Layout, Limits, LockDecision, StampKind, Word, decide_lock, stamp_kind_in};
+use stamp_core::{StampKind, Word, stamp_kind_in};
 
 /// The word of a new lock; 0, which is no word, where the number names no layout.
 #[unsafe(no_mangle)]
@@ -49,56 +49,13 @@ pub extern "C" fn stamped_check_word(limits: CLimits, word: u64) -> u32
     }
 }
 
-/// The decision on a word that the limits admit.
-#[inline(always)]
-fn decided_on(limits: Limits, word: Word, code: u32, stamp: u64) -> Result<LockDecision, Fault>
-    requires { IsAdmitted limits word }
-    ensures { IsDecidedOn limits word code stamp result }
-{
-    let call = checked_call(code, stamp)?;
-    Ok(decide_lock(limits, word, &call))
-}
-
-/// The decision on the word of a number.
-#[inline(always)]
-fn decided_under(limits: Limits, number: u64, code: u32, stamp: u64) -> Result<LockDecision, Fault>
-    ensures { IsDecidedUnder limits number code stamp result }
-{
-    let word = checked_word(limits, number)?;
-    decided_on(limits, word, code, stamp)
-}
-
-/// Where the layout stands in the code, its units are constants.
-#[inline(always)]
-fn decided_in(
-    layout: Layout,
-    given: CLimits,
-    number: u64,
-    code: u32,
-    stamp: u64,
-) -> Result<LockDecision, Fault>
-    ensures { IsDecidedIn layout given number code stamp result }
-{
-    let limits = limits_in(layout, given.readers, given.versions)?;
-    decided_under(limits, number, code, stamp)
-}
-
-fn decided(given: CLimits, number: u64, code: u32, stamp: u64) -> Result<LockDecision, Fault>
-    ensures { IsDecided given number code stamp result }
-{
-    match checked_layout(given.layout)? {
-        Layout::One => decided_in(Layout::One, given, number, code, stamp),
-        Layout::Two => decided_in(Layout::Two, given, number, code, stamp),
-    }
-}
-
 /// What a call is to do with the word that it finds; or the first fault, as `stamped_check_word`, or
 /// 5 `UnknownCall`.
 #[unsafe(no_mangle)]
 pub extern "C" fn stamped_decide(limits: CLimits, word: u64, call: u32, stamp: u64) -> CDecision
     ensures { AnswersDecision limits word call stamp result }
 {
-    CDecision::of(word, decided(limits, word, call, stamp))
+    decided(limits, word, call, stamp)
 }
 
 fn kind_of(layout: u32, stamp: u64) -> Result<StampKind, Fault>

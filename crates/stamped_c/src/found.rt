@@ -1,6 +1,6 @@
 //! The structs that C passes and gets, and how results are written into them.
 ghost use Rattle.std.specs.Prelude.{◌≡◌};
-ghost use Rattle.stamped_c.specs.Codes.{reply_number, replied_in_c, unreplied_in_c, made_in_c, decision_in_c, kind_in_c};
+ghost use Rattle.stamped_c.specs.Codes.{reply_number, replied_in_c, unreplied_in_c, made_in_c, fault_code, kind_in_c};
 
 use crate::fault::Fault;
 use stamp_core::{LockDecision, LockReply, StampKind};
@@ -48,19 +48,18 @@ fn reply_number(reply: LockReply) -> u64
 }
 
 impl CDecision {
-    /// The decision on the word of this number, or the fault of what was given.
-    #[inline(always)]
-    pub(crate) fn of(word: u64, decided: Result<LockDecision, Fault>) -> CDecision
-        ensures { result ≡ decision_in_c word decided }
+    /// The fault of what was given.
+    #[cold]
+    #[inline(never)]
+    pub(crate) fn fault(fault: Fault) -> CDecision
+        ensures { result ≡ unreplied_in_c (fault_code fault) }
     {
-        match decided {
-            Ok(decision) => CDecision::made(word, decision),
-            Err(fault) => CDecision::unreplied(u64::from(fault.code())),
-        }
+        CDecision::unreplied(u64::from(fault.code()))
     }
 
+    /// The decision on the word of this number.
     #[inline(always)]
-    fn made(word: u64, decision: LockDecision) -> CDecision
+    pub(crate) fn made(word: u64, decision: LockDecision) -> CDecision
         ensures { result ≡ made_in_c word decision }
     {
         match decision {

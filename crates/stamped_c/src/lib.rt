@@ -4,6 +4,7 @@
 
 mod checks;
 mod codes;
+mod decided;
 mod exports;
 mod fault;
 mod found;

@@ -3,6 +3,6 @@ use Rattle.stamped_c.proofs.exports.stamped_decide.Goals as goal
 
 pub returns : goal.returns
 returns c =
-    let e = c.of.ensures in
     let d = c.decided.ensures in
-    (_, d, e, rw e (told c.args.limits c.args.word c.args.call c.args.stamp _ d))
+    let a = c.args in
+    (d.0, d.1, d.2, rw d.2 (told a.limits a.word a.call a.stamp d.0 d.1))
