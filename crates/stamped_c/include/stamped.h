@@ -59,7 +59,7 @@ enum {
     STAMPED_WRITE_LOCK = 3,       /* writeLock(): may have to wait, unless the versions are spent */
     STAMPED_READ_LOCK = 4,        /* readLock(): may have to wait */
     STAMPED_OPTIMISTIC = 5,       /* tryOptimisticRead() */
-    STAMPED_VALIDATE = 6,         /* validate(stamp) */
+    STAMPED_VALIDATE = 6,         /* validate(stamp): never of 0 */
     STAMPED_UNLOCK_WRITE = 7,     /* unlockWrite(stamp) */
     STAMPED_UNLOCK_READ = 8,      /* unlockRead(stamp) */
     STAMPED_UNLOCK = 9,           /* unlock(stamp) */
