@@ -26,7 +26,7 @@ use Rattle.stamp_explain.specs.Observed.{ObservedHistory, IsObserved, IsBefore, 
 use Rattle.stamp_explain.specs.Explained.{Effect}
 use Rattle.stamp_explain.specs.Search.{LockState, LockSteps, MayTake, AreReturns, after_call}
 use Rattle.stamp_explain.specs.Node.{IsNext, AreTaken, StandsFor, Goes, HasGone}
-use Rattle.stamp_explain.specs.Plan.{IsNextOf, IsAwaitedAt, SetsBit}
+use Rattle.stamp_explain.specs.Plan.{IsOpenAt, SetsBit}
 use Rattle.stamp_explain.specs.Expand.{Takes}
 use Rattle.stamp_explain.proofs.Finding.{no_later, has_returned, not_before_itself}
 use Rattle.stamp_explain.proofs.Standing.{AreOrderly, one_next, taken_by_bit, taken_more}
@@ -100,23 +100,34 @@ sooner_past entries returns past a are lt at j f x at_j before not = by (are.who
             at_j in
             absurd (not (no_later a f x (are.in_order past k j more within a f first second) before))
 
--- a call that may take effect is the next of its thread
-pub next_may : (h : ObservedHistory) (returns : List ℕ) (past threads : ℕ) (a : Observation) (s u : LockState)
-    (taken : List ℕ) (x : Effect) → IsObserved h → AreReturns h.entries returns → past < length returns →
-    slice_get h.entries (get_or returns past 0) ≡ Some a → AreTaken h.entries (take past returns) threads taken →
-    MayTake (LockSteps h.limits) h.entries a s taken x u → IsNext h.entries (take past returns) x.index x.entry
-next_may h returns past threads a s u taken x observed are lt at in_effect may = record {
+-- a call that may take effect is open
+pub open_may : (h : ObservedHistory) (returns : List ℕ) (past threads : ℕ) (a : Observation) (s u : LockState)
+    (taken : List ℕ) (x : Effect) → slice_get h.entries (get_or returns past 0) ≡ Some a →
+    AreTaken h.entries (take past returns) threads taken →
+    MayTake (LockSteps h.limits) h.entries a s taken x u → IsOpenAt h returns past x.index
+open_may h returns past threads a s u taken x at in_effect may = record {
+  entry = x.entry;
   is_entry = may.effect.is_entry;
   still = λ found. may.fresh (in_effect.all_past x.index found);
-  first = λ j f at_j same misses other. by j f at_j misses ((orderly h observed).apart x.index j x.entry f
-      may.effect.is_entry at_j (λ e. other (sym e)) (sym same));
+  begun = λ b at_b. subst (λ (o : Observation). ¬ IsBefore o x.entry) (same_Some a b (sym at ∙ at_b)) may.begun;
+}
+
+-- and one that is open is the next of its thread
+pub next_open : (h : ObservedHistory) (returns : List ℕ) (past : ℕ) (a : Observation) (i : ℕ) → IsObserved h →
+    AreReturns h.entries returns → past < length returns → slice_get h.entries (get_or returns past 0) ≡ Some a →
+    (it : IsOpenAt h returns past i) → IsNext h.entries (take past returns) i it.entry
+next_open h returns past a i observed are lt at it = record {
+  is_entry = it.is_entry;
+  still = it.still;
+  first = λ j f at_j same misses other. by j f at_j misses ((orderly h observed).apart i j it.entry f
+      it.is_entry at_j (λ e. other (sym e)) (sym same));
 }
   where
     by : (j : ℕ) (f : Observation) → slice_get h.entries j ≡ Some f → ¬ Contains (take past returns) j →
-        IsBefore x.entry f ⊎ IsBefore f x.entry → IsBefore x.entry f
+        IsBefore it.entry f ⊎ IsBefore f it.entry → IsBefore it.entry f
     by j f at_j misses (inl before) = before
-    by j f at_j misses (inr before) = absurd (misses (sooner_past h.entries returns past a are lt at j f x.entry
-        at_j before may.begun))
+    by j f at_j misses (inr before) = absurd (misses (sooner_past h.entries returns past a are lt at j f it.entry
+        at_j before (it.begun a at)))
 
 -- and so is the awaited one
 pub next_awaited : (h : ObservedHistory) (returns : List ℕ) (past : ℕ) (a : Observation) → IsObserved h →
@@ -166,108 +177,87 @@ one_reply limits events content call p q is also = by (is_lock_call call) is als
     by true is also = one_of_lock (transition limits events call) p q is also
     by false is also = one_of_record content call p q is also
 
--- what is known where a thread's call is tried
-pub record Trying (h : ObservedHistory) (returns : List ℕ) (node : Node) (a : Observation) (thread : ℕ)
+-- the entry that is read at a place
+pub entry_is : (es read : List Observation) (i : ℕ) (e d : Observation) → slice_get es i ≡ Some e → read ≡ es →
+    e ≡ get_or read i d
+entry_is es read i e d at same = sym (ap (λ (xs : List Observation). get_or xs i d) same ∙
+    get_or_from_slice_get es i e d at)
+
+-- what is known where the call of an entry is tried
+pub record Trying (h : ObservedHistory) (returns : List ℕ) (node : Node) (a : Observation) (i : ℕ)
     (s : LockState) (taken : List ℕ) : Type 0 where
   pub observed : IsObserved h
   pub are : AreReturns h.entries returns
   pub inside : node.past < length returns
   pub at : slice_get h.entries (get_or returns node.past 0) ≡ Some a
   pub stands : StandsFor h returns node s taken
+  pub it : IsOpenAt h returns node.past i
 
-next_of : (h : ObservedHistory) (returns : List ℕ) (node : Node) (a : Observation) (thread : ℕ) (s u : LockState)
-    (taken : List ℕ) (x : Effect) → Trying h returns node a thread s taken →
-    MayTake (LockSteps h.limits) h.entries a s taken x u → IsNext h.entries (take node.past returns) x.index x.entry
-next_of h returns node a thread s u taken x is may = next_may h returns node.past node.threads a s u taken x
-    is.observed is.are is.inside is.at is.stands.in_effect may
+next_of : (h : ObservedHistory) (returns : List ℕ) (node : Node) (a : Observation) (i : ℕ) (s : LockState)
+    (taken : List ℕ) → (is : Trying h returns node a i s taken) → IsNext h.entries (take node.past returns) i
+    is.it.entry
+next_of h returns node a i s taken is = next_open h returns node.past a i is.observed is.are is.inside is.at is.it
 
--- a call of the thread is in effect
-pub none_by_bit : (h : ObservedHistory) (returns : List ℕ) (node : Node) (a : Observation) (thread : ℕ)
-    (s : LockState) (taken : List ℕ) → Trying h returns node a thread s taken → bit_at node.threads thread ≡ 1 →
-    Takes h returns node a thread s taken None
-none_by_bit h returns node a thread s taken is bit x u may same =
-    may.fresh (is.stands.in_effect.each_next x.index x.entry (next_of h returns node a thread s u taken x is may)
-    (ap (λ (t : ℕ). bit_at node.threads t) same ∙ bit))
-
--- all of its calls are past
-pub none_by_past : (h : ObservedHistory) (returns : List ℕ) (node : Node) (a : Observation) (thread : ℕ)
-    (s : LockState) (taken : List ℕ) → Trying h returns node a thread s taken →
-    IsNextOf h.entries (take node.past returns) thread None → Takes h returns node a thread s taken None
-none_by_past h returns node a thread s taken is none x u may same =
-    may.fresh (is.stands.in_effect.all_past x.index (none x.index x.entry may.effect.is_entry same))
-
--- its next call begins later
-pub none_by_begin : (h : ObservedHistory) (returns : List ℕ) (node : Node) (a : Observation) (thread : ℕ)
-    (s : LockState) (taken : List ℕ) (i first last : ℕ) → Trying h returns node a thread s taken →
-    IsAwaitedAt h returns node.past last a → IsNextOf h.entries (take node.past returns) thread (Some (i, first)) →
-    last < first → Takes h returns node a thread s taken None
-none_by_begin h returns node a thread s taken i first last is awaited (e, (own, (begins, next))) later x u may same =
-    let index : x.index ≡ i = one_next h.entries (take node.past returns) x.index i x.entry e
-    (orderly h is.observed) (next_of h returns node a thread s u taken x is may) next (same ∙ sym own) in
-    let entry : x.entry ≡ e = same_Some x.entry e (sym may.effect.is_entry ∙
-    ap (λ (k : ℕ). slice_get h.entries k) index ∙ next.is_entry) in
-    let then_first : x.entry.first ≡ first = ap (λ (o : Observation). o.first) entry ∙ begins in
-    let less : awaited.returned.last < x.entry.first = omega (arith, then_first, awaited.at, later) in
-    may.begun (subst (λ (o : Option Returned). MatchOption o ⊥ (λ (r : Returned). r.last < x.entry.first))
-    (sym awaited.has) less)
+-- it is in effect
+pub none_by_bit : (h : ObservedHistory) (returns : List ℕ) (node : Node) (a : Observation) (i : ℕ)
+    (s : LockState) (taken : List ℕ) → (is : Trying h returns node a i s taken) →
+    bit_at node.threads is.it.entry.thread ≡ 1 → Takes h returns node a i s taken None
+none_by_bit h returns node a i s taken is bit x u may same =
+    may.fresh (subst (Contains taken) (sym same) (is.stands.in_effect.each_next i is.it.entry
+    (next_of h returns node a i s taken is) bit))
 
 -- it gives another reply
-pub none_by_reply : (h : ObservedHistory) (returns : List ℕ) (node : Node) (a : Observation) (thread : ℕ)
-    (s : LockState) (taken : List ℕ) (i first : ℕ) → Trying h returns node a thread s taken →
-    IsNextOf h.entries (take node.past returns) thread (Some (i, first)) →
+pub none_by_reply : (h : ObservedHistory) (returns : List ℕ) (node : Node) (a : Observation) (i : ℕ)
+    (s : LockState) (taken : List ℕ) → Trying h returns node a i s taken →
     ((e : Observation) → slice_get h.entries i ≡ Some e → HasGone h e s None) →
-    Takes h returns node a thread s taken None
-none_by_reply h returns node a thread s taken i first is (e, (own, (begins, next))) gone x u may same =
-    let index : x.index ≡ i = one_next h.entries (take node.past returns) x.index i x.entry e
-    (orderly h is.observed) (next_of h returns node a thread s u taken x is may) next (same ∙ sym own) in
-    gone x.entry (ap (λ (k : ℕ). slice_get h.entries k) (sym index) ∙ may.effect.is_entry) x.reply u
+    Takes h returns node a i s taken None
+none_by_reply h returns node a i s taken is gone x u may same =
+    gone x.entry (ap (λ (k : ℕ). slice_get h.entries k) (sym same) ∙ may.effect.is_entry) x.reply u
     may.effect.replies may.steps
 
 -- it takes effect
-pub taken_to : (h : ObservedHistory) (returns : List ℕ) (node : Node) (a : Observation) (thread : ℕ) (s : LockState)
-    (taken : List ℕ) (i first last threads : ℕ) (step : Step) → Trying h returns node a thread s taken →
-    IsAwaitedAt h returns node.past last a → bit_at node.threads thread ≢ 1 →
-    IsNextOf h.entries (take node.past returns) thread (Some (i, first)) → ¬ (last < first) →
+pub taken_to : (h : ObservedHistory) (returns : List ℕ) (node : Node) (a : Observation) (i : ℕ) (s : LockState)
+    (taken : List ℕ) (threads : ℕ) (step : Step) → (is : Trying h returns node a i s taken) →
+    bit_at node.threads is.it.entry.thread ≢ 1 →
     ((e : Observation) → slice_get h.entries i ≡ Some e → HasGone h e s (Some step)) →
-    SetsBit node.threads threads thread → Takes h returns node a thread s taken
+    SetsBit node.threads threads is.it.entry.thread → Takes h returns node a i s taken
     (Some (record {
       node = record { past = node.past; bits = step.bits; writer = step.writer; threads = threads };
       took = Some i;
     }))
-taken_to h returns node a thread s taken i first last threads step is awaited bit (e, (own, (begins, next))) begun
-    gone sets = record {
-      past = refl;
-      effect = effect;
-      took = refl;
-      state = after_call h.limits s (e.call, step.reply);
-      may = record {
-        effect = record { is_entry = next.is_entry; replies = went.may };
-        fresh = λ has. bit (ap (λ (t : ℕ). bit_at node.threads t) (sym own) ∙
-            (taken_by_bit h.entries (take node.past returns) node.threads taken i e is.stands.in_effect next.is_entry
-            next.still has).0);
-        begun = λ before. begun (later (subst (λ (o : Option Returned). MatchOption o ⊥
-            (λ (r : Returned). r.last < e.first)) awaited.has before));
-        steps = went.steps;
-      };
-      stands = stands i next.is_entry;
-      only = λ x u may same.
-          let index : x.index ≡ i = one_next h.entries (take node.past returns) x.index i x.entry e
-          (orderly h is.observed) (next_of h returns node a thread s u taken x is may) next (same ∙ sym own) in
-          let entry : x.entry ≡ e = same_Some x.entry e (sym may.effect.is_entry ∙
-          ap (λ (k : ℕ). slice_get h.entries k) index ∙ next.is_entry) in
-          let steps : LockSteps h.limits s (e.call, x.reply) u =
-          subst (λ (o : Observation). LockSteps h.limits s (o.call, x.reply) u) entry may.steps in
-          let reply : step.reply ≡ x.reply = one_reply h.limits s.0 s.1 e.call step.reply x.reply went.steps.replies
-          steps.replies in
-          let state : after_call h.limits s (e.call, step.reply) ≡ u =
-          ap (λ (r : Reply). after_call h.limits s (e.call, r)) reply ∙ sym steps.next in
-          subst (λ (t : LockState). StandsFor h returns made t (x.index ∷ taken)) state
-          (subst (λ (k : ℕ). StandsFor h returns made (after_call h.limits s (e.call, step.reply)) (k ∷ taken))
-          (sym index) (stands i next.is_entry));
-    }
+taken_to h returns node a i s taken threads step is bit gone sets = record {
+  past = refl;
+  effect = effect;
+  index = refl;
+  took = refl;
+  state = after_call h.limits s (e.call, step.reply);
+  may = record {
+    effect = record { is_entry = is.it.is_entry; replies = went.may };
+    fresh = λ has. bit (taken_by_bit h.entries (take node.past returns) node.threads taken i e is.stands.in_effect
+        is.it.is_entry is.it.still has).0;
+    begun = is.it.begun a is.at;
+    steps = went.steps;
+  };
+  stands = stands;
+  only = λ x u may same.
+      let entry : x.entry ≡ e = same_Some x.entry e (sym may.effect.is_entry ∙
+      ap (λ (k : ℕ). slice_get h.entries k) same ∙ is.it.is_entry) in
+      let steps : LockSteps h.limits s (e.call, x.reply) u =
+      subst (λ (o : Observation). LockSteps h.limits s (o.call, x.reply) u) entry may.steps in
+      let reply : step.reply ≡ x.reply = one_reply h.limits s.0 s.1 e.call step.reply x.reply went.steps.replies
+      steps.replies in
+      let state : after_call h.limits s (e.call, step.reply) ≡ u =
+      ap (λ (r : Reply). after_call h.limits s (e.call, r)) reply ∙ sym steps.next in
+      subst (λ (t : LockState). StandsFor h returns made t (x.index ∷ taken)) state
+      (subst (λ (k : ℕ). StandsFor h returns made (after_call h.limits s (e.call, step.reply)) (k ∷ taken))
+      (sym same) stands);
+}
   where
+    e : Observation
+    e = is.it.entry
+
     went : Goes h e s step
-    went = gone e next.is_entry
+    went = gone e is.it.is_entry
 
     effect : Effect
     effect = record { index = i; entry = e; reply = step.reply }
@@ -275,14 +265,9 @@ taken_to h returns node a thread s taken i first last threads step is awaited bi
     made : Node
     made = record { past = node.past; bits = step.bits; writer = step.writer; threads = threads }
 
-    later : awaited.returned.last < e.first → last < first
-    later lt = omega (arith, awaited.at, begins, lt)
-
-    stands : (k : ℕ) → slice_get h.entries i ≡ Some e → StandsFor h returns made
-        (after_call h.limits s (e.call, step.reply)) (i ∷ taken)
-    stands k at = record {
+    stands : StandsFor h returns made (after_call h.limits s (e.call, step.reply)) (i ∷ taken)
+    stands = record {
       at = went.at;
       in_effect = taken_more h.entries (take node.past returns) node.threads threads taken i e
-          (orderly h is.observed) is.stands.in_effect next (subst (λ (t : ℕ). SetsBit node.threads threads t)
-          (sym own) sets);
+          (orderly h is.observed) is.stands.in_effect (next_of h returns node a i s taken is) sets;
     }

@@ -10,12 +10,12 @@ use Rattle.std.proofs.lemmas.Option.{none-some}
 use Rattle.std.proofs.lemmas.List.Quantifiers.{all_pairs_push}
 use Rattle.std.proofs.lemmas.List.Elements.{Contains-push, Contains-push_cases, Contains-append_left}
 use Rattle.std.proofs.lemmas.List.Elements.{Contains-get_or, All-map}
-use Rattle.std.proofs.lemmas.List.Sorted.{Contains-permutation, IsPermutation-map}
+use Rattle.std.proofs.lemmas.List.Sorted.{Contains-permutation, IsPermutation-map, IsPermutation-sym}
 use Rattle.std.proofs.lemmas.Map.Keys.{IsDistinct-IsPermutation}
 use Rattle.std.proofs.lemmas.Map.Made.{AllPairs-from_IsDistinct, IsDistinct-from_AllPairs}
 use Rattle.stamp_explain.specs.declared.observed.Observation.{Observation}
 use Rattle.stamp_explain.specs.declared.observed.Returned.{Returned}
-use Rattle.stamp_explain.specs.Planning.{AreKeys, ArePlaced, EndsAt, BeginsAt, places_of}
+use Rattle.stamp_explain.specs.Planning.{AreKeys, AreRising, EndsAt, BeginsAt, places_of}
 use Rattle.stamp_explain.proofs.Lists.{none_in_empty, contains_cases, contains_first, contains_rest, pairs_none}
 use Rattle.stamp_explain.proofs.Lists.{pairs_cons}
 
@@ -133,16 +133,19 @@ permuted_once keys sorted moved once = AllPairs-from_IsDistinct decides (places_
     decides a b = Decides-eqb a b
 
 -- so they do in order
-pub placed_once : (keys : List (ℕ × ℕ)) (places : List ℕ) → ArePlaced keys places →
-    AllPairs (λ (i j : ℕ). i ≢ j) (places_of keys) → AllPairs (λ (i j : ℕ). i ≢ j) places
-placed_once keys places placed once = subst (AllPairs (λ (i j : ℕ). i ≢ j)) (sym placed.are)
-    (permuted_once keys placed.sorted placed.moved once)
+pub placed_once : (keys sorted : List (ℕ × ℕ)) → AreRising keys sorted →
+    AllPairs (λ (i j : ℕ). i ≢ j) (places_of keys) → AllPairs (λ (i j : ℕ). i ≢ j) (places_of sorted)
+placed_once keys sorted rises once = permuted_once keys sorted rises.moved once
 
-pub placed_has : (keys : List (ℕ × ℕ)) (places : List ℕ) (p : ℕ × ℕ) → ArePlaced keys places → Contains keys p →
-    Contains places p.1
-placed_has keys places p placed has =
-    subst (λ (xs : List ℕ). Contains xs p.1) (sym placed.are)
-    (place_of_key placed.sorted p (Contains-permutation keys placed.sorted p placed.moved has))
+-- and each key is among them
+pub rising_has : (keys sorted : List (ℕ × ℕ)) (p : ℕ × ℕ) → AreRising keys sorted → Contains keys p →
+    Contains sorted p
+rising_has keys sorted p rises has = Contains-permutation keys sorted p rises.moved has
+
+pub rising_from : (keys sorted : List (ℕ × ℕ)) (p : ℕ × ℕ) → AreRising keys sorted → Contains sorted p →
+    Contains keys p
+rising_from keys sorted p rises has = Contains-permutation sorted keys p
+    (IsPermutation-sym keys sorted rises.moved) has
 
 -- what holds of keys in order holds of their places
 pub placed_pairs : (R : ℕ → ℕ → Type 0) (sorted : List (ℕ × ℕ)) →

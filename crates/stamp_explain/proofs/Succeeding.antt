@@ -1,13 +1,13 @@
 -- The nodes that come next.
 use Rattle.std.proofs.Common.{◌≡◌, ◌≢◌, ◌⊎◌, ℕ, ◌+◌, ◌-◌, ◌<◌, ◌≤◌, zero, suc, List, [], ◌∷◌}
 use Rattle.std.proofs.Common.{◌++◌, length, get_or, refl, sym, ◌∙◌, ap, subst, inl, inr, arith, None}
-use Rattle.std.proofs.Common.{Option, Some}
+use Rattle.std.proofs.Common.{Option, Some, Vec, Global}
 use Rattle.std.specs.Prelude.{slice_get, slice_index, take, drop, MatchOption, true, false}
 use Rattle.std.proofs.lemmas.List.{take_all, get_or-drop, length-drop}
 use Rattle.std.specs.List.{Contains}
 use Rattle.std.specs.Int.{bit_at}
 use Rattle.std.proofs.Math.Seq.{take-suc, drop-cons}
-use Rattle.std.proofs.lemmas.List.Elements.{Contains-append_left, Contains-push, Contains-push_cases}
+use Rattle.std.proofs.lemmas.List.Elements.{Contains-append_left, Contains-get_or, Contains-push, Contains-push_cases}
 use Rattle.std.proofs.lemmas.Option.{same_Some, slice_get_read, slice_get-get_or, slice_get_within}
 use Rattle.stamp_explain.specs.declared.observed.Observation.{Observation}
 use Rattle.stamp_explain.specs.declared.observed.Returned.{Returned}
@@ -20,89 +20,104 @@ use Rattle.stamp_explain.specs.Explained.{Effect, IsEffectOf}
 use Rattle.stamp_explain.specs.Observer.{changes_nothing, observes_by, observes, observes_in, observes_at}
 use Rattle.stamp_explain.specs.Search.{LockState, LockSteps, MayTake, IsReturnAt}
 use Rattle.stamp_explain.specs.Node.{IsNext, AreTaken, StandsFor}
-use Rattle.stamp_explain.specs.Plan.{IsPlan, IsAwaitedAt, ClearsBit}
-use Rattle.stamp_explain.specs.Expand.{Hope, GoesOn, Expands, Leads, LeadsBy, IsTakenTo, Takes, Tried}
+use Rattle.stamp_explain.specs.Plan.{IsPlan, IsAwaitedAt, IsOpenAt, AreOpen, ClearsBit}
+use Rattle.stamp_explain.specs.Expand.{Hope, GoesOn, Expands, Leads, LeadsBy, IsTakenTo, Takes, Took, Tried}
+use Rattle.stamp_explain.specs.Expand.{IsNotInEffect}
 use Rattle.stamp_explain.proofs.Finding.{not_before_itself}
 use Rattle.stamp_explain.proofs.Completing.{IsAwaited}
 use Rattle.stamp_explain.proofs.Searching.{CompletesIn, GoesPast, GoesOnBy, goes_on}
 use Rattle.stamp_explain.proofs.Standing.{taken_by_bit, taken_past}
 use Rattle.stamp_explain.proofs.Staying.{observers_change_nothing}
 use Rattle.stamp_explain.proofs.Observing.{TakesAtOnce, takes_at_once}
-use Rattle.stamp_explain.proofs.Expanding.{orderly, next_awaited, in_take}
+use Rattle.stamp_explain.proofs.Expanding.{orderly, next_awaited, in_take, open_may, same_read}
 use Rattle.stamp_explain.proofs.Lists.{none_in_empty}
 
--- of whatever the node stands for, the threads below k were tried
-pub record Tries (h : ObservedHistory) (returns : List ℕ) (node : Node) (last k : ℕ) (nexts : List Next) : Type 0 where
-  pub tried : (a : Observation) (s : LockState) (taken : List ℕ) → IsAwaitedAt h returns node.past last a →
-      ¬ Contains taken (slice_index returns node.past) → StandsFor h returns node s taken →
-      Tried h returns node a s taken k nexts
+-- of whatever the node stands for, the last k of these calls were tried
+pub record Tries (h : ObservedHistory) (returns : List ℕ) (node : Node) (calls : List ℕ) (k : ℕ)
+    (nexts : List Next) : Type 0 where
+  pub tried : (a : Observation) (s : LockState) (taken : List ℕ) → IsAwaitedAt h returns node.past a →
+      StandsFor h returns node s taken → Tried h returns node a s taken calls k nexts
 
-pub none_tried : (h : ObservedHistory) (returns : List ℕ) (node : Node) (last : ℕ) → Tries h returns node last 0 []
-none_tried h returns node last = record {
-  tried = λ a s taken awaited not_yet stands. record {
+pub none_tried : (h : ObservedHistory) (returns : List ℕ) (node : Node) (calls : List ℕ) →
+    Tries h returns node calls 0 []
+none_tried h returns node calls = record {
+  tried = λ a s taken awaited stands. record {
     each = λ w has. absurd (none_in_empty w has);
-    whole = λ x u may lt. absurd (omega (arith, lt));
+    whole = λ x u may p lt le is. absurd (omega (arith, lt, le));
   };
 }
 
-last_or_less : (n k : ℕ) → n < k + 1 → (n < k) ⊎ (n ≡ k)
-last_or_less n k lt = grind arith
+last_or_less : (p k n : ℕ) → n ≤ p + (k + 1) → p < n → k < n → (n ≤ p + k) ⊎ (p ≡ n - 1 - k)
+last_or_less p k n le lt less = grind arith
 
-pub tried_none : (h : ObservedHistory) (returns : List ℕ) (node : Node) (last k : ℕ) (nexts : List Next) →
-    Tries h returns node last k nexts → ((a : Observation) (s : LockState) (taken : List ℕ) →
-    IsAwaitedAt h returns node.past last a → ¬ Contains taken (slice_index returns node.past) →
-    StandsFor h returns node s taken → Takes h returns node a k s taken None) →
-    Tries h returns node last (k + 1) nexts
-tried_none h returns node last k nexts tries takes = record {
-  tried = λ a s taken awaited not_yet stands. record {
-    each = (tries.tried a s taken awaited not_yet stands).each;
-    whole = λ x u may lt. by a s taken (tries.tried a s taken awaited not_yet stands)
-        (takes a s taken awaited not_yet stands) x u may (last_or_less x.entry.thread k lt);
+pub tried_none : (h : ObservedHistory) (returns : List ℕ) (node : Node) (calls : List ℕ) (k : ℕ) (nexts : List Next) →
+    Tries h returns node calls k nexts → k < length calls →
+    Took h returns node (get_or calls (length calls - 1 - k) 0) None → Tries h returns node calls (k + 1) nexts
+tried_none h returns node calls k nexts tries more took = record {
+  tried = λ a s taken awaited stands. record {
+    each = (tries.tried a s taken awaited stands).each;
+    whole = λ x u may p lt le is. by a s taken (tries.tried a s taken awaited stands)
+        (took.takes a s taken awaited stands) x u may p lt is (last_or_less p k (length calls) le lt more);
   };
 }
   where
-    by : (a : Observation) (s : LockState) (taken : List ℕ) → Tried h returns node a s taken k nexts →
-        Takes h returns node a k s taken None → (x : Effect) (u : LockState) →
-        MayTake (LockSteps h.limits) h.entries a s taken x u → (x.entry.thread < k) ⊎ (x.entry.thread ≡ k) →
+    by : (a : Observation) (s : LockState) (taken : List ℕ) → Tried h returns node a s taken calls k nexts →
+        Takes h returns node a (get_or calls (length calls - 1 - k) 0) s taken None → (x : Effect) (u : LockState) →
+        MayTake (LockSteps h.limits) h.entries a s taken x u → (p : ℕ) → p < length calls →
+        get_or calls p 0 ≡ x.index → (length calls ≤ p + k) ⊎ (p ≡ length calls - 1 - k) →
         (w : Next) × (Contains nexts w × ((w.node.past ≡ node.past) ×
         StandsFor h returns w.node u (x.index ∷ taken)))
-    by a s taken tried none x u may (inl less) = tried.whole x u may less
-    by a s taken tried none x u may (inr same) = absurd (none x u may same)
+    by a s taken tried none x u may p lt is (inl le) = tried.whole x u may p lt le is
+    by a s taken tried none x u may p lt is (inr same) =
+        absurd (none x u may (sym is ∙ ap (λ (n : ℕ). get_or calls n 0) same))
 
-pub tried_some : (h : ObservedHistory) (returns : List ℕ) (node : Node) (last k : ℕ) (nexts : List Next) (w : Next)
-    → Tries h returns node last k nexts → ((a : Observation) (s : LockState) (taken : List ℕ) →
-    IsAwaitedAt h returns node.past last a → ¬ Contains taken (slice_index returns node.past) →
-    StandsFor h returns node s taken → Takes h returns node a k s taken (Some w)) →
-    Tries h returns node last (k + 1) (nexts ++ w ∷ [])
-tried_some h returns node last k nexts w tries takes = record {
-  tried = λ a s taken awaited not_yet stands. record {
-    each = λ v has. each a s taken (tries.tried a s taken awaited not_yet stands)
-        (takes a s taken awaited not_yet stands) v (Contains-push_cases nexts w v has);
-    whole = λ x u may lt. by a s taken (tries.tried a s taken awaited not_yet stands)
-        (takes a s taken awaited not_yet stands) x u may (last_or_less x.entry.thread k lt);
+pub tried_some : (h : ObservedHistory) (returns : List ℕ) (node : Node) (calls : List ℕ) (k : ℕ) (nexts : List Next)
+    (w : Next) → Tries h returns node calls k nexts → k < length calls →
+    Took h returns node (get_or calls (length calls - 1 - k) 0) (Some w) →
+    Tries h returns node calls (k + 1) (nexts ++ w ∷ [])
+tried_some h returns node calls k nexts w tries more took = record {
+  tried = λ a s taken awaited stands. record {
+    each = λ v has. each a s taken (tries.tried a s taken awaited stands)
+        (took.takes a s taken awaited stands) v (Contains-push_cases nexts w v has);
+    whole = λ x u may p lt le is. by a s taken (tries.tried a s taken awaited stands)
+        (took.takes a s taken awaited stands) x u may p lt is (last_or_less p k (length calls) le lt more);
   };
 }
   where
-    each : (a : Observation) (s : LockState) (taken : List ℕ) → Tried h returns node a s taken k nexts →
-        IsTakenTo h returns node a k s taken w → (v : Next) → Contains nexts v ⊎ (w ≡ v) →
-        (t : ℕ) × IsTakenTo h returns node a t s taken v
+    i : ℕ
+    i = get_or calls (length calls - 1 - k) 0
+
+    each : (a : Observation) (s : LockState) (taken : List ℕ) → Tried h returns node a s taken calls k nexts →
+        IsTakenTo h returns node a i s taken w → (v : Next) → Contains nexts v ⊎ (w ≡ v) →
+        (j : ℕ) × IsTakenTo h returns node a j s taken v
     each a s taken tried some v (inl has) = tried.each v has
     each a s taken tried some v (inr same) = (
-      k,
-      subst (λ (n : Next). IsTakenTo h returns node a k s taken n) same
+      i,
+      subst (λ (n : Next). IsTakenTo h returns node a i s taken n) same
           some,
     )
 
-    by : (a : Observation) (s : LockState) (taken : List ℕ) → Tried h returns node a s taken k nexts →
-        IsTakenTo h returns node a k s taken w → (x : Effect) (u : LockState) →
-        MayTake (LockSteps h.limits) h.entries a s taken x u → (x.entry.thread < k) ⊎ (x.entry.thread ≡ k) →
+    by : (a : Observation) (s : LockState) (taken : List ℕ) → Tried h returns node a s taken calls k nexts →
+        IsTakenTo h returns node a i s taken w → (x : Effect) (u : LockState) →
+        MayTake (LockSteps h.limits) h.entries a s taken x u → (p : ℕ) → p < length calls →
+        get_or calls p 0 ≡ x.index → (length calls ≤ p + k) ⊎ (p ≡ length calls - 1 - k) →
         (v : Next) × (Contains (nexts ++ w ∷ []) v × ((v.node.past ≡ node.past) ×
         StandsFor h returns v.node u (x.index ∷ taken)))
-    by a s taken tried some x u may (inl less) =
+    by a s taken tried some x u may p lt is (inl le) =
         let found : (v : Next) × (Contains nexts v × ((v.node.past ≡ node.past) ×
-        StandsFor h returns v.node u (x.index ∷ taken))) = tried.whole x u may less in
+        StandsFor h returns v.node u (x.index ∷ taken))) = tried.whole x u may p lt le is in
         (found.0, (Contains-append_left nexts (w ∷ []) found.0 found.1.0, found.1.1))
-    by a s taken tried some x u may (inr same) = (w, (Contains-push nexts w, (some.past, some.only x u may same)))
+    by a s taken tried some x u may p lt is (inr same) = (
+      w,
+      (
+        Contains-push nexts w,
+        (
+          some.past,
+          some.only x u may
+              (sym is ∙ ap (λ (n : ℕ). get_or calls n 0) same),
+        ),
+      ),
+    )
 
 -- what is known of a node whose return is awaited
 pub record Awaits (h : ObservedHistory) (plan : Plan) (node : Node) (a : Observation) : Type 0 where
@@ -110,6 +125,10 @@ pub record Awaits (h : ObservedHistory) (plan : Plan) (node : Node) (a : Observa
   pub plan_is : IsPlan h plan
   pub inside : node.past < length plan.returns.items
   pub at : slice_get h.entries (get_or plan.returns.items node.past 0) ≡ Some a
+
+pub awaited_at : (h : ObservedHistory) (plan : Plan) (node : Node) (a : Observation) → Awaits h plan node a →
+    IsAwaitedAt h plan.returns.items node.past a
+awaited_at h plan node a is = record { inside = is.inside; is_entry = is.at }
 
 the_next : (h : ObservedHistory) (plan : Plan) (node : Node) (a : Observation) → Awaits h plan node a →
     IsNext h.entries (take node.past plan.returns.items) (get_or plan.returns.items node.past 0) a
@@ -132,17 +151,14 @@ steps_of h plan node a n is hope =
     subst P (left_of h plan node a is) (record { rest = hope.rest; by = hope.by; steps = hope.steps })
 
 -- where the call is in effect, its return is past
-pub expands_past : (h : ObservedHistory) (plan : Plan) (node : Node) (a : Observation) (threads : ℕ)
-    (nexts : List Next) → Awaits h plan node a → bit_at node.threads a.thread ≡ 1 →
-    ClearsBit node.threads threads a.thread →
-    nexts ≡ record {
+pub expands_past : (h : ObservedHistory) (plan : Plan) (node : Node) (a : Observation) (threads : ℕ) →
+    Awaits h plan node a → bit_at node.threads a.thread ≡ 1 → ClearsBit node.threads threads a.thread →
+    Expands h plan.returns.items node (record {
       node = record { past = node.past + 1; bits = node.bits; writer = node.writer; threads = threads };
       took = None;
-    } ∷ [] →
-    Expands h plan.returns.items node nexts
-expands_past h plan node a threads nexts is bit clears made = record {
-  each = λ w has. subst (λ (v : Next). Leads h plan.returns.items node v)
-      (only w (subst (λ (ns : List Next). Contains ns w) made has)) leads;
+    } ∷ [])
+expands_past h plan node a threads is bit clears = record {
+  each = λ w has. subst (λ (v : Next). Leads h plan.returns.items node v) (only w has) leads;
   whole = λ n hope. goes n hope (goes_on (LockSteps h.limits) h.entries i a
       (drop (suc node.past) plan.returns.items) hope.state hope.taken n awaited (steps_of h plan node a n is hope));
 }
@@ -197,7 +213,7 @@ expands_past h plan node a threads nexts is bit clears made = record {
     goes : (n : ℕ) (hope : Hope h plan.returns.items node n) →
         GoesPast (LockSteps h.limits) h.entries i (drop (suc node.past) plan.returns.items) hope.state hope.taken n
         ⊎ GoesOnBy (LockSteps h.limits) h.entries i a (drop (suc node.past) plan.returns.items) hope.state
-        hope.taken n → GoesOn h plan.returns.items nexts n
+        hope.taken n → GoesOn h plan.returns.items (next ∷ []) n
     goes n hope (inl past) =
         let P : List ℕ → Type 0 = λ (to_come : List ℕ). CompletesIn (LockSteps h.limits) h.entries to_come
         hope.state hope.taken past.left in
@@ -207,7 +223,7 @@ expands_past h plan node a threads nexts is bit clears made = record {
         record {
           next = next;
           left = past.left;
-          among = subst (λ (ns : List Next). Contains ns next) (sym made) (0, none, refl);
+          among = (0, none, refl);
           fewer = omega (arith, past.fewer);
           hope = record {
             state = hope.state;
@@ -221,15 +237,15 @@ expands_past h plan node a threads nexts is bit clears made = record {
     goes n hope (inr on) = absurd (on.awaited (in_effect hope.state hope.taken hope.stands))
 
 -- else an open call takes effect
-pub expands_taken : (h : ObservedHistory) (plan : Plan) (node : Node) (a : Observation) (last : ℕ)
-    (nexts : List Next) → Awaits h plan node a → IsAwaitedAt h plan.returns.items node.past last a →
-    bit_at node.threads a.thread ≢ 1 →
-    Tries h plan.returns.items node last 64 nexts → Expands h plan.returns.items node nexts
-expands_taken h plan node a last nexts is awaited_at bit tries = record {
+pub expands_taken : (h : ObservedHistory) (plan : Plan) (node : Node) (a : Observation) (calls : List ℕ) (k : ℕ)
+    (nexts : List Next) → Awaits h plan node a → bit_at node.threads a.thread ≢ 1 →
+    AreOpen h plan.returns.items node.past calls → length calls ≤ k →
+    Tries h plan.returns.items node calls k nexts → Expands h plan.returns.items node nexts
+expands_taken h plan node a calls k nexts is bit are all tries = record {
   each = λ w has. record {
     inside = is.inside;
     leads = λ s taken stands. to w s taken stands
-        ((tries.tried a s taken awaited_at (not_yet s taken stands) stands).each w has);
+        ((tries.tried a s taken (awaited_at h plan node a is) stands).each w has);
   };
   whole = λ n hope. goes n hope (goes_on (LockSteps h.limits) h.entries i a
       (drop (suc node.past) plan.returns.items) hope.state hope.taken n awaited (steps_of h plan node a n is hope));
@@ -250,9 +266,9 @@ expands_taken h plan node a last nexts is awaited_at bit tries = record {
     same_left w same = sym (left_of h plan node a is) ∙ ap (λ (n : ℕ). drop n plan.returns.items) (sym same)
 
     to : (w : Next) (s : LockState) (taken : List ℕ) → StandsFor h plan.returns.items node s taken →
-        (t : ℕ) × IsTakenTo h plan.returns.items node a t s taken w →
+        (j : ℕ) × IsTakenTo h plan.returns.items node a j s taken w →
         LeadsBy h plan.returns.items node w.node s taken w.took
-    to w s taken stands (t, took) =
+    to w s taken stands (j, took) =
         subst (λ (o : Option ℕ). LeadsBy h plan.returns.items node w.node s taken o) (sym took.took) (record {
           past = took.past;
           awaited = a;
@@ -271,12 +287,12 @@ expands_taken h plan node a last nexts is awaited_at bit tries = record {
         hope.taken n → GoesOn h plan.returns.items nexts n
     goes n hope (inl past) = absurd (not_yet hope.state hope.taken hope.stands past.in_effect)
     goes n hope (inr on) =
-        let few : on.effect.entry.thread < 64 = (orderly h is.observed).thread on.effect.index on.effect.entry
-        on.may.effect.is_entry in
+        let it : Contains calls on.effect.index = are.whole on.effect.index (open_may h plan.returns.items node.past
+        node.threads a hope.state on.state hope.taken on.effect is.at hope.stands.in_effect on.may) in
         let found : (w : Next) × (Contains nexts w × ((w.node.past ≡ node.past) ×
         StandsFor h plan.returns.items w.node on.state (on.effect.index ∷ hope.taken))) =
-        (tries.tried a hope.state hope.taken awaited_at (not_yet hope.state hope.taken hope.stands)
-        hope.stands).whole on.effect on.state on.may few in
+        (tries.tried a hope.state hope.taken (awaited_at h plan node a is) hope.stands).whole on.effect on.state
+        on.may it.0 it.1 (omega (arith, all)) (same_read calls it.0 0 on.effect.index it.1 ∙ it.2) in
         let P : List ℕ → Type 0 = λ (to_come : List ℕ). CompletesIn (LockSteps h.limits) h.entries to_come on.state
         (on.effect.index ∷ hope.taken) on.left in
         let left : CompletesIn (LockSteps h.limits) h.entries (drop found.0.node.past plan.returns.items) on.state
@@ -346,16 +362,11 @@ observes_so e reply is may = by e.returned refl is may
     by (Some r) at is may = ((r, at), ap (changes_nothing e.call) (sym may) ∙ is)
 
 -- a call that changes nothing takes effect at once
-pub expands_at_once : (h : ObservedHistory) (plan : Plan) (node : Node) (a : Observation) (last k : ℕ) (w : Next)
-    (nexts : List Next) → Awaits h plan node a → IsAwaitedAt h plan.returns.items node.past last a →
-    bit_at node.threads a.thread ≢ 1 → observes_at h.entries w.took ≡ true →
-    ((a : Observation) (s : LockState) (taken : List ℕ) → IsAwaitedAt h plan.returns.items node.past last a →
-    ¬ Contains taken (slice_index plan.returns.items node.past) → StandsFor h plan.returns.items node s taken →
-    Takes h plan.returns.items node a k s taken (Some w)) →
-    nexts ≡ w ∷ [] → Expands h plan.returns.items node nexts
-expands_at_once h plan node a last k w nexts is awaited_at bit observer takes made = record {
-  each = λ v has. subst (λ (n : Next). Leads h plan.returns.items node n)
-      (only v (subst (λ (ns : List Next). Contains ns v) made has)) leads;
+pub expands_at_once : (h : ObservedHistory) (plan : Plan) (node : Node) (a : Observation) (i : ℕ) (w : Next) →
+    Awaits h plan node a → bit_at node.threads a.thread ≢ 1 → observes_at h.entries i ≡ true →
+    Took h plan.returns.items node i (Some w) → Expands h plan.returns.items node (w ∷ [])
+expands_at_once h plan node a i w is bit observer takes = record {
+  each = λ v has. subst (λ (n : Next). Leads h plan.returns.items node n) (only v has) leads;
   whole = λ n hope. goes n hope (took hope.state hope.taken hope.stands);
 }
   where
@@ -369,8 +380,8 @@ expands_at_once h plan node a last k w nexts is awaited_at bit observer takes ma
         (get_or plan.returns.items node.past 0) a stands.in_effect is.at (the_next h plan node a is).still has).0
 
     took : (s : LockState) (taken : List ℕ) → StandsFor h plan.returns.items node s taken →
-        IsTakenTo h plan.returns.items node a k s taken w
-    took s taken stands = takes a s taken awaited_at (not_yet s taken stands) stands
+        IsTakenTo h plan.returns.items node a i s taken w
+    took s taken stands = takes.takes a s taken (awaited_at h plan node a is) stands
 
     leads : Leads h plan.returns.items node w
     leads = record {
@@ -379,7 +390,7 @@ expands_at_once h plan node a last k w nexts is awaited_at bit observer takes ma
     }
       where
         to : (s : LockState) (taken : List ℕ) → StandsFor h plan.returns.items node s taken →
-            IsTakenTo h plan.returns.items node a k s taken w →
+            IsTakenTo h plan.returns.items node a i s taken w →
             LeadsBy h plan.returns.items node w.node s taken w.took
         to s taken stands took =
             subst (λ (o : Option ℕ). LeadsBy h plan.returns.items node w.node s taken o) (sym took.took) (record {
@@ -395,12 +406,12 @@ expands_at_once h plan node a last k w nexts is awaited_at bit observer takes ma
             })
 
     goes : (n : ℕ) (hope : Hope h plan.returns.items node n) →
-        IsTakenTo h plan.returns.items node a k hope.state hope.taken w → GoesOn h plan.returns.items nexts n
+        IsTakenTo h plan.returns.items node a i hope.state hope.taken w → GoesOn h plan.returns.items (w ∷ []) n
     goes n hope took =
         let x : Effect = took.effect in
         let tells : HasReturned x.entry × (changes_nothing x.entry.call x.reply ≡ true) =
         observes_so x.entry x.reply
-        (ap observes_in (sym took.may.effect.is_entry) ∙ ap (observes_at h.entries) (sym took.took) ∙ observer)
+        (ap observes_in (sym took.may.effect.is_entry) ∙ ap (observes_at h.entries) took.index ∙ observer)
         took.may.effect.replies in
         let once : TakesAtOnce (LockSteps h.limits) h.entries (drop node.past plan.returns.items) hope.state
         (x.index ∷ hope.taken) n =
@@ -420,7 +431,7 @@ expands_at_once h plan node a last k w nexts is awaited_at bit observer takes ma
         record {
           next = w;
           left = once.left;
-          among = subst (λ (ns : List Next). Contains ns w) (sym made) (0, one, refl);
+          among = (0, one, refl);
           fewer = omega (arith, once.fewer);
           hope = record {
             state = hope.state;
@@ -435,14 +446,14 @@ expands_at_once h plan node a last k w nexts is awaited_at bit observer takes ma
 
 -- the entry that is read at the awaited return
 pub awaits_of : (h : ObservedHistory) (plan : Plan) (node : Node) (i : ℕ) (read : List Observation)
-    (e : Observation) → IsObserved h → IsPlan h plan → node.past < length plan.returns.items →
-    i ≡ get_or plan.returns.items node.past i → e ≡ get_or read i e → read ≡ h.entries → Awaits h plan node e
-awaits_of h plan node i read e observed is inside index entry same = record {
+    (d : Observation) → IsObserved h → IsPlan h plan → node.past < length plan.returns.items →
+    i ≡ get_or plan.returns.items node.past i → read ≡ h.entries → Awaits h plan node (get_or read i d)
+awaits_of h plan node i read d observed is inside index same = record {
   observed = observed;
   plan_is = is;
   inside = inside;
-  at = ap (λ (k : ℕ). slice_get h.entries k) here ∙ slice_get_read h.entries (length h.entries) i e refl within
-      (entry ∙ ap (λ (es : List Observation). get_or es i e) same);
+  at = ap (λ (k : ℕ). slice_get h.entries k) here ∙ slice_get-get_or h.entries i d within ∙
+      ap (λ (es : List Observation). Some (get_or es i d)) (sym same);
 }
   where
     there : IsReturnAt h.entries (get_or plan.returns.items node.past 0)
@@ -457,13 +468,32 @@ awaits_of h plan node i read e observed is inside index entry same = record {
     within = subst (λ (k : ℕ). k < length h.entries) here (slice_get_within h.entries
         (get_or plan.returns.items node.past 0) there.entry there.is_entry)
 
-pub awaited_returned : (h : ObservedHistory) (plan : Plan) (node : Node) (e : Observation) → Awaits h plan node e →
-    HasReturned e
-awaited_returned h plan node e is =
-    let there : IsReturnAt h.entries (get_or plan.returns.items node.past 0) =
-    is.plan_is.are.each node.past 0 is.inside in
-    subst HasReturned (same_Some there.entry e (sym there.is_entry ∙ is.at)) there.returned
+-- the calls that are open are read
+pub opens_read : (h : ObservedHistory) (plan : Plan) (past : ℕ) (v : Vec ℕ Global) (slice : List ℕ) → IsPlan h plan →
+    past < length plan.returns.items → v ≡ get_or plan.opens.items past v → slice ≡ v.items →
+    AreOpen h plan.returns.items past slice
+opens_read h plan past v slice is lt read same = subst (AreOpen h plan.returns.items past) (sym same)
+    (is.opens past v (slice_get_read plan.opens.items (length plan.opens.items) past v refl
+    (omega (arith, lt, is.many)) read))
 
-pub awaited_at : (h : ObservedHistory) (plan : Plan) (node : Node) (e : Observation) (r : Returned) →
-    Awaits h plan node e → e.returned ≡ Some r → IsAwaitedAt h plan.returns.items node.past r.last e
-awaited_at h plan node e r is has = record { inside = is.inside; is_entry = is.at; returned = r; has = has; at = refl }
+pub open_read : (h : ObservedHistory) (plan : Plan) (past : ℕ) (v : Vec ℕ Global) (slice : List ℕ) (k : ℕ) →
+    IsPlan h plan → past < length plan.returns.items → v ≡ get_or plan.opens.items past v → slice ≡ v.items →
+    k < length slice → IsOpenAt h plan.returns.items past (get_or slice k 0)
+open_read h plan past v slice k is lt read same within =
+    (opens_read h plan past v slice is lt read same).each (get_or slice k 0) (Contains-get_or slice k 0 within)
+
+-- where the awaited call is not in effect an open call takes effect
+pub expands_open : (h : ObservedHistory) (plan : Plan) (node : Node) (calls : List ℕ) (k : ℕ) (nexts : List Next) →
+    IsObserved h → IsPlan h plan → node.past < length plan.returns.items →
+    IsNotInEffect h plan.returns.items node → AreOpen h plan.returns.items node.past calls → length calls ≤ k →
+    Tries h plan.returns.items node calls k nexts → Expands h plan.returns.items node nexts
+expands_open h plan node calls k nexts observed is inside awaited are all tries =
+    let there : IsReturnAt h.entries (get_or plan.returns.items node.past 0) = is.are.each node.past 0 inside in
+    let awaits : Awaits h plan node there.entry = record {
+      observed = observed;
+      plan_is = is;
+      inside = inside;
+      at = there.is_entry;
+    } in
+    expands_taken h plan node there.entry calls k nexts awaits
+    (awaited.awaited there.entry (awaited_at h plan node there.entry awaits)) are all tries

@@ -2,6 +2,7 @@
 use Rattle.std.specs.Prelude.{ℕ, ◌≡◌, ◌≢◌, ◌<◌, ◌≤◌, ◌++◌, ◌+◌, List, ◌∷◌, length, drop, map, slice_get, slice_index}
 use Rattle.std.specs.Prelude.{Option, Some, None}
 use Rattle.std.specs.List.{All, Contains}
+use Rattle.std.specs.Int.{bit_at}
 use Rattle.stamp_explain.specs.declared.observed.Observation.{Observation}
 use Rattle.stamp_explain.specs.declared.node.Node.{Node}
 use Rattle.stamp_explain.specs.declared.node.Next.{Next}
@@ -13,6 +14,7 @@ use Rattle.stamp_explain.specs.Observed.{ObservedHistory}
 use Rattle.stamp_explain.specs.Explained.{Effect, IsEffectOf, IsExplained}
 use Rattle.stamp_explain.specs.Search.{LockState, LockSteps, MayTake, IsCompletedBy}
 use Rattle.stamp_explain.specs.Node.{IsAt, StandsFor, IsReached, IsOpening, ReachesMany}
+use Rattle.stamp_explain.specs.Plan.{IsAwaitedAt}
 use Rattle.stamp_explain.specs.Store.{Keeps}
 use Rattle.stamp_explain.specs.Order.{IsOrderOf}
 
@@ -82,30 +84,41 @@ pub record Expands (h : ObservedHistory) (returns : List ℕ) (node : Node) (nex
   pub each : (w : Next) → Contains nexts w → Leads h returns node w
   pub whole : (n : ℕ) → Hope h returns node n → GoesOn h returns nexts n
 
--- what becomes of a node, where the open call of a thread takes effect
-pub record IsTakenTo (h : ObservedHistory) (returns : List ℕ) (node : Node) (a : Observation) (thread : ℕ)
+-- the awaited call is not in effect
+pub record IsNotInEffect (h : ObservedHistory) (returns : List ℕ) (node : Node) : Type 0 where
+  pub awaited : (a : Observation) → IsAwaitedAt h returns node.past a → bit_at node.threads a.thread ≢ 1
+
+-- what becomes of a node, where the call of this entry takes effect
+pub record IsTakenTo (h : ObservedHistory) (returns : List ℕ) (node : Node) (a : Observation) (i : ℕ)
     (s : LockState) (taken : List ℕ) (w : Next) : Type 0 where
   pub past : w.node.past ≡ node.past
   pub effect : Effect
+  pub index : effect.index ≡ i
   pub took : w.took ≡ Some effect.index
   pub state : LockState
   pub may : MayTake (LockSteps h.limits) h.entries a s taken effect state
   pub stands : StandsFor h returns w.node state (effect.index ∷ taken)
-  pub only : (x : Effect) (u : LockState) → MayTake (LockSteps h.limits) h.entries a s taken x u →
-      x.entry.thread ≡ thread → StandsFor h returns w.node u (x.index ∷ taken)
+  pub only : (x : Effect) (u : LockState) → MayTake (LockSteps h.limits) h.entries a s taken x u → x.index ≡ i →
+      StandsFor h returns w.node u (x.index ∷ taken)
 
 abbrev pub Takes : ObservedHistory → List ℕ → Node → Observation → ℕ → LockState → List ℕ → Option Next → Type 0
-Takes h returns node a thread s taken None = (x : Effect) (u : LockState) →
-    MayTake (LockSteps h.limits) h.entries a s taken x u → x.entry.thread ≢ thread
-Takes h returns node a thread s taken (Some w) = IsTakenTo h returns node a thread s taken w
+Takes h returns node a i s taken None = (x : Effect) (u : LockState) →
+    MayTake (LockSteps h.limits) h.entries a s taken x u → x.index ≢ i
+Takes h returns node a i s taken (Some w) = IsTakenTo h returns node a i s taken w
 
--- of the threads below k: each node that was made is one of these, and each call that may take effect makes one
+-- what was found of the call of this entry, in whatever the node stands for
+pub record Took (h : ObservedHistory) (returns : List ℕ) (node : Node) (i : ℕ) (found : Option Next) : Type 0 where
+  pub takes : (a : Observation) (s : LockState) (taken : List ℕ) → IsAwaitedAt h returns node.past a →
+      StandsFor h returns node s taken → Takes h returns node a i s taken found
+
+-- of the last k of these calls: each node that was made is one of these, and each call that may take effect
+-- makes one
 pub record Tried (h : ObservedHistory) (returns : List ℕ) (node : Node) (a : Observation) (s : LockState)
-    (taken : List ℕ) (k : ℕ) (nexts : List Next) : Type 0 where
-  pub each : (w : Next) → Contains nexts w → (t : ℕ) × IsTakenTo h returns node a t s taken w
-  pub whole : (x : Effect) (u : LockState) → MayTake (LockSteps h.limits) h.entries a s taken x u →
-      x.entry.thread < k → (w : Next) × (Contains nexts w × ((w.node.past ≡ node.past) ×
-      StandsFor h returns w.node u (x.index ∷ taken)))
+    (taken calls : List ℕ) (k : ℕ) (nexts : List Next) : Type 0 where
+  pub each : (w : Next) → Contains nexts w → (i : ℕ) × IsTakenTo h returns node a i s taken w
+  pub whole : (x : Effect) (u : LockState) → MayTake (LockSteps h.limits) h.entries a s taken x u → (p : ℕ) →
+      p < length calls → length calls ≤ p + k → slice_index calls p ≡ x.index → (w : Next) × (Contains nexts w ×
+      ((w.node.past ≡ node.past) × StandsFor h returns w.node u (x.index ∷ taken)))
 
 -- what a search finds within so many configurations
 abbrev pub IsFound : ObservedHistory → ℕ → Found → Type 0

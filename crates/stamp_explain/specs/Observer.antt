@@ -50,7 +50,6 @@ abbrev pub observes_in : Option Observation → Bool
 observes_in None = false
 observes_in (Some e) = observes e
 
--- so does the call of this entry; where no call takes effect none does
-abbrev pub observes_at : List Observation → Option ℕ → Bool
-observes_at entries None = false
-observes_at entries (Some i) = observes_in (slice_get entries i)
+-- so does the call of this entry
+abbrev pub observes_at : List Observation → ℕ → Bool
+observes_at entries i = observes_in (slice_get entries i)

@@ -1,11 +1,13 @@
 -- The steps in which a plan is made.
 use Rattle.std.specs.Prelude.{ℕ, ◌≡◌, ◌≢◌, ◌<◌, ◌≤◌, ◌↔◌, ◌⊎◌, List, length, map, take, slice_get, slice_index}
-use Rattle.std.specs.Prelude.{Some, None, Option, Bool, false, ◌==◌, filter, Vec}
+use Rattle.std.specs.Prelude.{slice_index_or, Some, Vec}
 use Rattle.std.specs.Global.{Global}
 use Rattle.std.specs.List.{AllPairs, Contains}
 use Rattle.std.specs.List.Sorted.{IsPermutation, IsNonDecreasingBy}
 use Rattle.stamp_explain.specs.declared.observed.Observation.{Observation}
 use Rattle.stamp_explain.specs.declared.observed.Returned.{Returned}
+use Rattle.stamp_explain.specs.Observed.{ObservedHistory}
+use Rattle.stamp_explain.specs.Plan.{AreOpen}
 
 -- where a call returned, and where it began
 abbrev pub EndsAt : Observation → ℕ → Type 0
@@ -25,12 +27,16 @@ pub record AreKeys (Has : Observation → ℕ → Type 0) (entries : List Observ
   pub below : (p : ℕ × ℕ) → Contains keys p → p.1 < k
   pub once : AllPairs (λ (i j : ℕ). i ≢ j) (places_of keys)
 
--- the places in the order of their numbers
-pub record ArePlaced (keys : List (ℕ × ℕ)) (places : List ℕ) : Type 0 where
-  pub sorted : List (ℕ × ℕ)
+-- the same, in the order of the numbers
+pub record AreRising (keys sorted : List (ℕ × ℕ)) : Type 0 where
   pub moved : IsPermutation keys sorted
   pub rising : IsNonDecreasingBy (λ (p : ℕ × ℕ). p.0) sorted
-  pub are : places ≡ places_of sorted
+
+-- the place of a call among the returns; one that is under way has one behind all
+pub record AreRanks (entries : List Observation) (returns : List ℕ) (ranks : List ℕ) : Type 0 where
+  pub each : length ranks ≡ length entries
+  pub past : (i k : ℕ) → i < length entries → k ≤ length returns →
+      Contains (take k returns) i ↔ (slice_index ranks i < k)
 
 -- of the first k returns the ranks are known, and a call that is none of them has one behind all
 pub record AreRanked (calls : ℕ) (returns : List ℕ) (k : ℕ) (ranks : List ℕ) : Type 0 where
@@ -38,22 +44,55 @@ pub record AreRanked (calls : ℕ) (returns : List ℕ) (k : ℕ) (ranks : List 
   pub known : (i m : ℕ) → i < calls → m ≤ k → Contains (take m returns) i ↔ (slice_index ranks i < m)
   pub behind : (i : ℕ) → i < calls → (slice_index ranks i < k) ⊎ (length returns ≤ slice_index ranks i)
 
--- whether the call is of the thread
-abbrev pub is_of_thread : ℕ → Option Observation → Bool
-is_of_thread thread None = false
-is_of_thread thread (Some e) = e.thread == thread
+-- what the calls that are open are found by: the returns and the beginnings in order, and the ranks
+pub record ArePlanned (h : ObservedHistory) (ends begins : List (ℕ × ℕ)) (ranks : List ℕ) : Type 0 where
+  pub end_keys : List (ℕ × ℕ)
+  pub ends_are : AreKeys EndsAt h.entries (length h.entries) end_keys
+  pub ends_rise : AreRising end_keys ends
+  pub begin_keys : List (ℕ × ℕ)
+  pub begins_are : AreKeys BeginsAt h.entries (length h.entries) begin_keys
+  pub begins_rise : AreRising begin_keys begins
+  pub ranked : AreRanks h.entries (places_of ends) ranks
 
-abbrev pub is_of : List Observation → ℕ → ℕ → Bool
-is_of entries thread i = is_of_thread thread (slice_get entries i)
+-- for each return, the calls that are open before it
+pub record AreOpens (h : ObservedHistory) (returns : List ℕ) (opens : List (Vec ℕ Global)) : Type 0 where
+  pub each : (k : ℕ) (calls : Vec ℕ Global) → slice_get opens k ≡ Some calls → AreOpen h returns k calls.items
 
--- of the calls of this order, those of one thread
-abbrev pub calls_in : List Observation → ℕ → List ℕ → List ℕ
-calls_in entries thread order = filter (λ (i : ℕ). is_of entries thread i) order
+-- a call that is open, behind the place of its return among the returns; it began no later than any return
+-- that is to come
+pub record IsKept (entries : List Observation) (ends : List (ℕ × ℕ)) (ranks : List ℕ) (past : ℕ)
+    (p : ℕ × ℕ) : Type 0 where
+  pub entry : Observation
+  pub is_entry : slice_get entries p.1 ≡ Some entry
+  pub rank : slice_index ranks p.1 ≡ p.0
+  pub begun : (m : ℕ) (d : ℕ × ℕ) → past ≤ m → m < length ends → entry.first ≤ (slice_index_or ends m d).0
 
--- a list for each of 64 threads
-pub record AreListed (entries : List Observation) (order : List ℕ) (calls : List (Vec ℕ Global)) : Type 0 where
-  pub threads : length calls ≡ 64
-  pub each : (t : ℕ) (v : Vec ℕ Global) → slice_get calls t ≡ Some v → v.items ≡ calls_in entries t order
+-- before this return: of the calls in the order in which they began, so many have begun, and those of them that
+-- are not past are kept
+pub record AreKept (entries : List Observation) (ends begins : List (ℕ × ℕ)) (ranks : List ℕ) (past begun : ℕ)
+    (calls : List (ℕ × ℕ)) : Type 0 where
+  pub inside : begun ≤ length begins
+  pub each : (p : ℕ × ℕ) → Contains calls p → IsKept entries ends ranks past p
+  pub whole : (k : ℕ) (d : ℕ × ℕ) → k < begun → past ≤ slice_index ranks (slice_index_or begins k d).1 →
+      Contains calls (slice_index ranks (slice_index_or begins k d).1, (slice_index_or begins k d).1)
+
+-- one of those that began by this position
+pub record IsBegun (begins : List (ℕ × ℕ)) (ranks : List ℕ) (last : ℕ) (p : ℕ × ℕ) : Type 0 where
+  pub first : ℕ
+  pub key : Contains begins (first, p.1)
+  pub by_then : first ≤ last
+  pub rank : slice_index ranks p.1 ≡ p.0
+
+-- more calls have begun, up to this position
+pub record BeginsMore (begins : List (ℕ × ℕ)) (ranks : List ℕ) (last from to : ℕ) (old new : List (ℕ × ℕ)) : Type 0
+  where
+    pub inside : to ≤ length begins
+    pub further : from ≤ to
+    pub ends : (d : ℕ × ℕ) → to < length begins → last < (slice_index_or begins to d).0
+    pub only : (p : ℕ × ℕ) → Contains new p → Contains old p ⊎ IsBegun begins ranks last p
+    pub before : (p : ℕ × ℕ) → Contains old p → Contains new p
+    pub whole : (k : ℕ) (d : ℕ × ℕ) → from ≤ k → k < to →
+        Contains new (slice_index ranks (slice_index_or begins k d).1, (slice_index_or begins k d).1)
 
 -- one returned before the other; of two at one position, that which is listed first
 abbrev pub IsSooner : ℕ × ℕ → ℕ × ℕ → Type 0

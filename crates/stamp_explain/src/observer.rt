@@ -51,13 +51,10 @@ fn observes(entry: &Observation) -> bool
     }
 }
 
-/// Whether the call that takes effect is such a one; it isn't where a return is passed.
-pub(crate) fn observes_at(observed: &Observed, took: Option<usize>) -> bool
-    ensures { result ≡ observes_at observed.now.entries took }
+/// Whether the call of this entry is such a one.
+pub(crate) fn observes_at(observed: &Observed, i: usize) -> bool
+    ensures { result ≡ observes_at observed.now.entries i }
 {
-    let Some(i) = took else {
-        return false;
-    };
     match observed.entries().get(i) {
         None => false,
         Some(entry) => observes(entry),

@@ -1,13 +1,12 @@
 //! Making the plan of a search.
-ghost use Rattle.std.specs.Prelude.{◌≡◌, ◌≢◌, ◌<◌, ◌≤◌, IfOk, length};
+ghost use Rattle.std.specs.Prelude.{ℕ, ◌≡◌, ◌≢◌, ◌<◌, ◌≤◌, IfOk, length};
 ghost use Rattle.std.specs.List.{All, AllPairs};
-ghost use Rattle.stamp_explain.specs.Planning.{AreKeys, ArePlaced, AreRanked, AreListed, AreEnds, EndsAt, BeginsAt, places_of};
+ghost use Rattle.stamp_explain.specs.Planning.{AreKeys, AreRising, AreRanked, ArePlanned, AreOpens, BeginsMore, AreEnds, EndsAt, BeginsAt, places_of};
 ghost use Rattle.stamp_explain.specs.Observed.{IsObserved};
 ghost use Rattle.stamp_explain.specs.Plan.{IsPlan};
 
 use crate::observed::{Observation, Observed};
 use crate::plan::Plan;
-use stamp_core::MOST_THREADS;
 use std::alloc::{AllocError, Global};
 
 /// Where each returned call returned, and its place.
@@ -54,14 +53,13 @@ fn places_alone(alloc: Global, keys: &[(u64, usize)]) -> Result<Vec<usize>, Allo
     keys.iter().map(|key| key.1).collect(alloc)
 }
 
-/// The places in the order of the numbers beside them.
-fn placed(alloc: Global, keys: Vec<(u64, usize)>) -> Result<Vec<usize>, AllocError>
-    ensures { IfOk result (λ places. ArePlaced keys.items places.items) }
+/// The same in the order of the numbers.
+fn in_order(keys: Vec<(u64, usize)>) -> Result<Vec<(u64, usize)>, AllocError>
+    ensures { IfOk result (λ sorted. AreRising keys.items sorted.items) }
 {
     let mut sorted = keys;
     sorted.sort_by_key(|key| key.0)?;
-    let places = places_alone(alloc, sorted.as_slice())?;
-    Ok(places)
+    Ok(sorted)
 }
 
 /// The place of each call among the returns; one that is under way has a place behind all.
@@ -78,26 +76,59 @@ fn ranks_of(alloc: Global, calls: usize, returns: &[usize]) -> Result<Vec<usize>
     Ok(ranks)
 }
 
-/// The calls of each thread, in the order in which they are listed here.
-fn calls_of(
+/// Adds the calls that begin up to this position, each behind its rank: how many have begun then, of
+/// those in the order of their beginnings.
+fn begin_more(
+    begins: &[(u64, usize)],
+    ranks: &[usize],
+    last: u64,
+    from: usize,
+    kept: &mut Vec<(usize, usize)>,
+) -> Result<usize, AllocError>
+    requires from { from ≤ length begins.now }
+    requires ranks { All (λ (p : ℕ × ℕ). p.1 < length ranks.now) begins.now }
+    ensures { IfOk result (λ to. BeginsMore begins.now ranks.now last from to kept.old.items kept.new.items) }
+{
+    for place in from..begins.len() {
+        let (first, call) = begins[place];
+        if last < first {
+            return Ok(place);
+        }
+        kept.push((ranks[call], call))?;
+    }
+    Ok(begins.len())
+}
+
+/// The calls alone.
+fn calls_alone(alloc: Global, kept: &[(usize, usize)]) -> Result<Vec<usize>, AllocError>
+    ensures { IfOk result (λ calls. calls.items ≡ places_of kept.now) }
+{
+    kept.iter().map(|key| key.1).collect(alloc)
+}
+
+/// For each return the calls that are open before it, in the order of their returns.
+fn opens_of(
     alloc: Global,
     observed: &Observed,
-    order: &[usize],
+    ends: &[(u64, usize)],
+    begins: &[(u64, usize)],
+    ranks: &[usize],
 ) -> Result<Vec<Vec<usize>>, AllocError>
-    requires observed { IsObserved observed.now }
-    requires inside { All (λ i. i < length observed.now.entries) order.now }
-    ensures { IfOk result (λ calls. AreListed observed.now.entries order.now calls.items) }
+    requires { ArePlanned observed.now ends.now begins.now ranks.now }
+    ensures many { IfOk result (λ opens. length opens.items ≡ length ends.now) }
+    ensures opens { IfOk result (λ opens. AreOpens observed.now (places_of ends.now) opens.items) }
 {
-    let entries = observed.entries();
-    let mut calls = Vec::new(alloc);
-    for _ in 0..MOST_THREADS {
-        calls.push(Vec::new(alloc))?;
+    let _ = observed.entries();
+    let mut opens = Vec::new(alloc);
+    let mut kept = Vec::new(alloc);
+    let mut begun = 0;
+    for (past, end) in ends.iter().enumerate() {
+        begun = begin_more(begins, ranks, end.0, begun, &mut kept)?;
+        kept.retain(|call| call.0 >= past);
+        kept.sort_unstable();
+        opens.push(calls_alone(alloc, kept.as_slice())?)?;
     }
-    for i in order {
-        let thread = entries[*i].thread as usize;
-        calls[thread].push(*i)?;
-    }
-    Ok(calls)
+    Ok(opens)
 }
 
 /// The plan of a search.
@@ -106,15 +137,16 @@ pub(crate) fn plan_of(alloc: Global, observed: &Observed) -> Result<Plan, AllocE
     ensures { IfOk result (λ plan. IsPlan observed.now plan) }
 {
     let entries = observed.entries();
-    let ends = returns_of(alloc, entries)?;
-    let returns = placed(alloc, ends)?;
-    let begins = begins_of(alloc, entries)?;
-    let order = placed(alloc, begins)?;
+    let ends = in_order(returns_of(alloc, entries)?)?;
+    let returns = places_alone(alloc, ends.as_slice())?;
+    let begins = in_order(begins_of(alloc, entries)?)?;
     let ranks = ranks_of(alloc, entries.len(), returns.as_slice())?;
-    let calls = calls_of(alloc, observed, order.as_slice())?;
-    Ok(Plan {
-        returns,
-        ranks,
-        calls,
-    })
+    let opens = opens_of(
+        alloc,
+        observed,
+        ends.as_slice(),
+        begins.as_slice(),
+        ranks.as_slice(),
+    )?;
+    Ok(Plan { returns, opens })
 }

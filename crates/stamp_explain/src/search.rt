@@ -1,19 +1,19 @@
 //! The search for an order.
-ghost use Rattle.std.specs.Prelude.{ℕ, ◌≡◌, ◌≤◌, ◌<◌, IfOk, List, [], ◌∷◌, slice_index, length};
-ghost use Rattle.std.specs.List.{Contains};
+ghost use Rattle.std.specs.Prelude.{ℕ, ◌<◌, IfOk, IfSome, List, [], ◌∷◌, length};
+ghost use Rattle.std.specs.Option.{IfNone};
 ghost use Rattle.stamp_core.specs.Word.{IsAdmitted, word_at};
 ghost use Rattle.stamp_explain.specs.Observed.{IsObserved};
-ghost use Rattle.stamp_explain.specs.Search.{LockState};
-ghost use Rattle.stamp_explain.specs.Node.{StandsFor, IsReached, IsOpening};
-ghost use Rattle.stamp_explain.specs.Plan.{IsPlan, IsAwaitedAt};
+ghost use Rattle.stamp_explain.specs.Search.{AreReturns};
+ghost use Rattle.stamp_explain.specs.Node.{IsReached, IsOpening};
+ghost use Rattle.stamp_explain.specs.Plan.{IsPlan, IsOpenAt};
 ghost use Rattle.stamp_explain.specs.Store.{Keeps};
-ghost use Rattle.stamp_explain.specs.Expand.{Expands, Takes, IsFound, Enters};
+ghost use Rattle.stamp_explain.specs.Expand.{Expands, Took, IsNotInEffect, IsFound, Enters};
 
 use crate::node::{Next, Node, Origin};
-use crate::observed::{Observation, Observed};
+use crate::observed::Observed;
 use crate::observer::observes_at;
 use crate::order::{Taken, order_to};
-use crate::plan::{Plan, has_bit, next_call, with_bit, without_bit};
+use crate::plan::{Plan, has_bit, with_bit, without_bit};
 use crate::stepping::step_of;
 use crate::store::Store;
 use stamp_core::Word;
@@ -54,27 +54,17 @@ fn enter(
     Ok(())
 }
 
-/// What becomes of a node if the next call of this thread takes effect; nothing where it can't before
-/// the awaited call returns.
-fn take_of(observed: &Observed, plan: &Plan, node: &Node, thread: u64, last: u64) -> Option<Next>
+/// What becomes of a node if the call of this entry takes effect; nothing where it is in effect, or
+/// would give another reply.
+fn take_of(observed: &Observed, node: &Node, i: usize) -> Option<Next>
     requires observed { IsObserved observed.now }
-    requires plan { IsPlan observed.now plan.now }
     requires admitted { IsAdmitted observed.now.limits (word_at observed.now.limits node.now.bits) }
-    requires past { node.now.past ≤ length plan.now.returns.items }
-    requires thread { thread < 64 }
-    ensures { (a : Observation) (s : LockState) (taken : List ℕ)
-        → IsAwaitedAt observed.now plan.now.returns.items node.now.past last a
-        → ¬ Contains taken (slice_index plan.now.returns.items node.now.past)
-        → StandsFor observed.now plan.now.returns.items node.now s taken
-        → Takes observed.now plan.now.returns.items node.now a thread s taken result }
+    requires inside { i < length observed.now.entries }
+    ensures { (returns : List ℕ) → AreReturns observed.now.entries returns
+        → IsOpenAt observed.now returns node.now.past i → Took observed.now returns node.now i result }
 {
+    let thread = observed.entries()[i].thread;
     if has_bit(node.threads, thread) {
-        return None;
-    }
-    let Some((i, first)) = next_call(observed, plan, node.past, thread) else {
-        return None;
-    };
-    if last < first {
         return None;
     }
     match step_of(observed, node.bits, node.writer, i) {
@@ -91,55 +81,82 @@ fn take_of(observed: &Observed, plan: &Plan, node: &Node, thread: u64, last: u64
     }
 }
 
-/// One node.
-fn only(alloc: Global, next: Next) -> Result<Vec<Next>, AllocError>
-    ensures { IfOk result (λ nexts. nexts.items ≡ next ∷ []) }
-{
-    let mut nexts = Vec::new(alloc);
-    nexts.push(next)?;
-    Ok(nexts)
-}
-
-/// The nodes that come next: the awaited return is past, where its call is in effect; else an open
-/// call takes effect. One that changes nothing takes effect at once, and no other then.
-fn successors(
-    alloc: Global,
-    observed: &Observed,
-    plan: &Plan,
-    node: &Node,
-) -> Result<Vec<Next>, AllocError>
+/// The one node that comes next, where no other has to be looked at: the awaited return is past, where
+/// its call is in effect; else an open call takes effect that changes nothing.
+fn forced(observed: &Observed, plan: &Plan, node: &Node) -> Option<Next>
     requires observed { IsObserved observed.now }
     requires plan { IsPlan observed.now plan.now }
     requires reached { IsReached observed.now plan.now.returns.items node.now }
     requires past { node.now.past < length plan.now.returns.items }
-    ensures { IfOk result (λ nexts. Expands observed.now plan.now.returns.items node.now nexts.items) }
+    ensures one { IfSome result (λ next. Expands observed.now plan.now.returns.items node.now (next ∷ [])) }
+    ensures none { IfNone result (IsNotInEffect observed.now plan.now.returns.items node.now) }
 {
-    let entry = &observed.entries()[plan.returns[node.past]];
-    if has_bit(node.threads, entry.thread) {
-        let past = Next {
+    let thread = observed.entries()[plan.returns[node.past]].thread;
+    if has_bit(node.threads, thread) {
+        return Some(Next {
             node: Node {
                 past: node.past + 1,
                 bits: node.bits,
                 writer: node.writer,
-                threads: without_bit(node.threads, entry.thread),
+                threads: without_bit(node.threads, thread),
             },
             took: None,
-        };
-        return only(alloc, past);
+        });
     }
-    let Some(returned) = &entry.returned else {
-        unreachable!();
-    };
-    let mut nexts = Vec::new(alloc);
-    for thread in 0..64 {
-        if let Some(next) = take_of(observed, plan, node, thread, returned.last) {
-            if observes_at(observed, next.took) {
-                return only(alloc, next);
+    for i in plan.opens[node.past].as_slice() {
+        if observes_at(observed, *i) {
+            if let Some(next) = take_of(observed, node, *i) {
+                return Some(next);
             }
+        }
+    }
+    None
+}
+
+/// The nodes that come next where an open call has to take effect. The one of that which returns first
+/// comes last.
+fn choices(
+    observed: &Observed,
+    plan: &Plan,
+    node: &Node,
+    nexts: &mut Vec<Next>,
+) -> Result<(), AllocError>
+    requires observed { IsObserved observed.now }
+    requires plan { IsPlan observed.now plan.now }
+    requires reached { IsReached observed.now plan.now.returns.items node.now }
+    requires past { node.now.past < length plan.now.returns.items }
+    requires awaited { IsNotInEffect observed.now plan.now.returns.items node.now }
+    ensures { IfOk result (λ _. Expands observed.now plan.now.returns.items node.now nexts.new.items) }
+{
+    nexts.clear();
+    let calls = plan.opens[node.past].as_slice();
+    for k in 0..calls.len() {
+        if let Some(next) = take_of(observed, node, calls[calls.len() - 1 - k]) {
             nexts.push(next)?;
         }
     }
-    Ok(nexts)
+    Ok(())
+}
+
+/// The nodes that come next.
+fn successors(
+    observed: &Observed,
+    plan: &Plan,
+    node: &Node,
+    nexts: &mut Vec<Next>,
+) -> Result<(), AllocError>
+    requires observed { IsObserved observed.now }
+    requires plan { IsPlan observed.now plan.now }
+    requires reached { IsReached observed.now plan.now.returns.items node.now }
+    requires past { node.now.past < length plan.now.returns.items }
+    ensures { IfOk result (λ _. Expands observed.now plan.now.returns.items node.now nexts.new.items) }
+{
+    let Some(next) = forced(observed, plan, node) else {
+        return choices(observed, plan, node, nexts);
+    };
+    nexts.clear();
+    nexts.push(next)?;
+    Ok(())
 }
 
 /// Looks for an order that explains the history, at so many configurations at most.
@@ -161,6 +178,7 @@ pub(crate) fn search(
         took: None,
     };
     enter(&mut store, &mut waiting, 0, &[first])?;
+    let mut nexts = Vec::new(alloc);
     for _ in 0..most {
         let Some(place) = waiting.pop() else {
             return Ok(Found::Nothing);
@@ -170,7 +188,7 @@ pub(crate) fn search(
             let order = order_to(alloc, observed, plan, &store, place)?;
             return Ok(Found::Order(order));
         }
-        let nexts = successors(alloc, observed, plan, &node)?;
+        successors(observed, plan, &node, &mut nexts)?;
         enter(&mut store, &mut waiting, place, nexts.as_slice())?;
     }
     Ok(Found::Undecided)

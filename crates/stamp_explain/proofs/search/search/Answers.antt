@@ -55,11 +55,11 @@ pub loop-preserved : goal.loop-preserved
 loop-preserved c =
     searches_more c.args.observed.now c.args.plan.now.returns.items c.loop.counter c.loop.store
     c.enter-in-loop.new.store c.loop.waiting.items c.pop.new.self.items c.enter-in-loop.new.waiting.items
-    c.in_ok-nexts.nexts.items c.in-Some.place c.index.result.now
+    c.successors.new.nexts.items c.in-Some.place c.index.result.now
     c.loop.invariant c.in-Some.ensures.items
     (popped_node c.args.observed.now c.args.plan.now.returns.items c.loop.counter c.loop.store
     c.loop.waiting.items c.pop.new.self.items c.in-Some.place c.index.result.now c.loop.invariant
-    c.in-Some.ensures.items c.index.ensures) c.in_ok-nexts.ensures
+    c.in-Some.ensures.items c.index.ensures) c.in_ok-successors.ensures
     (subst (λ (ns : List Next). Enters c.loop.store c.enter-in-loop.new.store c.in-Some.place c.pop.new.self.items
     c.enter-in-loop.new.waiting.items ns) c.as_slice.ensures.value c.in_ok-enter-2.ensures)
 
