@@ -2,7 +2,7 @@
 use Rattle.std.proofs.Common.{◌≡◌, ◌≢◌, ◌⊎◌, ℕ, ◌<◌, ◌≤◌, Bool, true, false, List, ◌∷◌}
 use Rattle.std.proofs.Common.{length, get_or, refl, sym, ◌∙◌, ap, subst, inl, inr, arith, Option, None}
 use Rattle.std.proofs.Common.{Some}
-use Rattle.std.specs.Prelude.{slice_get, take, MatchOption}
+use Rattle.std.specs.Prelude.{slice_get, take}
 use Rattle.std.specs.Bool.{MatchBool}
 use Rattle.std.specs.List.{All, AllPairs, Contains}
 use Rattle.std.specs.Int.{bit_at}
@@ -19,7 +19,6 @@ use Rattle.stamp_core.specs.declared.call.Call.{Call}
 use Rattle.stamp_core.specs.declared.call.Call.TheVariants.{Get, Put, PutIf}
 use Rattle.stamp_core.specs.declared.reply.Reply.{Reply}
 use Rattle.stamp_explain.specs.declared.observed.Observation.{Observation}
-use Rattle.stamp_explain.specs.declared.observed.Returned.{Returned}
 use Rattle.stamp_explain.specs.declared.node.Node.{Node}
 use Rattle.stamp_explain.specs.declared.node.Step.{Step}
 use Rattle.stamp_explain.specs.Observed.{ObservedHistory, IsObserved, IsBefore, IsInterval, DoNotOverlap}
@@ -29,7 +28,7 @@ use Rattle.stamp_explain.specs.Node.{IsNext, AreTaken, StandsFor, Goes, HasGone}
 use Rattle.stamp_explain.specs.Plan.{IsOpenAt, SetsBit}
 use Rattle.stamp_explain.specs.Expand.{Takes}
 use Rattle.stamp_explain.proofs.Finding.{no_later, has_returned, not_before_itself}
-use Rattle.stamp_explain.proofs.Standing.{AreOrderly, one_next, taken_by_bit, taken_more}
+use Rattle.stamp_explain.proofs.Standing.{AreOrderly, taken_by_bit, taken_more}
 
 -- what holds of each holds of the one at a place
 pub at_place : (P : Observation → Type 0) (es : List Observation) (i : ℕ) (e : Observation) → All P es →

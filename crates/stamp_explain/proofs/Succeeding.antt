@@ -2,7 +2,7 @@
 use Rattle.std.proofs.Common.{◌≡◌, ◌≢◌, ◌⊎◌, ℕ, ◌+◌, ◌-◌, ◌<◌, ◌≤◌, zero, suc, List, [], ◌∷◌}
 use Rattle.std.proofs.Common.{◌++◌, length, get_or, refl, sym, ◌∙◌, ap, subst, inl, inr, arith, None}
 use Rattle.std.proofs.Common.{Option, Some, Vec, Global}
-use Rattle.std.specs.Prelude.{slice_get, slice_index, take, drop, MatchOption, true, false}
+use Rattle.std.specs.Prelude.{slice_get, take, drop, MatchOption, true, false}
 use Rattle.std.proofs.lemmas.List.{take_all, get_or-drop, length-drop}
 use Rattle.std.specs.List.{Contains}
 use Rattle.std.specs.Int.{bit_at}

@@ -1,4 +1,4 @@
-use Rattle.std.proofs.Common.{◌≡◌, ◌<◌, ◌+◌, ℕ, List, length, get_or, refl, sym, subst, arith}
+use Rattle.std.proofs.Common.{◌+◌, ℕ, List, get_or, refl, sym, subst, arith}
 use Rattle.stamp_explain.proofs.Opening.{BeginsTo, begins_one}
 use Rattle.stamp_explain.proofs.planning.begin_more.Goals as goal
 

@@ -1,4 +1,3 @@
-use Rattle.std.proofs.Common.{ℕ, ◌≤◌, length}
 use Rattle.stamp_explain.proofs.Opening.{BeginsTo}
 use Rattle.stamp_explain.proofs.planning.begin_more.Given as goal
 

@@ -1,13 +1,12 @@
-use Rattle.std.proofs.Common.{◌≡◌, ◌+◌, ◌<◌, ℕ, List, [], ◌∷◌, ◌++◌, length, rules, sym, ◌∙◌, ap, subst, arith}
+use Rattle.std.proofs.Common.{◌≡◌, ℕ, List, [], ◌∷◌, ◌++◌, length, rules, sym, ◌∙◌, ap, subst, arith}
 use Rattle.std.proofs.Common.{Vec, Global}
 use Rattle.std.specs.Prelude.{filter}
-use Rattle.std.specs.List.{Contains}
 use Rattle.std.specs.List.Sorted.{IsPermutation}
 use Rattle.std.proofs.lemmas.List.{length-append}
 use Rattle.std.proofs.lemmas.Fn.{filter_same}
 use Rattle.stamp_explain.specs.Plan.{AreOpen}
 use Rattle.stamp_explain.specs.Planning.{AreOpens, places_of}
-use Rattle.stamp_explain.proofs.Opening.{OpensAt, is_left, opens_at, opens_more, begins_inside, places_many}
+use Rattle.stamp_explain.proofs.Opening.{OpensAt, is_left, opens_at, opens_more, begins_inside}
 use Rattle.stamp_explain.proofs.planning.opens_of.Goals as goal
 
 pub begin_more-requires-clause-ranks : goal.begin_more-requires-clause-ranks

@@ -1,7 +1,6 @@
 use Rattle.std.proofs.Common.{◌≡◌, ◌≢◌, ◌<◌, ℕ, List, length, sym, ◌∙◌, ap, subst}
 use Rattle.std.specs.List.{All, AllPairs}
-use Rattle.stamp_explain.specs.declared.observed.Observation.{Observation}
-use Rattle.stamp_explain.specs.Planning.{AreKeys, AreRising, AreRanked, ArePlanned, AreOpens, EndsAt, BeginsAt}
+use Rattle.stamp_explain.specs.Planning.{AreKeys, AreRanked, ArePlanned, AreOpens, EndsAt}
 use Rattle.stamp_explain.specs.Planning.{places_of}
 use Rattle.stamp_explain.proofs.Keyed.{placed_once}
 use Rattle.stamp_explain.proofs.Opening.{places_inside, planned, all_planned}

@@ -1,4 +1,4 @@
-use Rattle.std.proofs.Common.{◌≡◌, ◌<◌, ℕ, length, true, false, get_or, sym, ◌∙◌, ap}
+use Rattle.std.proofs.Common.{◌≡◌, true, false, get_or, sym, ◌∙◌, ap}
 use Rattle.std.specs.Int.{bit_at}
 use Rattle.std.proofs.lemmas.Option.{same_Some}
 use Rattle.stamp_explain.specs.declared.observed.Observation.{Observation}
