@@ -54,7 +54,7 @@ pub(crate) fn order_to(
     requires end { IsEnd plan.now.returns.items store.now place }
     ensures { IfOk result (λ order. IsOrderOf observed.now order.items) }
 {
-    let mut order = Vec::new(alloc);
+    let mut order = Vec::with_capacity(alloc, observed.entries().len())?;
     let mut at = place;
     while at > 0 {
         let origin = store.origins[at];

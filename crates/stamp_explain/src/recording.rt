@@ -92,7 +92,7 @@ fn entries_of(alloc: Global, observed: &Observed, order: &[Taken]) -> Result<Vec
         position: 0,
         before: 0,
     };
-    let mut placed = Vec::new(alloc);
+    let mut placed = Vec::with_capacity(alloc, order.len())?;
     for taken in order {
         let entry = &entries[taken.entry];
         let place = place_for(at, entry.first);

@@ -7,7 +7,7 @@ use Rattle.stamp_explain.proofs.order.order_to.Goals as goal
 
 pub loop-at-init : goal.loop-at-init
 loop-at-init c = walks_last c.args.observed.now c.args.plan.now.returns.items c.args.store.now c.args.place
-    c.new-order.result.items c.requires.end c.new-order.ensures.items
+    c.in_ok-order.order.items c.requires.end c.in_ok-order.ensures.items
 
 pub index-origin-requires : goal.index-origin-requires
 index-origin-requires c = subst (λ (n : ℕ). c.loop-at.at < n) (sym c.args.store.now.origins.ok.0)

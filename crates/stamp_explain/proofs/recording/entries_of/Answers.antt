@@ -8,11 +8,11 @@ use Rattle.stamp_explain.proofs.Placing.{all_placed, points_are_recorded, begun_
 use Rattle.stamp_explain.proofs.recording.entries_of.Goals as goal
 
 pub loop-taken-init : goal.loop-taken-init
-loop-taken-init c = places_first c.args.observed.now c.args.order.now c.end_of-end.result c.new-placed.result.items
+loop-taken-init c = places_first c.args.observed.now c.args.order.now c.end_of-end.result c.in_ok-placed.placed.items
     c.requires.observed c.requires.order
     (begun_by_end c.args.observed.now.entries c.end_of-end.result
     (subst (λ (es : List Observation). IsLastTold es c.end_of-end.result) c.entries-entries.ensures.entries
-    c.end_of-end.ensures.told)) c.new-placed.ensures.items
+    c.end_of-end.ensures.told)) c.in_ok-placed.ensures.items
 
 pub bounds-entries-taken : goal.bounds-entries-taken
 bounds-entries-taken c = subst (λ (es : List Observation). c.taken-item.result.entry < length es)
