@@ -11,7 +11,8 @@ import textwrap
 
 PAGES = {
     "README.md": ["counter"],
-    "docs/EXAMPLES.md": ["point", "price_board", "recorded_run"],
+    "docs/EXAMPLES.md": ["point", "price_board", "recorded_handles", "recorded_run"],
+    "docs/JUDGING.md": ["recorded_handles"],
     "docs/TOUR.md": ["stamp_machines_tests", "stamp_threads_tests"],
     "docs/USING.md": ["counter", "config"],
 }

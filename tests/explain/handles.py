@@ -1,0 +1,64 @@
+"""Runs of this repository's own lock, recorded by `recorded_handles` and judged.
+
+    handles.py HANDLES EXPLAIN STAMPED
+
+Runs of 2 to 8 threads by handles, with all seventeen calls of the lock. Each must be explained, and `stamped
+check` must accept what explains it, with as many entries as calls. Wrong runs must be stuck: one with a stamp of
+a version that there never was, at the entry of that stamp; and one whose tickets tell the calls in another order
+than that in which they were made."""
+import json
+import subprocess
+import sys
+
+RUNS = [(2, 1000), (3, 500), (4, 500), (6, 300), (8, 200)]
+CALLS = {"try_write", "try_read", "write_lock", "read_lock", "optimistic", "validate", "unlock_write", "unlock_read",
+         "unlock", "to_write", "to_read", "to_optimistic", "try_unlock_write", "try_unlock_read", "is_write_locked",
+         "is_read_locked", "read_count"}
+
+
+def output_of(words, text=b""):
+    return subprocess.run(words, input=text, capture_output=True, timeout=300).stdout
+
+
+def explained(explain, history):
+    return output_of([explain], json.dumps(history).encode())
+
+
+def with_later_stamp(history):
+    """The history with one stamp of a version that there never was, and that entry's number."""
+    entries = [dict(entry) for entry in history["entries"]]
+    wrong = next(i for i, entry in enumerate(entries) if entry["call"] == ["write_lock"])
+    entries[wrong]["reply"] += 256 * len(entries)
+    return {**history, "entries": entries}, wrong
+
+
+def turned_round(history):
+    """The history as if its calls had been made from the last to the first, each thread's too."""
+    last = max(entry["last"] for entry in history["entries"])
+    entries = [{**entry, "first": last - entry["last"], "last": last - entry["first"]} for entry in history["entries"]]
+    return {**history, "entries": entries}
+
+
+def wants(found, wanted, name):
+    if found != wanted:
+        sys.exit(f"{name}: {str(found)[:80]}, and not {wanted}")
+
+
+def main():
+    handles, explain, stamped = sys.argv[1:]
+    total, made = 0, set()
+    for threads, rounds in RUNS:
+        history = json.loads(output_of([handles, str(threads), str(rounds)]))
+        entries = history["entries"]
+        name = f"{threads} threads"
+        wants(output_of([stamped, "check"], explained(explain, history)), f"ok {len(entries)}\n".encode(), name)
+        wrong, at = with_later_stamp(history)
+        wants(explained(explain, wrong), f"stuck {at}\n".encode(), f"{name}, a later stamp")
+        wants(explained(explain, turned_round(history))[:6], b"stuck ", f"{name}, turned round")
+        made.update(entry["call"][0] for entry in entries)
+        total += len(entries)
+    wants(made, CALLS, "the calls")
+    print(f"handles: {total} calls in {len(RUNS)} runs explained, and the wrong runs are stuck")
+
+
+main()
