@@ -1,6 +1,7 @@
 use stamp_core::{Call, Entry, Limits, Reply, Words};
 use stamp_explain::{
-    END_OF_POSITIONS, ExplainError, Observation, Observed, Returned, explain, is_observed,
+    END_OF_POSITIONS, ExplainError, Observation, Observed, PossibleError, Returned, explain,
+    has_returned_at, is_observed, possible_among,
 };
 use std::test::Fail;
 
@@ -260,5 +261,34 @@ fn positions_are_below_2_to_the_58(rt: HostRuntime) -> Result<(), Fail> {
         let last_call = returned(0, Call::ReadCount, Reply::Count(0), (first, last));
         assert_eq!(rt; made(&rt, 0, &[last_call])?.is_some(), fits);
     }
+    Ok(())
+}
+
+/// Which of these replies the second call could have had.
+fn possible(
+    rt: &impl AllocGlobal,
+    entries: &[Observation],
+    replies: &[Reply],
+    most: u64,
+) -> Result<Result<Vec<Reply>, PossibleError>, Fail> {
+    let observed = observed(rt, 0, entries)?;
+    if !is_observed(&observed) || !has_returned_at(&observed, 1) {
+        return Err(Fail::from("no return"));
+    }
+    Ok(possible_among(rt.alloc(), &observed, 1, replies, most))
+}
+
+#[test]
+fn a_read_after_a_write_acquisition_could_have_had_0_alone(rt: HostRuntime) -> Result<(), Fail> {
+    let wrong = returned(1, Call::TryRead, Reply::Stamp(257), (4, 5));
+    let tried = [Reply::Stamp(257), Reply::Stamp(0), Reply::Stamp(513)];
+    let Ok(found) = possible(&rt, &[first_write(), wrong], &tried, 100)? else {
+        return Err(Fail::from("undecided"));
+    };
+    assert_eq!(rt; found.as_slice(), &[Reply::Stamp(0)]);
+    let Err(error) = possible(&rt, &[first_write(), wrong], &tried, 1)? else {
+        return Err(Fail::from("decided"));
+    };
+    assert_eq!(rt; error, PossibleError::Undecided);
     Ok(())
 }

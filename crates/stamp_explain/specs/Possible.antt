@@ -1,0 +1,42 @@
+-- Which replies a call of an observed history could have had.
+use Rattle.std.specs.Prelude.{ℕ, ◌≡◌, ◌≢◌, ◌↔◌, ◌+◌, List, slice_get, slice_set, Some}
+use Rattle.std.specs.List.{AllPairs, Contains}
+use Rattle.stamp_core.specs.declared.reply.Reply.{Reply}
+use Rattle.stamp_explain.specs.declared.observed.Observation.{Observation}
+use Rattle.stamp_explain.specs.declared.observed.Returned.{Returned}
+use Rattle.stamp_explain.specs.Observed.{ObservedHistory}
+use Rattle.stamp_explain.specs.Explained.{IsExplained}
+use Rattle.stamp_explain.specs.Cut.{cut_after, seen_at}
+use Rattle.stamp_explain.specs.Node.{ReachesMany}
+
+-- the call, returned at the same position with this reply
+abbrev pub answering : Observation → Returned → Reply → Observation
+answering e r reply = record e { returned = Some (record r { reply = reply }) }
+
+-- the history with this reply of the call at this place
+abbrev pub with_reply : ℕ → Observation → Returned → Reply → ObservedHistory → ObservedHistory
+with_reply i e r reply h = record h { entries = slice_set h.entries i (answering e r reply) }
+
+-- with this reply in place of its own, what is known when the call at this place has returned is explained
+pub record IsPossible (h : ObservedHistory) (i : ℕ) (reply : Reply) : Type 0 where
+  pub entry : Observation
+  pub return : Returned
+  pub is_entry : slice_get h.entries i ≡ Some entry
+  pub returned : entry.returned ≡ Some return
+  pub explained : IsExplained (cut_after return i (with_reply i entry return reply h))
+
+-- of the replies that were tried these are the possible ones; each stands once if it was tried once
+pub record ArePossible (h : ObservedHistory) (i : ℕ) (tried found : List Reply) : Type 0 where
+  pub each : (reply : Reply) → Contains found reply ↔ (Contains tried reply × IsPossible h i reply)
+  pub once : AllPairs (λ (a b : Reply). a ≢ b) tried → AllPairs (λ (a b : Reply). a ≢ b) found
+
+-- with this reply a search of what is seen when the call at this place has returned reaches so many configurations
+pub record IsUndecidedAtReply (h : ObservedHistory) (i most : ℕ) (reply : Reply) : Type 0 where
+  pub entry : Observation
+  pub return : Returned
+  pub is_entry : slice_get h.entries i ≡ Some entry
+  pub returned : entry.returned ≡ Some return
+  pub many : ReachesMany (seen_at return.last (i + 1) (with_reply i entry return reply h)) most
+
+abbrev pub IsUndecidedAtSome : ObservedHistory → ℕ → ℕ → List Reply → Type 0
+IsUndecidedAtSome h i most tried = (reply : Reply) × (Contains tried reply × IsUndecidedAtReply h i most reply)

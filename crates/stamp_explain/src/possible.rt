@@ -1,0 +1,147 @@
+//! The replies that a call of an observed history could have had.
+ghost use Rattle.std.specs.Prelude.{◌≡◌, ◌↔◌, ◌++◌, ◌∷◌, [], IsTrue, IfOk, OnOk, Err, Some, slice_get};
+ghost use Rattle.stamp_explain.specs.Observed.{IsObserved};
+ghost use Rattle.stamp_explain.specs.Search.{IsReturnAt};
+ghost use Rattle.stamp_explain.specs.Possible.{ArePossible, IsPossible, IsUndecidedAtReply, IsUndecidedAtSome, with_reply};
+
+use crate::cut::seen_at;
+use crate::observed::{Observation, Observed, Returned};
+use crate::planning::plan_of;
+use crate::search::{Found, search};
+use stamp_core::Reply;
+use std::alloc::{AllocError, Global};
+use std::error::Error;
+use std::fmt;
+
+/// Why it isn't known which replies are possible.
+#[derive(Clone, Copy, Debug, PartialEq, Eq)]
+pub enum PossibleError {
+    /// 1: with some reply a search looked at the most configurations before it ended.
+    Undecided,
+    /// 2: an allocation was refused.
+    Memory,
+}
+
+impl fmt::Display for PossibleError {
+    fn fmt<W: fmt::Write>(&self, f: &mut fmt::Formatter<W>) -> fmt::Result {
+        match self {
+            PossibleError::Undecided => write!(f, "the possible replies are undecided"),
+            PossibleError::Memory => write!(f, "out of memory"),
+        }
+    }
+}
+
+impl Error for PossibleError {}
+
+impl From<AllocError> for PossibleError {
+    ghost use Rattle.stamp_explain.specs.declared.possible.PossibleError.TheVariants.{Memory};
+
+    ghost from_gives = { λ _ e. e ≡ Memory };
+
+    fn from(_refused: AllocError) -> PossibleError {
+        PossibleError::Memory
+    }
+}
+
+/// The history with this reply of the call at this place, which is the one given.
+fn with_reply(
+    alloc: Global,
+    observed: &Observed,
+    entry: usize,
+    observation: Observation,
+    returned: Returned,
+    reply: Reply,
+) -> Result<Observed, AllocError>
+    requires is_entry { slice_get observed.now.entries entry ≡ Some observation }
+    requires returned { observation.returned ≡ Some returned }
+    ensures { IfOk result (λ made. made ≡ with_reply entry observation returned reply observed.now) }
+{
+    let mut entries = observed.entries().to_vec(alloc)?;
+    entries[entry] = Observation {
+        thread: observation.thread,
+        call: observation.call,
+        first: observation.first,
+        returned: Some(Returned {
+            last: returned.last,
+            reply,
+        }),
+    };
+    match Observed::of(observed.limits(), observed.width(), entries) {
+        Some(made) => Ok(made),
+        None => unreachable!(),
+    }
+}
+
+/// Whether this reply is possible.
+fn is_possible(
+    alloc: Global,
+    observed: &Observed,
+    entry: usize,
+    reply: Reply,
+    most: u64,
+) -> Result<bool, PossibleError>
+    requires observed { IsObserved observed.now }
+    requires returned { IsReturnAt observed.now.entries entry }
+    ensures ok { IfOk result (λ b. IsTrue b ↔ IsPossible observed.now entry reply) }
+    ensures undecided { result ≡ Err PossibleError.Undecided → IsUndecidedAtReply observed.now entry most reply }
+{
+    let observation = &observed.entries()[entry];
+    let Some(returned) = &observation.returned else {
+        unreachable!();
+    };
+    let asked = with_reply(alloc, observed, entry, *observation, *returned, reply)?;
+    let seen = seen_at(alloc, &asked, returned.last, entry + 1)?;
+    let plan = plan_of(alloc, &seen)?;
+    match search(alloc, &seen, &plan, most)? {
+        Found::Order(_) => Ok(true),
+        Found::Nothing => Ok(false),
+        Found::Undecided => Err(PossibleError::Undecided),
+    }
+}
+
+/// Whether a call that has returned stands at this place.
+#[tactic(auto, using(crate::proofs::Replying::return_here, crate::proofs::Replying::no_return_here, crate::proofs::Replying::no_entry_here))]
+pub fn has_returned_at(observed: &Observed, entry: usize) -> bool
+    ensures { IsTrue result ↔ IsReturnAt observed.now.entries entry }
+{
+    let Some(observation) = observed.entries().get(entry) else {
+        return false;
+    };
+    match &observation.returned {
+        Some(_) => true,
+        None => false,
+    }
+}
+
+fn push(replies: &mut Vec<Reply>, reply: Reply) -> Result<(), AllocError>
+    ensures { OnOk result (replies.new.items ≡ replies.old.items ++ reply ∷ []) }
+{
+    replies.push(reply)?;
+    Ok(())
+}
+
+/// Which of these replies the call at this place could have had: with such a one in place of its own,
+/// what is known when the call has returned is explained. They stand in the order in which they are
+/// tried, for each a search, which looks at `most` configurations at most. Refuses as 1 `Undecided`,
+/// where one of the searches looked at so many, or 2 `Memory`.
+pub fn possible_among(
+    alloc: Global,
+    observed: &Observed,
+    entry: usize,
+    replies: &[Reply],
+    most: u64,
+) -> Result<Vec<Reply>, PossibleError>
+    requires observed { IsObserved observed.now }
+    requires returned { IsReturnAt observed.now.entries entry }
+    ensures possible { IfOk result (λ found. ArePossible observed.now entry replies.now found.items) }
+    ensures undecided { result ≡ Err PossibleError.Undecided
+        → IsUndecidedAtSome observed.now entry most replies.now }
+{
+    let mut found = Vec::new(alloc);
+    for reply in replies {
+        if is_possible(alloc, observed, entry, *reply, most)? {
+            push(&mut found, *reply)?;
+        }
+    }
+    Ok(found)
+}
