@@ -4,8 +4,8 @@
 
 Runs of 2 to 8 threads by handles, with all seventeen calls of the lock. Each must be explained, and `stamped
 check` must accept what explains it, with as many entries as calls. Wrong runs must be stuck: one with a stamp of
-a version that there never was, at the entry of that stamp; and one whose tickets tell the calls in another order
-than that in which they were made."""
+a version that there never was, at the entry of that stamp; one whose tickets tell the calls in the opposite
+order; and some run of a recorder that takes both tickets before the call."""
 import json
 import subprocess
 import sys
@@ -39,6 +39,11 @@ def turned_round(history):
     return {**history, "entries": entries}
 
 
+def with_early_tickets(history):
+    """The history as if both tickets had been taken before each call."""
+    return {**history, "entries": [{**entry, "last": entry["first"]} for entry in history["entries"]]}
+
+
 def wants(found, wanted, name):
     if found != wanted:
         sys.exit(f"{name}: {str(found)[:80]}, and not {wanted}")
@@ -46,7 +51,7 @@ def wants(found, wanted, name):
 
 def main():
     handles, explain, stamped = sys.argv[1:]
-    total, made = 0, set()
+    total, made, early = 0, set(), 0
     for threads, rounds in RUNS:
         history = json.loads(output_of([handles, str(threads), str(rounds)]))
         entries = history["entries"]
@@ -55,9 +60,11 @@ def main():
         wrong, at = with_later_stamp(history)
         wants(explained(explain, wrong), f"stuck {at}\n".encode(), f"{name}, a later stamp")
         wants(explained(explain, turned_round(history))[:6], b"stuck ", f"{name}, turned round")
+        early += explained(explain, with_early_tickets(history)).startswith(b"stuck ")
         made.update(entry["call"][0] for entry in entries)
         total += len(entries)
     wants(made, CALLS, "the calls")
+    wants(early > 0, True, "both tickets before the call")
     print(f"handles: {total} calls in {len(RUNS)} runs explained, and the wrong runs are stuck")
 
 
