@@ -3,7 +3,8 @@
     refused.py [--count FILE] [CRATE..]
 
 An edit is a file tests/edits/CRATE/NAME.edit, in the form of the kit's must-fail edits: a line `file:`, then
-pairs of lines `old:` and `new:`. It changes the body of one function. A function is proved from the contracts
+pairs of lines `old:` and `new:`. It changes the body of one function (one that changes more stands in the
+crate's own must-fail folder, which `rt ci` tries). A function is proved from the contracts
 of those that it calls, so edits of several functions are tried at once, in one copy of the crate. A function
 that calls one which isn't proved isn't judged: its edit is tried again in the next round, without those that
 are settled.
