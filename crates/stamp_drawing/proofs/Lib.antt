@@ -1,3 +1,4 @@
 pub mod Appending
 pub mod OneByOne
+pub mod Narrow
 pub mod WellFormed

@@ -1,12 +1,15 @@
--- Places and ends, one bar more.
-use Rattle.std.proofs.Common.{◌≡◌, ◌∙◌, ℕ, ◌+◌, ◌*◌, ◌<◌, List, [], ◌∷◌, ◌++◌, length, map, take, get_or, refl, sym, ap}
-use Rattle.std.proofs.Common.{arith, append_assoc}
+-- Ends, lanes and boxes, one more.
+use Rattle.std.proofs.Common.{◌≡◌, ◌∙◌, ℕ, ◌+◌, ◌*◌, ◌<◌, ◌≤◌, List, [], ◌∷◌, ◌++◌, length, map, take, drop, get_or, refl, sym, ap}
+use Rattle.std.proofs.Common.{arith, append_assoc, Bool, true, false, add-one, drop-cons, cond}
+use Rattle.std.specs.Prelude.{if◌then◌else◌, max, Option}
+use Rattle.std.specs.List.{range_with_len}
 use Rattle.std.proofs.lemmas.List.{take_more, map_more, map_push}
+use Rattle.std.proofs.lemmas.List.FromFn.{map-range_with_len_more}
 use Rattle.stamp_picture.specs.declared.bar.Bar.{Bar}
-use Rattle.stamp_drawing.specs.declared.places.Place.{Place}
+use Rattle.stamp_picture.specs.declared.state.Moment.{Moment}
 use Rattle.stamp_drawing.specs.declared.sheet.Shape.{Shape}
-use Rattle.stamp_drawing.specs.Places.{ends_of}
-use Rattle.stamp_drawing.specs.Sheet.{places_of}
+use Rattle.stamp_drawing.specs.Places.{ends_of, lanes_in, point_x}
+use Rattle.stamp_drawing.specs.Sheet.{Box, box_of, boxes_of, same_content, content_box, change_boxes}
 
 ends_push : (xs : List Bar) (b : Bar) → ends_of (xs ++ b ∷ []) ≡ ends_of xs ++ b.first ∷ b.point ∷ b.last ∷ []
 ends_push [] b = refl
@@ -21,15 +24,73 @@ pub three_ends : (xs : List Bar) → length (ends_of xs) ≡ 3 * length xs
 three_ends [] = refl
 three_ends (x ∷ xs) = omega (arith, three_ends xs)
 
--- one shape more, at the place of its item
-pub placed_more : {X : Type 0} (place : X → Place) (xs : List X) (i : ℕ) (x : X) (old new : List Shape) (shape : Shape)
-    (front : List Place) → i < length xs → x ≡ get_or xs i x → places_of old ≡ front ++ map place (take i xs) →
-    new ≡ old ++ shape ∷ [] → shape.place ≡ place x →
-    places_of new ≡ front ++ map place (take (i + 1) xs)
-placed_more {X} place xs i x old new shape front lt is before more at =
-    let first = map place (take i xs) in
-    ap (λ (s : List Shape). places_of s) more ∙ map_push (λ (s : Shape). s.place) old shape
-    ∙ ap (λ (ps : List Place). ps ++ shape.place ∷ []) before
-    ∙ ap (λ (p : Place). (front ++ first) ++ p ∷ []) (at ∙ ap place is)
-    ∙ append_assoc front first (place (get_or xs i x) ∷ [])
-    ∙ ap (λ (ps : List Place). front ++ ps) (sym (map_more place xs i x lt))
+lanes_push : (xs : List Bar) (b : Bar) → lanes_in (xs ++ b ∷ []) ≡ max (lanes_in xs) (b.lane + 1)
+lanes_push [] b = omega arith
+lanes_push (x ∷ xs) b = omega (arith, lanes_push xs b)
+
+pub lanes_more : (xs : List Bar) (i : ℕ) (b : Bar) → i < length xs → b ≡ get_or xs i b →
+    lanes_in (take (i + 1) xs) ≡ max (lanes_in (take i xs)) (b.lane + 1)
+lanes_more xs i b lt is = ap (λ (ys : List Bar). lanes_in ys) (take_more xs i b lt) ∙
+    ap (λ (x : Bar). lanes_in (take i xs ++ x ∷ [])) (sym is) ∙ lanes_push (take i xs) b
+
+-- one shape more, as the box of its item
+pub boxed_more : {X : Type 0} (box : X → Box) (xs : List X) (i : ℕ) (x : X) (old new : List Shape) (shape : Shape)
+    (front : List Box) → i < length xs → x ≡ get_or xs i x → boxes_of old ≡ front ++ map box (take i xs) →
+    new ≡ old ++ shape ∷ [] → box_of shape ≡ box x →
+    boxes_of new ≡ front ++ map box (take (i + 1) xs)
+boxed_more {X} box xs i x old new shape front lt is before more at =
+    let first = map box (take i xs) in
+    ap (λ (s : List Shape). boxes_of s) more ∙ map_push box_of old shape
+    ∙ ap (λ (bs : List Box). bs ++ box_of shape ∷ []) before
+    ∙ ap (λ (b : Box). (front ++ first) ++ b ∷ []) (at ∙ ap box is)
+    ∙ append_assoc front first (box (get_or xs i x) ∷ [])
+    ∙ ap (λ (bs : List Box). front ++ bs) (sym (map_more box xs i x lt))
+
+-- one lane more
+pub laned_more : (box : ℕ → Box) (n : ℕ) (old new : List Shape) (shape : Shape) →
+    boxes_of old ≡ map box (range_with_len 0 n) → new ≡ old ++ shape ∷ [] → box_of shape ≡ box n →
+    boxes_of new ≡ map box (range_with_len 0 (n + 1))
+laned_more box n old new shape before more at =
+    ap (λ (s : List Shape). boxes_of s) more ∙ map_push box_of old shape
+    ∙ ap (λ (bs : List Box). bs ++ box_of shape ∷ []) before
+    ∙ ap (λ (b : Box). map box (range_with_len 0 n) ++ b ∷ []) at
+    ∙ sym (map-range_with_len_more box 0 n n (omega arith))
+
+change_boxes_at : (ends : List ℕ) (held : Option (List ℕ)) (ms : List Moment) (i : ℕ) (m : Moment) →
+    i < length ms → m ≡ get_or ms i m →
+    change_boxes ends held (drop i ms) ≡ change_boxes ends held (m ∷ drop (i + 1) ms)
+change_boxes_at ends held ms i m lt is =
+    ap (λ (rest : List Moment). change_boxes ends held rest)
+    (drop-cons ms i m lt ∙ ap (λ (n : ℕ). get_or ms i m ∷ drop n ms) (sym (add-one i)))
+    ∙ ap (λ (x : Moment). change_boxes ends held (x ∷ drop (i + 1) ms)) (sym is)
+
+chosen : (b : Bool) (x y : List Box) → b ≡ true → (if b then x else y) ≡ x
+chosen b x y is = ap (λ (c : Bool). if c then x else y) is
+
+refused : (b : Bool) (x y : List Box) → b ≡ false → (if b then x else y) ≡ y
+refused b x y is = ap (λ (c : Bool). if c then x else y) is
+
+-- the content stayed the same at one moment more
+pub kept_more : (ends : List ℕ) (held : Option (List ℕ)) (ms : List Moment) (i : ℕ) (m : Moment) (old all : List Box) →
+    i < length ms → m ≡ get_or ms i m → same_content held m.state.content ≡ true →
+    old ++ change_boxes ends held (drop i ms) ≡ all → old ++ change_boxes ends held (drop (i + 1) ms) ≡ all
+kept_more ends held ms i m old all lt is same before =
+    ap (λ (bs : List Box). old ++ bs) (sym (change_boxes_at ends held ms i m lt is
+    ∙ chosen (same_content held m.state.content) _ _ same)) ∙ before
+
+-- it changed
+pub changed_more : (ends : List ℕ) (held : Option (List ℕ)) (ms : List Moment) (i : ℕ) (m : Moment)
+    (old new : List Shape) (shape : Shape) (all : List Box) →
+    i < length ms → m ≡ get_or ms i m → same_content held m.state.content ≡ false →
+    new ≡ old ++ shape ∷ [] → box_of shape ≡ content_box ends (point_x ends m.point) m.state.content →
+    boxes_of old ++ change_boxes ends held (drop i ms) ≡ all →
+    boxes_of new ++ change_boxes ends m.state.content (drop (i + 1) ms) ≡ all
+changed_more ends held ms i m old new shape all lt is same more at before =
+    let rest = change_boxes ends m.state.content (drop (i + 1) ms) in
+    let box = content_box ends (point_x ends m.point) m.state.content in
+    ap (λ (s : List Shape). boxes_of s ++ rest) more
+    ∙ ap (λ (bs : List Box). bs ++ rest) (map_push box_of old shape)
+    ∙ append_assoc (boxes_of old) (box_of shape ∷ []) rest
+    ∙ ap (λ (b : Box). boxes_of old ++ (b ∷ rest)) at
+    ∙ ap (λ (bs : List Box). boxes_of old ++ bs) (sym (change_boxes_at ends held ms i m lt is
+    ∙ refused (same_content held m.state.content) _ (box ∷ rest) same)) ∙ before

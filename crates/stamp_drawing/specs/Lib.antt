@@ -1,5 +1,7 @@
+pub mod Words
 pub mod Markup
 pub mod Places
 pub mod Sheet
+pub mod Rows
 pub mod Svg
 pub mod SvgLaws

@@ -89,6 +89,11 @@ class_of Free = class.Free
 class_of (Reading n) = class.Reading
 class_of Writing = class.Writing
 
+-- how many lanes there are: up to the last one that a bar has
+abbrev pub lanes_in : List Bar → ℕ
+lanes_in [] = 0
+lanes_in (b ∷ bs) = max (b.lane + 1) (lanes_in bs)
+
 -- the right border
 abbrev pub right_of : List ℕ → ℕ
 right_of ends = x_of (length ends)
@@ -112,3 +117,21 @@ opening_place ends state = record {
   width = right_of ends - border;
   height = 36;
 }
+
+-- what the record holds, from its place to the right border
+abbrev pub content_place : List ℕ → ℕ → Place
+content_place ends x = record { class = class.Content; x = x; y = 72; width = right_of ends - x; height = 22 }
+
+-- a lane, from side to side
+abbrev pub lane_place : List ℕ → ℕ → Place
+lane_place ends lane = record {
+  class = class.Lane;
+  x = 4;
+  y = lane_y lane;
+  width = right_of ends;
+  height = lane_height;
+}
+
+-- below the lanes
+abbrev pub foot_of : List Bar → ℕ
+foot_of bars = lane_y (lanes_in bars) + 10

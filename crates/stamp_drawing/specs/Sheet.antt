@@ -1,17 +1,142 @@
--- The boxes of a picture.
-use Rattle.std.specs.Prelude.{◌≡◌, List, ◌∷◌, map}
+-- The boxes of a picture, with their words.
+use Rattle.std.specs.Prelude.{ℕ, ◌≡◌, ◌+◌, List, [], ◌∷◌, ◌++◌, Option, Some, None, Result, Ok, Err, Bool, true, false, max, map}
+use Rattle.std.specs.Prelude.{codes, decimal, string_bytes, if◌then◌else◌}
+use Rattle.std.specs.List.{range_with_len}
+use Rattle.stamp_core.specs.Content.{same_words}
+use Rattle.stamp_picture.specs.declared.bar.Bar.{Bar}
+use Rattle.stamp_picture.specs.declared.picture.Fault.{Fault}
+use Rattle.stamp_picture.specs.declared.state.State.{State}
+use Rattle.stamp_picture.specs.declared.state.Moment.{Moment}
 use Rattle.stamp_picture.specs.Picture.{Drawn}
+use Rattle.stamp_drawing.specs.declared.places.Class.{Class}
+use Rattle.stamp_drawing.specs.declared.places.Class.TheVariants as class
 use Rattle.stamp_drawing.specs.declared.places.Place.{Place}
 use Rattle.stamp_drawing.specs.declared.sheet.Shape.{Shape}
 use Rattle.stamp_drawing.specs.declared.sheet.Sheet.{Sheet}
-use Rattle.stamp_drawing.specs.Places.{ends_of, bar_place, mark_place, moment_place, opening_place}
+use Rattle.stamp_drawing.specs.Places.{ends_of, lanes_in, right_of, border, point_x, bar_place, mark_place, moment_place}
+use Rattle.stamp_drawing.specs.Places.{opening_place, content_place, lane_place, foot_of}
+use Rattle.stamp_drawing.specs.Words.{call_text, reply_text, answered_text, state_text, short_mode_text, content_text}
+use Rattle.stamp_drawing.specs.Words.{verdict_text}
 
-abbrev pub places_of : List Shape → List Place
-places_of shapes = map (λ (s : Shape). s.place) shapes
+-- where a box stands, and its words
+pub record Box : Type 0 where
+  pub place : Place
+  pub title : List ℕ
+  pub upper : List ℕ
+  pub lower : List ℕ
 
--- a box for each bar, a mark for each point, and a box for each moment, in their order
+abbrev pub box_of : Shape → Box
+box_of s = record {
+  place = s.place;
+  title = string_bytes s.title;
+  upper = string_bytes s.upper;
+  lower = string_bytes s.lower;
+}
+
+abbrev pub boxes_of : List Shape → List Box
+boxes_of shapes = map box_of shapes
+
+-- a box that says the same as its title
+abbrev pub plain_box : Place → List ℕ → Box
+plain_box place words = record { place = place; title = words; upper = words; lower = [] }
+
+-- all of a call: its entry, its thread, its reply and its positions
+unfoldable pub bar_title : Bar → List ℕ
+bar_title bar =
+    codes "entry " ++ (decimal bar.entry ++ (codes ", thread " ++ (decimal bar.lane ++ (codes ": " ++ (answered_text bar ++
+    (codes ", " ++ (decimal bar.first ++ (codes " to " ++ (decimal bar.last ++ (codes ", point " ++ decimal bar.point))))))))))
+
+-- the call above its reply
+abbrev pub bar_box : Result ℕ Fault → List ℕ → Bar → Box
+bar_box verdict ends bar = record {
+  place = bar_place verdict ends bar;
+  title = bar_title bar;
+  upper = call_text bar.call;
+  lower = codes "= " ++ reply_text bar.reply;
+}
+
+abbrev pub mark_box : List ℕ → Bar → Box
+mark_box ends bar = record { place = mark_place ends bar; title = bar_title bar; upper = []; lower = [] }
+
+-- who holds the lock above its version
+abbrev pub state_box : Place → State → Box
+state_box place s = record {
+  place = place;
+  title = state_text s;
+  upper = short_mode_text s.mode;
+  lower = codes "v " ++ decimal s.version;
+}
+
+abbrev pub moment_box : List ℕ → Moment → Box
+moment_box ends moment = state_box (moment_place ends moment) moment.state
+
+abbrev pub content_box : List ℕ → ℕ → Option (List ℕ) → Box
+content_box ends x content = plain_box (content_place ends x) (content_text content)
+
+abbrev pub same_content : Option (List ℕ) → Option (List ℕ) → Bool
+same_content None None = true
+same_content None (Some b) = false
+same_content (Some a) None = false
+same_content (Some a) (Some b) = same_words a b
+
+-- a box at each of these moments at which the content changes, where this was held before
+abbrev pub change_boxes : List ℕ → Option (List ℕ) → List Moment → List Box
+change_boxes ends held [] = []
+change_boxes ends held (m ∷ ms) =
+    if same_content held m.state.content then change_boxes ends held ms
+    else content_box ends (point_x ends m.point) m.state.content ∷ change_boxes ends m.state.content ms
+
+-- a name in the border
+abbrev pub name_box : ℕ → List ℕ → Box
+name_box y name = plain_box (record { class = class.Note; x = 4; y = y; width = 90; height = 22 }) name
+
+-- what the record holds at first, and where it changes; nothing without a record
+abbrev pub content_boxes : List ℕ → Option (List ℕ) → List Moment → List Box
+content_boxes ends None ribbon = []
+content_boxes ends (Some words) ribbon =
+    name_box 72 (codes "record") ∷ content_box ends border (Some words) ∷ change_boxes ends (Some words) ribbon
+
+-- a lane with its thread's name
+abbrev pub lane_box : List ℕ → ℕ → Box
+lane_box ends lane = record {
+  place = lane_place ends lane;
+  title = codes "thread " ++ decimal lane;
+  upper = [];
+  lower = codes "thread " ++ decimal lane;
+}
+
+abbrev pub verdict_class : Result ℕ Fault → Class
+verdict_class (Ok n) = class.Note
+verdict_class (Err fault) = class.Bad
+
+-- in a row of the legend
+abbrev pub legend_box : ℕ → Class → ℕ → ℕ → List ℕ → Box
+legend_box y c x width words = plain_box (record { class = c; x = x; y = y; width = width; height = 22 }) words
+
+abbrev pub verdict_box : Result ℕ Fault → Box
+verdict_box verdict = legend_box 4 (verdict_class verdict) border 620 (verdict_text verdict)
+
+-- the verdict, the lock's name, and a legend
+abbrev pub note_boxes : Result ℕ Fault → ℕ → List Box
+note_boxes verdict y =
+    verdict_box verdict ∷
+    name_box 40 (codes "lock") ∷
+    legend_box y class.Free 96 60 (codes "free") ∷
+    legend_box y class.Reading 160 76 (codes "n readers") ∷
+    legend_box y class.Writing 240 60 (codes "writing") ∷
+    legend_box y class.Bar 304 60 (codes "call") ∷
+    legend_box y class.Bad 368 60 (codes "fault") ∷
+    legend_box y class.Mark 440 6 [] ∷
+    legend_box y class.Note 448 268 (codes "takes effect; v: the version") ∷ []
+
+-- a box for each lane, bar, mark and moment, in their order, and the notes; the sheet is as large as they need
 pub record IsSheet (p : Drawn) (sheet : Sheet) : Type 0 where
-  pub bars : places_of sheet.bars.items ≡ map (bar_place p.verdict (ends_of p.bars)) p.bars
-  pub marks : places_of sheet.marks.items ≡ map (mark_place (ends_of p.bars)) p.bars
-  pub ribbon : places_of sheet.ribbon.items ≡
-      opening_place (ends_of p.bars) p.opening ∷ map (moment_place (ends_of p.bars)) p.ribbon
+  pub width : sheet.width ≡ max (right_of (ends_of p.bars)) 716 + 12
+  pub height : sheet.height ≡ foot_of p.bars + 32
+  pub lanes : boxes_of sheet.lanes.items ≡ map (lane_box (ends_of p.bars)) (range_with_len 0 (lanes_in p.bars))
+  pub ribbon : boxes_of sheet.ribbon.items ≡
+      state_box (opening_place (ends_of p.bars) p.opening) p.opening ∷ map (moment_box (ends_of p.bars)) p.ribbon
+  pub content : boxes_of sheet.content.items ≡ content_boxes (ends_of p.bars) p.opening.content p.ribbon
+  pub bars : boxes_of sheet.bars.items ≡ map (bar_box p.verdict (ends_of p.bars)) p.bars
+  pub marks : boxes_of sheet.marks.items ≡ map (mark_box (ends_of p.bars)) p.bars
+  pub notes : boxes_of sheet.notes.items ≡ note_boxes p.verdict (foot_of p.bars)

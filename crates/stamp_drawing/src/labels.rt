@@ -1,14 +1,20 @@
-//! The words on the sheet.
+//! The words of a picture.
+ghost use Rattle.std.specs.Prelude.{Some};
+ghost use Rattle.stamp_drawing.specs.Words.{words_text, call_text, reply_text, answered_text, mode_text};
+ghost use Rattle.stamp_drawing.specs.Words.{short_mode_text, content_text, state_text, brief_text, why_text, due_text, verdict_text};
 
+use stamp_check::Why;
 use stamp_core::{Call, Reply, Words};
 use stamp_picture::{Bar, Fault, Mode, State};
-use std::alloc::{AllocError, Global};
 use std::fmt;
 
+/// The words of a record.
 #[derive(Drop)]
 struct WordsLabel(Words);
 
 impl fmt::Display for WordsLabel {
+    ghost output = { λ label. Some (words_text label.0) };
+
     fn fmt<W: fmt::Write>(&self, f: &mut fmt::Formatter<W>) -> fmt::Result {
         write!(f, "{:?}", self.0.as_slice())
     }
@@ -19,6 +25,8 @@ impl fmt::Display for WordsLabel {
 pub(crate) struct CallLabel(pub(crate) Call);
 
 impl fmt::Display for CallLabel {
+    ghost output = { λ label. Some (call_text label.0) };
+
     fn fmt<W: fmt::Write>(&self, f: &mut fmt::Formatter<W>) -> fmt::Result {
         match self.0 {
             Call::TryWrite => write!(f, "try_write"),
@@ -52,6 +60,8 @@ impl fmt::Display for CallLabel {
 pub(crate) struct ReplyLabel(pub(crate) Reply);
 
 impl fmt::Display for ReplyLabel {
+    ghost output = { λ label. Some (reply_text label.0) };
+
     fn fmt<W: fmt::Write>(&self, f: &mut fmt::Formatter<W>) -> fmt::Result {
         match self.0 {
             Reply::Stamp(stamp) => write!(f, "{stamp}"),
@@ -65,11 +75,30 @@ impl fmt::Display for ReplyLabel {
     }
 }
 
+/// A call and its reply.
+#[derive(Drop)]
+pub(crate) struct AnsweredLabel(pub(crate) Bar);
+
+impl fmt::Display for AnsweredLabel {
+    ghost output = { λ label. Some (answered_text label.0) };
+
+    fn fmt<W: fmt::Write>(&self, f: &mut fmt::Formatter<W>) -> fmt::Result {
+        write!(
+            f,
+            "{} = {}",
+            CallLabel(self.0.call),
+            ReplyLabel(self.0.reply)
+        )
+    }
+}
+
 /// Who holds the lock.
 #[derive(Drop)]
 struct ModeLabel(Mode);
 
 impl fmt::Display for ModeLabel {
+    ghost output = { λ label. Some (mode_text label.0) };
+
     fn fmt<W: fmt::Write>(&self, f: &mut fmt::Formatter<W>) -> fmt::Result {
         match self.0 {
             Mode::Free => write!(f, "free"),
@@ -82,9 +111,11 @@ impl fmt::Display for ModeLabel {
 
 /// The same in a narrow box.
 #[derive(Drop)]
-struct ShortModeLabel(Mode);
+pub(crate) struct ShortModeLabel(pub(crate) Mode);
 
 impl fmt::Display for ShortModeLabel {
+    ghost output = { λ label. Some (short_mode_text label.0) };
+
     fn fmt<W: fmt::Write>(&self, f: &mut fmt::Formatter<W>) -> fmt::Result {
         match self.0 {
             Mode::Free => write!(f, "free"),
@@ -94,15 +125,66 @@ impl fmt::Display for ShortModeLabel {
     }
 }
 
-/// What the record holds.
+/// What the record holds; nothing where there is no record.
 #[derive(Drop)]
-struct ContentLabel(Option<Words>);
+pub(crate) struct ContentLabel(pub(crate) Option<Words>);
 
 impl fmt::Display for ContentLabel {
+    ghost output = { λ label. Some (content_text label.0) };
+
     fn fmt<W: fmt::Write>(&self, f: &mut fmt::Formatter<W>) -> fmt::Result {
         match self.0 {
             None => Ok(()),
             Some(words) => write!(f, "{}", WordsLabel(words)),
+        }
+    }
+}
+
+/// What lock and record are.
+#[derive(Drop)]
+pub(crate) struct StateLabel(pub(crate) State);
+
+impl fmt::Display for StateLabel {
+    ghost output = { λ label. Some (state_text label.0) };
+
+    fn fmt<W: fmt::Write>(&self, f: &mut fmt::Formatter<W>) -> fmt::Result {
+        let (mode, version) = (ModeLabel(self.0.mode), self.0.version);
+        match self.0.content {
+            None => write!(f, "{mode}, version {version}"),
+            Some(words) => write!(f, "{mode}, version {version}, record {}", WordsLabel(words)),
+        }
+    }
+}
+
+/// The same in few characters.
+#[derive(Drop)]
+pub(crate) struct BriefLabel(pub(crate) State);
+
+impl fmt::Display for BriefLabel {
+    ghost output = { λ label. Some (brief_text label.0) };
+
+    fn fmt<W: fmt::Write>(&self, f: &mut fmt::Formatter<W>) -> fmt::Result {
+        let (mode, version) = (ShortModeLabel(self.0.mode), self.0.version);
+        match self.0.content {
+            None => write!(f, "{mode} v {version}"),
+            Some(words) => write!(f, "{mode} v {version} {}", WordsLabel(words)),
+        }
+    }
+}
+
+/// What an entry breaks.
+#[derive(Drop)]
+struct WhyLabel(Why);
+
+impl fmt::Display for WhyLabel {
+    ghost output = { λ label. Some (why_text label.0) };
+
+    fn fmt<W: fmt::Write>(&self, f: &mut fmt::Formatter<W>) -> fmt::Result {
+        match self.0 {
+            Why::Interval => write!(f, "its point is not between its first and last"),
+            Why::Order => write!(f, "its point is not above the one before"),
+            Why::Overlap => write!(f, "it began before its thread's last call ended"),
+            Why::Reply => write!(f, "the lock would have answered otherwise"),
         }
     }
 }
@@ -112,6 +194,8 @@ impl fmt::Display for ContentLabel {
 struct DueLabel(Option<Reply>);
 
 impl fmt::Display for DueLabel {
+    ghost output = { λ label. Some (due_text label.0) };
+
     fn fmt<W: fmt::Write>(&self, f: &mut fmt::Formatter<W>) -> fmt::Result {
         match self.0 {
             None => write!(f, "it would wait here"),
@@ -120,56 +204,20 @@ impl fmt::Display for DueLabel {
     }
 }
 
-pub(crate) fn bar_title(alloc: Global, bar: &Bar) -> Result<String, AllocError> {
-    let (call, reply) = (CallLabel(bar.call), ReplyLabel(bar.reply));
-    let (entry, lane) = (bar.entry, bar.lane);
-    let (first, point, last) = (bar.first, bar.point, bar.last);
-    format!(in alloc;
-        "entry {entry}, thread {lane}: {call} = {reply}, {first} to {last}, point {point}"
-    )
-}
-
-pub(crate) fn call_text(alloc: Global, bar: &Bar) -> Result<String, AllocError> {
-    CallLabel(bar.call).to_string(alloc)
-}
-
-pub(crate) fn reply_text(alloc: Global, bar: &Bar) -> Result<String, AllocError> {
-    let reply = ReplyLabel(bar.reply);
-    format!(in alloc; "= {reply}")
-}
-
-pub(crate) fn state_title(alloc: Global, state: &State) -> Result<String, AllocError> {
-    let (mode, version) = (ModeLabel(state.mode), state.version);
-    let content = ContentLabel(state.content);
-    format!(in alloc; "{mode}, version {version} {content}")
-}
-
-pub(crate) fn mode_text(alloc: Global, mode: Mode) -> Result<String, AllocError> {
-    ShortModeLabel(mode).to_string(alloc)
-}
-
-pub(crate) fn version_text(alloc: Global, version: u64) -> Result<String, AllocError> {
-    format!(in alloc; "v {version}")
-}
-
-pub(crate) fn content_text(alloc: Global, content: Option<Words>) -> Result<String, AllocError> {
-    ContentLabel(content).to_string(alloc)
-}
-
-pub(crate) fn lane_text(alloc: Global, lane: u64) -> Result<String, AllocError> {
-    format!(in alloc; "thread {lane}")
-}
-
 /// The verdict; of a bad history its cause, and what was due.
-pub(crate) fn verdict_text(
-    alloc: Global,
-    verdict: &Result<u64, Fault>,
-) -> Result<String, AllocError> {
-    match verdict {
-        Ok(count) => format!(in alloc; "{count} entries, in order"),
-        Err(fault) => {
-            let (bad, due) = (fault.bad, DueLabel(fault.due));
-            format!(in alloc; "{bad} ({due})")
+#[derive(Drop)]
+pub(crate) struct VerdictLabel(pub(crate) Result<u64, Fault>);
+
+impl fmt::Display for VerdictLabel {
+    ghost output = { λ label. Some (verdict_text label.0) };
+
+    fn fmt<W: fmt::Write>(&self, f: &mut fmt::Formatter<W>) -> fmt::Result {
+        match self.0 {
+            Ok(count) => write!(f, "{count} entries, in order"),
+            Err(fault) => {
+                let (entry, why) = (fault.bad.entry, WhyLabel(fault.bad.why));
+                write!(f, "entry {entry}: {why} ({})", DueLabel(fault.due))
+            }
         }
     }
 }

@@ -1,13 +1,16 @@
-//! The picture of a recorded history as SVG: boxes on a sheet, and the sheet's text.
+//! The picture of a recorded history, drawn: boxes on a sheet and the sheet's text as SVG, or lines of
+//! characters.
 #![tactic(auto)]
 
 mod labels;
 mod markup;
 mod places;
+mod rows;
 mod sheet;
 mod svg;
 pub mod svg_laws;
 
 pub use places::{Class, Place};
+pub use rows::text_of;
 pub use sheet::{Shape, Sheet, sheet_of};
 pub use svg::svg_of;

@@ -3,7 +3,7 @@ ghost use Rattle.std.specs.Prelude.{◌≡◌, ◌≤◌, ◌<◌, ◌*◌, leng
 ghost use Rattle.stamp_drawing.specs.Places as places;
 ghost use Rattle.stamp_drawing.specs.Places.{ends_of};
 
-use stamp_picture::{Bar, Fault, Mode, Moment};
+use stamp_picture::{Bar, Fault, Mode, Moment, State};
 use std::alloc::{AllocError, Global};
 
 /// A column, in pixels.
@@ -16,7 +16,7 @@ pub(crate) const BORDER: u64 = 96;
 const LEFT: u64 = 136;
 
 /// A lane.
-pub(crate) const LANE_HEIGHT: u64 = 44;
+const LANE_HEIGHT: u64 = 44;
 
 /// Where the first lane begins.
 const LANES_TOP: u64 = 104;
@@ -92,11 +92,24 @@ fn x_of(columns: u64) -> u64
     LEFT + UNIT * columns
 }
 
-pub(crate) fn lane_y(lane: u64) -> u64
+fn lane_y(lane: u64) -> u64
     requires { lane ≤ 64 }
     ensures { result ≡ places.lane_y lane }
 {
     LANES_TOP + LANE_HEIGHT * lane
+}
+
+/// How many lanes there are: one more than the number of the last that a bar has.
+pub(crate) fn lanes_in(bars: &[Bar]) -> u64
+    requires { All (λ bar. bar.lane < 64) bars.now }
+    ensures is { result ≡ places.lanes_in bars.now }
+    ensures few { result ≤ 64 }
+{
+    let mut lanes: u64 = 0;
+    for bar in bars {
+        lanes = lanes.max(bar.lane + 1);
+    }
+    lanes
 }
 
 pub(crate) fn right_of(ends: &[u64]) -> u64
@@ -106,7 +119,7 @@ pub(crate) fn right_of(ends: &[u64]) -> u64
     x_of(ends.len() as u64)
 }
 
-fn is_bad(verdict: &Result<u64, Fault>, bar: &Bar) -> bool
+pub(crate) fn is_bad(verdict: &Result<u64, Fault>, bar: &Bar) -> bool
     ensures { result ≡ places.is_bad verdict.now bar.now }
 {
     match verdict {
@@ -184,4 +197,53 @@ pub(crate) fn moment_place(ends: &[u64], moment: &Moment) -> Place
         width: right_of(ends).saturating_sub(x),
         height: 36,
     }
+}
+
+/// What lock and record are at first, from the border on.
+pub(crate) fn opening_place(ends: &[u64], state: &State) -> Place
+    requires { length ends.now ≤ 6000 }
+    ensures { result ≡ places.opening_place ends.now state.now }
+{
+    Place {
+        class: class_of(state.mode),
+        x: BORDER,
+        y: 32,
+        width: right_of(ends) - BORDER,
+        height: 36,
+    }
+}
+
+pub(crate) fn content_place(ends: &[u64], x: u64) -> Place
+    requires { length ends.now ≤ 6000 }
+    ensures { result ≡ places.content_place ends.now x }
+{
+    Place {
+        class: Class::Content,
+        x,
+        y: 72,
+        width: right_of(ends).saturating_sub(x),
+        height: 22,
+    }
+}
+
+pub(crate) fn lane_place(ends: &[u64], lane: u64) -> Place
+    requires few { length ends.now ≤ 6000 }
+    requires lane { lane ≤ 64 }
+    ensures { result ≡ places.lane_place ends.now lane }
+{
+    Place {
+        class: Class::Lane,
+        x: 4,
+        y: lane_y(lane),
+        width: right_of(ends),
+        height: LANE_HEIGHT,
+    }
+}
+
+/// Below the lanes.
+pub(crate) fn foot_of(bars: &[Bar]) -> u64
+    requires { All (λ bar. bar.lane < 64) bars.now }
+    ensures { result ≡ places.foot_of bars.now }
+{
+    lane_y(lanes_in(bars)) + 10
 }

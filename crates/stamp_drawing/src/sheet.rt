@@ -1,16 +1,18 @@
 //! The boxes of a picture, with their words.
-ghost use Rattle.std.specs.Prelude.{◌≡◌, ◌≤◌, ◌<◌, ◌∷◌, map, length, IfOk, All};
+ghost use Rattle.std.specs.Prelude.{◌≡◌, ◌≤◌, ◌<◌, ◌∷◌, [], map, length, IfOk, All, string_bytes, codes, decimal, Some};
+ghost use Rattle.std.specs.List.{range_with_len};
 ghost use Rattle.stamp_picture.specs.Picture.{most_bars};
-ghost use Rattle.stamp_drawing.specs.Places.{ends_of, bar_place, mark_place, moment_place, opening_place};
-ghost use Rattle.stamp_drawing.specs.Sheet.{IsSheet, places_of};
+ghost use Rattle.stamp_drawing.specs.Places.{ends_of, opening_place};
+ghost use Rattle.stamp_drawing.specs.Sheet as spec;
+ghost use Rattle.stamp_drawing.specs.Sheet.{IsSheet, box_of, boxes_of, bar_box, mark_box, state_box, moment_box};
+ghost use Rattle.stamp_drawing.specs.Sheet.{plain_box, content_box, content_boxes, lane_box, legend_box, note_boxes};
 
 use crate::labels::{
-    bar_title, call_text, content_text, lane_text, mode_text, reply_text, state_title,
-    verdict_text, version_text,
+    AnsweredLabel, CallLabel, ContentLabel, ReplyLabel, ShortModeLabel, StateLabel, VerdictLabel,
 };
 use crate::places::{
-    BORDER, Class, LANE_HEIGHT, Place, bar_place, class_of, ends_of, lane_y, mark_place,
-    moment_place, point_x, right_of,
+    BORDER, Class, Place, bar_place, class_of, content_place, ends_of, foot_of, lane_place,
+    lanes_in, mark_place, moment_place, opening_place, point_x, right_of,
 };
 use stamp_core::Words;
 use stamp_picture::{Bar, Fault, Mode, Moment, Picture, State};
@@ -40,7 +42,7 @@ pub struct Sheet {
     pub lanes: Vec<Shape>,
     /// What the lock was at first, and after each point.
     pub ribbon: Vec<Shape>,
-    /// What the record holds, at first and where it changes.
+    /// What the record holds, at first and where it changes, behind its name.
     pub content: Vec<Shape>,
     /// The calls.
     pub bars: Vec<Shape>,
@@ -48,6 +50,32 @@ pub struct Sheet {
     pub marks: Vec<Shape>,
     /// The verdict and the legend.
     pub notes: Vec<Shape>,
+}
+
+fn bar_title(alloc: Global, bar: &Bar) -> Result<String, AllocError>
+    ensures { IfOk result (λ title. string_bytes title ≡ spec.bar_title bar.now) }
+{
+    let (entry, lane, answered) = (bar.entry, bar.lane, AnsweredLabel(*bar));
+    let (first, point, last) = (bar.first, bar.point, bar.last);
+    format!(in alloc; "entry {entry}, thread {lane}: {answered}, {first} to {last}, point {point}")
+}
+
+fn bar_shape(
+    alloc: Global,
+    verdict: &Result<u64, Fault>,
+    ends: &[u64],
+    bar: &Bar,
+) -> Result<Shape, AllocError>
+    requires few { length ends.now ≤ 6000 }
+    requires lane { bar.now.lane < 64 }
+    ensures { IfOk result (λ shape. box_of shape ≡ bar_box verdict.now ends.now bar.now) }
+{
+    Ok(Shape {
+        place: bar_place(verdict, ends, bar),
+        title: bar_title(alloc, bar)?,
+        upper: CallLabel(bar.call).to_string(alloc)?,
+        lower: format!(in alloc; "= {}", ReplyLabel(bar.reply))?,
+    })
 }
 
 fn bar_shapes(
@@ -58,60 +86,50 @@ fn bar_shapes(
 ) -> Result<Vec<Shape>, AllocError>
     requires few { length ends.now ≤ 6000 }
     requires lanes { All (λ bar. bar.lane < 64) bars.now }
-    ensures { IfOk result (λ shapes. places_of shapes.items
-        ≡ map (bar_place verdict.now ends.now) bars.now) }
+    ensures { IfOk result (λ shapes. boxes_of shapes.items ≡ map (bar_box verdict.now ends.now) bars.now) }
 {
     let mut shapes = Vec::new(alloc);
     for bar in bars {
-        shapes.push(Shape {
-            place: bar_place(verdict, ends, bar),
-            title: bar_title(alloc, bar)?,
-            upper: call_text(alloc, bar)?,
-            lower: reply_text(alloc, bar)?,
-        })?;
+        shapes.push(bar_shape(alloc, verdict, ends, bar)?)?;
     }
     Ok(shapes)
+}
+
+fn mark_shape(alloc: Global, ends: &[u64], bar: &Bar) -> Result<Shape, AllocError>
+    requires few { length ends.now ≤ 6000 }
+    requires lane { bar.now.lane < 64 }
+    ensures { IfOk result (λ shape. box_of shape ≡ mark_box ends.now bar.now) }
+{
+    Ok(Shape {
+        place: mark_place(ends, bar),
+        title: bar_title(alloc, bar)?,
+        upper: String::new(alloc),
+        lower: String::new(alloc),
+    })
 }
 
 fn mark_shapes(alloc: Global, bars: &[Bar], ends: &[u64]) -> Result<Vec<Shape>, AllocError>
     requires few { length ends.now ≤ 6000 }
     requires lanes { All (λ bar. bar.lane < 64) bars.now }
-    ensures { IfOk result (λ shapes. places_of shapes.items ≡ map (mark_place ends.now) bars.now) }
+    ensures { IfOk result (λ shapes. boxes_of shapes.items ≡ map (mark_box ends.now) bars.now) }
 {
     let mut shapes = Vec::new(alloc);
     for bar in bars {
-        shapes.push(Shape {
-            place: mark_place(ends, bar),
-            title: bar_title(alloc, bar)?,
-            upper: String::new(alloc),
-            lower: String::new(alloc),
-        })?;
+        shapes.push(mark_shape(alloc, ends, bar)?)?;
     }
     Ok(shapes)
 }
 
 fn state_shape(alloc: Global, place: Place, state: &State) -> Result<Shape, AllocError>
-    ensures { IfOk result (λ shape. shape.place ≡ place) }
+    ensures { IfOk result (λ shape. box_of shape ≡ state_box place state.now) }
 {
+    let version = state.version;
     Ok(Shape {
         place,
-        title: state_title(alloc, state)?,
-        upper: mode_text(alloc, state.mode)?,
-        lower: version_text(alloc, state.version)?,
+        title: StateLabel(*state).to_string(alloc)?,
+        upper: ShortModeLabel(state.mode).to_string(alloc)?,
+        lower: format!(in alloc; "v {version}")?,
     })
-}
-
-fn opening_place(ends: &[u64], state: &State) -> Place
-    requires { length ends.now ≤ 6000 }
-    ensures { result ≡ opening_place ends.now state.now }
-{
-    Place {
-        class: class_of(state.mode),
-        x: BORDER,
-        y: 32,
-        width: right_of(ends) - BORDER,
-        height: 36,
-    }
 }
 
 fn ribbon_shapes(
@@ -121,8 +139,8 @@ fn ribbon_shapes(
     ends: &[u64],
 ) -> Result<Vec<Shape>, AllocError>
     requires { length ends.now ≤ 6000 }
-    ensures { IfOk result (λ shapes. places_of shapes.items
-        ≡ opening_place ends.now opening.now ∷ map (moment_place ends.now) ribbon.now) }
+    ensures { IfOk result (λ shapes. boxes_of shapes.items
+        ≡ state_box (opening_place ends.now opening.now) opening.now ∷ map (moment_box ends.now) ribbon.now) }
 {
     let mut shapes = Vec::new(alloc);
     shapes.push(state_shape(alloc, opening_place(ends, opening), opening)?)?;
@@ -132,26 +150,55 @@ fn ribbon_shapes(
     Ok(shapes)
 }
 
-fn content_shape(
-    alloc: Global,
-    x: u64,
-    right: u64,
-    content: Option<Words>,
-) -> Result<Shape, AllocError> {
+/// A box that says the same as its title.
+fn plain_shape(alloc: Global, place: Place, words: &str) -> Result<Shape, AllocError>
+    ensures { IfOk result (λ shape. box_of shape ≡ plain_box place words.now) }
+{
     Ok(Shape {
-        place: Place {
-            class: Class::Content,
-            x,
-            y: 72,
-            width: right.saturating_sub(x),
-            height: 22,
-        },
-        title: content_text(alloc, content)?,
-        upper: content_text(alloc, content)?,
+        place,
+        title: String::from_str(alloc, words)?,
+        upper: String::from_str(alloc, words)?,
         lower: String::new(alloc),
     })
 }
 
+fn name_shape(alloc: Global, y: u64, name: &str) -> Result<Shape, AllocError>
+    ensures { IfOk result (λ shape. box_of shape ≡ spec.name_box y name.now) }
+{
+    let place = Place {
+        class: Class::Note,
+        x: 4,
+        y,
+        width: 90,
+        height: 22,
+    };
+    plain_shape(alloc, place, name)
+}
+
+fn content_shape(
+    alloc: Global,
+    ends: &[u64],
+    x: u64,
+    content: Option<Words>,
+) -> Result<Shape, AllocError>
+    requires { length ends.now ≤ 6000 }
+    ensures { IfOk result (λ shape. box_of shape ≡ content_box ends.now x content) }
+{
+    let words = ContentLabel(content).to_string(alloc)?;
+    plain_shape(alloc, content_place(ends, x), &words)
+}
+
+fn same_content(one: &Option<Words>, other: &Option<Words>) -> bool
+    ensures { result ≡ spec.same_content one.now other.now }
+{
+    match (one, other) {
+        (None, None) => true,
+        (Some(one), Some(other)) => one.is_same(other),
+        _ => false,
+    }
+}
+
+/// What the record holds at first, and where it changes.
 fn content_shapes(
     alloc: Global,
     opening: &State,
@@ -159,110 +206,109 @@ fn content_shapes(
     ends: &[u64],
 ) -> Result<Vec<Shape>, AllocError>
     requires { length ends.now ≤ 6000 }
+    ensures { IfOk result (λ shapes. boxes_of shapes.items
+        ≡ content_boxes ends.now opening.now.content ribbon.now) }
 {
     let mut shapes = Vec::new(alloc);
     if opening.content.is_none() {
         return Ok(shapes);
     }
-    let right = right_of(ends);
-    let mut content = opening.content;
-    shapes.push(content_shape(alloc, BORDER, right, content)?)?;
+    shapes.push(name_shape(alloc, 72, "record")?)?;
+    shapes.push(content_shape(alloc, ends, BORDER, opening.content)?)?;
+    let mut held = opening.content;
     for moment in ribbon {
-        if moment.state.content != content {
-            content = moment.state.content;
-            shapes.push(content_shape(alloc, point_x(ends, moment.point), right, content)?)?;
+        let content = moment.state.content;
+        if !same_content(&held, &content) {
+            shapes.push(content_shape(alloc, ends, point_x(ends, moment.point), content)?)?;
+            held = content;
         }
     }
     Ok(shapes)
 }
 
-fn lane_shape(alloc: Global, lane: u64, right: u64) -> Result<Shape, AllocError>
-    requires { lane ≤ 64 }
+fn lane_shape(alloc: Global, ends: &[u64], lane: u64) -> Result<Shape, AllocError>
+    requires few { length ends.now ≤ 6000 }
+    requires lane { lane ≤ 64 }
+    ensures { IfOk result (λ shape. box_of shape ≡ lane_box ends.now lane) }
 {
     Ok(Shape {
-        place: Place {
-            class: Class::Lane,
-            x: 4,
-            y: lane_y(lane),
-            width: right,
-            height: LANE_HEIGHT,
-        },
-        title: lane_text(alloc, lane)?,
+        place: lane_place(ends, lane),
+        title: format!(in alloc; "thread {lane}")?,
         upper: String::new(alloc),
-        lower: lane_text(alloc, lane)?,
+        lower: format!(in alloc; "thread {lane}")?,
     })
 }
 
-/// How many lanes there are: one more than the number of the last.
-fn lanes_in(bars: &[Bar]) -> u64
-    requires { All (λ bar. bar.lane < 64) bars.now }
-    ensures { result ≤ 64 }
-{
-    let mut lanes = 0;
-    for bar in bars {
-        if bar.lane >= lanes {
-            lanes = bar.lane + 1;
-        }
-    }
-    lanes
-}
-
-fn lane_shapes(alloc: Global, lanes: u64, right: u64) -> Result<Vec<Shape>, AllocError>
-    requires { lanes ≤ 64 }
+fn lane_shapes(alloc: Global, lanes: u64, ends: &[u64]) -> Result<Vec<Shape>, AllocError>
+    requires few { length ends.now ≤ 6000 }
+    requires lanes { lanes ≤ 64 }
+    ensures { IfOk result (λ shapes. boxes_of shapes.items ≡ map (lane_box ends.now) (range_with_len 0 lanes)) }
 {
     let mut shapes = Vec::new(alloc);
     for lane in 0..lanes {
-        shapes.push(lane_shape(alloc, lane, right)?)?;
+        shapes.push(lane_shape(alloc, ends, lane)?)?;
     }
     Ok(shapes)
 }
 
-fn note(alloc: Global, class: Class, at: (u64, u64, u64), text: &str) -> Result<Shape, AllocError> {
-    let (x, y, width) = at;
-    Ok(Shape {
-        place: Place {
-            class,
-            x,
-            y,
-            width,
-            height: 22,
-        },
-        title: String::from_str(alloc, text)?,
-        upper: String::from_str(alloc, text)?,
-        lower: String::new(alloc),
-    })
+/// A box of the legend, at a place and of a width.
+fn legend_shape(
+    alloc: Global,
+    y: u64,
+    class: Class,
+    at: (u64, u64),
+    words: &str,
+) -> Result<Shape, AllocError>
+    ensures { IfOk result (λ shape. box_of shape ≡ legend_box y class at.0 at.1 words.now) }
+{
+    let (x, width) = at;
+    let place = Place {
+        class,
+        x,
+        y,
+        width,
+        height: 22,
+    };
+    plain_shape(alloc, place, words)
+}
+
+fn verdict_shape(alloc: Global, verdict: &Result<u64, Fault>) -> Result<Shape, AllocError>
+    ensures { IfOk result (λ shape. box_of shape ≡ spec.verdict_box verdict.now) }
+{
+    let class = match verdict {
+        Ok(_) => Class::Note,
+        Err(_) => Class::Bad,
+    };
+    let words = VerdictLabel(*verdict).to_string(alloc)?;
+    legend_shape(alloc, 4, class, (BORDER, 620), &words)
 }
 
 /// The verdict above the picture, and the legend below it.
-fn note_shapes(alloc: Global, picture: &Picture, y: u64) -> Result<Vec<Shape>, AllocError>
-    requires { y ≤ 4000 }
+fn note_shapes(
+    alloc: Global,
+    verdict: &Result<u64, Fault>,
+    y: u64,
+) -> Result<Vec<Shape>, AllocError>
+    ensures { IfOk result (λ shapes. boxes_of shapes.items ≡ note_boxes verdict.now y) }
 {
-    let verdict = picture.verdict();
-    let text = verdict_text(alloc, verdict)?;
-    let class = if verdict.is_ok() {
-        Class::Note
-    } else {
-        Class::Bad
-    };
-    let mut shapes = Vec::new(alloc);
-    shapes.push(note(alloc, class, (BORDER, 4, 620), &text)?)?;
-    shapes.push(note(alloc, Class::Note, (4, 40, 90), "lock")?)?;
-    if picture.opening().content.is_some() {
-        shapes.push(note(alloc, Class::Note, (4, 72, 90), "record")?)?;
-    }
-    shapes.push(note(alloc, class_of(Mode::Free), (BORDER, y, 60), "free")?)?;
-    shapes.push(note(alloc, class_of(Mode::Reading(1)), (160, y, 76), "n readers")?)?;
-    shapes.push(note(alloc, class_of(Mode::Writing), (240, y, 60), "writing")?)?;
-    shapes.push(note(alloc, Class::Bar, (304, y, 60), "call")?)?;
-    shapes.push(note(alloc, Class::Bad, (368, y, 60), "fault")?)?;
-    shapes.push(note(alloc, Class::Mark, (440, y, 6), "")?)?;
-    shapes.push(note(
+    let verdict = verdict_shape(alloc, verdict)?;
+    let lock = name_shape(alloc, 40, "lock")?;
+    let free = legend_shape(alloc, y, Class::Free, (96, 60), "free")?;
+    let reading = legend_shape(alloc, y, Class::Reading, (160, 76), "n readers")?;
+    let writing = legend_shape(alloc, y, Class::Writing, (240, 60), "writing")?;
+    let call = legend_shape(alloc, y, Class::Bar, (304, 60), "call")?;
+    let fault = legend_shape(alloc, y, Class::Bad, (368, 60), "fault")?;
+    let mark = legend_shape(alloc, y, Class::Mark, (440, 6), "")?;
+    let words = legend_shape(
         alloc,
+        y,
         Class::Note,
-        (448, y, 268),
+        (448, 268),
         "takes effect; v: the version",
-    )?)?;
-    Ok(shapes)
+    )?;
+    Ok(vec![in alloc;
+        verdict, lock, free, reading, writing, call, fault, mark, words,
+    ]?)
 }
 
 /// The picture as boxes: each call in its thread's lane, from its first position to its last, and in
@@ -274,17 +320,16 @@ pub fn sheet_of(alloc: Global, picture: &Picture) -> Result<Sheet, AllocError>
 {
     let bars = picture.bars();
     let ends = ends_of(alloc, bars)?;
-    let (right, lanes) = (right_of(&ends), lanes_in(bars));
-    let foot = lane_y(lanes) + 10;
+    let foot = foot_of(bars);
     let (opening, ribbon) = (picture.opening(), picture.ribbon());
     Ok(Sheet {
-        width: right.max(716) + 12,
+        width: right_of(&ends).max(716) + 12,
         height: foot + 32,
-        lanes: lane_shapes(alloc, lanes, right)?,
+        lanes: lane_shapes(alloc, lanes_in(bars), &ends)?,
         ribbon: ribbon_shapes(alloc, &opening, ribbon, &ends)?,
         content: content_shapes(alloc, &opening, ribbon, &ends)?,
         bars: bar_shapes(alloc, picture.verdict(), bars, &ends)?,
         marks: mark_shapes(alloc, bars, &ends)?,
-        notes: note_shapes(alloc, picture, foot)?,
+        notes: note_shapes(alloc, picture.verdict(), foot)?,
     })
 }

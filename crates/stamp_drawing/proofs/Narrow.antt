@@ -1,0 +1,23 @@
+-- The lines of a picture in characters.
+use Rattle.std.proofs.Common.{◌≡◌, ◌∙◌, ℕ, ◌≤◌, List, [], ◌∷◌, ◌++◌, length, map, take, sym, ap, append_assoc, arith}
+use Rattle.std.specs.List.{concat}
+use Rattle.std.proofs.lemmas.List.{append-nil, length-take}
+use Rattle.stamp_picture.specs.Picture.{Drawn}
+use Rattle.stamp_drawing.specs.Rows.{row_text, cut_text, AreNarrow}
+use Rattle.stamp_drawing.specs.Rows.AreNarrow.{none, line}
+
+-- the rows, and a last line behind them
+pub rows_joined : (width : ℕ) (p : Drawn) (times : List ℕ) (last : List ℕ) →
+    concat (map (cut_text width) (map (row_text p) times ++ last ∷ [])) ≡
+    concat (map (λ (t : ℕ). cut_text width (row_text p t)) times) ++ cut_text width last
+rows_joined width p [] last = append-nil (cut_text width last)
+rows_joined width p (t ∷ ts) last =
+    ap (λ (rest : List ℕ). cut_text width (row_text p t) ++ rest) (rows_joined width p ts last)
+    ∙ sym (append_assoc (cut_text width (row_text p t)) _ (cut_text width last))
+
+few : (width : ℕ) (row : List ℕ) → length (take width row) ≤ width
+few width row = rw length-take (omega arith)
+
+pub all_narrow : (width : ℕ) (rows : List (List ℕ)) → AreNarrow width (concat (map (cut_text width) rows))
+all_narrow width [] = none
+all_narrow width (row ∷ rows) = line (take width row) _ (few width row) (all_narrow width rows)

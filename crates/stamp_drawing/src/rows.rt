@@ -1,0 +1,240 @@
+//! A picture in characters, in which time goes down.
+ghost use Rattle.std.specs.Prelude.{◌≡◌, ◌<◌, ◌==◌, ◌++◌, map, reverse, option_map, OnOk, IfOk, All, string_bytes};
+ghost use Rattle.std.specs.List.{concat, find};
+ghost use Rattle.stamp_drawing.specs.Places.{lanes_in};
+ghost use Rattle.stamp_drawing.specs.Rows as rows;
+ghost use Rattle.stamp_drawing.specs.Rows.{AreTimes, IsRows, AreNarrow};
+ghost use Rattle.stamp_drawing.specs.Rows.{sign_text, lane_text, lanes_text, time_text, told_text, left_text};
+ghost use Rattle.stamp_drawing.specs.Rows.{row_text, number_text, heading_text, at_first_text, cut_text};
+
+use crate::labels::{AnsweredLabel, BriefLabel, CallLabel, ReplyLabel, VerdictLabel};
+use crate::markup::push_text;
+use crate::places::{ends_of, is_bad, lanes_in};
+use stamp_picture::{Bar, Fault, Moment, Picture, State};
+use std::alloc::{AllocError, Global};
+
+const LEGEND: &str = ", begins  | goes on  * takes effect  ' ends; the faulty entry has ! and X";
+
+const HEADING: &str = "    at  thread: call = reply -> what the lock was then (v: its version)";
+
+/// The positions at which a bar begins, takes effect or ends.
+fn times_of(alloc: Global, bars: &[Bar]) -> Result<Vec<u64>, AllocError>
+    ensures { IfOk result (λ times. AreTimes bars.now times.items) }
+{
+    let mut times = ends_of(alloc, bars)?;
+    times.sort_unstable();
+    times.dedup();
+    Ok(times)
+}
+
+fn is_at(bar: &Bar, time: u64) -> bool
+    ensures { result ≡ rows.is_at time bar.now }
+{
+    (bar.first.min(bar.last) <= time && time <= bar.first.max(bar.last)) || bar.point == time
+}
+
+fn bars_at(alloc: Global, bars: &[Bar], time: u64) -> Result<Vec<Bar>, AllocError>
+    ensures { IfOk result (λ there. there.items ≡ rows.bars_at time bars.now) }
+{
+    bars.iter()
+        .copied()
+        .filter(|bar| is_at(bar, time))
+        .collect(alloc)
+}
+
+fn sign(verdict: &Result<u64, Fault>, bar: &Bar, time: u64) -> &'static str
+    ensures { result.now ≡ sign_text verdict.now time bar.now }
+{
+    let bad = is_bad(verdict, bar);
+    if bar.point == time {
+        if bad { "X  " } else { "*  " }
+    } else if bad {
+        "!  "
+    } else if bar.first == time {
+        ",  "
+    } else if bar.last == time {
+        "'  "
+    } else {
+        "|  "
+    }
+}
+
+/// The last of these bars in a lane.
+fn last_in(there: &[Bar], lane: u64) -> Option<&Bar>
+    ensures { option_map (λ bar. bar.now) result ≡ find (λ bar. bar.lane == lane) (reverse there.now) }
+{
+    there.iter().rev().find(|bar| bar.lane == lane)
+}
+
+/// A lane's column, where these bars are.
+fn lane_sign(verdict: &Result<u64, Fault>, there: &[Bar], lane: u64, time: u64) -> &'static str
+    ensures { result.now ≡ lane_text verdict.now time there.now lane }
+{
+    match last_in(there, lane) {
+        Some(bar) => sign(verdict, bar, time),
+        None => "   ",
+    }
+}
+
+fn push_lanes(
+    row: &mut Vec<u8>,
+    picture: &Picture,
+    there: &[Bar],
+    time: u64,
+) -> Result<(), AllocError>
+    requires { All (λ bar. bar.lane < 64) picture.now.bars }
+    ensures { OnOk result (row.new.items
+        ≡ row.old.items ++ lanes_text picture.now.verdict time there.now (lanes_in picture.now.bars)) }
+{
+    for lane in 0..lanes_in(picture.bars()) {
+        push_text(row, lane_sign(picture.verdict(), there, lane, time))?;
+    }
+    Ok(())
+}
+
+fn time_text(alloc: Global, time: u64) -> Result<String, AllocError>
+    ensures { IfOk result (λ text. string_bytes text ≡ time_text time) }
+{
+    format!(in alloc; "{time:>6}")
+}
+
+/// What is told of a bar.
+fn told_text(alloc: Global, bar: &Bar, time: u64) -> Result<String, AllocError>
+    ensures { IfOk result (λ text. string_bytes text ≡ told_text time bar.now) }
+{
+    let (lane, entry) = (bar.lane, bar.entry);
+    if bar.point == time {
+        format!(in alloc; "  {lane}: {} (entry {entry})", AnsweredLabel(*bar))
+    } else if bar.first == time {
+        format!(in alloc; "  {lane}: {}", CallLabel(bar.call))
+    } else if bar.last == time {
+        format!(in alloc; "  {lane}: = {}", ReplyLabel(bar.reply))
+    } else {
+        Ok(String::new(alloc))
+    }
+}
+
+fn push_told(alloc: Global, row: &mut Vec<u8>, there: &[Bar], time: u64) -> Result<(), AllocError>
+    ensures { OnOk result (row.new.items ≡ row.old.items ++ concat (map (told_text time) there.now)) }
+{
+    for bar in there {
+        let told = told_text(alloc, bar, time)?;
+        push_text(row, &told)?;
+    }
+    Ok(())
+}
+
+/// What the point left.
+fn left_text(alloc: Global, moment: &Moment, time: u64) -> Result<String, AllocError>
+    ensures { IfOk result (λ text. string_bytes text ≡ left_text time moment.now) }
+{
+    if moment.point == time {
+        format!(in alloc; " -> {}", BriefLabel(moment.state))
+    } else {
+        Ok(String::new(alloc))
+    }
+}
+
+fn push_left(
+    alloc: Global,
+    row: &mut Vec<u8>,
+    ribbon: &[Moment],
+    time: u64,
+) -> Result<(), AllocError>
+    ensures { OnOk result (row.new.items ≡ row.old.items ++ concat (map (left_text time) ribbon.now)) }
+{
+    for moment in ribbon {
+        let left = left_text(alloc, moment, time)?;
+        push_text(row, &left)?;
+    }
+    Ok(())
+}
+
+/// The line of a time.
+fn row_of(alloc: Global, picture: &Picture, time: u64) -> Result<Vec<u8>, AllocError>
+    requires { All (λ bar. bar.lane < 64) picture.now.bars }
+    ensures { IfOk result (λ row. row.items ≡ row_text picture.now time) }
+{
+    let there = bars_at(alloc, picture.bars(), time)?;
+    let mut row = Vec::new(alloc);
+    push_lanes(&mut row, picture, &there, time)?;
+    let time_text = time_text(alloc, time)?;
+    push_text(&mut row, &time_text)?;
+    push_told(alloc, &mut row, &there, time)?;
+    push_left(alloc, &mut row, picture.ribbon(), time)?;
+    Ok(row)
+}
+
+fn number_text(alloc: Global, lane: u64) -> Result<String, AllocError>
+    ensures { IfOk result (λ text. string_bytes text ≡ number_text lane) }
+{
+    let space = if lane < 10 { "  " } else { " " };
+    format!(in alloc; "{lane}{space}")
+}
+
+/// The threads' numbers, each above its lane.
+fn heading_of(alloc: Global, lanes: u64) -> Result<Vec<u8>, AllocError>
+    ensures { IfOk result (λ heading. heading.items ≡ heading_text lanes) }
+{
+    let mut heading = Vec::new(alloc);
+    for lane in 0..lanes {
+        let number = number_text(alloc, lane)?;
+        push_text(&mut heading, &number)?;
+    }
+    push_text(&mut heading, HEADING)?;
+    Ok(heading)
+}
+
+fn at_first(alloc: Global, opening: State) -> Result<String, AllocError>
+    ensures { IfOk result (λ text. string_bytes text ≡ at_first_text opening) }
+{
+    format!(in alloc; "at first: {}", BriefLabel(opening))
+}
+
+/// Appends a line, cut off at the width.
+fn push_line(text: &mut Vec<u8>, line: &[u8], width: usize) -> Result<(), AllocError>
+    ensures { OnOk result (text.new.items ≡ text.old.items ++ cut_text width line.now) }
+{
+    let end = line.len().min(width);
+    text.extend_from_slice(&line[..end])?;
+    text.push(b'\n')?;
+    Ok(())
+}
+
+fn push_rows(
+    alloc: Global,
+    text: &mut Vec<u8>,
+    picture: &Picture,
+    times: &[u64],
+    width: usize,
+) -> Result<(), AllocError>
+    requires { All (λ bar. bar.lane < 64) picture.now.bars }
+    ensures { OnOk result (text.new.items
+        ≡ text.old.items ++ concat (map (λ t. cut_text width (row_text picture.now t)) times.now)) }
+{
+    for time in times {
+        let row = row_of(alloc, picture, *time)?;
+        push_line(text, &row, width)?;
+    }
+    Ok(())
+}
+
+/// The picture in characters, in lines of at most so many: the lanes of the threads side by side, a line
+/// for each position at which a call begins, takes effect or ends, and the verdict last.
+pub fn text_of(alloc: Global, picture: &Picture, width: usize) -> Result<Vec<u8>, AllocError>
+    requires { All (λ bar. bar.lane < 64) picture.now.bars }
+    ensures rows { IfOk result (λ text. IsRows width picture.now text.items) }
+    ensures narrow { IfOk result (λ text. AreNarrow width text.items) }
+{
+    let mut text = Vec::new(alloc);
+    push_line(&mut text, LEGEND.as_bytes(), width)?;
+    let first = at_first(alloc, picture.opening())?;
+    push_line(&mut text, first.as_bytes(), width)?;
+    let heading = heading_of(alloc, lanes_in(picture.bars()))?;
+    push_line(&mut text, &heading, width)?;
+    let times = times_of(alloc, picture.bars())?;
+    push_rows(alloc, &mut text, picture, &times, width)?;
+    let verdict = VerdictLabel(*picture.verdict()).to_string(alloc)?;
+    push_line(&mut text, verdict.as_bytes(), width)?;
+    Ok(text)
+}
