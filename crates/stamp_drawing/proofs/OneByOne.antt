@@ -1,6 +1,7 @@
 -- Ends, lanes and boxes, one more.
-use Rattle.std.proofs.Common.{◌≡◌, ◌∙◌, ℕ, ◌+◌, ◌*◌, ◌<◌, ◌≤◌, List, [], ◌∷◌, ◌++◌, length, map, take, drop, get_or, refl, sym, ap}
-use Rattle.std.proofs.Common.{arith, append_assoc, Bool, true, false, add-one, drop-cons, cond}
+use Rattle.std.proofs.Common.{◌≡◌, ◌∙◌, ℕ, ◌+◌, ◌*◌, ◌<◌, List, []}
+use Rattle.std.proofs.Common.{◌∷◌, ◌++◌, length, map, take, drop, get_or, refl, sym, ap}
+use Rattle.std.proofs.Common.{arith, append_assoc, Bool, true, false, add-one, drop-cons}
 use Rattle.std.specs.Prelude.{if◌then◌else◌, max, Option}
 use Rattle.std.specs.List.{range_with_len}
 use Rattle.std.proofs.lemmas.List.{take_more, map_more, map_push}

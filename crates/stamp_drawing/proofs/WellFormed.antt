@@ -35,15 +35,18 @@ escaped_content : (t : List ℕ) → IsContent (escaped t)
 escaped_content t = text (escaped t) (escaped_text t)
 
 line_content : (y line : List ℕ) → IsContent (line_text y line)
-line_content y line = element (codes "text") ((codes "x", codes "4") ∷ (codes "y", y) ∷ []) (escaped line) (refl, refl) (escaped_content line)
+line_content y line = element (codes "text") ((codes "x", codes "4") ∷ (codes "y", y) ∷ []) (escaped line)
+    (refl, refl) (escaped_content line)
 
 box_content : IsContent box_text
-box_content = element (codes "rect") ((codes "width", codes "100%") ∷ (codes "height", codes "100%") ∷ []) [] (refl, refl) (text [] nothing)
+box_content = element (codes "rect") ((codes "width", codes "100%") ∷ (codes "height", codes "100%") ∷ []) []
+    (refl, refl) (text [] nothing)
 
 shape_content : (s : Shape) → IsContent (shape_text s)
 unfolding shape_text
 shape_content s = element (codes "svg") (shape_attributes s) (inside_text s) (refl, refl)
-    (both _ _ (element (codes "title") [] (escaped (string_bytes s.title)) (refl, refl) (escaped_content (string_bytes s.title)))
+    (both _ _ (element (codes "title") [] (escaped (string_bytes s.title)) (refl, refl)
+    (escaped_content (string_bytes s.title)))
     (both _ _ box_content (both _ _ (line_content (codes "15") (string_bytes s.upper))
     (line_content (codes "29") (string_bytes s.lower)))))
 

@@ -1,5 +1,6 @@
 -- Where bars, marks and moments stand on the sheet.
-use Rattle.std.specs.Prelude.{ℕ, ◌+◌, ◌*◌, ◌-◌, ◌==◌, nat_lt, nat_le, min, max, List, [], ◌∷◌, Result, Ok, Err, length, count_by}
+use Rattle.std.specs.Prelude.{ℕ, ◌+◌, ◌*◌, ◌-◌, ◌==◌, nat_lt, nat_le, min}
+use Rattle.std.specs.Prelude.{max, List, [], ◌∷◌, Result, Ok, Err, length, count_by}
 use Rattle.std.specs.Prelude.{Bool, false, if◌then◌else◌}
 use Rattle.stamp_picture.specs.declared.bar.Bar.{Bar}
 use Rattle.stamp_picture.specs.declared.picture.Fault.{Fault}

@@ -1,5 +1,6 @@
 -- A picture in characters, in which time goes down: a line for each moment, and in it a column for each lane.
-use Rattle.std.specs.Prelude.{ℕ, ◌≡◌, ◌≤◌, ◌==◌, ◌&&◌, ◌||◌, ◌^◌, ◌-◌, nat_le, nat_lt, Bool, false, List, [], ◌∷◌, ◌++◌, Result}
+use Rattle.std.specs.Prelude.{ℕ, ◌≡◌, ◌≤◌, ◌==◌, ◌&&◌, ◌||◌, ◌^◌, ◌-◌}
+use Rattle.std.specs.Prelude.{nat_le, nat_lt, Bool, false, List, [], ◌∷◌, ◌++◌, Result}
 use Rattle.std.specs.Prelude.{map, take, reverse, length, codes, decimal, if◌then◌else◌}
 use Rattle.std.specs.Fmt.{padded_integral, format_spec}
 use Rattle.std.specs.List.{concat, filter, find, range_with_len, Contains}

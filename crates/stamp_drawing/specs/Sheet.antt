@@ -1,5 +1,6 @@
 -- The boxes of a picture, with their words.
-use Rattle.std.specs.Prelude.{ℕ, ◌≡◌, ◌+◌, List, [], ◌∷◌, ◌++◌, Option, Some, None, Result, Ok, Err, Bool, true, false, max, map}
+use Rattle.std.specs.Prelude.{ℕ, ◌≡◌, ◌+◌, List, [], ◌∷◌, ◌++◌, Option, Some}
+use Rattle.std.specs.Prelude.{None, Result, Ok, Err, Bool, true, false, max, map}
 use Rattle.std.specs.Prelude.{codes, decimal, string_bytes, if◌then◌else◌}
 use Rattle.std.specs.List.{range_with_len}
 use Rattle.stamp_core.specs.Content.{same_words}
@@ -13,8 +14,8 @@ use Rattle.stamp_drawing.specs.declared.places.Class.TheVariants as class
 use Rattle.stamp_drawing.specs.declared.places.Place.{Place}
 use Rattle.stamp_drawing.specs.declared.sheet.Shape.{Shape}
 use Rattle.stamp_drawing.specs.declared.sheet.Sheet.{Sheet}
-use Rattle.stamp_drawing.specs.Places.{ends_of, lanes_in, right_of, border, point_x, bar_place, mark_place, moment_place}
-use Rattle.stamp_drawing.specs.Places.{opening_place, content_place, lane_place, foot_of}
+use Rattle.stamp_drawing.specs.Places.{ends_of, lanes_in, right_of, border, point_x, bar_place, mark_place}
+use Rattle.stamp_drawing.specs.Places.{moment_place, opening_place, content_place, lane_place, foot_of}
 use Rattle.stamp_drawing.specs.Words.{call_text, reply_text, answered_text, state_text, short_mode_text, content_text}
 use Rattle.stamp_drawing.specs.Words.{verdict_text}
 
@@ -43,8 +44,9 @@ plain_box place words = record { place = place; title = words; upper = words; lo
 -- all of a call: its entry, its thread, its reply and its positions
 unfoldable pub bar_title : Bar → List ℕ
 bar_title bar =
-    codes "entry " ++ (decimal bar.entry ++ (codes ", thread " ++ (decimal bar.lane ++ (codes ": " ++ (answered_text bar ++
-    (codes ", " ++ (decimal bar.first ++ (codes " to " ++ (decimal bar.last ++ (codes ", point " ++ decimal bar.point))))))))))
+    codes "entry " ++ (decimal bar.entry ++ (codes ", thread " ++ (decimal bar.lane ++
+    (codes ": " ++ (answered_text bar ++ (codes ", " ++ (decimal bar.first ++
+    (codes " to " ++ (decimal bar.last ++ (codes ", point " ++ decimal bar.point))))))))))
 
 -- the call above its reply
 abbrev pub bar_box : Result ℕ Fault → List ℕ → Bar → Box

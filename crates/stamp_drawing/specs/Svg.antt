@@ -2,7 +2,8 @@
 use Rattle.std.specs.Prelude.{ℕ, List, [], ◌∷◌, ◌++◌, map, codes, decimal, string_bytes}
 use Rattle.std.specs.List.{concat}
 use Rattle.stamp_drawing.specs.declared.places.Class.{Class}
-use Rattle.stamp_drawing.specs.declared.places.Class.TheVariants.{Free, Reading, Writing, Content, Lane, Bar, Bad, Mark, Note}
+use Rattle.stamp_drawing.specs.declared.places.Class.TheVariants.{Free, Reading, Writing, Content}
+use Rattle.stamp_drawing.specs.declared.places.Class.TheVariants.{Lane, Bar, Bad, Mark, Note}
 use Rattle.stamp_drawing.specs.declared.sheet.Shape.{Shape}
 use Rattle.stamp_drawing.specs.declared.sheet.Sheet.{Sheet}
 use Rattle.stamp_drawing.specs.Markup.{Attribute, escaped, element_text}

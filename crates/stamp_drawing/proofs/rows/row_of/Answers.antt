@@ -1,4 +1,4 @@
-use Rattle.std.proofs.Common.{◌≡◌, ◌∙◌, ◌++◌, List, ℕ, ap, map}
+use Rattle.std.proofs.Common.{◌∙◌, ◌++◌, List, ℕ, ap, map}
 use Rattle.std.specs.List.{concat}
 use Rattle.stamp_picture.specs.declared.bar.Bar.{Bar}
 use Rattle.stamp_drawing.specs.Places.{lanes_in}

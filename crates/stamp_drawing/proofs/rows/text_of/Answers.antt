@@ -1,4 +1,4 @@
-use Rattle.std.proofs.Common.{◌≡◌, ◌∙◌, ◌++◌, ◌∷◌, List, ℕ, sym, ap, map, subst}
+use Rattle.std.proofs.Common.{◌∙◌, ◌++◌, List, ℕ, sym, ap, map, subst}
 use Rattle.std.specs.Prelude.{Result}
 use Rattle.std.specs.List.{concat}
 use Rattle.stamp_picture.specs.declared.bar.Bar.{Bar}
@@ -32,7 +32,8 @@ returns-clause-rows c =
       times = times;
       are_times = subst (λ (bars : List Bar). AreTimes bars times) c.bars-2.ensures c.in_ok-times.ensures;
       is =
-          onto _ legend (first ++ (heading ++ (rows ++ last))) (rw c.as_bytes.ensures.value at c.in_ok-push_line.ensures)
+          onto _ legend (first ++ (heading ++ (rows ++ last)))
+          (rw c.as_bytes.ensures.value at c.in_ok-push_line.ensures)
           (onto _ first (heading ++ (rows ++ last)) (rw first_is at c.in_ok-push_line-2.ensures)
           (onto _ heading (rows ++ last) (rw heading_is at c.in_ok-push_line-3.ensures)
           (onto _ rows last (rw c.deref-2.ensures.value at c.in_ok-push_rows.ensures)

@@ -11,5 +11,6 @@ returns c =
     record {
       rising = rw is (IsStrictlyIncreasing-dedup _ c.sort_unstable.ensures.sorted);
       all = λ t h. rw is (Contains-dedup_nat _ t (Contains-permutation _ _ t moved h));
-      no_more = λ t h. Contains-permutation _ _ t (IsPermutation-sym _ _ moved) (Contains-from_dedup _ _ t (rw is at h));
+      no_more = λ t h. Contains-permutation _ _ t (IsPermutation-sym _ _ moved)
+          (Contains-from_dedup _ _ t (rw is at h));
     }

@@ -2,7 +2,8 @@ use Rattle.std.proofs.Common.{◌≡◌, ◌∙◌, sym, true, false, rules, tes
 use Rattle.stamp_drawing.specs.Sheet.{same_content, boxes_of}
 use Rattle.stamp_drawing.proofs.OneByOne.{kept_more, changed_more}
 use Rattle.stamp_drawing.proofs.sheet.content_shapes.Goals as goal
-use Rattle.stamp_drawing.proofs.sheet.content_shapes.Goals.{then-not-same_content+in_ok-content_shape-2+in_ok-push-3, else-not-same_content}
+use Rattle.stamp_drawing.proofs.sheet.content_shapes.Goals.{then-not-same_content+in_ok-content_shape-2+in_ok-push-3}
+use Rattle.stamp_drawing.proofs.sheet.content_shapes.Goals.{else-not-same_content}
 
 pub loop-moment-preserved : goal.loop-moment-preserved
 loop-moment-preserved c =

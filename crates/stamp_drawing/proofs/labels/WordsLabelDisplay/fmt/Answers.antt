@@ -1,4 +1,4 @@
-use Rattle.std.proofs.Common.{◌≡◌, ◌∙◌, ℕ, Some, Option, List, [], ◌∷◌, ◌++◌, codes, refl, ap, sym}
+use Rattle.std.proofs.Common.{◌≡◌, ℕ, Some, Option, List, [], ◌∷◌, codes, refl, ap}
 use Rattle.std.specs.Prelude.{decimal}
 use Rattle.std.specs.Fmt.{debug_items, ◌++?◌}
 use Rattle.stamp_drawing.specs.Words.{numbers_text}
