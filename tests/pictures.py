@@ -3,7 +3,8 @@
     pictures.py PROGRAM [FOLDER]
 
 Each picture is XML; it has a bar for each entry up to the first fault, in its thread's lane, with its
-call; a faulty entry is the one that is marked. Those of docs/pictures are made again and compared. With
+call; a faulty entry is the one that is marked. In characters, two pictures are those that are written
+here, and each is cut off where it is told; words that are no form are refused. Those of docs/pictures are made again and compared. With
 FOLDER all of them are written there: so `pictures.py PROGRAM docs/pictures` makes those pages' pictures
 again (it leaves the others there, which are not kept)."""
 import json
@@ -61,6 +62,48 @@ PICTURES = {
 DRAWN = {"window": 62}
 TOO_MANY = history([at(n, 0, ["read_count"], {"count": 0}) for n in range(2001)])
 TOO_MANY_LINE = b"stamped: 2001 entries to draw, over 2000: give --from A --to B\n"
+LEGEND = ", begins  | goes on  * takes effect  ' ends; the faulty entry has ! and X"
+HEADING = "    at  thread: call = reply -> what the lock was then (v: its version)"
+TEXTS = {
+    "torn_get": [
+        LEGEND,
+        "at first: free v 0 [0, 0]",
+        "0  1  2  " + HEADING,
+        ",             0  0: put [1, 2]",
+        "|  ,          1  1: put [3, 4]",
+        "|  |  !       2  2: get",
+        "*  |  !       3  0: put [1, 2] = done (entry 0) -> free v 0 [1, 2]",
+        "'  |  !       4  0: = done",
+        "   *  !       6  1: put [3, 4] = done (entry 1) -> free v 0 [3, 4]",
+        "   '  !       7  1: = done",
+        "      X       8  2: get = [1, 4] (entry 2)",
+        "      !       9  2: = [1, 4]",
+        "entry 2: the lock would have answered otherwise (due here: [3, 4])",
+    ],
+    "fault_overlap": [
+        LEGEND,
+        "at first: free v 0",
+        "0  " + HEADING,
+        ",       0  0: try_read",
+        "*       1  0: try_read = 257 (entry 0) -> 1 rd v 0",
+        "!       3  0: try_read",
+        "!       5  0: = 257",
+        "X       6  0: try_read = 258 (entry 1)",
+        "!       7  0: = 258",
+        "entry 1: it began before its thread's last call ended (due here: 258)",
+    ],
+}
+BAD_WORDS = [
+    ["--txt"],
+    ["--text", "--text"],
+    ["--width", "80"],
+    ["--text", "--width"],
+    ["--text", "--width", "0"],
+    ["--text", "--width", "+8"],
+    ["--from", "1", "--to", "2", "--text"],
+    ["--text", "--from", "1", "--to"],
+    ["--text", "--from", "1", "--to", "2", "--width", "8"],
+]
 
 
 def ended(program, text, words):
@@ -97,6 +140,22 @@ def look(name, drawn, answer, bad):
         sys.exit(f"{name}: {bars}, and not {wanted}")
 
 
+def look_at_text(name, program, told, words, bad):
+    """Its lines in characters are at most as wide as told, and begin as those of other widths do."""
+    text = json.dumps(told).encode()
+    status = 0 if bad is None else 1
+    whole = ended(program, text, ["--text", "--width", "18446744073709551615", *words])[1].decode().splitlines()
+    for width, option in [(80, []), (1, ["--width", "1"]), (33, ["--width", "33"])]:
+        drawn = ended(program, text, ["--text", *option, *words])
+        wanted = "".join(f"{line[:width]}\n" for line in whole)
+        if drawn != (status, wanted.encode(), b""):
+            sys.exit(f"{name} in {width} characters: {drawn}, and not {wanted}")
+    if name in TEXTS and whole != TEXTS[name]:
+        sys.exit(f"{name} in characters: {whole}")
+    if len(whole) < 3 + len(told["entries"]):
+        sys.exit(f"{name} in characters has {len(whole)} lines")
+
+
 def main():
     program, *folder = sys.argv[1:]
     program = os.path.abspath(program)
@@ -104,6 +163,7 @@ def main():
         answer = ended(program, json.dumps(told).encode(), words)
         drawn = told["entries"][-DRAWN[name]:] if name in DRAWN else told["entries"]
         look(name, drawn, answer, bad)
+        look_at_text(name, program, told, words, bad)
         kept = os.path.join(KEPT, f"{name}.svg")
         for room in folder:
             with open(os.path.join(room, f"{name}.svg"), "wb") as file:
@@ -118,6 +178,10 @@ def main():
         sys.exit(f"2001 entries: {answer}")
     if ended(program, json.dumps(TOO_MANY).encode(), ["--from", "1", "--to", "2000"])[0] != 0:
         sys.exit("2000 entries of a window are not drawn")
+    for words in BAD_WORDS:
+        answer = ended(program, b"", words)
+        if answer != (2, b"", b"stamped: bad command line\n"):
+            sys.exit(f"{words}: {answer}")
 
 
 main()

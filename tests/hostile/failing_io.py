@@ -71,11 +71,12 @@ def writes_of(runs, words, text, ample):
 
 
 def pictures_of(runs, picture):
-    """The same of a picture, of whose writes each 64th is failed."""
-    drawn, _ = runs.ended([picture, *WHOLE], OLD)
-    reads = reads_of(runs, [picture, *WHOLE], OLD, drawn)
-    writes = writes_of(runs, [picture, *WHOLE], OLD, drawn)
-    print(f"picture: {reads} reads and {writes} writes failed in turn")
+    """The same of a picture, as SVG and in characters."""
+    for words in [WHOLE, ["--text", *WHOLE]]:
+        drawn, _ = runs.ended([picture, *words], OLD)
+        reads = reads_of(runs, [picture, *words], OLD, drawn)
+        writes = writes_of(runs, [picture, *words], OLD, drawn)
+        print(f"{['stamped_picture', *words]}: {reads} reads and {writes} writes failed in turn")
 
 
 def main():

@@ -137,9 +137,11 @@ def main():
         ([explain, b"\xff"], b"", BAD_LINE, told),
         ([picture], HISTORY % b"", drawn(picture, HISTORY % b"", 0), told),
         ([picture, "--from", "2", "--to", "3"], BAD_REPLY, drawn(picture, BAD_REPLY, 1, "--from", "2", "--to", "3"), told),
+        ([picture, "--text", "--width", "40"], BAD_REPLY, drawn(picture, BAD_REPLY, 1, "--text", "--width", "40"), told),
         ([picture], NO_THREAD, (1, b"", NO_HISTORY_LINE), told),
         ([picture], b"[", (1, b"", b"stamped: not json\n"), told),
         ([picture, "--from", "2"], b"", BAD_LINE, told),
+        ([picture, "--text", "--width", "0"], b"", BAD_LINE, told),
     ]
     right = b"", (0, b"right\n", b""), [(1, b"", b"")]
     table += [([trial, word], *right) for word in [*REFUSALS, "make", "check", "migrate"]]

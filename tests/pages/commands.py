@@ -1,8 +1,8 @@
 """Fails unless the command lines on the pages print what the pages say.
 
-    commands.py STAMPED EXPLAIN
+    commands.py STAMPED EXPLAIN PICTURE
 
-Run at the top of the repository, with the programs `stamped` and `stamped_explain`. A command stands indented behind `$ `, and what it
+Run at the top of the repository, with the programs `stamped`, `stamped_explain` and `stamped_picture`. A command stands indented behind `$ `, and what it
 prints below it. `rt run --` is the program. What a run prints is the file `history.json` of the commands after it."""
 import os
 import subprocess
@@ -68,8 +68,8 @@ def check_first_run(programs, room):
 
 
 def main():
-    stamped, explain = (os.path.abspath(path) for path in sys.argv[1:])
-    programs = {"rt run --": stamped, "stamped_explain": explain}
+    stamped, explain, picture = (os.path.abspath(path) for path in sys.argv[1:])
+    programs = {"rt run --": stamped, "stamped_explain": explain, "stamped_picture": picture}
     with tempfile.TemporaryDirectory() as room:
         for page in PAGES:
             check_page(page, programs, room)

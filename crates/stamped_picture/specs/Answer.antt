@@ -13,6 +13,10 @@ use Rattle.stamp_drawing.specs.declared.sheet.Sheet.{Sheet}
 use Rattle.stamp_drawing.specs.Markup.{IsDocument}
 use Rattle.stamp_drawing.specs.Sheet.{IsSheet}
 use Rattle.stamp_drawing.specs.Svg.{svg_text}
+use Rattle.stamp_drawing.specs.Rows.{IsRows, AreNarrow}
+use Rattle.stamped_picture.specs.declared.orders.Form.{Form}
+use Rattle.stamped_picture.specs.declared.orders.Form.TheVariants.{Svg, Text}
+use Rattle.stamped_picture.specs.declared.orders.PictureOrder.{PictureOrder}
 use Rattle.stamped_picture.specs.declared.answer.Drawing as made
 use Rattle.stamped_picture.specs.declared.faults.PictureFault.{PictureFault}
 use Rattle.stamped_picture.specs.declared.faults.PictureFault.TheVariants.{Serve, TooMany}
@@ -29,14 +33,23 @@ abbrev pub verdict_in : Result ℕ Fault → Verdict
 verdict_in (Ok n) = Accepted
 verdict_in (Err fault) = Bad
 
--- the text is the SVG of the boxes of the history's picture in the window
-pub record IsDrawnText (style : List ℕ) (window : Window) (history : Recorded) (drawing : Drawing) : Type 0 where
-  pub picture : Drawn
-  pub is_picture : IsPicture history window picture
+-- the text is the SVG of the picture's boxes
+pub record IsSvg (style : List ℕ) (picture : Drawn) (text : List ℕ) : Type 0 where
   pub sheet : Sheet
   pub is_sheet : IsSheet picture sheet
-  pub text : drawing.text ≡ svg_text style sheet
-  pub document : IsDocument drawing.text
+  pub is : text ≡ svg_text style sheet
+  pub document : IsDocument text
+
+-- the picture is drawn so: as SVG, or as lines of at most so many characters
+unfoldable pub IsDrawnAs : Form → List ℕ → Drawn → List ℕ → Type 0
+IsDrawnAs Svg style picture text = IsSvg style picture text
+IsDrawnAs (Text width) style picture text = IsRows width picture text × AreNarrow width text
+
+-- the text is that of the history's picture in the window, and the verdict is the picture's
+pub record IsDrawnText (style : List ℕ) (order : PictureOrder) (history : Recorded) (drawing : Drawing) : Type 0 where
+  pub picture : Drawn
+  pub is_picture : IsPicture history order.window picture
+  pub drawn : IsDrawnAs order.form style picture drawing.text
   pub verdict : drawing.verdict ≡ verdict_in picture.verdict
 
 -- the bars are too many, and the fault says how many
@@ -45,11 +58,11 @@ IsUndrawn window history (TooMany n) = IsCrowded history window n
 IsUndrawn window history (Serve fault) = ⊥
 
 -- the input is a history, and this is its picture
-pub record IsAnswer (style : List ℕ) (window : Window) (input : List ℕ) (drawing : Drawing) : Type 0 where
+pub record IsAnswer (style : List ℕ) (order : PictureOrder) (input : List ℕ) (drawing : Drawing) : Type 0 where
   pub within : length input ≤ most_bytes
   pub history : Recorded
   pub read : history_of input ≡ Ok history
-  pub drawn : IsDrawnText style window history drawing
+  pub drawn : IsDrawnText style order history drawing
 
 -- the input is a history of which there are too many bars to draw
 pub record IsTooMany (window : Window) (input : List ℕ) (n : ℕ) : Type 0 where

@@ -1,5 +1,5 @@
 -- The command line.
-use Rattle.std.specs.Prelude.{ℕ, ◌&&◌, List, [], ◌∷◌, Option, Some, None, Result, Ok, Err, codes, if◌then◌else◌}
+use Rattle.std.specs.Prelude.{ℕ, ◌&&◌, ◌==◌, List, [], ◌∷◌, Option, Some, None, Result, Ok, Err, codes, if◌then◌else◌}
 use Rattle.std.specs.Prelude.{option_map, option_and_then}
 use Rattle.std.specs.Option.{option_map_or}
 use Rattle.std.specs.Str.{bytes_eq}
@@ -7,23 +7,58 @@ use Rattle.stamp_cli.specs.Order.{number_in}
 use Rattle.stamp_cli.specs.declared.orders.CommandFault.{CommandFault}
 use Rattle.stamp_cli.specs.declared.orders.CommandFault.TheVariants.{Bad}
 use Rattle.stamp_picture.specs.declared.window.Window.{Window}
+use Rattle.stamped_picture.specs.declared.orders.Form.{Form}
+use Rattle.stamped_picture.specs.declared.orders.Form.TheVariants.{Svg, Text}
 use Rattle.stamped_picture.specs.declared.orders.PictureOrder.{PictureOrder}
+
+-- a number that is not 0
+abbrev pub width_in : List ℕ → Option ℕ
+width_in text = option_and_then (λ (n : ℕ). if n == 0 then None else Some n) (number_in text)
+
+-- --text, which is lines of 80 characters
+abbrev pub text_form : List ℕ → Option Form
+text_form text = if bytes_eq text (codes "--text") then Some (Text 80) else None
+
+-- --text --width N, which is lines of N characters
+abbrev pub wide_form : List ℕ → List ℕ → List ℕ → Option Form
+wide_form text option width =
+    if bytes_eq text (codes "--text") && bytes_eq option (codes "--width")
+    then option_map Text (width_in width) else None
 
 abbrev pub window : ℕ → ℕ → Window
 window from to = record { from = from; to = to }
 
-abbrev pub window_in : List ℕ → List ℕ → Option Window
-window_in from to = option_and_then (λ (a : ℕ). option_map (λ (b : ℕ). window a b) (number_in to)) (number_in from)
+-- --from A --to B
+abbrev pub window_in : List ℕ → List ℕ → List ℕ → List ℕ → Option Window
+window_in option from other to =
+    if bytes_eq option (codes "--from") && bytes_eq other (codes "--to")
+    then option_and_then (λ (a : ℕ). option_map (λ (b : ℕ). window a b) (number_in to)) (number_in from)
+    else None
 
--- no word, or --from A --to B
-abbrev pub form_of : List (List ℕ) → Option Window
-form_of [] = Some (window 0 18446744073709551615)
-form_of (option ∷ from ∷ other ∷ to ∷ []) =
-    if bytes_eq option (codes "--from") && bytes_eq other (codes "--to") then window_in from to else None
-form_of _ = None
+abbrev pub all : Option Window
+all = Some (window 0 18446744073709551615)
 
-abbrev pub order : Window → PictureOrder
-order w = record { window = w }
+abbrev pub order : Form → Window → PictureOrder
+order form w = record { form = form; window = w }
 
+abbrev pub both : Option Form → Option Window → Option PictureOrder
+both form w = option_and_then (λ (f : Form). option_map (λ (found : Window). order f found) w) form
+
+-- the forms with --from A --to B: of SVG, of --text and of --text --width N
+abbrev pub form_within : List (List ℕ) → Option PictureOrder
+form_within (option ∷ from ∷ other ∷ to ∷ []) = both (Some Svg) (window_in option from other to)
+form_within (text ∷ option ∷ from ∷ other ∷ to ∷ []) = both (text_form text) (window_in option from other to)
+form_within (text ∷ wide ∷ width ∷ option ∷ from ∷ other ∷ to ∷ []) =
+    both (wide_form text wide width) (window_in option from other to)
+form_within _ = None
+
+-- the forms of the command line: no word, --text, --text --width N, or one of these with --from A --to B behind
+abbrev pub form_of : List (List ℕ) → Option PictureOrder
+form_of [] = both (Some Svg) all
+form_of (text ∷ []) = both (text_form text) all
+form_of (text ∷ option ∷ width ∷ []) = both (wide_form text option width) all
+form_of words = form_within words
+
+-- the order that words give
 abbrev pub order_in : List (List ℕ) → Result PictureOrder CommandFault
-order_in words = option_map_or (λ (w : Window). Ok (order w)) (form_of words) (Err Bad)
+order_in words = option_map_or Ok (form_of words) (Err Bad)

@@ -1,18 +1,20 @@
 //! The picture that answers an order.
 
-ghost use Rattle.std.specs.Prelude.{◌≡◌, ◌≢◌, IfOk, IfErr};
+ghost use Rattle.std.specs.Prelude.{◌≡◌, ◌≢◌, ◌≤◌, ◌<◌, length, All, IfOk, IfErr};
+ghost use Rattle.stamp_picture.specs.Picture.{most_bars};
 ghost use Rattle.stamp_cli.specs.declared.faults.ServeFault.TheVariants.{Memory};
 ghost use Rattle.stamped_picture.specs.declared.faults.PictureFault.TheVariants.{Serve};
-ghost use Rattle.stamped_picture.specs.Answer.{IsDrawnText, IsUndrawn, IsAnswer, IsRefused, drawing_in, verdict_in};
+ghost use Rattle.stamped_picture.specs.Answer.{IsSvg, IsDrawnAs, IsDrawnText, IsUndrawn};
+ghost use Rattle.stamped_picture.specs.Answer.{IsAnswer, IsRefused, drawing_in, verdict_in};
 
 use crate::faults::PictureFault;
-use crate::orders::PictureOrder;
+use crate::orders::{Form, PictureOrder};
 use stamp_cli::{MOST_BYTES, ServeFault, Verdict};
 use stamp_core::Record;
-use stamp_drawing::{sheet_of, svg_of};
+use stamp_drawing::{sheet_of, svg_of, text_of};
 use stamp_history::read_history;
-use stamp_picture::{Fault, picture_of};
-use std::alloc::Global;
+use stamp_picture::{Fault, Picture, picture_of};
+use std::alloc::{AllocError, Global};
 
 /// A picture's text, and what it says of the history.
 #[derive(Drop)]
@@ -30,6 +32,35 @@ fn verdict_of(verdict: &Result<u64, Fault>) -> Verdict
     }
 }
 
+/// The boxes of a picture, as SVG.
+fn svg_drawn(alloc: Global, style: &str, picture: &Picture) -> Result<Vec<u8>, AllocError>
+    requires few { length picture.now.bars ≤ most_bars }
+    requires lanes { All (λ bar. bar.lane < 64) picture.now.bars }
+    ensures { IfOk result (λ text. IsSvg style.now picture.now text.items) }
+{
+    let sheet = sheet_of(alloc, picture)?;
+    let text = svg_of(alloc, style, &sheet)?;
+    Ok(text)
+}
+
+/// The text of a picture.
+#[tactic(auto, unfolding(crate::specs::Answer::IsDrawnAs))]
+fn drawn_as(
+    alloc: Global,
+    form: Form,
+    style: &str,
+    picture: &Picture,
+) -> Result<Vec<u8>, AllocError>
+    requires few { length picture.now.bars ≤ most_bars }
+    requires lanes { All (λ bar. bar.lane < 64) picture.now.bars }
+    ensures { IfOk result (λ text. IsDrawnAs form style.now picture.now text.items) }
+{
+    match form {
+        Form::Svg => svg_drawn(alloc, style, picture),
+        Form::Text(width) => text_of(alloc, picture, width as usize),
+    }
+}
+
 /// The picture of a history.
 fn drawing_of(
     alloc: Global,
@@ -37,13 +68,12 @@ fn drawing_of(
     style: &str,
     history: &Record,
 ) -> Result<Drawing, PictureFault>
-    ensures drawn { IfOk result (λ drawing. IsDrawnText style.now order.window history.now (drawing_in drawing)) }
+    ensures drawn { IfOk result (λ drawing. IsDrawnText style.now order history.now (drawing_in drawing)) }
     ensures undrawn { IfErr result (λ e. e ≢ Serve Memory → IsUndrawn order.window history.now e) }
 {
     let picture = picture_of(alloc, history, order.window)?;
-    let sheet = sheet_of(alloc, &picture)?;
     Ok(Drawing {
-        text: svg_of(alloc, style, &sheet)?,
+        text: drawn_as(alloc, order.form, style, &picture)?,
         verdict: verdict_of(picture.verdict()),
     })
 }
@@ -55,7 +85,7 @@ pub(crate) fn answer(
     style: &str,
     input: &[u8],
 ) -> Result<Drawing, PictureFault>
-    ensures drawn { IfOk result (λ drawing. IsAnswer style.now order.window input.now (drawing_in drawing)) }
+    ensures drawn { IfOk result (λ drawing. IsAnswer style.now order input.now (drawing_in drawing)) }
     ensures refused { IfErr result (λ e. e ≢ Serve Memory → IsRefused order.window input.now e) }
 {
     if input.len() > MOST_BYTES {

@@ -1,17 +1,28 @@
 //! The command line.
 
-ghost use Rattle.std.specs.Prelude.{◌≡◌, map};
+ghost use Rattle.std.specs.Prelude.{◌≡◌, map, option_and_then, option_map};
 ghost use Rattle.std.specs.Char.{is_ascii_digit};
 ghost use Rattle.std.specs.List.{list_all};
 ghost use Rattle.stamp_cli.specs.Order as order;
-ghost use Rattle.stamped_picture.specs.Order.{window_in, form_of, order_in};
+ghost use Rattle.stamped_picture.specs.Order.{width_in, text_form, wide_form, window_in, both, form_within, form_of, order_in};
 
 use stamp_cli::CommandFault;
 use stamp_picture::Window;
 
+/// How a picture is drawn.
+#[derive(Clone, Copy, Debug, PartialEq, Eq)]
+pub(crate) enum Form {
+    /// As SVG.
+    Svg,
+    /// As lines of at most so many characters.
+    Text(u64),
+}
+
 /// What is to be drawn.
 #[derive(Clone, Copy, Debug, PartialEq, Eq)]
 pub(crate) struct PictureOrder {
+    /// How.
+    pub(crate) form: Form,
     /// The part of the history.
     pub(crate) window: Window,
 }
@@ -34,24 +45,84 @@ fn number_in(text: &str) -> Option<u64>
     text.parse().ok()
 }
 
-fn window_in(from: &str, to: &str) -> Option<Window>
-    ensures { result ≡ window_in from.now to.now }
+fn width_in(text: &str) -> Option<u64>
+    ensures { result ≡ width_in text.now }
 {
-    Some(Window {
-        from: number_in(from)?,
-        to: number_in(to)?,
+    match number_in(text)? {
+        0 => None,
+        width => Some(width),
+    }
+}
+
+/// Lines for a terminal.
+fn text_form(text: &str) -> Option<Form>
+    ensures { result ≡ text_form text.now }
+{
+    if text == "--text" {
+        Some(Form::Text(80))
+    } else {
+        None
+    }
+}
+
+fn wide_form(text: &str, option: &str, width: &str) -> Option<Form>
+    ensures { result ≡ wide_form text.now option.now width.now }
+{
+    if text == "--text" && option == "--width" {
+        Some(Form::Text(width_in(width)?))
+    } else {
+        None
+    }
+}
+
+fn window_in(option: &str, from: &str, other: &str, to: &str) -> Option<Window>
+    ensures { result ≡ window_in option.now from.now other.now to.now }
+{
+    if option == "--from" && other == "--to" {
+        Some(Window {
+            from: number_in(from)?,
+            to: number_in(to)?,
+        })
+    } else {
+        None
+    }
+}
+
+fn both(form: Option<Form>, window: Option<Window>) -> Option<PictureOrder>
+    ensures { result ≡ both form window }
+{
+    Some(PictureOrder {
+        form: form?,
+        window: window?,
     })
 }
 
-fn form_of(words: &[&str]) -> Option<Window>
-    ensures { result ≡ form_of (map (λ word. word.now) words.now) }
+/// The forms with a window behind.
+fn form_within(words: &[&str]) -> Option<PictureOrder>
+    ensures { result ≡ form_within (map (λ word. word.now) words.now) }
 {
     match words {
-        [] => Some(Window::all()),
-        [option, from, other, to] if *option == "--from" && *other == "--to" => {
-            window_in(from, to)
+        [option, from, other, to] => both(Some(Form::Svg), window_in(option, from, other, to)),
+        [text, option, from, other, to] => {
+            both(text_form(text), window_in(option, from, other, to))
         }
+        [text, wide, width, option, from, other, to] => both(
+            wide_form(text, wide, width),
+            window_in(option, from, other, to),
+        ),
         _ => None,
+    }
+}
+
+fn form_of(words: &[&str]) -> Option<PictureOrder>
+    ensures { result ≡ form_of (map (λ word. word.now) words.now) }
+{
+    let all = Some(Window::all());
+    match words {
+        [] => both(Some(Form::Svg), all),
+        [text] => both(text_form(text), all),
+        [text, option, width] => both(wide_form(text, option, width), all),
+        _ => form_within(words),
     }
 }
 
@@ -59,8 +130,5 @@ fn form_of(words: &[&str]) -> Option<Window>
 pub(crate) fn order_of(words: &[&str]) -> Result<PictureOrder, CommandFault>
     ensures { result ≡ order_in (map (λ word. word.now) words.now) }
 {
-    match form_of(words) {
-        Some(window) => Ok(PictureOrder { window }),
-        None => Err(CommandFault::Bad),
-    }
+    form_of(words).ok_or(CommandFault::Bad)
 }

@@ -29,7 +29,7 @@ pub(crate) fn serve<S: Source, K: Sink>(
     // The picture of what was read is written, and nothing else; the verdict is its.
     ensures ok { IfOk result (λ verdict. (input : List ℕ) × (drawing : Drawing)
         × Reads (S.left source.old) (S.left source.new) input
-        × IsAnswer style.now order.window input drawing × (verdict ≡ drawing.verdict)
+        × IsAnswer style.now order input drawing × (verdict ≡ drawing.verdict)
         × Appends (K.sent sink.old) (K.sent sink.new) drawing.text) }
 
     // What was read is refused so.

@@ -14,4 +14,4 @@ text{fill:#000}
 .bar text{fill:#fff}
 .bad rect{fill:#d55e00;stroke:#000;stroke-width:3}
 .mark rect{fill:#000;stroke:#fff}
-@media (prefers-color-scheme:dark){.lane text,.note text{fill:#eee}.mark rect{fill:#fff;stroke:#000}}";
+@media (prefers-color-scheme:dark){.lane text,.note text{fill:#eee}.mark rect{fill:#fff;stroke:#000}.bad rect{stroke:#fff}}";
