@@ -1,13 +1,12 @@
 """Tries wrong bodies, many over one load of the libraries: the prover must refuse each.
 
-    refused.py [--count FILE] [CRATE..]
+    refused.py [--count FILE] [CRATE | CRATE/NAME.edit ..]
 
 An edit is a file tests/edits/CRATE/NAME.edit, in the form of the kit's must-fail edits: a line `file:`, then
 pairs of lines `old:` and `new:`. It changes the body of one function (one that changes more stands in the
-crate's own must-fail folder, which `rt ci` tries). A function is proved from the contracts
-of those that it calls, so edits of several functions are tried at once, in one copy of the crate. A function
-that calls one which isn't proved isn't judged: its edit is tried again in the next round, without those that
-are settled.
+crate's own must-fail folder, which `rt ci` tries). A function is proved from the contracts of those that it
+calls, so edits of several functions are tried at once, in one copy of the crate. A function that calls one
+which isn't proved isn't judged: its edit is tried again in the next round, without those that are settled.
 
 An edit is refused if the edited function isn't proved for what its contract says. It fails if the function is
 proved, if the edit can't be applied or compiled, or if the proof only lacks names that it took away. A crate
@@ -30,7 +29,7 @@ FUNCTION = re.compile(r'^( *)(?:pub(?:\([a-z]+\))? )?(?:extern "C" )?fn (\w+)', 
 IMPL = re.compile(r"^impl(?:<[^>{]*>)? (?:([\w:]+)(?:<[^>{]*>)? for )?(\w+)", re.M)
 STATED = re.compile(r"^fn (\S+): (.*)$", re.M)
 # What a proof says that cites a name which the edit took away.
-NAMES = re.compile(r"has no field|is not in scope|has no `|was not admitted")
+NAMES = re.compile(r"has no field|is not in scope|has no `|was not admitted|rattle does not read")
 
 
 class Failed(Exception):
@@ -85,7 +84,7 @@ class Crate:
 class Edit:
     """A wrong body: the places that it changes, and the function whose body it is."""
 
-    def __init__(self, crate, path):
+    def __init__(self, crate, path, proved):
         self.name, self.pairs, functions, file = os.path.basename(path), [], set(), None
         with open(path) as it:
             lines = it.read().split("\n")
@@ -100,21 +99,26 @@ class Edit:
                     raise Failed(f"{self.name}: its text stands in {file} {text.count(old)} times: {old}")
             elif line.startswith("new:"):
                 self.pairs.append((file, text.index(old), old, line.removeprefix("new:").removeprefix(" ")))
-                functions.add(function_at(crate, file, text[: text.index(old) + len(old)]))
+                functions.add(function_at(file, text[: text.index(old) + len(old)], proved))
         if len(functions) != 1:
             raise Failed(f"{self.name}: it changes {len(functions)} functions")
         self.function = functions.pop()
 
 
-def function_at(crate, file, before):
-    """The function that a file's text ends in, as the prover prints its name."""
+def function_at(file, before, proved):
+    """The function that a file's text ends in, as the prover prints its name: among those that are proved."""
     found, impl = [*FUNCTION.finditer(before)], [*IMPL.finditer(before)]
-    name = found[-1][2]
-    if found[-1][1]:
+    module = file.removeprefix("src/").removesuffix(".rt").replace("/", "::")
+    name = found[-1][2] if found else "?"
+    if not found or not found[-1][1]:
+        name = name if module in ("lib", "main") else f"{module}::{name}"
+    elif impl:
         of, trait = impl[-1][2], impl[-1][1] or ""
         name = f"{of}{trait.split('::')[-1]}::{name}"
-    module = file.removeprefix("src/").removesuffix(".rt").replace("/", "::")
-    return "::".join([crate.name, *([] if module in ("lib", "main") else [module]), name])
+    named = [it for it in proved if it.endswith(f"::{name}")]
+    if len(named) != 1:
+        raise Failed(f"{file}: {len(named)} proved functions are named {name}")
+    return named[0]
 
 
 def why_of(function, crate, said):
@@ -171,10 +175,9 @@ def linked(one, other):
     return os.link(one, other) if one.endswith(".oantt") else shutil.copy2(one, other)
 
 
-def tried(crate):
-    """Tries the crate's edits, round by round, and gives the lines that tell of it."""
+def tried(crate, only):
+    """Tries the crate's edits, or only some, round by round, and gives the lines that tell of it."""
     folder, begun = f"{FOLDER}/{crate.name}", time.monotonic()
-    edits = [Edit(crate, f"{folder}/{name}") for name in sorted(os.listdir(folder)) if name.endswith(".edit")]
     lines, rounds, calls = [], 0, {}
     with tempfile.TemporaryDirectory() as room:
         begin = f"{crate.folder}/out/incremental"
@@ -185,6 +188,9 @@ def tried(crate):
         said = crate.check(room, f"{room}/kept")
         if "\nlogic=proved" not in said:
             raise Failed(f"{crate.name} itself isn't proved: {said[-600:]}")
+        proved = dict(STATED.findall(said))
+        names = sorted(name for name in os.listdir(folder) if name.endswith(".edit") and name in (only or name))
+        edits = [Edit(crate, f"{folder}/{name}", proved) for name in names]
         while edits:
             rounds += 1
             shutil.copytree(f"{room}/kept", f"{room}/{rounds}", copy_function=linked)
@@ -209,12 +215,16 @@ def lines_of(crate, done):
 
 def main():
     words = sys.argv[1:]
-    count = words.pop(1) if words[:1] == ["--count"] else None
-    uses, there = listed(), sorted(it for it in os.listdir(FOLDER) if os.path.isdir(f"{FOLDER}/{it}"))
+    count = words[1] if words[:1] == ["--count"] else None
+    uses, wanted = listed(), {}
+    for word in words[2 if count else 0 :] or sorted(os.listdir(FOLDER)):
+        name, _, edit = word.partition("/")
+        if os.path.isdir(f"{FOLDER}/{name}"):
+            wanted.setdefault(name, []).extend([edit] if edit else [])
     refused = failed = 0
     with concurrent.futures.ThreadPoolExecutor(len(os.sched_getaffinity(0))) as pool:
-        crates = [Crate(name, uses) for name in [word for word in words if word != "--count"] or there]
-        for crate, done in [(crate, pool.submit(tried, crate)) for crate in crates]:
+        crates = {name: Crate(name, uses) for name in wanted}
+        for crate, done in [(crate, pool.submit(tried, crate, wanted[name])) for name, crate in crates.items()]:
             lines = lines_of(crate, done)
             print("\n".join(lines), flush=True)
             good = sum(": refused: " in line for line in lines)
