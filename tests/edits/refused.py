@@ -133,27 +133,47 @@ def why_of(function, crate, said):
     return wrong[0] if wrong else None
 
 
+def calls_in(crate, proved):
+    """The functions that each function may call, by the names in its text. What the prover says corrects it."""
+    short, calls = {}, {}
+    for function in proved:
+        short.setdefault(function.split("::")[-1], set()).add(function)
+    for at, _, files in os.walk(f"{crate.folder}/src"):
+        for name in files:
+            file = os.path.relpath(f"{at}/{name}", crate.folder)
+            with open(f"{at}/{name}") as it:
+                text = re.sub(r"//.*", "", it.read())
+            found = [*FUNCTION.finditer(text)]
+            for one, after in zip(found, [*found[1:], None]):
+                body = text[one.end() : after.start() if after else len(text)]
+                named = set().union(*(short.get(word, set()) for word in re.findall(r"(\w+)(?:::<[^()]*>)?\(", body)))
+                for function in short.get(one[2], set()):
+                    calls.setdefault(function, set()).update(named - {function})
+    return calls
+
+
 def round_of(edits, calls):
-    """An edit for each function, but for those that call another of the round, as far as calls are known."""
+    """An edit for each function, but for those that may call another of them. If all do, one for each."""
     functions = {edit.function for edit in edits}
     taken = {}
     for edit in edits:
         reached, new = set(), calls.get(edit.function, set())
         while new:
             reached, new = reached | new, {it for one in new for it in calls.get(one, ())} - reached - new
-        if not functions & reached:
+        if not (functions - {edit.function}) & reached:
             taken.setdefault(edit.function, edit)
-    return [*taken.values()]
+    return [*(taken or {edit.function: edit for edit in reversed(edits)}).values()]
 
 
 def judged(crate, edits, said, calls):
-    """What came of the edits of a round that were judged. Of the others the calls of their functions are noted."""
+    """What came of the edits of a round that were judged. The others' functions call some that aren't proved."""
     if re.search(r"\berror\[[\w-]+\]", said):
         raise Failed(f"an edit doesn't compile: {said[:600]}")
     stated = dict(STATED.findall(said))
     unproved = {function for function, word in stated.items() if not word.startswith("proved")}
     found = {it: unproved & {*re.findall(r"`([\w:]+)`", stated[it])} - {it} for it in unproved}
-    calls.update({it: calls.get(it, set()) | below for it, below in found.items()})
+    for function, below in found.items():
+        calls.setdefault(function, set()).update(below)
     for function in unproved - {edit.function for edit in edits}:
         if not found[function]:
             raise Failed(f"{function} isn't edited, and it is: {stated[function]}")
@@ -178,7 +198,7 @@ def linked(one, other):
 def tried(crate, only):
     """Tries the crate's edits, or only some, round by round, and gives the lines that tell of it."""
     folder, begun = f"{FOLDER}/{crate.name}", time.monotonic()
-    lines, rounds, calls = [], 0, {}
+    lines, rounds = [], 0
     with tempfile.TemporaryDirectory() as room:
         begin = f"{crate.folder}/out/incremental"
         if os.path.isdir(begin):
@@ -189,6 +209,7 @@ def tried(crate, only):
         if "\nlogic=proved" not in said:
             raise Failed(f"{crate.name} itself isn't proved: {said[-600:]}")
         proved = dict(STATED.findall(said))
+        calls = calls_in(crate, proved)
         names = sorted(name for name in os.listdir(folder) if name.endswith(".edit") and name in (only or name))
         edits = [Edit(crate, f"{folder}/{name}", proved) for name in names]
         while edits:

@@ -25,7 +25,7 @@ pub record IsPossible (h : ObservedHistory) (i : ℕ) (reply : Reply) : Type 0 w
   pub returned : entry.returned ≡ Some return
   pub explained : IsExplained (cut_after return i (with_reply i entry return reply h))
 
--- of the replies that were tried these are the possible ones; each stands once if it was tried once
+-- of the replies that were tried these are the possible ones, all different if those are
 pub record ArePossible (h : ObservedHistory) (i : ℕ) (tried found : List Reply) : Type 0 where
   pub each : (reply : Reply) → Contains found reply ↔ (Contains tried reply × IsPossible h i reply)
   pub once : AllPairs (λ (a b : Reply). a ≢ b) tried → AllPairs (λ (a b : Reply). a ≢ b) found

@@ -121,9 +121,9 @@ fn push(replies: &mut Vec<Reply>, reply: Reply) -> Result<(), AllocError>
 }
 
 /// Which of these replies the call at this place could have had: with such a one in place of its own,
-/// what is known when the call has returned is explained. They stand in the order in which they are
-/// tried, for each a search, which looks at `most` configurations at most. Refuses as 1 `Undecided`,
-/// where one of the searches looked at so many, or 2 `Memory`.
+/// what is known when the call has returned is explained. Replies that are all different are answered
+/// once each, in no promised order. For each there is a search, which looks at `most` configurations at
+/// most. Refuses as 1 `Undecided`, where one of the searches reached so many, or 2 `Memory`.
 pub fn possible_among(
     alloc: Global,
     observed: &Observed,

@@ -1,9 +1,10 @@
 -- The picture that answers an order, or why there is none.
-use Rattle.std.specs.Prelude.{ℕ, ◌≡◌, ◌≤◌, length, List, Result, Ok, Err}
+use Rattle.std.specs.Prelude.{ℕ, ◌≡◌, ◌≤◌, Bool, false, length, List, Option, Result, Ok, Err}
 use Rattle.stamp_core.specs.Record.{Recorded}
 use Rattle.stamp_history.specs.History.{history_of}
 use Rattle.stamp_cli.specs.Answer.{IsInputAnswer, AnswersCheck}
-use Rattle.stamp_cli.specs.Source.{most_bytes}
+use Rattle.stamp_cli.specs.Refusal as refusal
+use Rattle.stamp_cli.specs.Source.{Reads, most_bytes}
 use Rattle.stamp_cli.specs.declared.line.Verdict.{Verdict}
 use Rattle.stamp_cli.specs.declared.line.Verdict.TheVariants.{Accepted, Bad}
 use Rattle.stamp_picture.specs.declared.picture.Fault.{Fault}
@@ -66,6 +67,7 @@ pub record IsAnswer (style : List ℕ) (order : PictureOrder) (input : List ℕ)
 
 -- the input is a history of which there are too many bars to draw
 pub record IsTooMany (window : Window) (input : List ℕ) (n : ℕ) : Type 0 where
+  pub within : length input ≤ most_bytes
   pub history : Recorded
   pub read : history_of input ≡ Ok history
   pub crowded : IsCrowded history window n
@@ -74,3 +76,21 @@ pub record IsTooMany (window : Window) (input : List ℕ) (n : ℕ) : Type 0 whe
 abbrev pub IsRefused : Window → List ℕ → PictureFault → Type 0
 IsRefused window input (Serve fault) = IsInputAnswer AnswersCheck input (Err fault)
 IsRefused window input (TooMany n) = IsTooMany window input n
+
+-- the answer to an input
+abbrev pub IsAnswered : List ℕ → PictureOrder → List ℕ → Result Drawing PictureFault → Type 0
+IsAnswered style order input (Ok drawing) = IsAnswer style order input drawing
+IsAnswered style order input (Err fault) = IsRefused order.window input fault
+
+-- a source was read as input, by reads that took this many bytes, and this is the answer to all of them
+pub record Answers (style : List ℕ) (order : PictureOrder) (old new : Option (List ℕ)) (taken : ℕ)
+    (answer : Result Drawing PictureFault) : Type 0 where
+  pub input : List ℕ
+  pub reads : Reads old new input
+  pub whole : length input ≡ taken
+  pub is : IsAnswered style order input answer
+
+-- an end of the command failed, and not what was read
+abbrev pub is_of_end : PictureFault → Bool
+is_of_end (Serve fault) = refusal.is_of_end fault
+is_of_end (TooMany n) = false

@@ -1,5 +1,5 @@
 -- The command line.
-use Rattle.std.specs.Prelude.{ℕ, ◌&&◌, ◌==◌, List, [], ◌∷◌, Option, Some, None, Result, Ok, Err, codes, if◌then◌else◌}
+use Rattle.std.specs.Prelude.{ℕ, ◌&&◌, ◌==◌, nat_le, List, [], ◌∷◌, Option, Some, None, Result, Ok, Err, codes, if◌then◌else◌}
 use Rattle.std.specs.Prelude.{option_map, option_and_then}
 use Rattle.std.specs.Option.{option_map_or}
 use Rattle.std.specs.Str.{bytes_eq}
@@ -28,11 +28,15 @@ wide_form text option width =
 abbrev pub window : ℕ → ℕ → Window
 window from to = record { from = from; to = to }
 
+-- the positions from one to another that is not before it
+unfoldable pub window_of : ℕ → ℕ → Option Window
+window_of from to = if nat_le from to then Some (window from to) else None
+
 -- --from A --to B
 abbrev pub window_in : List ℕ → List ℕ → List ℕ → List ℕ → Option Window
 window_in option from other to =
     if bytes_eq option (codes "--from") && bytes_eq other (codes "--to")
-    then option_and_then (λ (a : ℕ). option_map (λ (b : ℕ). window a b) (number_in to)) (number_in from)
+    then option_and_then (λ (a : ℕ). option_and_then (λ (b : ℕ). window_of a b) (number_in to)) (number_in from)
     else None
 
 abbrev pub all : Option Window

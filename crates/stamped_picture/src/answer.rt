@@ -1,15 +1,17 @@
 //! The picture that answers an order.
 
-ghost use Rattle.std.specs.Prelude.{◌≡◌, ◌≢◌, ◌≤◌, ◌<◌, length, All, IfOk, IfErr};
+ghost use Rattle.std.specs.Prelude.{◌≡◌, ◌≢◌, ◌↔◌, ◌≤◌, ◌<◌, true, false, length, All, IfOk, IfErr, Ok, Err, is_err};
 ghost use Rattle.stamp_picture.specs.Picture.{most_bars};
-ghost use Rattle.stamp_cli.specs.declared.faults.ServeFault.TheVariants.{Memory};
+ghost use Rattle.stamp_cli.specs.Results.{MakesAtMost, ReadsToTheEnd, any_since, taken_since};
+ghost use Rattle.stamp_cli.specs.Source.{TakesAtMost, most_reads, most_taken};
+ghost use Rattle.stamp_cli.specs.declared.faults.ServeFault.TheVariants.{Memory, ReadFault, WriteFault};
 ghost use Rattle.stamped_picture.specs.declared.faults.PictureFault.TheVariants.{Serve};
 ghost use Rattle.stamped_picture.specs.Answer.{IsSvg, IsDrawnAs, IsDrawnText, IsUndrawn};
-ghost use Rattle.stamped_picture.specs.Answer.{IsAnswer, IsRefused, drawing_in, verdict_in};
+ghost use Rattle.stamped_picture.specs.Answer.{Answers, IsAnswer, IsRefused, drawing_in, is_of_end, verdict_in};
 
 use crate::faults::PictureFault;
 use crate::orders::{Form, PictureOrder};
-use stamp_cli::{MOST_BYTES, ServeFault, Verdict};
+use stamp_cli::{MOST_BYTES, ServeFault, Source, Verdict, read_input};
 use stamp_core::Record;
 use stamp_drawing::{sheet_of, svg_of, text_of};
 use stamp_history::read_history;
@@ -79,7 +81,8 @@ fn drawing_of(
 }
 
 /// The picture of the history that the input is. What is no history is refused as a check refuses it.
-pub(crate) fn answer(
+#[tactic(auto, using(stamp_cli::proofs::Refusals::inner))]
+fn answer(
     alloc: Global,
     order: PictureOrder,
     style: &str,
@@ -87,10 +90,35 @@ pub(crate) fn answer(
 ) -> Result<Drawing, PictureFault>
     ensures drawn { IfOk result (λ drawing. IsAnswer style.now order input.now (drawing_in drawing)) }
     ensures refused { IfErr result (λ e. e ≢ Serve Memory → IsRefused order.window input.now e) }
+    ensures inner { IfErr result (λ e. is_of_end e ≡ false) }
 {
     if input.len() > MOST_BYTES {
         return Err(PictureFault::Serve(ServeFault::TooLong));
     }
     let history = read_history(alloc, input)?;
     drawing_of(alloc, order, style, &history)
+}
+
+/// The picture of the history that the source gives.
+pub(crate) fn drawing_from<S: Source>(
+    alloc: Global,
+    order: PictureOrder,
+    style: &str,
+    source: &mut S,
+) -> Result<Drawing, PictureFault>
+    ensures reads { MakesAtMost (S.reads source.old) (S.reads source.new) most_reads most_taken }
+    ensures took { TakesAtMost (S.left source.old) (S.left source.new) most_taken }
+    ensures ok { IfOk result (λ drawing. Answers style.now order (S.left source.old) (S.left source.new)
+        (taken_since (S.reads source.old) (S.reads source.new)) (Ok (drawing_in drawing))) }
+    ensures err { IfErr result (λ e. e ≢ Serve ReadFault → e ≢ Serve Memory
+        → Answers style.now order (S.left source.old) (S.left source.new)
+        (taken_since (S.reads source.old) (S.reads source.new)) (Err e)) }
+    ensures ends { result ≢ Err (Serve ReadFault) → result ≢ Err (Serve Memory)
+        → ReadsToTheEnd (S.reads source.old) (S.reads source.new) most_taken }
+    ensures failed { (result ≡ Err (Serve ReadFault))
+        ↔ (any_since is_err (S.reads source.old) (S.reads source.new) ≡ true) }
+    ensures not_written { result ≢ Err (Serve WriteFault) }
+{
+    let input = read_input(alloc, source)?;
+    answer(alloc, order, style, &input)
 }

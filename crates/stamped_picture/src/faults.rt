@@ -1,6 +1,7 @@
 //! Why no picture was drawn, and the line that says so.
 
-ghost use Rattle.std.specs.Prelude.{◌≡◌, IfOk, string_bytes};
+ghost use Rattle.std.specs.Prelude.{◌≡◌, IfOk, IfErr, string_bytes};
+ghost use Rattle.stamp_cli.specs.declared.faults.ServeFault.TheVariants.{Memory};
 ghost use Rattle.stamped_picture.specs.declared.faults.PictureFault.TheVariants.{Serve, TooMany};
 ghost use Rattle.stamped_picture.specs.FaultText.{line_text, picture_fault};
 
@@ -59,7 +60,8 @@ impl From<PictureError> for PictureFault {
 
 /// The line for standard error, without its line feed.
 pub(crate) fn fault_line(alloc: Global, fault: &PictureFault) -> Result<String, PictureFault>
-    ensures { IfOk result (λ line. string_bytes line ≡ line_text fault.now) }
+    ensures text { IfOk result (λ line. string_bytes line ≡ line_text fault.now) }
+    ensures refused { IfErr result (λ e. e ≡ Serve Memory) }
 {
     match fault {
         PictureFault::Serve(fault) => Ok(stamp_cli::fault_line(alloc, fault)?),

@@ -4,7 +4,7 @@ ghost use Rattle.std.specs.Prelude.{◌≡◌, map, option_and_then, option_map}
 ghost use Rattle.std.specs.Char.{is_ascii_digit};
 ghost use Rattle.std.specs.List.{list_all};
 ghost use Rattle.stamp_cli.specs.Order as order;
-ghost use Rattle.stamped_picture.specs.Order.{width_in, text_form, wide_form, window_in, both, form_within, form_of, order_in};
+ghost use Rattle.stamped_picture.specs.Order.{width_in, text_form, wide_form, window_of, window_in, both, form_within, form_of, order_in};
 
 use stamp_cli::CommandFault;
 use stamp_picture::Window;
@@ -75,14 +75,23 @@ fn wide_form(text: &str, option: &str, width: &str) -> Option<Form>
     }
 }
 
+/// The window from a position to one that isn't before it.
+#[tactic(auto, unfolding(crate::specs::Order::window_of))]
+fn window_of(from: u64, to: u64) -> Option<Window>
+    ensures { result ≡ window_of from to }
+{
+    if from <= to {
+        Some(Window { from, to })
+    } else {
+        None
+    }
+}
+
 fn window_in(option: &str, from: &str, other: &str, to: &str) -> Option<Window>
     ensures { result ≡ window_in option.now from.now other.now to.now }
 {
     if option == "--from" && other == "--to" {
-        Some(Window {
-            from: number_in(from)?,
-            to: number_in(to)?,
-        })
+        window_of(number_in(from)?, number_in(to)?)
     } else {
         None
     }

@@ -1,18 +1,19 @@
 //! An order from the bytes that come in to the picture that goes out.
 
-ghost use Rattle.std.specs.Prelude.{◌≡◌, ◌≢◌, ◌↔◌, ◌≤◌, ◌+◌, List, ℕ, length, true, IfOk, IfErr, Err, is_err};
+ghost use Rattle.std.specs.Prelude.{◌≡◌, ◌≢◌, ◌↔◌, true, length, IfOk, IfErr, Ok, Err, is_err};
 ghost use Rattle.std.specs.Io.KnownBytes.{Appends, Keeps};
-ghost use Rattle.stamp_cli.specs.Results.{Makes, MakesAtMost, any_since};
+ghost use Rattle.stamp_cli.specs.Results.{Makes, MakesAtMost, ReadsToTheEnd, any_since, taken_since};
 ghost use Rattle.stamp_cli.specs.Sink.{AppendsFront};
-ghost use Rattle.stamp_cli.specs.Source.{most_reads, most_taken, Reads};
+ghost use Rattle.stamp_cli.specs.Source.{TakesAtMost, most_reads, most_taken};
+ghost use Rattle.stamp_cli.specs.TakesNone.{takes_none};
 ghost use Rattle.stamp_cli.specs.declared.faults.ServeFault.TheVariants.{Memory, ReadFault, WriteFault};
 ghost use Rattle.stamped_picture.specs.declared.faults.PictureFault.TheVariants.{Serve};
-ghost use Rattle.stamped_picture.specs.Answer.{Drawing, IsAnswer, IsRefused};
+ghost use Rattle.stamped_picture.specs.Answer.{Drawing, Answers};
 
-use crate::answer::answer;
+use crate::answer::drawing_from;
 use crate::faults::PictureFault;
 use crate::orders::PictureOrder;
-use stamp_cli::{Sink, Source, Verdict, read_input, write_line};
+use stamp_cli::{Sink, Source, Verdict, write_line};
 use std::alloc::Global;
 
 /// Answers the order: reads all of the source and writes one picture, or says why not.
@@ -23,26 +24,41 @@ pub(crate) fn serve<S: Source, K: Sink>(
     source: &mut S,
     sink: &mut K,
 ) -> Result<Verdict, PictureFault>
-    // However it ends, there are no more reads than these, and none after one that took no byte.
+    // However it ends, there are no more reads than these, none after one that took no byte, and they
+    // take no more bytes than these.
     ensures reads { MakesAtMost (S.reads source.old) (S.reads source.new) most_reads most_taken }
+    ensures took { TakesAtMost (S.left source.old) (S.left source.new) most_taken }
 
-    // The picture of what was read is written, and nothing else; the verdict is its.
-    ensures ok { IfOk result (λ verdict. (input : List ℕ) × (drawing : Drawing)
-        × Reads (S.left source.old) (S.left source.new) input
-        × IsAnswer style.now order input drawing × (verdict ≡ drawing.verdict)
-        × Appends (K.sent sink.old) (K.sent sink.new) drawing.text) }
+    // Where what was read is answered or refused, it was read to the end.
+    ensures ends { result ≢ Err (Serve ReadFault) → result ≢ Err (Serve Memory)
+        → ReadsToTheEnd (S.reads source.old) (S.reads source.new) most_taken }
 
-    // What was read is refused so.
+    // The picture of all that was read is written, and nothing else; the verdict is its.
+    ensures ok { IfOk result (λ verdict. (drawing : Drawing)
+        × Answers style.now order (S.left source.old) (S.left source.new)
+        (taken_since (S.reads source.old) (S.reads source.new)) (Ok drawing) × (verdict ≡ drawing.verdict)
+        × Appends (K.sent sink.old) (K.sent sink.new) drawing.text
+        × Makes (K.writes sink.old) (K.writes sink.new) (length drawing.text)) }
+
+    // All that was read is refused so.
     ensures refused { IfErr result (λ e. e ≢ Serve ReadFault → e ≢ Serve WriteFault → e ≢ Serve Memory
-        → (input : List ℕ) × Reads (S.left source.old) (S.left source.new) input
-        × IsRefused order.window input e) }
+        → Answers style.now order (S.left source.old) (S.left source.new)
+        (taken_since (S.reads source.old) (S.reads source.new)) (Err e)) }
+    ensures read_fault { (result ≡ Err (Serve ReadFault))
+        ↔ (any_since is_err (S.reads source.old) (S.reads source.new) ≡ true) }
 
-    // A refusal writes nothing, but for a write that failed.
+    // A write that failed leaves a front of the picture and is the last, and no other refusal writes.
+    ensures write_fault { (result ≡ Err (Serve WriteFault))
+        ↔ (any_since takes_none (K.writes sink.old) (K.writes sink.new) ≡ true) }
+    ensures front { result ≡ Err (Serve WriteFault) → ((drawing : Drawing)
+        × Answers style.now order (S.left source.old) (S.left source.new)
+        (taken_since (S.reads source.old) (S.reads source.new)) (Ok drawing)
+        × AppendsFront (K.sent sink.old) (K.sent sink.new) drawing.text
+        × MakesAtMost (K.writes sink.old) (K.writes sink.new) (length drawing.text) (length drawing.text)) }
     ensures silent { IfErr result (λ e. e ≢ Serve WriteFault
         → Keeps (K.sent sink.old) (K.sent sink.new) × (K.writes sink.new ≡ K.writes sink.old)) }
 {
-    let input = read_input(alloc, source)?;
-    let drawing = answer(alloc, order, style, &input)?;
+    let drawing = drawing_from(alloc, order, style, source)?;
     write_line(sink, &drawing.text)?;
     Ok(drawing.verdict)
 }
