@@ -8,11 +8,12 @@ crate's own must-fail folder, which `rt ci` tries). A function is proved from th
 calls, so edits of several functions are tried at once, in one copy of the crate. A function that calls one
 which isn't proved isn't judged: its edit is tried again in the next round, without those that are settled.
 
-An edit is refused if the edited function isn't proved for what its contract says. It fails if the function is
-proved, if the edit can't be applied or compiled, or if the proof only lacks names that it took away. A crate
-fails if any other function isn't proved for its own sake. The libraries must be built: `rt ci` leaves them in
-crates/*/out. What `rt check` kept is begun with, if there is any. How many were refused and how many failed is
-the last line, and goes to the file FILE."""
+An edit is refused if the edited function isn't proved for its own sake, whatever it calls. It fails if the
+function is proved, or if the edit can't be applied or compiled. A crate fails if any other function isn't
+proved for its own sake. Where a proof by hand only lacks names that an edit took away, the line says so, since
+that shows little of the contract: change a value and keep the names. The libraries must be built: `rt ci`
+leaves them in crates/*/out. What `rt check` kept is begun with, if there is any. How many were refused and how
+many failed is the last line, and goes to the file FILE."""
 import concurrent.futures
 import os
 import re
@@ -28,6 +29,8 @@ PARTS = ("src", "specs", "proofs")
 FUNCTION = re.compile(r'^( *)(?:pub(?:\([a-z]+\))? )?(?:extern "C" )?fn (\w+)', re.M)
 IMPL = re.compile(r"^impl(?:<[^>{]*>)? (?:([\w:]+)(?:<[^>{]*>)? for )?(\w+)", re.M)
 STATED = re.compile(r"^fn (\S+): (.*)$", re.M)
+# What is said of an edit that shows little of the contract: it changes the form, and not a value alone.
+LACKS_NAMES = "only since the proof lacks names that the edit took away"
 # What a proof says that cites a name which the edit took away.
 NAMES = re.compile(r"has no field|is not in scope|has no `|was not admitted|rattle does not read")
 
@@ -186,7 +189,7 @@ def judged(crate, edits, said, calls):
             told[edit.name] = f"NOT REFUSED: {edit.function} is proved with it"
         elif not found[edit.function]:
             why = why_of(edit.function, crate, said)
-            told[edit.name] = f"refused: {why[:160]}" if why else "BAD EDIT: its function's proof only lacks names"
+            told[edit.name] = f"refused: {why[:160]}" if why else f"refused: {LACKS_NAMES}"
     return told
 
 
@@ -242,7 +245,7 @@ def main():
         name, _, edit = word.partition("/")
         if os.path.isdir(f"{FOLDER}/{name}"):
             wanted.setdefault(name, []).extend([edit] if edit else [])
-    refused = failed = 0
+    refused = failed = named = 0
     with concurrent.futures.ThreadPoolExecutor(len(os.sched_getaffinity(0))) as pool:
         crates = {name: Crate(name, uses) for name in wanted}
         for crate, done in [(crate, pool.submit(tried, crate, wanted[name])) for name, crate in crates.items()]:
@@ -250,7 +253,8 @@ def main():
             print("\n".join(lines), flush=True)
             good = sum(": refused: " in line for line in lines)
             refused, failed = refused + good, failed + len(lines) - good
-    print(f"{refused} wrong bodies refused, {failed} failed")
+            named += sum(LACKS_NAMES in line for line in lines)
+    print(f"{refused} wrong bodies refused, {named} of them {LACKS_NAMES}, {failed} failed")
     if count:
         with open(count, "w") as file:
             file.write(f"{refused} {failed}\n")
