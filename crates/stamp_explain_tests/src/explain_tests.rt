@@ -285,7 +285,7 @@ fn a_read_after_a_write_acquisition_could_have_had_0_alone(rt: HostRuntime) -> R
     let Ok(found) = possible(&rt, &[first_write(), wrong], &tried, 100)? else {
         return Err(Fail::from("undecided"));
     };
-    assert_eq!(rt; found.as_slice(), &[Reply::Stamp(0)]);
+    assert_eq!(rt; found.as_slice(), [Reply::Stamp(0)].as_slice());
     let Err(error) = possible(&rt, &[first_write(), wrong], &tried, 1)? else {
         return Err(Fail::from("decided"));
     };
