@@ -280,13 +280,16 @@ fn possible(
 
 #[test]
 fn a_read_after_a_write_acquisition_could_have_had_0_alone(rt: HostRuntime) -> Result<(), Fail> {
-    let wrong = returned(1, Call::TryRead, Reply::Stamp(257), (4, 5));
+    let entries = [
+        first_write(),
+        returned(1, Call::TryRead, Reply::Stamp(257), (4, 5)),
+    ];
     let tried = [Reply::Stamp(257), Reply::Stamp(0), Reply::Stamp(513)];
-    let Ok(found) = possible(&rt, &[first_write(), wrong], &tried, 100)? else {
+    let Ok(found) = possible(&rt, &entries, &tried, 100)? else {
         return Err(Fail::from("undecided"));
     };
     assert_eq!(rt; found.as_slice(), [Reply::Stamp(0)].as_slice());
-    let Err(error) = possible(&rt, &[first_write(), wrong], &tried, 1)? else {
+    let Err(error) = possible(&rt, &entries, &tried, 1)? else {
         return Err(Fail::from("decided"));
     };
     assert_eq!(rt; error, PossibleError::Undecided);

@@ -98,7 +98,8 @@ struct stamped_decision {
 enum {
     STAMPED_NO = 0,       /* STAMPED_VALIDATE, the queries, STAMPED_TRY_UNLOCK_WRITE and _READ */
     STAMPED_YES = 1,
-    STAMPED_MISMATCH = 0, /* STAMPED_UNLOCK_WRITE, _READ and STAMPED_UNLOCK: the stamp matches no held mode,
+    STAMPED_MISMATCH = 0, /* STAMPED_UNLOCK_WRITE, _READ and STAMPED_UNLOCK: the stamp matches no held mode that
+                             the call releases,
                              and nothing is released (IllegalMonitorStateException in Java) */
     STAMPED_DONE = 1
 };
@@ -114,7 +115,8 @@ enum {
 /* What a number is as a stamp. */
 struct stamped_kind {
     uint32_t kind;    /* a kind, or an error */
-    uint64_t version; /* how often write mode had been acquired, with the hold that a write stamp is of */
+    uint64_t version; /* how often write mode had been acquired, counting the acquisition that gave a write
+                         stamp; 0 for no stamp and for an error */
     uint64_t readers; /* of a read stamp, how many held read mode, with the one who got it; otherwise 0 */
 };
 
