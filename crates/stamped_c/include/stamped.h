@@ -98,8 +98,8 @@ struct stamped_decision {
 enum {
     STAMPED_NO = 0,       /* STAMPED_VALIDATE, the queries, STAMPED_TRY_UNLOCK_WRITE and _READ */
     STAMPED_YES = 1,
-    STAMPED_MISMATCH = 0, /* STAMPED_UNLOCK_WRITE, _READ and STAMPED_UNLOCK: the stamp matches no held mode that
-                             the call releases,
+    STAMPED_MISMATCH = 0, /* STAMPED_UNLOCK_WRITE, _READ and STAMPED_UNLOCK: the stamp matches no held mode
+                             that the call releases,
                              and nothing is released (IllegalMonitorStateException in Java) */
     STAMPED_DONE = 1
 };
