@@ -124,6 +124,13 @@ def function_at(file, before, proved):
     return named[0]
 
 
+def owner_of(function):
+    """The function that a closure stands in; any other function is its own."""
+    module, _, inside = function.partition("::fn::")
+    names = inside.split("::")
+    return "::".join([module, *names[: 2 if names[0][:1].isupper() else 1]]) if inside else function
+
+
 def why_of(function, crate, said):
     """What the prover says against the function itself."""
     stated = dict(STATED.findall(said))[function]
@@ -174,21 +181,23 @@ def judged(crate, edits, said, calls):
         raise Failed(f"an edit doesn't compile: {said[:600]}")
     stated = dict(STATED.findall(said))
     unproved = {function for function, word in stated.items() if not word.startswith("proved")}
-    found = {it: unproved & {*re.findall(r"`([\w:]+)`", stated[it])} - {it} for it in unproved}
+    found = {it: unproved & {*re.findall(r"`([\w:+]+)`", stated[it])} - {it} for it in unproved}
     for function, below in found.items():
         calls.setdefault(function, set()).update(below)
-    for function in unproved - {edit.function for edit in edits}:
-        if not found[function]:
+    for function in unproved:
+        if not found[function] and owner_of(function) not in {edit.function for edit in edits}:
             raise Failed(f"{function} isn't edited, and it is: {stated[function]}")
     told = {}
     for edit in edits:
         word = stated.get(edit.function)
         if word is None:
             raise Failed(f"{edit.name}: the prover says nothing of {edit.function}: {said[-600:]}")
-        if word.startswith("proved"):
+        own = {it for it in unproved if owner_of(it) == edit.function}
+        if not own:
             told[edit.name] = f"NOT REFUSED: {edit.function} is proved with it"
-        elif not found[edit.function]:
-            why = why_of(edit.function, crate, said)
+        wrong = sorted(it for it in own if not found[it] - own)
+        if wrong:
+            why = next((why for why in (why_of(it, crate, said) for it in wrong) if why), None)
             told[edit.name] = f"refused: {why[:160]}" if why else f"refused: {LACKS_NAMES}"
     return told
 
