@@ -101,6 +101,7 @@ BAD_WORDS = [
     ["--text", "--width", "0"],
     ["--text", "--width", "+8"],
     ["--from", "1", "--to", "2", "--text"],
+    ["--from", "4", "--to", "3"],
     ["--text", "--from", "1", "--to"],
     ["--text", "--from", "1", "--to", "2", "--width", "8"],
 ]
