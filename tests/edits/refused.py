@@ -53,14 +53,13 @@ class Crate:
         self.name, self.folder = name, f"{TOP}/crates/{name}"
         kit = os.path.dirname(subprocess.run(["rt", "doc"], capture_output=True, text=True, check=True).stdout.strip())
         rlibs = f"{kit}/rlibs"
-        below = []
-        for it in uses[name]:
-            below += [it for it in [*uses.get(it, []), it]] if it in uses else []
-        # (a crate's line names all that is below it)
+        below, new = set(), {*uses[name]} & {*uses}
+        while new:
+            below, new = below | new, {it for one in new for it in uses[one] if it in uses} - below - new
         libraries = [f"std={rlibs}/std.rlib"]
         for it in uses[name]:
             libraries.append(f"{it}={TOP}/crates/{it}/out/rlib/{it}.rlib" if it in uses else f"{it}={rlibs}/{it}.rlib")
-        folders = [rlibs, *sorted({f"{TOP}/crates/{it}/out/rlib" for it in below if it in uses})]
+        folders = [rlibs, *sorted(f"{TOP}/crates/{it}/out/rlib" for it in below)]
         root = "src/main.rt" if os.path.isfile(f"{self.folder}/src/main.rt") else "src/lib.rt"
         self.words = [f"{kit}/bin/rattle", "check", "--crate-name", name, root, "--links", f"{name}=", "--jobs", "1"]
         self.words += [word for it in libraries for word in ("--extern", it)]
