@@ -27,7 +27,7 @@ FOLDER = os.path.dirname(os.path.abspath(__file__))
 TOP = os.path.dirname(os.path.dirname(FOLDER))
 PARTS = ("src", "specs", "proofs")
 FUNCTION = re.compile(r'^( *)(?:pub(?:\([a-z]+\))? )?(?:extern "C" )?fn (\w+)', re.M)
-IMPL = re.compile(r"^impl(?:<[^>{]*>)? (?:([\w:]+)(?:<[^>{]*>)? for )?(\w+)", re.M)
+IMPL = re.compile(r"^impl(?:<[^>{]*>)? (?:([\w:]+)(?:<(\w*)[^{]*>)? for )?(\w+)", re.M)
 STATED = re.compile(r"^fn (\S+): (.*)$", re.M)
 # What is said of an edit that shows little of the contract: it changes the form, and not a value alone.
 LACKS_NAMES = "only since the proof lacks names that the edit took away"
@@ -115,8 +115,8 @@ def function_at(file, before, proved):
     if not found or not found[-1][1]:
         name = name if module in ("lib", "main") else f"{module}::{name}"
     elif impl:
-        of, trait = impl[-1][2], impl[-1][1] or ""
-        name = f"{of}{trait.split('::')[-1]}::{name}"
+        trait, of_trait, type_name = impl[-1].groups(default="")
+        name = f"{type_name}{trait.split('::')[-1]}{of_trait}::{name}"
     named = [it for it in proved if it.endswith(f"::{name}")]
     if len(named) != 1:
         raise Failed(f"{file}: {len(named)} proved functions are named {name}")
