@@ -5,15 +5,16 @@
 An edit is a file tests/edits/CRATE/NAME.edit, in the form of the kit's must-fail edits: a line `file:`, then
 pairs of lines `old:` and `new:`. It changes the body of one function (one that changes more stands in the
 crate's own must-fail folder, which `rt ci` tries). A function is proved from the contracts of those that it
-calls, so edits of several functions are tried at once, in one copy of the crate. A function that calls one
-which isn't proved isn't judged: its edit is tried again in the next round, without those that are settled.
+calls, so edits of several functions are tried in one copy of the crate, and only these functions and those that
+they call are proved. Edits of one function are tried one after another. Where the prover says of a function only
+that it calls one which isn't proved, its edit is tried once more, without that one.
 
-An edit is refused if the edited function isn't proved for its own sake, whatever it calls. It fails if the
-function is proved, or if the edit can't be applied or compiled. A crate fails if any other function isn't
-proved for its own sake. Where a proof by hand only lacks names that an edit took away, the line says so, since
-that shows little of the contract: change a value and keep the names. The libraries must be built: `rt ci`
-leaves them in crates/*/out. What `rt check` kept is begun with, if there is any. How many were refused and how
-many failed is the last line, and goes to the file FILE."""
+An edit is refused if the prover doesn't prove the edited function for its own sake: it names the goal, or a fault
+in the function's proof by hand. It fails if the function is proved, or if the edit can't be applied or compiled. A
+crate fails if another function isn't proved for its own sake. Where a proof by hand only lacks names that an edit
+took away, the line says so, since that shows little of the contract: change a value and keep the names. The
+libraries must be built: `rt ci` leaves them in crates/*/out. What `rt check` kept is begun with, if there is any.
+How many were refused and how many failed is the last line, and goes to the file FILE."""
 import concurrent.futures
 import os
 import re
@@ -66,8 +67,8 @@ class Crate:
         self.words += [word for it in folders for word in ("-L", f"dependency={it}")]
         self.words += ["--antt-project", f"{kit}/rattle/logic/antt-project.json", "--logic-built", f"{kit}/logic_built"]
 
-    def check(self, room, kept, edits=()):
-        """What the prover says of the crate with the edits, over what was kept."""
+    def check(self, room, kept, edits):
+        """What the prover says of the functions with the edits and of those that they call, over what was kept."""
         with tempfile.TemporaryDirectory(dir=room) as copy:
             for part in PARTS:
                 if os.path.isdir(f"{self.folder}/{part}"):
@@ -77,16 +78,17 @@ class Crate:
                     text = it.read()
                 with open(f"{copy}/{file}", "w") as it:
                     it.write(text[:at] + new + text[at + len(old) :])
+            only = [word for edit in edits for word in ("--only", edit.function)]
             ran = subprocess.run(
-                [*self.words, "--incremental", kept], cwd=copy, stdin=subprocess.DEVNULL,
+                [*self.words, "--incremental", kept, *only], cwd=copy, stdin=subprocess.DEVNULL,
                 stdout=subprocess.PIPE, stderr=subprocess.STDOUT, text=True, errors="replace")
         return ran.stdout
 
 
 class Edit:
-    """A wrong body: the places that it changes, and the function whose body it is."""
+    """A wrong body: the places that it changes, and the function whose body it is, by the end of its path."""
 
-    def __init__(self, crate, path, proved):
+    def __init__(self, crate, path):
         self.name, self.pairs, functions, file = os.path.basename(path), [], set(), None
         with open(path) as it:
             lines = it.read().split("\n")
@@ -101,26 +103,23 @@ class Edit:
                     raise Failed(f"{self.name}: its text stands in {file} {text.count(old)} times: {old}")
             elif line.startswith("new:"):
                 self.pairs.append((file, text.index(old), old, line.removeprefix("new:").removeprefix(" ")))
-                functions.add(function_at(file, text[: text.index(old) + len(old)], proved))
+                functions.add(function_at(file, text[: text.index(old) + len(old)]))
         if len(functions) != 1:
             raise Failed(f"{self.name}: it changes {len(functions)} functions")
         self.function = functions.pop()
 
 
-def function_at(file, before, proved):
-    """The function that a file's text ends in, as the prover prints its name: among those that are proved."""
+def function_at(file, before):
+    """The function that a file's text ends in: the end of its path, as the prover prints it."""
     found, impl = [*FUNCTION.finditer(before)], [*IMPL.finditer(before)]
     module = file.removeprefix("src/").removesuffix(".rt").replace("/", "::")
-    name = found[-1][2] if found else "?"
-    if not found or not found[-1][1]:
-        name = name if module in ("lib", "main") else f"{module}::{name}"
-    elif impl:
+    if not found:
+        raise Failed(f"{file}: no function stands before an edit")
+    name = found[-1][2]
+    if found[-1][1] and impl:
         trait, of_trait, type_name = impl[-1].groups(default="")
-        name = f"{type_name}{trait.split('::')[-1]}{of_trait}::{name}"
-    named = [it for it in proved if it.endswith(f"::{name}")]
-    if len(named) != 1:
-        raise Failed(f"{file}: {len(named)} proved functions are named {name}")
-    return named[0]
+        return f"{type_name}{trait.split('::')[-1]}{of_trait}::{name}"
+    return name if module in ("lib", "main") else f"{module}::{name}"
 
 
 def owner_of(function):
@@ -142,73 +141,57 @@ def why_of(function, crate, said):
     return wrong[0] if wrong else None
 
 
-def calls_in(crate, proved):
-    """The functions that each function may call, by the names in its text. What the prover says corrects it."""
-    short, calls = {}, {}
-    for function in proved:
-        short.setdefault(function.split("::")[-1], set()).add(function)
-    for at, _, files in os.walk(f"{crate.folder}/src"):
-        for name in files:
-            file = os.path.relpath(f"{at}/{name}", crate.folder)
-            with open(f"{at}/{name}") as it:
-                text = re.sub(r"//.*", "", it.read())
-            found = [*FUNCTION.finditer(text)]
-            for one, after in zip(found, [*found[1:], None]):
-                body = text[one.end() : after.start() if after else len(text)]
-                named = set().union(*(short.get(word, set()) for word in re.findall(r"(\w+)(?:::<[^()]*>)?\(", body)))
-                for function in short.get(one[2], set()):
-                    calls.setdefault(function, set()).update(named - {function})
-    return calls
-
-
 def round_of(edits, calls):
-    """An edit for each function, but for those that may call another of them. If all do, one for each."""
+    """An edit for each function, but for those that are known to call another of these functions."""
     functions = {edit.function for edit in edits}
     taken = {}
     for edit in edits:
-        reached, new = set(), calls.get(edit.function, set())
-        while new:
-            reached, new = reached | new, {it for one in new for it in calls.get(one, ())} - reached - new
-        if not (functions - {edit.function}) & reached:
+        if not functions & calls.get(edit.function, set()):
             taken.setdefault(edit.function, edit)
-    return [*(taken or {edit.function: edit for edit in reversed(edits)}).values()]
+    return [*taken.values()]
+
+
+def named(function, stated):
+    """The function's whole name, as the prover prints it."""
+    found = [it for it in stated if it.endswith(f"::{function}")]
+    if len(found) != 1:
+        raise Failed(f"{len(found)} functions are named {function}")
+    return found[0]
 
 
 def judged(crate, edits, said, calls):
     """What came of the edits of a round that were judged. The others' functions call some that aren't proved."""
-    if re.search(r"\berror\[[\w-]+\]", said):
-        raise Failed(f"an edit doesn't compile: {said[:600]}")
     stated = dict(STATED.findall(said))
+    if re.search(r"\berror\[[\w-]+\]", said) or not stated:
+        raise Failed(f"an edit doesn't compile: {said[:600]}")
+    edited = {named(edit.function, stated): edit for edit in edits}
     unproved = {function for function, word in stated.items() if not word.startswith("proved")}
-    found = {it: unproved & {*re.findall(r"`([\w:+]+)`", stated[it])} - {it} for it in unproved}
-    for function, below in found.items():
-        calls.setdefault(function, set()).update(below)
+    below = {it: unproved & {*re.findall(r"`([\w:+]+)`", stated[it])} - {it} for it in unproved}
     for function in unproved:
-        if not found[function] and owner_of(function) not in {edit.function for edit in edits}:
+        if owner_of(function) not in edited and ("did not prove" in stated[function] or not below[function]):
             raise Failed(f"{function} isn't edited, and it is: {stated[function]}")
     told = {}
-    for edit in edits:
-        word = stated.get(edit.function)
-        if word is None:
-            raise Failed(f"{edit.name}: the prover says nothing of {edit.function}: {said[-600:]}")
-        own = {it for it in unproved if owner_of(it) == edit.function}
+    for function, edit in edited.items():
+        own = {it for it in unproved if owner_of(it) == function}
         if not own:
-            told[edit.name] = f"NOT REFUSED: {edit.function} is proved with it"
-        wrong = sorted(it for it in own if not found[it] - own)
-        if wrong:
-            why = next((why for why in (why_of(it, crate, said) for it in wrong) if why), None)
-            told[edit.name] = f"refused: {why[:160]}" if why else f"refused: {LACKS_NAMES}"
+            told[edit.name] = f"NOT REFUSED: {function} is proved with it"
+            continue
+        why = next((why for why in (why_of(it, crate, said) for it in sorted(own)) if why), None)
+        if why:
+            told[edit.name] = f"refused: {why[:160]}"
+        elif any(not below[it] - own for it in own):
+            told[edit.name] = f"refused: {LACKS_NAMES}"
+        else:
+            owners = {owner_of(other) for it in own for other in below[it]}
+            calls[edit.function] = {edited[it].function for it in owners & {*edited}} or {edit.function}
     return told
-
-
-def linked(one, other):
-    """Gives what was proved a second name: the prover replaces such a file, and changes none."""
-    return os.link(one, other) if one.endswith(".oantt") else shutil.copy2(one, other)
 
 
 def tried(crate, only):
     """Tries the crate's edits, or only some, round by round, and gives the lines that tell of it."""
     folder, begun = f"{FOLDER}/{crate.name}", time.monotonic()
+    names = sorted(name for name in os.listdir(folder) if name.endswith(".edit") and name in (only or name))
+    edits, calls = [Edit(crate, f"{folder}/{name}") for name in names], {}
     lines, rounds = [], 0
     with tempfile.TemporaryDirectory() as room:
         begin = f"{crate.folder}/out/incremental"
@@ -216,21 +199,12 @@ def tried(crate, only):
             shutil.copytree(begin, f"{room}/kept")
         else:
             os.mkdir(f"{room}/kept")
-        said = crate.check(room, f"{room}/kept")
-        if "\nlogic=proved" not in said:
-            raise Failed(f"{crate.name} itself isn't proved: {said[-600:]}")
-        proved = dict(STATED.findall(said))
-        calls = calls_in(crate, proved)
-        names = sorted(name for name in os.listdir(folder) if name.endswith(".edit") and name in (only or name))
-        edits = [Edit(crate, f"{folder}/{name}", proved) for name in names]
         while edits:
             rounds += 1
-            shutil.copytree(f"{room}/kept", f"{room}/{rounds}", copy_function=linked)
             now = round_of(edits, calls)
-            told = judged(crate, now, crate.check(room, f"{room}/{rounds}", now), calls)
-            shutil.rmtree(f"{room}/{rounds}")
+            told = judged(crate, now, crate.check(room, f"{room}/kept", now), calls) if now else {}
             if not told:
-                raise Failed(f"none was judged of {', '.join(edit.name for edit in now)}")
+                raise Failed(f"none was judged of {', '.join(edit.name for edit in edits)}")
             lines += [f"{crate.name}/{name}: {what}" for name, what in told.items()]
             edits = [edit for edit in edits if edit.name not in told]
     seconds = round(time.monotonic() - begun)

@@ -74,20 +74,20 @@ fn verdict(
         return Err(Fail::from("record"));
     };
     let verdict = check(&record);
-    assert_eq!(rt; plain_check(&record), verdict);
+    assert!(rt; plain_check(&record) == verdict);
     Ok(verdict)
 }
 
 #[test]
 fn linearized_entries_are_counted(rt: HostRuntime) -> Result<(), Fail> {
     let limits = limits(1000)?;
-    assert_eq!(rt; verdict(&rt, limits, 0, &[])?, Ok(0));
+    assert!(rt; verdict(&rt, limits, 0, &[])? == Ok(0));
     let entries = [
         try_write(1, (1, 2, 2)),
         unlock_write(1, (3, 4, 4)),
         entry(0, Call::TryWrite, Reply::Stamp(640), (0, 6, 6)),
     ];
-    assert_eq!(rt; verdict(&rt, limits, 0, &entries)?, Ok(3));
+    assert!(rt; verdict(&rt, limits, 0, &entries)? == Ok(3));
     Ok(())
 }
 
@@ -99,7 +99,7 @@ fn assert_bad(
     why: Why,
 ) -> Result<(), Fail> {
     let told = verdict(rt, limits(1000)?, 0, entries)?;
-    assert_eq!(rt; told, bad(at, why));
+    assert!(rt; told == bad(at, why));
     Ok(())
 }
 
@@ -145,12 +145,9 @@ fn a_call_that_would_wait_has_no_reply(rt: HostRuntime) -> Result<(), Fail> {
         entry_at(0, Call::TryWrite, Reply::Stamp(384), 0),
         entry_at(1, Call::WriteLock, Reply::Stamp(0), 1),
     ];
-    assert_eq!(rt;
-        verdict(&rt, limits(1000)?, 0, &entries)?,
-        bad(1, Why::Reply)
-    );
+    assert!(rt; verdict(&rt, limits(1000)?, 0, &entries)? == bad(1, Why::Reply));
     // With the versions spent it does not wait.
-    assert_eq!(rt; verdict(&rt, limits(1)?, 0, &entries)?, Ok(2));
+    assert!(rt; verdict(&rt, limits(1)?, 0, &entries)? == Ok(2));
     Ok(())
 }
 
@@ -191,7 +188,7 @@ fn of_causes_in_one_entry_the_first_is_told(rt: HostRuntime) -> Result<(), Fail>
             }
         }
         let entries = [try_write(0, (0, 10, 100)), with_causes(causes)];
-        assert_eq!(rt; verdict(&rt, limits, 0, &entries)?, wanted, "{mask}");
+        assert!(rt; verdict(&rt, limits, 0, &entries)? == wanted, "{mask}");
     }
     Ok(())
 }
@@ -221,18 +218,18 @@ fn of_causes_in_two_entries_the_earlier_is_told(rt: HostRuntime) -> Result<(), F
     for later in CAUSES {
         let third = third_with(Some(later));
         let none = with_causes([false; 4]);
-        assert_eq!(rt;
-            verdict(&rt, limits, 0, &[opening, none, third])?,
-            bad(2, later)
-        );
+        assert!(rt; verdict(&rt, limits, 0, &[opening, none, third])? == bad(2, later));
         for (i, earlier) in CAUSES.iter().enumerate() {
             let second = with_causes([i == 0, i == 1, i == 2, i == 3]);
             let entries = [opening, second, third];
-            assert_eq!(rt; verdict(&rt, limits, 0, &entries)?, bad(1, *earlier), "{i}");
+            assert!(rt;
+                verdict(&rt, limits, 0, &entries)? == bad(1, *earlier),
+                "{i}"
+            );
         }
     }
     let entries = [opening, with_causes([false; 4]), third_with(None)];
-    assert_eq!(rt; verdict(&rt, limits, 0, &entries)?, Ok(3));
+    assert!(rt; verdict(&rt, limits, 0, &entries)? == Ok(3));
     Ok(())
 }
 
@@ -244,10 +241,7 @@ fn an_overlap_is_told_past_entries_of_other_threads(rt: HostRuntime) -> Result<(
         entry(2, Call::ReadCount, Reply::Count(2), (3, 3, 3)),
         entry(0, Call::ReadCount, Reply::Count(2), (9, 10, 11)),
     ];
-    assert_eq!(rt;
-        verdict(&rt, limits(1000)?, 0, &entries)?,
-        bad(3, Why::Overlap)
-    );
+    assert!(rt; verdict(&rt, limits(1000)?, 0, &entries)? == bad(3, Why::Overlap));
     Ok(())
 }
 
@@ -301,11 +295,11 @@ fn a_record_starts_with_zeros_and_holds_what_was_put(rt: HostRuntime) -> Result<
         Reply::Stamp(6),
     ];
     let right = in_a_row(rt.alloc(), &calls, &replies, 8, &replies[0])?;
-    assert_eq!(rt; verdict(&rt, limits(0)?, 1, &right)?, Ok(8));
+    assert!(rt; verdict(&rt, limits(0)?, 1, &right)? == Ok(8));
     for (i, reply) in wrong.iter().enumerate() {
         let entries = in_a_row(rt.alloc(), &calls, &replies, i, reply)?;
         let told = verdict(&rt, limits(0)?, 1, &entries)?;
-        assert_eq!(rt; told, bad(i as u64, Why::Reply), "{i}");
+        assert!(rt; told == bad(i as u64, Why::Reply), "{i}");
     }
     Ok(())
 }
@@ -314,9 +308,9 @@ fn a_record_starts_with_zeros_and_holds_what_was_put(rt: HostRuntime) -> Result<
 fn the_last_thread_is_kept_apart_too(rt: HostRuntime) -> Result<(), Fail> {
     let limits = limits(1000)?;
     let entries = [try_write(63, (0, 1, 3)), unlock_write(63, (2, 4, 5))];
-    assert_eq!(rt; verdict(&rt, limits, 0, &entries)?, bad(1, Why::Overlap));
+    assert!(rt; verdict(&rt, limits, 0, &entries)? == bad(1, Why::Overlap));
     let entries = [try_write(63, (0, 1, 1)), unlock_write(63, (2, 4, 5))];
-    assert_eq!(rt; verdict(&rt, limits, 0, &entries)?, Ok(2));
+    assert!(rt; verdict(&rt, limits, 0, &entries)? == Ok(2));
     assert!(rt; record(rt.alloc(), limits, 0, &[try_write(64, (0, 1, 1))])?.is_none());
     Ok(())
 }
@@ -330,9 +324,9 @@ fn layout_two_is_checked_by_its_stamps(rt: HostRuntime) -> Result<(), Fail> {
         entry_at(0, Call::UnlockWrite(384), Reply::Mismatch, 1),
         entry_at(0, Call::UnlockWrite(196_608), Reply::Done, 2),
     ];
-    assert_eq!(rt; verdict(&rt, limits, 0, &entries)?, Ok(3));
+    assert!(rt; verdict(&rt, limits, 0, &entries)? == Ok(3));
     let entries = [entry_at(0, Call::TryWrite, Reply::Stamp(384), 0)];
-    assert_eq!(rt; verdict(&rt, limits, 0, &entries)?, bad(0, Why::Reply));
+    assert!(rt; verdict(&rt, limits, 0, &entries)? == bad(0, Why::Reply));
     Ok(())
 }
 
@@ -346,7 +340,7 @@ fn the_report_is_not_looked_at(rt: HostRuntime) -> Result<(), Fail> {
     let Some(record) = Record::of_reported(limits(1000)?, 0, entries, report) else {
         return Err(Fail::from("record"));
     };
-    assert_eq!(rt; check(&record), Ok(1));
+    assert!(rt; check(&record) == Ok(1));
     Ok(())
 }
 
@@ -376,9 +370,9 @@ fn what_a_script_is_run_to_is_accepted(rt: HostRuntime) -> Result<(), Fail> {
     let script = script(rt.alloc())?;
     let plain = run(rt.alloc(), &script)?;
     let reported = run_reported(rt.alloc(), &script)?;
-    assert_eq!(rt; check(&plain), Ok(5));
-    assert_eq!(rt; plain_check(&plain), Ok(5));
-    assert_eq!(rt; check(&reported), Ok(5));
+    assert!(rt; check(&plain) == Ok(5));
+    assert!(rt; plain_check(&plain) == Ok(5));
+    assert!(rt; check(&reported) == Ok(5));
     Ok(())
 }
 
@@ -396,6 +390,6 @@ fn a_long_record_is_checked_in_one_walk(rt: HostRuntime) -> Result<(), Fail> {
     let Some(record) = Record::of(limits(1000)?, 0, entries) else {
         return Err(Fail::from("record"));
     };
-    assert_eq!(rt; check(&record), Ok(64_000));
+    assert!(rt; check(&record) == Ok(64_000));
     Ok(())
 }

@@ -65,14 +65,14 @@ fn a_history_is_spelled_in_layout_two(rt: HostRuntime) -> Result<(), Fail> {
     let record = Record::of_reported(narrow()?, 0, entries, costs).ok_or("no record")?;
     let migrated = migrate(record).ok().ok_or("bad reply")?;
     let limits = migrated.limits();
-    assert_eq!(rt; limits.layout(), Layout::Two);
-    assert_eq!(rt; (limits.readers(), limits.versions()), (127, 1000));
-    assert_eq!(rt; migrated.width(), 0);
-    assert_eq!(rt; migrated.entries(), after.as_slice());
-    assert_eq!(rt; migrated.report(), [(2, 0), (2, 0), (3, 2)].as_slice());
+    assert!(rt; limits.layout() == Layout::Two);
+    assert!(rt; (limits.readers(), limits.versions()) == (127, 1000));
+    assert!(rt; migrated.width() == 0);
+    assert!(rt; migrated.entries() == after.as_slice());
+    assert!(rt; migrated.report() == [(2, 0), (2, 0), (3, 2)].as_slice());
     let again = migrate(migrated).ok().ok_or("bad reply")?;
-    assert_eq!(rt; again.entries(), after.as_slice());
-    assert_eq!(rt; again.limits().versions(), 1000);
+    assert!(rt; again.entries() == after.as_slice());
+    assert!(rt; again.limits().versions() == 1000);
     Ok(())
 }
 
@@ -93,9 +93,8 @@ fn stamps_keep_kind_version_and_place(rt: HostRuntime) -> Result<(), Fail> {
     ] {
         let before = alone(Call::ToRead(narrow), Reply::Stamp(narrow));
         let after = alone(Call::ToRead(wide), Reply::Stamp(wide));
-        assert_eq!(rt;
-            migrated_alone(rt.alloc(), before)?,
-            Some(after),
+        assert!(rt;
+            migrated_alone(rt.alloc(), before)? == Some(after),
             "{narrow}"
         );
     }
@@ -115,7 +114,7 @@ fn a_number_that_is_no_stamp_of_layout_two_is_called_as_zero(rt: HostRuntime) ->
             (Call::ToOptimistic(number), Call::ToOptimistic(0)),
         ] {
             let migrated = migrated_alone(rt.alloc(), alone(before, Reply::Mismatch))?;
-            assert_eq!(rt; migrated, Some(alone(after, Reply::Mismatch)), "{number}");
+            assert!(rt; migrated == Some(alone(after, Reply::Mismatch)), "{number}");
         }
     }
     Ok(())
@@ -133,8 +132,8 @@ fn other_calls_and_replies_stay(rt: HostRuntime) -> Result<(), Fail> {
     ];
     let record = Record::of(narrow()?, 1, entries.to_vec(rt.alloc())?).ok_or("no record")?;
     let migrated = migrate(record).ok().ok_or("bad reply")?;
-    assert_eq!(rt; migrated.entries(), entries.as_slice());
-    assert_eq!(rt; migrated.width(), 1);
+    assert!(rt; migrated.entries() == entries.as_slice());
+    assert!(rt; migrated.width() == 1);
     Ok(())
 }
 
@@ -147,10 +146,10 @@ fn a_bad_reply_hands_the_record_back(rt: HostRuntime) -> Result<(), Fail> {
             alone(Call::TryWrite, Reply::Stamp(128)),
         ];
         let bad = refusal(rt.alloc(), &entries)?;
-        assert_eq!(rt; bad.entry, 1, "{number}");
-        assert_eq!(rt; bad.unchanged.entries(), entries.as_slice(), "{number}");
+        assert!(rt; bad.entry == 1, "{number}");
+        assert!(rt; bad.unchanged.entries() == entries.as_slice(), "{number}");
         let limits = bad.unchanged.limits();
-        assert_eq!(rt; (limits.layout(), limits.versions()), (Layout::One, 1000));
+        assert!(rt; (limits.layout(), limits.versions()) == (Layout::One, 1000));
     }
     Ok(())
 }
@@ -169,7 +168,7 @@ fn versions_are_those_that_layout_two_has(rt: HostRuntime) -> Result<(), Fail> {
             .ok()
             .ok_or("bad reply")?;
         let limits = migrated.limits();
-        assert_eq!(rt; (limits.readers(), limits.versions()), (readers, after));
+        assert!(rt; (limits.readers(), limits.versions()) == (readers, after));
     }
     Ok(())
 }
@@ -186,10 +185,7 @@ fn a_record_of_layout_two_comes_back(rt: HostRuntime) -> Result<(), Fail> {
     let migrated = migrate(recorded(rt.alloc(), limits, &entries)?)
         .ok()
         .ok_or("bad reply")?;
-    assert_eq!(rt; migrated.entries(), entries.as_slice());
-    assert_eq!(rt;
-        (migrated.limits().readers(), migrated.limits().versions()),
-        (65_535, 5)
-    );
+    assert!(rt; migrated.entries() == entries.as_slice());
+    assert!(rt; (migrated.limits().readers(), migrated.limits().versions()) == (65_535, 5));
     Ok(())
 }

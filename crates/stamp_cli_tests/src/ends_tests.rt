@@ -56,13 +56,13 @@ fn a_read_of_a_source_is_one_read_of_its_reader(rt: HostRuntime) {
         turns: &turns,
         calls: &calls,
     });
-    assert_eq!(rt; calls.get(), 0);
+    assert!(rt; calls.get() == 0);
     for (index, turn) in turns.iter().enumerate() {
         let mut buffer = [b' '; 8];
         let result = source.read(&mut buffer);
-        assert_eq!(rt; calls.get(), index + 1);
+        assert!(rt; calls.get() == index + 1);
         match (turn, result) {
-            (Turn::Gives(bytes), Ok(count)) => assert_eq!(rt; buffer.get(..count), Some(*bytes)),
+            (Turn::Gives(bytes), Ok(count)) => assert!(rt; buffer.get(..count) == Some(*bytes)),
             (Turn::Fails, Err(error)) => {
                 assert!(rt; error.kind() == io::ErrorKind::Interrupted);
             }
@@ -124,13 +124,13 @@ fn a_write_of_a_sink_is_one_write_of_its_writer(rt: HostRuntime) {
         calls: &calls,
         handed: &handed,
     });
-    assert_eq!(rt; calls.get(), 0);
+    assert!(rt; calls.get() == 0);
     for (index, room) in rooms.iter().enumerate() {
         let result = sink.write(b"abcdefgh");
-        assert_eq!(rt; calls.get(), index + 1);
-        assert_eq!(rt; handed.get(), 8);
+        assert!(rt; calls.get() == index + 1);
+        assert!(rt; handed.get() == 8);
         match (room, result) {
-            (Room::Takes(most), Ok(count)) => assert_eq!(rt; count, *most),
+            (Room::Takes(most), Ok(count)) => assert!(rt; count == *most),
             (Room::Full, Err(error)) => {
                 assert!(rt; error.kind() == io::ErrorKind::Interrupted);
             }
@@ -138,7 +138,7 @@ fn a_write_of_a_sink_is_one_write_of_its_writer(rt: HostRuntime) {
         }
     }
     let basin = sink.into_inner();
-    assert_eq!(rt; basin.calls.get(), 10);
+    assert!(rt; basin.calls.get() == 10);
 }
 
 #[test]
@@ -169,9 +169,9 @@ fn a_source_is_served_again(rt: HostRuntime) {
     for (order, want, line, reads) in table {
         let mut sink = WriteSink::new(Narrow::new(64, Full::Fails));
         let result = serve(rt.alloc(), order, &mut source, &mut sink);
-        assert_eq!(rt; result, want, "{reads}");
+        assert!(rt; result == want, "{reads}");
         assert!(rt; sink.into_inner().is_taken(line), "{reads}");
-        assert_eq!(rt; calls.get(), reads);
+        assert!(rt; calls.get() == reads);
     }
 }
 
@@ -201,8 +201,8 @@ fn a_sink_is_served_again(rt: HostRuntime) {
     for (want, writes, last) in table {
         let mut source = ReadSource::new(INPUT);
         let result = serve(rt.alloc(), Order::Replay, &mut source, &mut sink);
-        assert_eq!(rt; result, want, "{writes}");
-        assert_eq!(rt; calls.get(), writes);
-        assert_eq!(rt; handed.get(), last);
+        assert!(rt; result == want, "{writes}");
+        assert!(rt; calls.get() == writes);
+        assert!(rt; handed.get() == last);
     }
 }

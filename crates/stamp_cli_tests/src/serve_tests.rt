@@ -182,7 +182,7 @@ fn calls_are_answered_from_the_opening(rt: HostRuntime) -> Result<(), Fail> {
     ];
     for (calls, want) in table {
         let line = replayed(rt.alloc(), calls, PLAIN)?;
-        assert_eq!(rt; line.trim_end(), want, "{calls}");
+        assert!(rt; line.trim_end() == want, "{calls}");
     }
     Ok(())
 }
@@ -205,7 +205,7 @@ fn stamps_are_converted_in_one_step(rt: HostRuntime) -> Result<(), Fail> {
     ];
     for (calls, want) in table {
         let line = replayed(rt.alloc(), calls, PLAIN)?;
-        assert_eq!(rt; line.trim_end(), want, "{calls}");
+        assert!(rt; line.trim_end() == want, "{calls}");
     }
     Ok(())
 }
@@ -236,7 +236,7 @@ fn stamps_that_do_not_match_change_nothing(rt: HostRuntime) -> Result<(), Fail> 
     ];
     for (calls, want) in table {
         let line = replayed(rt.alloc(), calls, PLAIN)?;
-        assert_eq!(rt; line.trim_end(), want, "{calls}");
+        assert!(rt; line.trim_end() == want, "{calls}");
     }
     Ok(())
 }
@@ -272,7 +272,7 @@ fn limits_end_the_versions_and_the_readers(rt: HostRuntime) -> Result<(), Fail> 
     ];
     for (calls, keys, want) in table {
         let line = replayed(rt.alloc(), calls, keys)?;
-        assert_eq!(rt; line.trim_end(), want, "{calls}");
+        assert!(rt; line.trim_end() == want, "{calls}");
     }
     Ok(())
 }
@@ -298,7 +298,7 @@ fn a_call_that_waits_is_named(rt: HostRuntime) -> Result<(), Fail> {
     ];
     for (calls, keys, want) in table {
         let line = replayed(rt.alloc(), calls, keys)?;
-        assert_eq!(rt; line.as_str(), want, "{calls}");
+        assert!(rt; line.as_str() == want, "{calls}");
     }
     Ok(())
 }
@@ -331,7 +331,7 @@ fn readers_end_at_the_most(rt: HostRuntime) -> Result<(), Fail> {
     let calls = repeated(rt.alloc(), r#"["try_read"],"#, 65_535, r#"["try_read"]"#)?;
     let keys = r#""layout":2,"readers":65535,"versions":1000"#;
     let line = replayed(rt.alloc(), &calls, keys)?;
-    assert_eq!(rt; line.split(',').nth(127), Some("131200"));
+    assert!(rt; line.split(',').nth(127) == Some("131200"));
     assert!(rt; line.trim_end().ends_with(r#",196607,0],"word":196607}"#));
     Ok(())
 }
@@ -342,7 +342,7 @@ fn layout_two_has_wider_numbers(rt: HostRuntime) -> Result<(), Fail> {
         r#"["optimistic"],["try_write"],["optimistic"],["validate",131072],["unlock_write",196608],["validate",196608],["try_write"],["validate",196608]"#;
     let line = replayed(rt.alloc(), calls, WIDE)?;
     let want = r#"{"replies":[131072,196608,0,"no","done","yes",327680,"no"],"word":327680}"#;
-    assert_eq!(rt; line.trim_end(), want);
+    assert!(rt; line.trim_end() == want);
     Ok(())
 }
 
@@ -383,7 +383,7 @@ fn the_first_fault_of_a_replay_is_named(rt: HostRuntime) -> Result<(), Fail> {
     ];
     for (input, want) in table {
         let line = answered(rt.alloc(), Order::Replay, input.as_bytes())?;
-        assert_eq!(rt; line.as_str(), want, "{input}");
+        assert!(rt; line.as_str() == want, "{input}");
     }
     Ok(())
 }
@@ -393,7 +393,7 @@ fn a_stamp_of_a_replay_is_a_whole_number(rt: HostRuntime) -> Result<(), Fail> {
     for stamp in ["-1", "1.0", "18446744073709551616", "[0,0]", "\"384\""] {
         let calls = format!(in rt.alloc(); "[\"unlock\",{stamp}]")?;
         let line = replayed(rt.alloc(), &calls, PLAIN)?;
-        assert_eq!(rt; line.as_str(), "stamped: not a script: call 0", "{stamp}");
+        assert!(rt; line.as_str() == "stamped: not a script: call 0", "{stamp}");
     }
     Ok(())
 }
@@ -402,7 +402,7 @@ fn a_stamp_of_a_replay_is_a_whole_number(rt: HostRuntime) -> Result<(), Fail> {
 fn more_calls_than_the_most_are_over_the_limit(rt: HostRuntime) -> Result<(), Fail> {
     let calls = repeated(rt.alloc(), "0,", 640_000, "0")?;
     let line = replayed(rt.alloc(), &calls, PLAIN)?;
-    assert_eq!(rt; line.as_str(), "stamped: over a limit: calls");
+    assert!(rt; line.as_str() == "stamped: over a limit: calls");
     Ok(())
 }
 
@@ -416,7 +416,7 @@ fn lists_nest_no_deeper_than_the_most(rt: HostRuntime) -> Result<(), Fail> {
         let ends = repeated(rt.alloc(), "]", depth, "")?;
         let input = repeated(rt.alloc(), "[", depth, &ends)?;
         let line = answered(rt.alloc(), Order::Replay, input.as_bytes())?;
-        assert_eq!(rt; line.as_str(), want, "{depth}");
+        assert!(rt; line.as_str() == want, "{depth}");
     }
     Ok(())
 }
@@ -430,7 +430,7 @@ fn an_input_has_a_most_of_bytes(rt: HostRuntime) -> Result<(), Fail> {
     ];
     for (left, want) in table {
         let line = answered(rt.alloc(), Order::Replay, Spaces { left })?;
-        assert_eq!(rt; line.as_str(), want, "{left}");
+        assert!(rt; line.as_str() == want, "{left}");
     }
     Ok(())
 }
@@ -452,9 +452,9 @@ fn a_number_is_told_as_a_stamp(rt: HostRuntime) -> Result<(), Fail> {
     ];
     for (stamp, want) in table {
         let line = answered(rt.alloc(), Order::Stamp(stamp), INPUT)?;
-        assert_eq!(rt; line.as_str(), want, "{stamp}");
+        assert!(rt; line.as_str() == want, "{stamp}");
         let line = answered(rt.alloc(), Order::StampIn(Layout::One, stamp), INPUT)?;
-        assert_eq!(rt; line.as_str(), want, "{stamp}");
+        assert!(rt; line.as_str() == want, "{stamp}");
     }
     Ok(())
 }
@@ -471,7 +471,7 @@ fn a_number_is_told_as_a_stamp_of_layout_two(rt: HostRuntime) -> Result<(), Fail
     ];
     for (stamp, want) in table {
         let line = answered(rt.alloc(), Order::StampIn(Layout::Two, stamp), INPUT)?;
-        assert_eq!(rt; line.as_str(), want, "{stamp}");
+        assert!(rt; line.as_str() == want, "{stamp}");
     }
     Ok(())
 }
@@ -486,7 +486,7 @@ fn a_stamp_makes_no_read(rt: HostRuntime) -> Result<(), Fail> {
             reads: 0,
         },
     )?;
-    assert_eq!(rt; line.as_str(), "write 1\n");
+    assert!(rt; line.as_str() == "write 1\n");
     Ok(())
 }
 
@@ -504,25 +504,25 @@ fn served(alloc: Global, reads: usize, narrow: Narrow) -> (Result<Verdict, Serve
 fn a_read_that_fails_leaves_nothing_written(rt: HostRuntime) {
     for reads in 0..=INPUT.len() {
         let (result, sink) = served(rt.alloc(), reads, Narrow::new(64, Full::Fails));
-        assert_eq!(rt; result, Err(ServeFault::ReadFault), "{reads}");
+        assert!(rt; result == Err(ServeFault::ReadFault), "{reads}");
         assert!(rt; sink.is_taken(b""), "{reads}");
     }
     let (result, sink) = served(rt.alloc(), INPUT.len() + 1, Narrow::new(64, Full::Fails));
-    assert_eq!(rt; result, Ok(Verdict::Accepted));
+    assert!(rt; result == Ok(Verdict::Accepted));
     assert!(rt; sink.is_taken(LINE));
 }
 
 #[test]
 fn a_write_that_fails_leaves_a_front_of_the_line(rt: HostRuntime) {
-    assert_eq!(rt; LINE.len(), 35);
+    assert!(rt; LINE.len() == 35);
     for full in [Full::Fails, Full::TakesNone] {
         for most in 0..35 {
             let (result, sink) = served(rt.alloc(), 1000, Narrow::new(most, full));
-            assert_eq!(rt; result, Err(ServeFault::WriteFault), "{most}");
+            assert!(rt; result == Err(ServeFault::WriteFault), "{most}");
             assert!(rt; sink.is_taken(&LINE[..most]), "{most}");
         }
         let (result, sink) = served(rt.alloc(), 1000, Narrow::new(35, full));
-        assert_eq!(rt; result, Ok(Verdict::Accepted));
+        assert!(rt; result == Ok(Verdict::Accepted));
         assert!(rt; sink.is_taken(LINE));
     }
 }
@@ -577,7 +577,7 @@ fn words_are_an_order_in_these_forms_alone(rt: HostRuntime) {
         (&["check", "--report"], Err(CommandFault::Bad)),
     ];
     for (words, want) in table {
-        assert_eq!(rt; order_of(words), want, "{words:?}");
+        assert!(rt; order_of(words) == want, "{words:?}");
     }
 }
 
@@ -606,7 +606,7 @@ fn a_fault_has_its_line(rt: HostRuntime) -> Result<(), Fail> {
         ),
     ];
     for (fault, want) in table {
-        assert_eq!(rt; fault_line(rt.alloc(), &fault)?.as_str(), want);
+        assert!(rt; fault_line(rt.alloc(), &fault)?.as_str() == want);
     }
     Ok(())
 }
@@ -624,7 +624,7 @@ fn a_refused_script_has_its_line(rt: HostRuntime) -> Result<(), Fail> {
         let fault = ServeFault::Refused(ReadError::BadScript(error));
         let line = fault_line(rt.alloc(), &fault)?;
         let text = line.strip_prefix("stamped: script refused: ");
-        assert_eq!(rt; text, Some(want));
+        assert!(rt; text == Some(want));
     }
     Ok(())
 }

@@ -31,12 +31,12 @@ fn limits_are_refused_exactly_outside_the_ranges(rt: HostRuntime) {
             Ok(limits) => {
                 assert!(rt; is_taken, "{readers} {versions}");
                 let held = (limits.layout(), limits.readers(), limits.versions());
-                assert_eq!(rt; held, (layout, readers, versions));
+                assert!(rt; held == (layout, readers, versions));
             }
             Err(CoreError::LimitsOutOfRange) => assert!(rt; !is_taken, "{readers} {versions}"),
         }
     }
-    assert_eq!(rt; Limits::widest(Layout::Two).readers(), 65_535);
+    assert!(rt; Limits::widest(Layout::Two).readers() == 65_535);
 }
 
 #[test]
@@ -46,14 +46,14 @@ fn a_layout_has_its_numbers(rt: HostRuntime) {
         (Layout::Two, 65_535, 70_368_744_177_662, 196_608, 262_144),
     ];
     for (layout, readers, versions, stamp, released) in table {
-        assert_eq!(rt; layout.most_readers(), readers);
-        assert_eq!(rt; layout.most_versions(), versions);
+        assert!(rt; layout.most_readers() == readers);
+        assert!(rt; layout.most_versions() == versions);
         assert!(rt; stamp < 1_000_000);
-        assert_eq!(rt; layout.released(stamp), released);
-        assert_eq!(rt; layout.writer_unit(), released - stamp);
+        assert!(rt; layout.released(stamp) == released);
+        assert!(rt; layout.writer_unit() == released - stamp);
         assert!(rt; layout.has_writer(stamp) && !layout.has_writer(released));
         let widest = Limits::widest(layout);
-        assert_eq!(rt; (widest.readers(), widest.versions()), (readers, versions));
+        assert!(rt; (widest.readers(), widest.versions()) == (readers, versions));
     }
 }
 
@@ -61,11 +61,11 @@ fn a_layout_has_its_numbers(rt: HostRuntime) {
 #[tactic(auto, unfolding(stamp_core::specs::Layout::units_of))]
 fn a_number_has_its_writes(rt: HostRuntime) {
     let new = (Layout::One.writes_of(256), Layout::Two.writes_of(131_072));
-    assert_eq!(rt; new, (0, 0));
+    assert!(rt; new == (0, 0));
     let held = (Layout::One.writes_of(384), Layout::Two.writes_of(196_608));
-    assert_eq!(rt; held, (1, 1));
+    assert!(rt; held == (1, 1));
     let released = (Layout::One.writes_of(512), Layout::Two.writes_of(262_144));
-    assert_eq!(rt; released, (1, 1));
+    assert!(rt; released == (1, 1));
 }
 
 /// The number of the word that limits make of an admitted word's number.
@@ -80,8 +80,8 @@ fn made_again(limits: Limits, word: Word) -> Option<u64> {
 #[test]
 fn limits_make_a_word_of_an_admitted_number(rt: HostRuntime) -> Result<(), Fail> {
     let limits = limits(127, 1000)?;
-    assert_eq!(rt; made_again(limits, Word::opening()), Some(256));
-    assert_eq!(rt; made_again(limits, Word::opening_in(Layout::Two)), None);
+    assert!(rt; made_again(limits, Word::opening()) == Some(256));
+    assert!(rt; made_again(limits, Word::opening_in(Layout::Two)) == None);
     Ok(())
 }
 
@@ -98,16 +98,15 @@ fn a_word_shows_its_version_and_holders(rt: HostRuntime) -> Result<(), Fail> {
     ];
     for (layout, bits, writes, readers, is_writing) in table {
         let word = Word::from_bits_in(layout, bits).ok_or("no word")?;
-        assert_eq!(rt; (word.layout(), word.bits()), (layout, bits));
-        assert_eq!(rt;
-            (word.writes(), word.readers()),
-            (writes, readers),
+        assert!(rt; (word.layout(), word.bits()) == (layout, bits));
+        assert!(rt;
+            (word.writes(), word.readers()) == (writes, readers),
             "{bits}"
         );
-        assert_eq!(rt; word.is_writing(), is_writing, "{bits}");
+        assert!(rt; word.is_writing() == is_writing, "{bits}");
     }
-    assert_eq!(rt; Word::opening().bits(), 256);
-    assert_eq!(rt; Word::opening_in(Layout::Two).bits(), 131_072);
+    assert!(rt; Word::opening().bits() == 256);
+    assert!(rt; Word::opening_in(Layout::Two).bits() == 131_072);
     Ok(())
 }
 
@@ -131,10 +130,9 @@ fn limits_admit_words_of_their_layout_within_them(rt: HostRuntime) -> Result<(),
         (640, false),
     ] {
         let word = Word::from_bits(bits).ok_or("no word")?;
-        assert_eq!(rt; narrow.admits(word), is_admitted, "{bits}");
-        assert_eq!(rt;
-            narrow.word_from_bits(bits),
-            is_admitted.then_some(word),
+        assert!(rt; narrow.admits(word) == is_admitted, "{bits}");
+        assert!(rt;
+            narrow.word_from_bits(bits) == is_admitted.then_some(word),
             "{bits}"
         );
     }
@@ -160,11 +158,11 @@ fn decided(limits: Limits, bits: u64, call: Call) -> Result<Option<(u64, Reply)>
 fn a_decision_answers_changes_or_waits(rt: HostRuntime) -> Result<(), Fail> {
     let limits = limits(127, 1000)?;
     let taken = decided(limits, 256, Call::TryWrite)?;
-    assert_eq!(rt; taken, Some((384, Reply::Stamp(384))));
+    assert!(rt; taken == Some((384, Reply::Stamp(384))));
     let valid = decided(limits, 256, Call::Validate(256))?;
-    assert_eq!(rt; valid, Some((256, Reply::Yes)));
+    assert!(rt; valid == Some((256, Reply::Yes)));
     let waits = decided(limits, 257, Call::WriteLock)?;
-    assert_eq!(rt; waits, None);
+    assert!(rt; waits == None);
     Ok(())
 }
 
@@ -176,10 +174,10 @@ fn the_lock_decides_alike_without_room_for_words(rt: HostRuntime) -> Result<(), 
     for call in [Call::TryRead, Call::Validate(256), Call::ReadCount] {
         assert!(rt; call.is_lock_call());
         let decision = decide_lock(limits, opening, &call);
-        assert_eq!(rt; decision.as_decision(), decide(limits, opening, call));
+        assert!(rt; decision.as_decision() == decide(limits, opening, call));
     }
-    assert_eq!(rt; LockReply::Count(3).as_reply(), Reply::Count(3));
-    assert_eq!(rt; LockDecision::Wait.as_decision(), Decision::Wait);
+    assert!(rt; LockReply::Count(3).as_reply() == Reply::Count(3));
+    assert!(rt; LockDecision::Wait.as_decision() == Decision::Wait);
     Ok(())
 }
 
@@ -189,8 +187,8 @@ fn a_step_gives_the_next_word_and_the_reply(rt: HostRuntime) -> Result<(), Fail>
     let opening = Word::opening();
     assert!(rt; limits.admits(opening));
     let (held, reply) = step(limits, opening, Call::WriteLock).ok_or("it waits")?;
-    assert_eq!(rt; held.bits(), 384);
-    assert_eq!(rt; reply, Reply::Stamp(384));
+    assert!(rt; held.bits() == 384);
+    assert!(rt; reply == Reply::Stamp(384));
     Ok(())
 }
 
@@ -208,8 +206,8 @@ fn the_widest_limits_end_where_the_numbers_do(rt: HostRuntime) -> Result<(), Fai
         let word = Word::from_bits(bits).ok_or("no word")?;
         assert!(rt; widest.admits(word));
         let (next, reply) = step(widest, word, call).ok_or("it waits")?;
-        assert_eq!(rt; next.bits(), after);
-        assert_eq!(rt; reply, Reply::Stamp(stamp));
+        assert!(rt; next.bits() == after);
+        assert!(rt; reply == Reply::Stamp(stamp));
     }
     Ok(())
 }
@@ -231,8 +229,8 @@ fn calls_are_replayed_from_the_opening_word(rt: HostRuntime) -> Result<(), Fail>
         Reply::Yes,
         Reply::Mismatch,
     ];
-    assert_eq!(rt; done.replies.as_slice(), replies.as_slice());
-    assert_eq!(rt; done.word.bits(), 256);
+    assert!(rt; done.replies.as_slice() == replies.as_slice());
+    assert!(rt; done.word.bits() == 256);
     Ok(())
 }
 
@@ -240,11 +238,11 @@ fn calls_are_replayed_from_the_opening_word(rt: HostRuntime) -> Result<(), Fail>
 fn a_replay_stops_at_the_first_call_that_waits(rt: HostRuntime) -> Result<(), Fail> {
     let calls = [Call::TryRead, Call::WriteLock, Call::WriteLock];
     let refused = replay(rt.alloc(), limits(127, 1000)?, &calls).err();
-    assert_eq!(rt; refused, Some(ReplayError::Waits(1)));
+    assert!(rt; refused == Some(ReplayError::Waits(1)));
     let spent = replay(rt.alloc(), limits(127, 0)?, &calls)
         .ok()
         .ok_or("refused")?;
-    assert_eq!(rt; spent.word.bits(), 257);
+    assert!(rt; spent.word.bits() == 257);
     Ok(())
 }
 
@@ -280,20 +278,18 @@ fn stamps_are_told_by_their_spelling(rt: HostRuntime) {
         ),
     ];
     for (layout, stamp, kind) in table {
-        assert_eq!(rt; stamp_kind_in(layout, stamp), kind, "{stamp}");
+        assert!(rt; stamp_kind_in(layout, stamp) == kind, "{stamp}");
         let is_write = matches!(kind, StampKind::Write(_));
         let is_read = matches!(kind, StampKind::Read(_, _));
         let is_optimistic = matches!(kind, StampKind::Optimistic(_));
-        assert_eq!(rt; is_write_stamp_in(layout, stamp), is_write, "{stamp}");
-        assert_eq!(rt; is_read_stamp_in(layout, stamp), is_read, "{stamp}");
-        assert_eq!(rt;
-            is_lock_stamp_in(layout, stamp),
-            is_write || is_read,
+        assert!(rt; is_write_stamp_in(layout, stamp) == is_write, "{stamp}");
+        assert!(rt; is_read_stamp_in(layout, stamp) == is_read, "{stamp}");
+        assert!(rt;
+            is_lock_stamp_in(layout, stamp) == (is_write || is_read),
             "{stamp}"
         );
-        assert_eq!(rt;
-            is_optimistic_stamp_in(layout, stamp),
-            is_optimistic,
+        assert!(rt;
+            is_optimistic_stamp_in(layout, stamp) == is_optimistic,
             "{stamp}"
         );
     }
@@ -302,17 +298,11 @@ fn stamps_are_told_by_their_spelling(rt: HostRuntime) {
 #[test]
 fn the_plain_stamp_tests_are_those_of_layout_one(rt: HostRuntime) {
     for stamp in [0, 128, 256, 257, 384, 196_608] {
-        assert_eq!(rt; stamp_kind(stamp), stamp_kind_in(Layout::One, stamp));
-        assert_eq!(rt;
-            is_write_stamp(stamp),
-            is_write_stamp_in(Layout::One, stamp)
-        );
-        assert_eq!(rt; is_read_stamp(stamp), is_read_stamp_in(Layout::One, stamp));
-        assert_eq!(rt; is_lock_stamp(stamp), is_lock_stamp_in(Layout::One, stamp));
-        assert_eq!(rt;
-            is_optimistic_stamp(stamp),
-            is_optimistic_stamp_in(Layout::One, stamp)
-        );
+        assert!(rt; stamp_kind(stamp) == stamp_kind_in(Layout::One, stamp));
+        assert!(rt; is_write_stamp(stamp) == is_write_stamp_in(Layout::One, stamp));
+        assert!(rt; is_read_stamp(stamp) == is_read_stamp_in(Layout::One, stamp));
+        assert!(rt; is_lock_stamp(stamp) == is_lock_stamp_in(Layout::One, stamp));
+        assert!(rt; is_optimistic_stamp(stamp) == is_optimistic_stamp_in(Layout::One, stamp));
     }
 }
 
@@ -333,7 +323,7 @@ fn stamps_are_respelled_in_layout_two(rt: HostRuntime) {
         (9_223_372_036_854_775_424, 0),
     ];
     for (stamp, respelled) in table {
-        assert_eq!(rt; respell(stamp), respelled, "{stamp}");
+        assert!(rt; respell(stamp) == respelled, "{stamp}");
     }
 }
 
@@ -343,9 +333,9 @@ fn words_are_one_to_sixteen(rt: HostRuntime) -> Result<(), Fail> {
     assert!(rt; Words::new(&[]).is_none());
     assert!(rt; Words::new(&[0; 17]).is_none());
     let words = Words::new(&sixteen).ok_or("sixteen words")?;
-    assert_eq!(rt; words.as_slice(), sixteen.as_slice());
+    assert!(rt; words.as_slice() == sixteen.as_slice());
     let two = Words::new(&[7, 9]).ok_or("two words")?;
-    assert_eq!(rt; (two.len(), two.as_slice()), (2, [7, 9].as_slice()));
+    assert!(rt; (two.len(), two.as_slice()) == (2, [7, 9].as_slice()));
     assert!(rt; two.is_same(&two) && !two.is_same(&Words::zeros(2)));
     assert!(rt; Words::zeros(2) != two);
     assert!(rt; Reply::Content(two).is_same(&Reply::Content(two)));
@@ -396,10 +386,10 @@ fn a_record_is_refused_exactly_where_an_entry_does_not_suit_it(
     for (width, entry, count, is_taken) in table {
         let entries = entries_of(rt.alloc(), entry, count)?;
         let made = Record::of(limits, width, entries);
-        assert_eq!(rt; made.is_some(), is_taken, "{width} {count}");
+        assert!(rt; made.is_some() == is_taken, "{width} {count}");
         if let Some(record) = made {
-            assert_eq!(rt; (record.width(), record.entries().len()), (width, count));
-            assert_eq!(rt; record.limits().versions(), 1000);
+            assert!(rt; (record.width(), record.entries().len()) == (width, count));
+            assert!(rt; record.limits().versions() == 1000);
             assert!(rt; record.report().is_empty());
         }
     }
@@ -413,10 +403,10 @@ fn a_report_has_a_pair_for_each_entry_or_none(rt: HostRuntime) -> Result<(), Fai
         let entries = entries_of(rt.alloc(), entry(0, Call::TryRead, Reply::Done), 2)?;
         let report = vec![in rt.alloc(); (2, 0); pairs]?;
         let made = Record::of_reported(limits, 0, entries, report);
-        assert_eq!(rt; made.is_some(), is_taken, "{pairs}");
+        assert!(rt; made.is_some() == is_taken, "{pairs}");
         if let Some(record) = made {
             let (_limits, width, entries, report) = record.into_parts();
-            assert_eq!(rt; (width, entries.len(), report.len()), (0, 2, pairs));
+            assert!(rt; (width, entries.len(), report.len()) == (0, 2, pairs));
         }
     }
     Ok(())
@@ -432,8 +422,8 @@ fn record_calls_are_told_from_lock_calls(rt: HostRuntime) {
         (Call::Put(one), false),
         (Call::PutIf(one, one), false),
     ] {
-        assert_eq!(rt; call.is_lock_call(), is_lock_call);
+        assert!(rt; call.is_lock_call() == is_lock_call);
         assert!(rt; call.suits(1));
-        assert_eq!(rt; call.suits(0), is_lock_call);
+        assert!(rt; call.suits(0) == is_lock_call);
     }
 }

@@ -76,26 +76,20 @@ fn first_write() -> Observation {
 
 #[test]
 fn calls_one_after_the_other_are_judged_by_their_replies(rt: HostRuntime) -> Result<(), Fail> {
-    assert_eq!(rt; fault(&rt, 0, &[], 1)?, None);
+    assert!(rt; fault(&rt, 0, &[], 1)? == None);
     let released = returned(0, Call::UnlockWrite(384), Reply::Done, (4, 5));
-    assert_eq!(rt; fault(&rt, 0, &[first_write(), released], 100)?, None);
+    assert!(rt; fault(&rt, 0, &[first_write(), released], 100)? == None);
     let mismatch = returned(0, Call::UnlockWrite(384), Reply::Mismatch, (4, 5));
-    assert_eq!(rt;
-        fault(&rt, 0, &[first_write(), mismatch], 100)?,
-        Some(ExplainError::Stuck(1))
-    );
+    assert!(rt; fault(&rt, 0, &[first_write(), mismatch], 100)? == Some(ExplainError::Stuck(1)));
     Ok(())
 }
 
 #[test]
 fn overlapping_calls_take_effect_in_any_order(rt: HostRuntime) -> Result<(), Fail> {
     let during = returned(1, Call::Optimistic, Reply::Stamp(256), (1, 2));
-    assert_eq!(rt; fault(&rt, 0, &[first_write(), during], 100)?, None);
+    assert!(rt; fault(&rt, 0, &[first_write(), during], 100)? == None);
     let after = returned(1, Call::Optimistic, Reply::Stamp(256), (4, 5));
-    assert_eq!(rt;
-        fault(&rt, 0, &[first_write(), after], 100)?,
-        Some(ExplainError::Stuck(1))
-    );
+    assert!(rt; fault(&rt, 0, &[first_write(), after], 100)? == Some(ExplainError::Stuck(1)));
     Ok(())
 }
 
@@ -103,12 +97,9 @@ fn overlapping_calls_take_effect_in_any_order(rt: HostRuntime) -> Result<(), Fai
 fn a_call_under_way_may_have_taken_effect(rt: HostRuntime) -> Result<(), Fail> {
     let failed = returned(1, Call::TryWrite, Reply::Stamp(0), (2, 3));
     let begun = under_way(0, Call::WriteLock, 1);
-    assert_eq!(rt; fault(&rt, 0, &[begun, failed], 100)?, None);
+    assert!(rt; fault(&rt, 0, &[begun, failed], 100)? == None);
     let later = under_way(0, Call::WriteLock, 4);
-    assert_eq!(rt;
-        fault(&rt, 0, &[later, failed], 100)?,
-        Some(ExplainError::Stuck(1))
-    );
+    assert!(rt; fault(&rt, 0, &[later, failed], 100)? == Some(ExplainError::Stuck(1)));
     Ok(())
 }
 
@@ -116,12 +107,9 @@ fn a_call_under_way_may_have_taken_effect(rt: HostRuntime) -> Result<(), Fail> {
 fn one_hold_is_converted_once(rt: HostRuntime) -> Result<(), Fail> {
     let one = returned(1, Call::ToRead(384), Reply::Stamp(513), (6, 8));
     let other = returned(2, Call::ToRead(384), Reply::Stamp(513), (7, 9));
-    assert_eq!(rt;
-        fault(&rt, 0, &[first_write(), one, other], 100)?,
-        Some(ExplainError::Stuck(2))
-    );
+    assert!(rt; fault(&rt, 0, &[first_write(), one, other], 100)? == Some(ExplainError::Stuck(2)));
     let refused = returned(2, Call::ToRead(384), Reply::Stamp(0), (7, 9));
-    assert_eq!(rt; fault(&rt, 0, &[first_write(), one, refused], 100)?, None);
+    assert!(rt; fault(&rt, 0, &[first_write(), one, refused], 100)? == None);
     Ok(())
 }
 
@@ -130,14 +118,11 @@ fn a_get_after_a_get_reads_nothing_older(rt: HostRuntime) -> Result<(), Fail> {
     let put = returned(0, Call::Put(words(7)?), Reply::Done, (0, 5));
     let new = returned(1, Call::Get, Reply::Content(words(7)?), (1, 2));
     let again = returned(2, Call::Get, Reply::Content(words(7)?), (3, 4));
-    assert_eq!(rt; fault(&rt, 1, &[put, new, again], 100)?, None);
+    assert!(rt; fault(&rt, 1, &[put, new, again], 100)? == None);
     let old = returned(2, Call::Get, Reply::Content(words(0)?), (3, 4));
-    assert_eq!(rt;
-        fault(&rt, 1, &[put, new, old], 100)?,
-        Some(ExplainError::Stuck(2))
-    );
+    assert!(rt; fault(&rt, 1, &[put, new, old], 100)? == Some(ExplainError::Stuck(2)));
     let swapped = returned(2, Call::PutIf(words(7)?, words(8)?), Reply::Yes, (3, 4));
-    assert_eq!(rt; fault(&rt, 1, &[put, new, swapped], 100)?, None);
+    assert!(rt; fault(&rt, 1, &[put, new, swapped], 100)? == None);
     Ok(())
 }
 
@@ -147,10 +132,7 @@ fn a_reply_that_comes_later_is_not_known_before(rt: HostRuntime) -> Result<(), F
     let table = [(10, 0), (5, 1), (4, 1)];
     for (last, stuck) in table {
         let refused = returned(0, Call::TryWrite, Reply::Stamp(0), (0, last));
-        assert_eq!(rt;
-            fault(&rt, 0, &[refused, failed], 100)?,
-            Some(ExplainError::Stuck(stuck))
-        );
+        assert!(rt; fault(&rt, 0, &[refused, failed], 100)? == Some(ExplainError::Stuck(stuck)));
     }
     Ok(())
 }
@@ -158,15 +140,9 @@ fn a_reply_that_comes_later_is_not_known_before(rt: HostRuntime) -> Result<(), F
 #[test]
 fn a_search_that_has_not_ended_is_undecided(rt: HostRuntime) -> Result<(), Fail> {
     let history = [first_write()];
-    assert_eq!(rt;
-        fault(&rt, 0, &history, 0)?,
-        Some(ExplainError::Undecided(0))
-    );
-    assert_eq!(rt;
-        fault(&rt, 0, &history, 2)?,
-        Some(ExplainError::Undecided(0))
-    );
-    assert_eq!(rt; fault(&rt, 0, &history, 3)?, None);
+    assert!(rt; fault(&rt, 0, &history, 0)? == Some(ExplainError::Undecided(0)));
+    assert!(rt; fault(&rt, 0, &history, 2)? == Some(ExplainError::Undecided(0)));
+    assert!(rt; fault(&rt, 0, &history, 3)? == None);
     Ok(())
 }
 
@@ -177,10 +153,7 @@ fn calls_of_a_thread_do_not_overlap(rt: HostRuntime) -> Result<(), Fail> {
     let far = returned(64, Call::ReadCount, Reply::Count(0), (4, 5));
     let of_the_record = returned(1, Call::Get, Reply::Content(words(0)?), (4, 5));
     for entry in [over, overlapping, far, of_the_record] {
-        assert_eq!(rt;
-            is_observed(&observed(&rt, 0, &[first_write(), entry])?),
-            false
-        );
+        assert!(rt; is_observed(&observed(&rt, 0, &[first_write(), entry])?) == false);
     }
     Ok(())
 }
@@ -221,14 +194,13 @@ fn entry(thread: u64, call: Call, reply: Reply, moments: (u64, u64, u64)) -> Ent
 fn calls_of_one_position_have_points_one_after_the_other(rt: HostRuntime) -> Result<(), Fail> {
     let during = returned(1, Call::Optimistic, Reply::Stamp(256), (1, 2));
     let entries = explained(&rt, 0, &[first_write(), during])?;
-    assert_eq!(rt; entries.len(), 2);
-    assert_eq!(rt;
-        entries.get(0).copied(),
-        Some(entry(1, Call::Optimistic, Reply::Stamp(256), (64, 64, 191)))
+    assert!(rt; entries.len() == 2);
+    assert!(rt;
+        entries.get(0).copied()
+            == Some(entry(1, Call::Optimistic, Reply::Stamp(256), (64, 64, 191)))
     );
-    assert_eq!(rt;
-        entries.get(1).copied(),
-        Some(entry(0, Call::TryWrite, Reply::Stamp(384), (0, 65, 255)))
+    assert!(rt;
+        entries.get(1).copied() == Some(entry(0, Call::TryWrite, Reply::Stamp(384), (0, 65, 255)))
     );
     Ok(())
 }
@@ -238,14 +210,12 @@ fn a_call_under_way_that_took_effect_ends_with_the_history(rt: HostRuntime) -> R
     let begun = under_way(0, Call::WriteLock, 1);
     let failed = returned(1, Call::TryWrite, Reply::Stamp(0), (2, 3));
     let entries = explained(&rt, 0, &[begun, failed])?;
-    assert_eq!(rt; entries.len(), 2);
-    assert_eq!(rt;
-        entries.get(0).copied(),
-        Some(entry(0, Call::WriteLock, Reply::Stamp(384), (64, 64, 255)))
+    assert!(rt; entries.len() == 2);
+    assert!(rt;
+        entries.get(0).copied() == Some(entry(0, Call::WriteLock, Reply::Stamp(384), (64, 64, 255)))
     );
-    assert_eq!(rt;
-        entries.get(1).copied(),
-        Some(entry(1, Call::TryWrite, Reply::Stamp(0), (128, 128, 255)))
+    assert!(rt;
+        entries.get(1).copied() == Some(entry(1, Call::TryWrite, Reply::Stamp(0), (128, 128, 255)))
     );
     Ok(())
 }
@@ -259,7 +229,7 @@ fn positions_are_below_2_to_the_58(rt: HostRuntime) -> Result<(), Fail> {
     ];
     for (first, last, fits) in table {
         let last_call = returned(0, Call::ReadCount, Reply::Count(0), (first, last));
-        assert_eq!(rt; made(&rt, 0, &[last_call])?.is_some(), fits);
+        assert!(rt; made(&rt, 0, &[last_call])?.is_some() == fits);
     }
     Ok(())
 }
@@ -288,10 +258,10 @@ fn a_read_after_a_write_acquisition_could_have_had_0_alone(rt: HostRuntime) -> R
     let Ok(found) = possible(&rt, &entries, &tried, 100)? else {
         return Err(Fail::from("undecided"));
     };
-    assert_eq!(rt; found.as_slice(), [Reply::Stamp(0)].as_slice());
+    assert!(rt; found.as_slice() == [Reply::Stamp(0)].as_slice());
     let Err(error) = possible(&rt, &entries, &tried, 1)? else {
         return Err(Fail::from("decided"));
     };
-    assert_eq!(rt; error, PossibleError::Undecided);
+    assert!(rt; error == PossibleError::Undecided);
     Ok(())
 }

@@ -13,7 +13,7 @@ fn fault_of(alloc: Global, text: &[u8]) -> Option<ReadError> {
 
 fn assert_refused(rt: &impl Abort, alloc: Global, texts: &[&str], fault: ReadError) {
     for text in texts {
-        assert_eq!(rt; fault_of(alloc, text.as_bytes()), Some(fault), "{text}");
+        assert!(rt; fault_of(alloc, text.as_bytes()) == Some(fault), "{text}");
     }
 }
 
@@ -120,15 +120,15 @@ fn an_entry_is_refused_by_its_position(rt: HostRuntime) -> Result<(), Fail> {
     for second in NO_ENTRIES {
         let text = with_second(rt.alloc(), 2, second)?;
         let wanted = Some(ReadError::NotHistory(Field::Entry(1)));
-        assert_eq!(rt; fault_of(rt.alloc(), text.as_bytes()), wanted, "{second}");
+        assert!(rt; fault_of(rt.alloc(), text.as_bytes()) == wanted, "{second}");
     }
     let high = r#"{"call":["get"],"first":0,"last":0,"point":0,"reply":0,"thread":64}"#;
     let text = with_second(rt.alloc(), 2, high)?;
     let wanted = Some(ReadError::Limit(Field::Entry(1)));
-    assert_eq!(rt; fault_of(rt.alloc(), text.as_bytes()), wanted);
+    assert!(rt; fault_of(rt.alloc(), text.as_bytes()) == wanted);
     let text = with_second(rt.alloc(), 0, high)?;
     let wanted = Some(ReadError::NotHistory(Field::Entry(0)));
-    assert_eq!(rt; fault_of(rt.alloc(), text.as_bytes()), wanted);
+    assert!(rt; fault_of(rt.alloc(), text.as_bytes()) == wanted);
     Ok(())
 }
 
@@ -151,7 +151,7 @@ fn the_entries_are_counted_before_they_are_looked_at(rt: HostRuntime) -> Result<
     ];
     for (count, fault) in table {
         let text = zeros(rt.alloc(), count)?;
-        assert_eq!(rt; fault_of(rt.alloc(), &text), Some(fault), "{count}");
+        assert!(rt; fault_of(rt.alloc(), &text) == Some(fault), "{count}");
     }
     Ok(())
 }
@@ -173,7 +173,7 @@ fn a_report_has_a_pair_for_each_entry(rt: HostRuntime) -> Result<(), Fail> {
             "{{\"entries\":[{entry}],\"format\":1,{limits},\"report\":{report}}}"
         )?;
         let wanted = Some(ReadError::NotHistory(Field::Report));
-        assert_eq!(rt; fault_of(rt.alloc(), text.as_bytes()), wanted, "{report}");
+        assert!(rt; fault_of(rt.alloc(), text.as_bytes()) == wanted, "{report}");
     }
     Ok(())
 }
@@ -183,8 +183,8 @@ fn format_two_may_have_layout_one_and_an_empty_report(rt: HostRuntime) -> Result
     let text = br#" {"width":3, "versions":2,"report":[],"readers":127,"layout":1,
         "format":2,"entries":[] } "#;
     let read = read_history(rt.alloc(), text)?;
-    assert_eq!(rt; read.limits(), Limits::in_layout(Layout::One, 127, 2)?);
-    assert_eq!(rt; read.width(), 3);
+    assert!(rt; read.limits() == Limits::in_layout(Layout::One, 127, 2)?);
+    assert!(rt; read.width() == 3);
     assert!(rt; read.entries().is_empty());
     assert!(rt; read.report().is_empty());
     Ok(())
@@ -229,10 +229,10 @@ fn each_entry(old: Words, new: Words) -> [Entry; 20] {
 
 fn assert_read_again(rt: &impl Abort, alloc: Global, made: &Record) -> Result<(), Fail> {
     let read = read_history(alloc, &write_history(alloc, made)?)?;
-    assert_eq!(rt; read.limits(), made.limits());
-    assert_eq!(rt; read.width(), made.width());
-    assert_eq!(rt; read.entries(), made.entries());
-    assert_eq!(rt; read.report(), made.report());
+    assert!(rt; read.limits() == made.limits());
+    assert!(rt; read.width() == made.width());
+    assert!(rt; read.entries() == made.entries());
+    assert!(rt; read.report() == made.report());
     Ok(())
 }
 

@@ -80,7 +80,7 @@ fn each_call_is_written_by_its_name(rt: HostRuntime) -> Result<(), Fail> {
         let made = record(rt.alloc(), Layout::One, 1, &entries, &[])?;
         let text = write_history(rt.alloc(), &made)?;
         let wanted = text_of(rt.alloc(), 1, &entry_text(rt.alloc(), list, "\"yes\"", 5)?)?;
-        assert_eq!(rt; text.as_slice(), wanted.as_bytes(), "{list}");
+        assert!(rt; text.as_slice() == wanted.as_bytes(), "{list}");
     }
     Ok(())
 }
@@ -100,9 +100,8 @@ fn each_reply_is_written_in_its_form(rt: HostRuntime) -> Result<(), Fail> {
         let made = record(rt.alloc(), Layout::One, 0, &entries, &[])?;
         let text = write_history(rt.alloc(), &made)?;
         let one = entry_text(rt.alloc(), r#"["optimistic"]"#, form, 0)?;
-        assert_eq!(rt;
-            text.as_slice(),
-            text_of(rt.alloc(), 0, &one)?.as_bytes(),
+        assert!(rt;
+            text.as_slice() == text_of(rt.alloc(), 0, &one)?.as_bytes(),
             "{form}"
         );
     }
@@ -134,7 +133,7 @@ fn a_call_of_the_record_is_written_with_its_words(rt: HostRuntime) -> Result<(),
         let made = record(rt.alloc(), Layout::One, 2, &[one], &[])?;
         let text = write_history(rt.alloc(), &made)?;
         let wanted = text_of(rt.alloc(), 2, &entry_text(rt.alloc(), call, reply, 9)?)?;
-        assert_eq!(rt; text.as_slice(), wanted.as_bytes(), "{call}");
+        assert!(rt; text.as_slice() == wanted.as_bytes(), "{call}");
     }
     Ok(())
 }
@@ -175,7 +174,7 @@ fn a_record_is_written_in_its_layout_and_with_its_report(rt: HostRuntime) -> Res
         let first = entry_text(rt.alloc(), r#"["read_count"]"#, r#"{"count":0}"#, 0)?;
         let second = entry_text(rt.alloc(), r#"["optimistic"]"#, "256", 1)?;
         let wanted = format!(in rt.alloc(); "{{\"entries\":[{first},{second}],{shape}")?;
-        assert_eq!(rt; text.as_slice(), wanted.as_bytes());
+        assert!(rt; text.as_slice() == wanted.as_bytes());
     }
     Ok(())
 }
@@ -185,6 +184,6 @@ fn a_record_of_nothing_has_no_report(rt: HostRuntime) -> Result<(), Fail> {
     let made = record(rt.alloc(), Layout::One, 16, &[], &[])?;
     let text = write_history(rt.alloc(), &made)?;
     let wanted = br#"{"entries":[],"format":1,"readers":2,"versions":3,"width":16}"#;
-    assert_eq!(rt; text.as_slice(), wanted.as_slice());
+    assert!(rt; text.as_slice() == wanted.as_slice());
     Ok(())
 }

@@ -13,7 +13,7 @@ fn fault_of(alloc: Global, text: &[u8]) -> Option<ReadError> {
 
 fn assert_refused(rt: &impl Abort, alloc: Global, texts: &[&str], fault: ReadError) {
     for text in texts {
-        assert_eq!(rt; fault_of(alloc, text.as_bytes()), Some(fault), "{text}");
+        assert!(rt; fault_of(alloc, text.as_bytes()) == Some(fault), "{text}");
     }
 }
 
@@ -55,7 +55,7 @@ fn limits_are_read_in_their_layout(rt: HostRuntime) -> Result<(), Fail> {
     for (text, wanted) in LIMITS {
         let (limits, calls) = read_replay(rt.alloc(), text.as_bytes())?;
         let read = (limits.layout(), limits.readers(), limits.versions());
-        assert_eq!(rt; read, wanted, "{text}");
+        assert!(rt; read == wanted, "{text}");
         assert!(rt; calls.is_empty(), "{text}");
     }
     Ok(())
@@ -89,7 +89,7 @@ fn each_call_of_the_lock_is_read_by_its_name(rt: HostRuntime) -> Result<(), Fail
         Call::IsReadLocked,
         Call::ReadCount,
     ];
-    assert_eq!(rt; calls.as_slice(), wanted.as_slice());
+    assert!(rt; calls.as_slice() == wanted.as_slice());
     Ok(())
 }
 
@@ -179,7 +179,10 @@ fn what_is_no_call_of_the_lock_is_refused(rt: HostRuntime) -> Result<(), Fail> {
     for call in table {
         let text = format!(in rt.alloc(); "{{\"calls\":[{call}],\"readers\":1,\"versions\":0}}")?;
         let fault = fault_of(rt.alloc(), text.as_bytes());
-        assert_eq!(rt; fault, Some(ReadError::NotScript(Field::Call(0))), "{call}");
+        assert!(rt;
+            fault == Some(ReadError::NotScript(Field::Call(0))),
+            "{call}"
+        );
     }
     Ok(())
 }
@@ -200,9 +203,8 @@ fn what_is_no_json_is_told_as_such(rt: HostRuntime) {
         b"{'calls':[]}",
     ];
     for text in table {
-        assert_eq!(rt;
-            fault_of(rt.alloc(), text),
-            Some(ReadError::NotJson),
+        assert!(rt;
+            fault_of(rt.alloc(), text) == Some(ReadError::NotJson),
             "{text:?}"
         );
     }
@@ -222,12 +224,9 @@ fn nested(alloc: Global, depth: usize) -> Result<Vec<u8>, AllocError> {
 #[test]
 fn json_is_read_to_a_depth_of_127(rt: HostRuntime) -> Result<(), Fail> {
     let deepest = nested(rt.alloc(), 127)?;
-    assert_eq!(rt;
-        fault_of(rt.alloc(), &deepest),
-        Some(ReadError::NotScript(Field::Top))
-    );
+    assert!(rt; fault_of(rt.alloc(), &deepest) == Some(ReadError::NotScript(Field::Top)));
     let deeper = nested(rt.alloc(), 128)?;
-    assert_eq!(rt; fault_of(rt.alloc(), &deeper), Some(ReadError::NotJson));
+    assert!(rt; fault_of(rt.alloc(), &deeper) == Some(ReadError::NotJson));
     Ok(())
 }
 
@@ -251,7 +250,7 @@ fn the_calls_are_counted_before_they_are_looked_at(rt: HostRuntime) -> Result<()
     ];
     for (count, fault) in table {
         let text = zeros(rt.alloc(), count)?;
-        assert_eq!(rt; fault_of(rt.alloc(), &text), Some(fault), "{count}");
+        assert!(rt; fault_of(rt.alloc(), &text) == Some(fault), "{count}");
     }
     Ok(())
 }
@@ -275,7 +274,7 @@ fn each_reply_is_written_in_its_form(rt: HostRuntime) -> Result<(), Fail> {
     let text = write_replay(rt.alloc(), &Replayed { replies, word })?;
     let wanted =
         br#"{"replies":[384,"yes","no","done","mismatch",{"count":127},[0,18446744073709551615,7]],"word":131072}"#;
-    assert_eq!(rt; text.as_slice(), wanted.as_slice());
+    assert!(rt; text.as_slice() == wanted.as_slice());
     Ok(())
 }
 
@@ -321,7 +320,7 @@ fn a_replay_is_answered_by_its_replies_and_word(rt: HostRuntime) -> Result<(), F
     ];
     for (text, wanted) in table {
         let answer = answered(rt.alloc(), text)?;
-        assert_eq!(rt; answer.as_slice(), wanted.as_bytes(), "{text}");
+        assert!(rt; answer.as_slice() == wanted.as_bytes(), "{text}");
     }
     Ok(())
 }
@@ -346,7 +345,7 @@ fn a_field_has_its_text(rt: HostRuntime) -> Result<(), Fail> {
         (Field::Report, "report"),
     ];
     for (field, text) in table {
-        assert_eq!(rt; format!(in rt.alloc(); "{field}")?.as_str(), text);
+        assert!(rt; format!(in rt.alloc(); "{field}")?.as_str() == text);
     }
     Ok(())
 }
@@ -371,7 +370,7 @@ fn a_text_is_answered_as_its_calls_are_replayed(rt: HostRuntime) -> Result<(), F
         let given = replay_text(rt.alloc(), text.as_bytes())
             .ok()
             .ok_or("refused")?;
-        assert_eq!(rt; given.as_slice(), answer.as_bytes(), "{text}");
+        assert!(rt; given.as_slice() == answer.as_bytes(), "{text}");
     }
     Ok(())
 }
@@ -391,6 +390,6 @@ fn a_text_is_refused_before_a_call_of_it_waits(rt: HostRuntime) {
     ];
     for (text, error) in table {
         let given = replay_text(rt.alloc(), text.as_bytes()).err();
-        assert_eq!(rt; given, Some(error), "{text}");
+        assert!(rt; given == Some(error), "{text}");
     }
 }

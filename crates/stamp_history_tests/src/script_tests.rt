@@ -14,7 +14,7 @@ fn fault_of(alloc: Global, text: &str) -> Option<ReadError> {
 
 fn assert_refused(rt: &impl Abort, alloc: Global, texts: &[&str], fault: ReadError) {
     for text in texts {
-        assert_eq!(rt; fault_of(alloc, text), Some(fault), "{text}");
+        assert!(rt; fault_of(alloc, text) == Some(fault), "{text}");
     }
 }
 
@@ -68,9 +68,9 @@ fn limits_and_width_are_read(rt: HostRuntime) -> Result<(), Fail> {
         let script = read_script(rt.alloc(), text.as_bytes())?;
         let limits = script.limits();
         let read = (limits.layout(), limits.readers(), limits.versions());
-        assert_eq!(rt; read, wanted, "{text}");
-        assert_eq!(rt; script.width(), width, "{text}");
-        assert_eq!(rt; script.threads().len(), count, "{text}");
+        assert!(rt; read == wanted, "{text}");
+        assert!(rt; script.width() == width, "{text}");
+        assert!(rt; script.threads().len() == count, "{text}");
     }
     Ok(())
 }
@@ -80,7 +80,7 @@ fn threads_and_steps_keep_their_order(rt: HostRuntime) -> Result<(), Fail> {
     let text = r#"{"readers":1,"steps":[1,0,2,1],
 "threads":[[["try_write"]],[["try_read"],["get"]],[]],"versions":1,"width":1}"#;
     let script = read_script(rt.alloc(), text.as_bytes())?;
-    assert_eq!(rt; script.steps(), [1, 0, 2, 1].as_slice());
+    assert!(rt; script.steps() == [1, 0, 2, 1].as_slice());
     let [first, second, third] = script.threads() else {
         return Err(Fail::from("three threads"));
     };
@@ -187,7 +187,7 @@ fn each_call_is_read_by_its_name(rt: HostRuntime) -> Result<(), Fail> {
         let [call] = calls.as_slice() else {
             return Err(Fail::from("one call"));
         };
-        assert_eq!(rt; text_of(rt.alloc(), call)?.as_str(), text);
+        assert!(rt; text_of(rt.alloc(), call)?.as_str() == text);
     }
     Ok(())
 }
@@ -237,7 +237,7 @@ fn what_is_no_call_is_refused_at_its_place(rt: HostRuntime) -> Result<(), Fail> 
         )?;
         let fault = fault_of(rt.alloc(), text.as_str());
         let wanted = ReadError::NotScript(Field::ThreadCall(1, 1));
-        assert_eq!(rt; fault, Some(wanted), "{call}");
+        assert!(rt; fault == Some(wanted), "{call}");
     }
     Ok(())
 }
@@ -247,8 +247,8 @@ fn words_are_one_to_sixteen(rt: HostRuntime) -> Result<(), Fail> {
     let one = r#"{"readers":1,"steps":[],"threads":[[["put",[5]]]],"versions":1,"width":1}"#;
     let sixteen = r#"{"readers":1,"steps":[],"threads":[[
 ["put",[1,2,3,4,5,6,7,8,9,10,11,12,13,14,15,16]]]],"versions":1,"width":16}"#;
-    assert_eq!(rt; fault_of(rt.alloc(), one), None);
-    assert_eq!(rt; fault_of(rt.alloc(), sixteen), None);
+    assert!(rt; fault_of(rt.alloc(), one) == None);
+    assert!(rt; fault_of(rt.alloc(), sixteen) == None);
     Ok(())
 }
 
@@ -370,7 +370,7 @@ fn a_script_of_too_much_is_refused(rt: HostRuntime) -> Result<(), Fail> {
     for (threads, calls, steps, fault) in table {
         let text = script_text(rt.alloc(), threads, calls, steps)?;
         let found = read_script(rt.alloc(), &text).err();
-        assert_eq!(rt; found, fault.map(ReadError::BadScript));
+        assert!(rt; found == fault.map(ReadError::BadScript));
     }
     Ok(())
 }
@@ -406,7 +406,7 @@ fn a_script_whose_parts_do_not_suit_is_refused(rt: HostRuntime) {
     ];
     for (text, fault) in table {
         let wanted = Some(ReadError::BadScript(fault));
-        assert_eq!(rt; fault_of(rt.alloc(), text), wanted, "{text}");
+        assert!(rt; fault_of(rt.alloc(), text) == wanted, "{text}");
     }
 }
 
@@ -432,13 +432,12 @@ fn a_script_is_written_as_the_history_of_its_run(rt: HostRuntime) -> Result<(), 
     let alloc = rt.alloc();
     for (script, history) in RUNS {
         let script = read_script(alloc, script.as_bytes())?;
-        assert_eq!(rt;
-            write_run(alloc, &script)?.as_slice(),
-            history.as_bytes(),
+        assert!(rt;
+            write_run(alloc, &script)?.as_slice() == history.as_bytes(),
             "{history}"
         );
         let kept = write_history(alloc, &run(alloc, &script)?)?;
-        assert_eq!(rt; kept.as_slice(), history.as_bytes(), "{history}");
+        assert!(rt; kept.as_slice() == history.as_bytes(), "{history}");
     }
     Ok(())
 }

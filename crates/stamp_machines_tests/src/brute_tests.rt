@@ -151,8 +151,8 @@ fn agrees(
     let mut costs = Costs::none(alloc);
     let run = stepped_beside(alloc, script, &mut plain, &mut costs)?.ok_or("it differs")?;
     let record = run_reported(alloc, script)?;
-    assert_eq!(rt; record.entries(), run.finished());
-    assert_eq!(rt; record.report(), costs.ended.as_slice());
+    assert!(rt; record.entries() == run.finished());
+    assert!(rt; record.report() == costs.ended.as_slice());
     Ok(run.finished().len())
 }
 

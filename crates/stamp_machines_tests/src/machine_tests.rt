@@ -7,15 +7,15 @@ use std::test::Fail;
 #[test]
 fn a_step_is_told_and_the_word_is_seen(rt: HostRuntime) -> Result<(), Fail> {
     let script = script(rt.alloc(), 0, [&[ScriptCall::TryWrite], &[]], &[])?;
-    assert_eq!(rt; script.threads().len(), 2);
+    assert!(rt; script.threads().len() == 2);
     let mut run = Run::start(rt.alloc(), &script)?;
     assert!(rt; matches!(run.step(1)?, Stepped::Idle));
     assert!(rt; matches!(run.step(0)?, Stepped::Going));
-    assert_eq!(rt; run.word().bits(), 256);
+    assert!(rt; run.word().bits() == 256);
     assert!(rt; matches!(run.step(0)?, Stepped::Ended(_)));
-    assert_eq!(rt; run.word().bits(), 384);
-    assert_eq!(rt; run.finished().len(), 1);
-    assert_eq!(rt; run.steps(), [1, 0, 0].as_slice());
+    assert!(rt; run.word().bits() == 384);
+    assert!(rt; run.finished().len() == 1);
+    assert!(rt; run.steps() == [1, 0, 0].as_slice());
     Ok(())
 }
 
@@ -103,11 +103,8 @@ fn a_call_of_the_record_has_the_record_s_width(rt: HostRuntime) -> Result<(), Fa
     for (width, call, is_refused) in table {
         let threads = busy_thread(rt.alloc(), &call, 1)?;
         let refused = refusal(width, threads, Vec::new(rt.alloc()))?;
-        assert_eq!(rt;
-            matches!(refused, Some(ScriptError::RecordWidth)),
-            is_refused
-        );
-        assert_eq!(rt; refused.is_some(), is_refused);
+        assert!(rt; matches!(refused, Some(ScriptError::RecordWidth)) == is_refused);
+        assert!(rt; refused.is_some() == is_refused);
     }
     Ok(())
 }
@@ -119,12 +116,12 @@ fn a_machine_goes_on_by_what_it_finds(rt: HostRuntime) -> Result<(), Fail> {
         width: 0,
     };
     let machine = Machine::start(Call::TryRead, shape);
-    assert_eq!(rt; machine.call(), Call::TryRead);
-    assert_eq!(rt; machine.plan(), Access::Load(0));
+    assert!(rt; machine.call() == Call::TryRead);
+    assert!(rt; machine.plan() == Access::Load(0));
     let opening = Word::opening_in(Layout::Two);
     let Turn::Going(machine) = machine.resume(opening.bits()) else {
         return Err(Fail::from("it ended"));
     };
-    assert_eq!(rt; machine.plan(), Access::Cas(0, 131_072, 131_073));
+    assert!(rt; machine.plan() == Access::Cas(0, 131_072, 131_073));
     Ok(())
 }

@@ -72,15 +72,15 @@ fn ends_with(
     entries: &[Entry],
     word: u64,
 ) -> Result<(), Fail> {
-    assert_eq!(rt; run(alloc, script)?.entries(), entries);
-    assert_eq!(rt; run_reported(alloc, script)?.entries(), entries);
-    assert_eq!(rt; handed_on(alloc, script)?.as_slice(), entries);
+    assert!(rt; run(alloc, script)?.entries() == entries);
+    assert!(rt; run_reported(alloc, script)?.entries() == entries);
+    assert!(rt; handed_on(alloc, script)?.as_slice() == entries);
     let mut told = Vec::new(alloc);
     let stepped = stepped_through(alloc, script, &mut told)?;
-    assert_eq!(rt; told.as_slice(), entries);
-    assert_eq!(rt; stepped.finished(), entries);
-    assert_eq!(rt; stepped.word().bits(), word);
-    assert_eq!(rt; stepped.steps(), script.steps());
+    assert!(rt; told.as_slice() == entries);
+    assert!(rt; stepped.finished() == entries);
+    assert!(rt; stepped.word().bits() == word);
+    assert!(rt; stepped.steps() == script.steps());
     Ok(())
 }
 
@@ -91,7 +91,7 @@ fn costs(
     script: &Script,
     report: &[(u64, u64)],
 ) -> Result<(), Fail> {
-    assert_eq!(rt; run_reported(alloc, script)?.report(), report);
+    assert!(rt; run_reported(alloc, script)?.report() == report);
     assert!(rt; run(alloc, script)?.report().is_empty());
     Ok(())
 }
@@ -118,9 +118,9 @@ fn a_lost_exchange_tries_again_on_the_free_word_that_it_found(rt: HostRuntime) -
 fn a_run_is_stopped_between_two_steps(rt: HostRuntime) -> Result<(), Fail> {
     let calls = [ScriptCall::TryWrite];
     let script = script(rt.alloc(), 0, [&calls, &calls], &[0, 1, 0, 1])?;
-    assert_eq!(rt; steps_until(rt.alloc(), &script, 0)?, 0);
-    assert_eq!(rt; steps_until(rt.alloc(), &script, 1)?, 3);
-    assert_eq!(rt; steps_until(rt.alloc(), &script, 3)?, 4);
+    assert!(rt; steps_until(rt.alloc(), &script, 0)? == 0);
+    assert!(rt; steps_until(rt.alloc(), &script, 1)? == 3);
+    assert!(rt; steps_until(rt.alloc(), &script, 3)? == 4);
     Ok(())
 }
 
@@ -395,12 +395,12 @@ fn a_run_makes_a_million_steps_and_no_more(rt: HostRuntime) -> Result<(), Fail> 
         steps.push(0)?;
     }
     let script = script(rt.alloc(), 0, [&[], &[]], steps.as_slice())?;
-    assert_eq!(rt; script.threads().len(), 2);
+    assert!(rt; script.threads().len() == 2);
     let mut run = stepped_through(rt.alloc(), &script, &mut Vec::new(rt.alloc()))?;
     assert!(rt; matches!(run.step(0), Err(RunError::TooManySteps)));
     assert!(rt; matches!(run.step(1), Err(RunError::TooManySteps)));
-    assert_eq!(rt; run.word().bits(), 256);
+    assert!(rt; run.word().bits() == 256);
     assert!(rt; run.finished().is_empty());
-    assert_eq!(rt; run.steps().len(), 1_000_000);
+    assert!(rt; run.steps().len() == 1_000_000);
     Ok(())
 }

@@ -1,5 +1,6 @@
 //! The book, by worked rows.
-ghost use Rattle.std.specs.Prelude.{◌≤◌};
+ghost use Rattle.std.specs.Prelude.{◌≤◌, ◌<◌, IsTrue};
+ghost use Rattle.stamp_core.specs.Call.{is_lock_call};
 
 use stamp_check::check;
 use stamp_core::{Call, Entry, Limits, Reply};
@@ -15,6 +16,14 @@ pub fn opened(alloc: Global, most: u64) -> Result<Book, Fail>
     Ok(Book::new(alloc, limits, most))
 }
 
+/// Whether a call by this thread is answered so.
+pub fn acts(book: &mut Book, thread: u64, call: Call, answer: Result<Reply, BookError>) -> bool
+    requires call { IsTrue (is_lock_call call) }
+    requires thread { thread < 64 }
+{
+    book.act(thread, call) == answer
+}
+
 /// Whether the book has this word, and this many entries.
 fn is_at(book: &Book, word: u64, entries: usize) -> bool {
     book.word().bits() == word && book.entries().len() == entries
@@ -23,13 +32,13 @@ fn is_at(book: &Book, word: u64, entries: usize) -> bool {
 #[test]
 fn a_call_that_waits_is_told_so_by_a_full_book_too(rt: HostRuntime) -> Result<(), Fail> {
     let mut book = opened(rt.alloc(), 1)?;
-    assert_eq!(rt; book.act(0, Call::TryWrite), Ok(Reply::Stamp(384)));
-    assert_eq!(rt; book.act(1, Call::ReadLock), Err(BookError::Waits));
+    assert!(rt; acts(&mut book, 0, Call::TryWrite, Ok(Reply::Stamp(384))));
+    assert!(rt; acts(&mut book, 1, Call::ReadLock, Err(BookError::Waits)));
     assert!(rt; is_at(&book, 384, 1));
-    assert_eq!(rt; book.act(1, Call::TryRead), Err(BookError::Full));
+    assert!(rt; acts(&mut book, 1, Call::TryRead, Err(BookError::Full)));
     assert!(rt; is_at(&book, 384, 1));
     let record = book.record()?;
-    assert_eq!(rt; check(&record), Ok(1));
+    assert!(rt; check(&record) == Ok(1));
     let entry = Entry {
         thread: 0,
         call: Call::TryWrite,
@@ -46,17 +55,17 @@ fn a_call_that_waits_is_told_so_by_a_full_book_too(rt: HostRuntime) -> Result<()
 fn a_book_is_that_of_a_new_lock(rt: HostRuntime) -> Result<(), Fail> {
     let mut book = opened(rt.alloc(), 3)?;
     assert!(rt; is_at(&book, 256, 0));
-    assert_eq!(rt; book.most(), 3);
-    assert_eq!(rt; book.limits(), Limits::new(127, 1_000_000)?);
-    assert_eq!(rt; check(&book.record()?), Ok(0));
-    assert_eq!(rt; book.act(63, Call::WriteLock), Ok(Reply::Stamp(384)));
-    assert_eq!(rt; book.act(5, Call::Unlock(384)), Ok(Reply::Done));
-    assert_eq!(rt; book.act(63, Call::Validate(256)), Ok(Reply::No));
+    assert!(rt; book.most() == 3);
+    assert!(rt; book.limits() == Limits::new(127, 1_000_000)?);
+    assert!(rt; check(&book.record()?) == Ok(0));
+    assert!(rt; acts(&mut book, 63, Call::WriteLock, Ok(Reply::Stamp(384))));
+    assert!(rt; acts(&mut book, 5, Call::Unlock(384), Ok(Reply::Done)));
+    assert!(rt; acts(&mut book, 63, Call::Validate(256), Ok(Reply::No)));
     assert!(rt; is_at(&book, 512, 3));
     let record = book.record()?;
-    assert_eq!(rt; check(&record), Ok(3));
-    assert_eq!(rt; record.limits(), book.limits());
-    assert_eq!(rt; record.width(), 0);
+    assert!(rt; check(&record) == Ok(3));
+    assert!(rt; record.limits() == book.limits());
+    assert!(rt; record.width() == 0);
     Ok(())
 }
 
@@ -64,10 +73,10 @@ fn a_book_is_that_of_a_new_lock(rt: HostRuntime) -> Result<(), Fail> {
 fn a_book_of_64_000_calls_is_full(rt: HostRuntime) -> Result<(), Fail> {
     let mut book = opened(rt.alloc(), 64_000)?;
     for _ in 0..32_000u64 {
-        assert_eq!(rt; book.act(0, Call::TryRead), Ok(Reply::Stamp(257)));
-        assert_eq!(rt; book.act(0, Call::TryUnlockRead), Ok(Reply::Yes));
+        assert!(rt; acts(&mut book, 0, Call::TryRead, Ok(Reply::Stamp(257))));
+        assert!(rt; acts(&mut book, 0, Call::TryUnlockRead, Ok(Reply::Yes)));
     }
-    assert_eq!(rt; book.act(0, Call::TryRead), Err(BookError::Full));
-    assert_eq!(rt; check(&book.record()?), Ok(64_000));
+    assert!(rt; acts(&mut book, 0, Call::TryRead, Err(BookError::Full)));
+    assert!(rt; check(&book.record()?) == Ok(64_000));
     Ok(())
 }

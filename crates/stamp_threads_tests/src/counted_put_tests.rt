@@ -2,7 +2,7 @@
 ghost use Rattle.std.specs.Prelude.{◌≡◌, ◌++◌, ◌∷◌, [], length, MatchBool};
 ghost use Rattle.stamp_threads.specs.RecordRule.{put_of};
 
-use crate::record_tests::{made_record, words_of};
+use crate::record_tests::{gives, made_record, puts, words_of};
 use stamp_core::{Layout, Words};
 use stamp_threads::{PutFault, RecordPass, RunningRecord};
 use std::sync::Wait;
@@ -42,7 +42,7 @@ fn puts_are_made_until_no_version_is_left(rt: HostRuntime) -> Result<(), Fail> {
     assert!(rt; put_until_made(&rt, &shared, &mut pass, &words_of(&[1, 2])?));
     assert!(rt; put_until_made(&rt, &shared, &mut pass, &last));
     assert!(rt; !put_until_made(&rt, &shared, &mut pass, &words_of(&[5, 6])?));
-    assert_eq!(rt; shared.get_once(&mut pass), Ok(last));
+    assert!(rt; gives(&shared, &mut pass, last));
     Ok(())
 }
 
@@ -94,10 +94,10 @@ fn two_threads_share_the_versions(rt: HostRuntime) -> Result<(), Fail> {
         || put_until_spent(&shared, second, &here),
     );
     let spent = PutFault::Spent(13_056);
-    assert_eq!(rt; first_end, Some(spent));
-    assert_eq!(rt; second_end, Some(spent));
-    assert_eq!(rt; a.wrapping_add(b), 50);
-    assert_eq!(rt; shared.put_once(&mut third, words_of(&[1, 2])?), Err(spent));
+    assert!(rt; first_end == Some(spent));
+    assert!(rt; second_end == Some(spent));
+    assert!(rt; a.wrapping_add(b) == 50);
+    assert!(rt; puts(&shared, &mut third, words_of(&[1, 2])?, Err(spent)));
     Ok(())
 }
 
@@ -205,13 +205,13 @@ fn two_threads_read_what_a_third_puts(rt: HostRuntime) -> Result<(), Fail> {
     let ((made, putting), ((a, first), (b, second))) = put_beside_readers(
         &rt, &shared, putting, first, second,
     );
-    assert_eq!(rt; made, 1_000);
+    assert!(rt; made == 1_000);
     assert!(rt; a.is_some() && b.is_some());
     let (putting, mut first) = shared.meet(putting, first);
     let (mut putting, mut second) = shared.meet(putting, second);
     let last = words_of(&[1_000, 1_000])?;
-    assert_eq!(rt; shared.get_once(&mut putting), Ok(last));
-    assert_eq!(rt; shared.get_once(&mut first), Ok(last));
-    assert_eq!(rt; shared.get_once(&mut second), Ok(last));
+    assert!(rt; gives(&shared, &mut putting, last));
+    assert!(rt; gives(&shared, &mut first, last));
+    assert!(rt; gives(&shared, &mut second, last));
     Ok(())
 }

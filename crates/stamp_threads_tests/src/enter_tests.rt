@@ -1,7 +1,8 @@
 //! Passes of threads that come later, and records that begin with a content of their own.
 ghost use Rattle.std.specs.Prelude.{◌≡◌, ◌<◌, IfOk, slice_index, true};
 
-use crate::record_tests::words_of;
+use crate::lock_tests::answers;
+use crate::record_tests::{gives, puts, words_of};
 use stamp_core::{Call, Limits, Reply, Words};
 use stamp_threads::{
     AnyContent, ContentRule, GetFault, Pass, PutFault, RecordPass, RuledRecord, RunningLock,
@@ -24,37 +25,28 @@ fn enterable_lock(alloc: Global) -> Result<(RunningLock, Pass), Fail>
 #[test]
 fn a_pass_that_enters_finds_what_was_acquired(rt: HostRuntime) -> Result<(), Fail> {
     let (lock, mut first) = enterable_lock(rt.alloc())?;
-    assert_eq!(rt; lock.once(&mut first, Call::TryRead), Ok(Reply::Stamp(257)));
+    assert!(rt; answers(&lock, &mut first, Call::TryRead, Reply::Stamp(257)));
     let mut second = lock.enter();
-    assert_eq!(rt;
-        lock.once(&mut second, Call::TryRead),
-        Ok(Reply::Stamp(258))
-    );
+    assert!(rt; answers(&lock, &mut second, Call::TryRead, Reply::Stamp(258)));
     let mut third = lock.split_off(&mut second);
-    assert_eq!(rt; lock.once(&mut third, Call::ReadCount), Ok(Reply::Count(2)));
+    assert!(rt; answers(&lock, &mut third, Call::ReadCount, Reply::Count(2)));
     let (first, second) = lock.meet(first, second);
     let (first, third) = lock.meet(first, third);
     drop(second);
     drop(third);
-    assert_eq!(rt; lock.close(first), 258);
+    assert!(rt; lock.close(first) == 258);
     Ok(())
 }
 
 #[test]
 fn entering_releases_nothing(rt: HostRuntime) -> Result<(), Fail> {
     let (lock, mut first) = enterable_lock(rt.alloc())?;
-    assert_eq!(rt;
-        lock.once(&mut first, Call::TryWrite),
-        Ok(Reply::Stamp(384))
-    );
+    assert!(rt; answers(&lock, &mut first, Call::TryWrite, Reply::Stamp(384)));
     let mut second = lock.enter();
-    assert_eq!(rt; lock.once(&mut second, Call::IsWriteLocked), Ok(Reply::Yes));
-    assert_eq!(rt;
-        lock.once(&mut first, Call::ToRead(384)),
-        Ok(Reply::Stamp(513))
-    );
+    assert!(rt; answers(&lock, &mut second, Call::IsWriteLocked, Reply::Yes));
+    assert!(rt; answers(&lock, &mut first, Call::ToRead(384), Reply::Stamp(513)));
     let third = lock.enter();
-    assert_eq!(rt; lock.close(third), 513);
+    assert!(rt; lock.close(third) == 513);
     Ok(())
 }
 
@@ -68,7 +60,7 @@ fn threads_enter_by_a_shared_reference(rt: HostRuntime) -> Result<(), Fail> {
     );
     let stamps = [Reply::Stamp(257), Reply::Stamp(258)];
     assert!(rt; stamps == [a, b] || stamps == [b, a]);
-    assert_eq!(rt; lock.close(first), 258);
+    assert!(rt; lock.close(first) == 258);
     Ok(())
 }
 
@@ -82,19 +74,20 @@ fn entering_a_record_takes_no_version(rt: HostRuntime) -> Result<(), Fail> {
         return Err(Fail::from("no memory for the record"));
     };
     let mut second = shared.enter();
-    assert_eq!(rt; shared.get_once(&mut second), Ok(first));
-    assert_eq!(rt; shared.put_once(&mut pass, words_of(&[3, 4])?), Ok(()));
+    assert!(rt; gives(&shared, &mut second, first));
+    assert!(rt; puts(&shared, &mut pass, words_of(&[3, 4])?, Ok(())));
     let mut third = shared.enter();
-    assert_eq!(rt; shared.get_once(&mut third), Ok(words_of(&[3, 4])?));
+    assert!(rt; gives(&shared, &mut third, words_of(&[3, 4])?));
     let mut fourth = shared.split_off(&mut third);
-    assert_eq!(rt; shared.put_once(&mut fourth, words_of(&[5, 6])?), Ok(()));
-    assert_eq!(rt;
-        shared.get_once(&mut shared.enter()),
-        Ok(words_of(&[5, 6])?)
-    );
-    assert_eq!(rt;
-        shared.put_once(&mut pass, words_of(&[7, 8])?),
-        Err(PutFault::Spent(1_024))
+    assert!(rt; puts(&shared, &mut fourth, words_of(&[5, 6])?, Ok(())));
+    assert!(rt; gives(&shared, &mut shared.enter(), words_of(&[5, 6])?));
+    assert!(rt;
+        puts(
+            &shared,
+            &mut pass,
+            words_of(&[7, 8])?,
+            Err(PutFault::Spent(1_024))
+        )
     );
     Ok(())
 }
@@ -125,10 +118,10 @@ fn a_record_begins_with_its_first_content(rt: HostRuntime) -> Result<(), Fail> {
     let Ok((shared, mut pass)) = RuledRecord::<Rising>::holding(rt.alloc(), limits, first) else {
         return Err(Fail::from("no memory for the record"));
     };
-    assert_eq!(rt; height(&shared, &mut pass), Ok(2));
+    assert!(rt; height(&shared, &mut pass) == Ok(2));
     let next = Words::of_row([7, 17, 0, 0, 0, 0, 0, 0, 0, 0, 0, 0, 0, 0, 0, 0], 2);
-    assert_eq!(rt; shared.put_once(&mut pass, next), Ok(()));
+    assert!(rt; puts(&shared, &mut pass, next, Ok(())));
     let mut later = shared.split_off(&mut pass);
-    assert_eq!(rt; height(&shared, &mut later), Ok(10));
+    assert!(rt; height(&shared, &mut later) == Ok(10));
     Ok(())
 }

@@ -1,8 +1,9 @@
 //! Calls of one thread, by worked rows.
-ghost use Rattle.std.specs.Prelude.{◌≡◌, IfOk};
+ghost use Rattle.std.specs.Prelude.{◌≡◌, IfOk, IsTrue};
+ghost use Rattle.stamp_core.specs.Call.{is_lock_call};
 
 use stamp_core::{Call, Layout, Limits, Reply};
-use stamp_threads::{Lost, Pass, RunningLock};
+use stamp_threads::{Pass, RunningLock};
 use std::alloc::Global;
 use std::test::Fail;
 
@@ -19,79 +20,66 @@ pub fn made(alloc: Global, layout: Layout, readers: u64) -> Result<(RunningLock,
     }
 }
 
-fn stamp(number: u64) -> Result<Reply, Lost> {
-    Ok(Reply::Stamp(number))
+/// Whether a call by this pass is answered so at once.
+pub fn answers(lock: &RunningLock, pass: &mut Pass, call: Call, reply: Reply) -> bool
+    requires call { IsTrue (is_lock_call call) }
+    requires lock { pass.old.table ≡ lock.now.table }
+    ensures { pass.new.table ≡ lock.now.table }
+{
+    lock.once(pass, call) == Ok(reply)
 }
 
 #[test]
 fn a_released_write_stamp_validates_until_the_next_writer(rt: HostRuntime) -> Result<(), Fail> {
     let (lock, mut pass) = made(rt.alloc(), Layout::One, 127)?;
-    assert_eq!(rt; lock.once(&mut pass, Call::TryWrite), stamp(384));
-    assert_eq!(rt; lock.once(&mut pass, Call::Validate(256)), Ok(Reply::No));
-    assert_eq!(rt;
-        lock.once(&mut pass, Call::UnlockWrite(384)),
-        Ok(Reply::Done)
-    );
-    assert_eq!(rt; lock.once(&mut pass, Call::Validate(384)), Ok(Reply::Yes));
-    assert_eq!(rt; lock.once(&mut pass, Call::ReadLock), stamp(513));
-    assert_eq!(rt; lock.once(&mut pass, Call::Unlock(513)), Ok(Reply::Done));
-    assert_eq!(rt; lock.once(&mut pass, Call::WriteLock), stamp(640));
-    assert_eq!(rt; lock.once(&mut pass, Call::Validate(384)), Ok(Reply::No));
-    assert_eq!(rt; lock.close(pass), 640);
+    assert!(rt; answers(&lock, &mut pass, Call::TryWrite, Reply::Stamp(384)));
+    assert!(rt; answers(&lock, &mut pass, Call::Validate(256), Reply::No));
+    assert!(rt; answers(&lock, &mut pass, Call::UnlockWrite(384), Reply::Done));
+    assert!(rt; answers(&lock, &mut pass, Call::Validate(384), Reply::Yes));
+    assert!(rt; answers(&lock, &mut pass, Call::ReadLock, Reply::Stamp(513)));
+    assert!(rt; answers(&lock, &mut pass, Call::Unlock(513), Reply::Done));
+    assert!(rt; answers(&lock, &mut pass, Call::WriteLock, Reply::Stamp(640)));
+    assert!(rt; answers(&lock, &mut pass, Call::Validate(384), Reply::No));
+    assert!(rt; lock.close(pass) == 640);
     Ok(())
 }
 
 #[test]
 fn the_same_in_the_second_layout(rt: HostRuntime) -> Result<(), Fail> {
     let (lock, mut pass) = made(rt.alloc(), Layout::Two, 65_535)?;
-    assert_eq!(rt; lock.once(&mut pass, Call::TryWrite), stamp(196_608));
-    assert_eq!(rt;
-        lock.once(&mut pass, Call::Validate(131_072)),
-        Ok(Reply::No)
-    );
-    assert_eq!(rt;
-        lock.once(&mut pass, Call::UnlockWrite(196_608)),
-        Ok(Reply::Done)
-    );
-    assert_eq!(rt;
-        lock.once(&mut pass, Call::Validate(196_608)),
-        Ok(Reply::Yes)
-    );
-    assert_eq!(rt; lock.once(&mut pass, Call::ReadLock), stamp(262_145));
-    assert_eq!(rt; lock.close(pass), 262_145);
+    assert!(rt; answers(&lock, &mut pass, Call::TryWrite, Reply::Stamp(196_608)));
+    assert!(rt; answers(&lock, &mut pass, Call::Validate(131_072), Reply::No));
+    assert!(rt; answers(&lock, &mut pass, Call::UnlockWrite(196_608), Reply::Done));
+    assert!(rt; answers(&lock, &mut pass, Call::Validate(196_608), Reply::Yes));
+    assert!(rt; answers(&lock, &mut pass, Call::ReadLock, Reply::Stamp(262_145)));
+    assert!(rt; lock.close(pass) == 262_145);
     Ok(())
 }
 
 #[test]
 fn a_reader_beyond_the_limit_gets_zero(rt: HostRuntime) -> Result<(), Fail> {
     let (lock, mut pass) = made(rt.alloc(), Layout::One, 1)?;
-    assert_eq!(rt; lock.once(&mut pass, Call::ReadLock), stamp(257));
-    assert_eq!(rt; lock.once(&mut pass, Call::ReadLock), stamp(0));
-    assert_eq!(rt; lock.close(pass), 257);
+    assert!(rt; answers(&lock, &mut pass, Call::ReadLock, Reply::Stamp(257)));
+    assert!(rt; answers(&lock, &mut pass, Call::ReadLock, Reply::Stamp(0)));
+    assert!(rt; lock.close(pass) == 257);
     Ok(())
 }
 
 #[test]
 fn each_other_call_once(rt: HostRuntime) -> Result<(), Fail> {
     let (lock, mut pass) = made(rt.alloc(), Layout::One, 127)?;
-    assert_eq!(rt; lock.once(&mut pass, Call::Optimistic), stamp(256));
-    assert_eq!(rt; lock.once(&mut pass, Call::ToRead(256)), stamp(257));
-    assert_eq!(rt; lock.once(&mut pass, Call::IsReadLocked), Ok(Reply::Yes));
-    assert_eq!(rt; lock.once(&mut pass, Call::ToWrite(257)), stamp(384));
-    assert_eq!(rt; lock.once(&mut pass, Call::IsWriteLocked), Ok(Reply::Yes));
-    assert_eq!(rt; lock.once(&mut pass, Call::ToOptimistic(384)), stamp(512));
-    assert_eq!(rt; lock.once(&mut pass, Call::TryRead), stamp(513));
-    assert_eq!(rt; lock.once(&mut pass, Call::ReadCount), Ok(Reply::Count(1)));
-    assert_eq!(rt;
-        lock.once(&mut pass, Call::UnlockRead(513)),
-        Ok(Reply::Done)
-    );
-    assert_eq!(rt; lock.once(&mut pass, Call::TryUnlockRead), Ok(Reply::No));
-    assert_eq!(rt; lock.once(&mut pass, Call::TryUnlockWrite), Ok(Reply::No));
-    assert_eq!(rt;
-        lock.once(&mut pass, Call::UnlockWrite(384)),
-        Ok(Reply::Mismatch)
-    );
-    assert_eq!(rt; lock.close(pass), 512);
+    assert!(rt; answers(&lock, &mut pass, Call::Optimistic, Reply::Stamp(256)));
+    assert!(rt; answers(&lock, &mut pass, Call::ToRead(256), Reply::Stamp(257)));
+    assert!(rt; answers(&lock, &mut pass, Call::IsReadLocked, Reply::Yes));
+    assert!(rt; answers(&lock, &mut pass, Call::ToWrite(257), Reply::Stamp(384)));
+    assert!(rt; answers(&lock, &mut pass, Call::IsWriteLocked, Reply::Yes));
+    assert!(rt; answers(&lock, &mut pass, Call::ToOptimistic(384), Reply::Stamp(512)));
+    assert!(rt; answers(&lock, &mut pass, Call::TryRead, Reply::Stamp(513)));
+    assert!(rt; answers(&lock, &mut pass, Call::ReadCount, Reply::Count(1)));
+    assert!(rt; answers(&lock, &mut pass, Call::UnlockRead(513), Reply::Done));
+    assert!(rt; answers(&lock, &mut pass, Call::TryUnlockRead, Reply::No));
+    assert!(rt; answers(&lock, &mut pass, Call::TryUnlockWrite, Reply::No));
+    assert!(rt; answers(&lock, &mut pass, Call::UnlockWrite(384), Reply::Mismatch));
+    assert!(rt; lock.close(pass) == 512);
     Ok(())
 }

@@ -2,7 +2,7 @@
 ghost use Rattle.std.specs.Prelude.{◌≡◌, ◌≤◌, IfOk, length};
 
 use stamp_core::{Layout, Limits, Words};
-use stamp_threads::{PutFault, RecordPass, RunningRecord};
+use stamp_threads::{ContentRule, PutFault, RecordPass, RuledRecord, RunningRecord};
 use std::alloc::Global;
 use std::test::Fail;
 
@@ -36,18 +36,45 @@ pub fn words_of(words: &[u64]) -> Result<Words, Fail>
     }
 }
 
+/// Whether a put by this pass is answered so at once.
+pub fn puts<P: ContentRule>(
+    record: &RuledRecord<P>,
+    pass: &mut RecordPass,
+    words: Words,
+    answer: Result<(), PutFault>,
+) -> bool
+    requires table { pass.old.table ≡ record.now.table }
+    requires width { length words ≡ record.now.shape.width }
+    requires good { P.holds words }
+    ensures { pass.new.table ≡ record.now.table }
+{
+    record.put_once(pass, words) == answer
+}
+
+/// Whether a get by this pass gives these words at once.
+pub fn gives<P: ContentRule>(record: &RuledRecord<P>, pass: &mut RecordPass, words: Words) -> bool
+    requires { pass.old.table ≡ record.now.table }
+    ensures { pass.new.table ≡ record.now.table }
+{
+    record.get_once(pass) == Ok(words)
+}
+
 #[test]
 fn a_spent_record_still_gives_its_words(rt: HostRuntime) -> Result<(), Fail> {
     let (record, mut pass) = made_record(rt.alloc(), Layout::One, 2, 2)?;
     let last = words_of(&[3, 4])?;
-    assert_eq!(rt; record.put_once(&mut pass, words_of(&[1, 2])?), Ok(()));
-    assert_eq!(rt; record.put_once(&mut pass, last), Ok(()));
-    assert_eq!(rt; record.get_once(&mut pass), Ok(last));
-    assert_eq!(rt;
-        record.put_once(&mut pass, words_of(&[5, 6])?),
-        Err(PutFault::Spent(768))
+    assert!(rt; puts(&record, &mut pass, words_of(&[1, 2])?, Ok(())));
+    assert!(rt; puts(&record, &mut pass, last, Ok(())));
+    assert!(rt; gives(&record, &mut pass, last));
+    assert!(rt;
+        puts(
+            &record,
+            &mut pass,
+            words_of(&[5, 6])?,
+            Err(PutFault::Spent(768))
+        )
     );
-    assert_eq!(rt; record.get_once(&mut pass), Ok(last));
+    assert!(rt; gives(&record, &mut pass, last));
     Ok(())
 }
 
@@ -55,12 +82,9 @@ fn a_spent_record_still_gives_its_words(rt: HostRuntime) -> Result<(), Fail> {
 fn the_second_layout_has_other_lock_words(rt: HostRuntime) -> Result<(), Fail> {
     let (record, mut pass) = made_record(rt.alloc(), Layout::Two, 1, 2)?;
     let put = words_of(&[7, 9])?;
-    assert_eq!(rt; record.put_once(&mut pass, put), Ok(()));
-    assert_eq!(rt; record.get_once(&mut pass), Ok(put));
-    assert_eq!(rt;
-        record.put_once(&mut pass, put),
-        Err(PutFault::Spent(262_144))
-    );
+    assert!(rt; puts(&record, &mut pass, put, Ok(())));
+    assert!(rt; gives(&record, &mut pass, put));
+    assert!(rt; puts(&record, &mut pass, put, Err(PutFault::Spent(262_144))));
     Ok(())
 }
 
@@ -68,25 +92,22 @@ fn the_second_layout_has_other_lock_words(rt: HostRuntime) -> Result<(), Fail> {
 fn a_record_with_no_version_takes_no_put(rt: HostRuntime) -> Result<(), Fail> {
     let (record, mut pass) = made_record(rt.alloc(), Layout::One, 0, 2)?;
     let put = words_of(&[7, 9])?;
-    assert_eq!(rt; record.put_once(&mut pass, put), Err(PutFault::Spent(256)));
-    assert_eq!(rt; record.get_once(&mut pass), Ok(words_of(&[0, 0])?));
+    assert!(rt; puts(&record, &mut pass, put, Err(PutFault::Spent(256))));
+    assert!(rt; gives(&record, &mut pass, words_of(&[0, 0])?));
     let (record, mut pass) = made_record(rt.alloc(), Layout::Two, 0, 2)?;
-    assert_eq!(rt;
-        record.put_once(&mut pass, put),
-        Err(PutFault::Spent(131_072))
-    );
+    assert!(rt; puts(&record, &mut pass, put, Err(PutFault::Spent(131_072))));
     Ok(())
 }
 
 #[test]
 fn a_record_of_one_word(rt: HostRuntime) -> Result<(), Fail> {
     let (record, mut pass) = made_record(rt.alloc(), Layout::One, 2, 1)?;
-    assert_eq!(rt; record.get_once(&mut pass), Ok(words_of(&[0])?));
-    assert_eq!(rt; record.put_once(&mut pass, words_of(&[u64::MAX])?), Ok(()));
-    assert_eq!(rt; record.get_once(&mut pass), Ok(words_of(&[u64::MAX])?));
+    assert!(rt; gives(&record, &mut pass, words_of(&[0])?));
+    assert!(rt; puts(&record, &mut pass, words_of(&[u64::MAX])?, Ok(())));
+    assert!(rt; gives(&record, &mut pass, words_of(&[u64::MAX])?));
     let mut row = [5];
-    assert_eq!(rt; record.get_into(&mut pass, &mut row), Ok(()));
-    assert_eq!(rt; row[0], u64::MAX);
+    assert!(rt; record.get_into(&mut pass, &mut row) == Ok(()));
+    assert!(rt; row[0] == u64::MAX);
     Ok(())
 }
 
@@ -118,10 +139,10 @@ fn the_widest_record_gives_every_word(rt: HostRuntime) -> Result<(), Fail> {
     let row = [1, 2, 3, 4, 5, 6, 7, 8, 9, 10, 11, 12, 13, 14, 15, 16];
     let (record, mut pass) = made_record(rt.alloc(), Layout::Two, 2, 16)?;
     let put = words_of(&row)?;
-    assert_eq!(rt; record.put_once(&mut pass, put), Ok(()));
-    assert_eq!(rt; record.get_once(&mut pass), Ok(put));
+    assert!(rt; puts(&record, &mut pass, put, Ok(())));
+    assert!(rt; gives(&record, &mut pass, put));
     let mut got = [0; 16];
-    assert_eq!(rt; record.get_into(&mut pass, &mut got), Ok(()));
+    assert!(rt; record.get_into(&mut pass, &mut got) == Ok(()));
     assert!(rt; got[..] == row[..]);
     Ok(())
 }
@@ -131,9 +152,9 @@ fn what_one_pass_put_the_other_gets(rt: HostRuntime) -> Result<(), Fail> {
     let (record, pass) = made_record(rt.alloc(), Layout::One, 2, 2)?;
     let (mut first, second) = record.split(pass);
     let put = words_of(&[7, 9])?;
-    assert_eq!(rt; record.put_once(&mut first, put), Ok(()));
+    assert!(rt; puts(&record, &mut first, put, Ok(())));
     let (mut first, mut second) = record.meet(first, second);
-    assert_eq!(rt; record.get_once(&mut first), Ok(put));
-    assert_eq!(rt; record.get_once(&mut second), Ok(put));
+    assert!(rt; gives(&record, &mut first, put));
+    assert!(rt; gives(&record, &mut second, put));
     Ok(())
 }

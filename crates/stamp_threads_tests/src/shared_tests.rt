@@ -2,7 +2,7 @@
 ghost use Rattle.std.specs.Prelude.{◌≡◌, ◌<◌, ◌≤◌, IsTrue};
 ghost use Rattle.stamp_core.specs.Call.{is_lock_call};
 
-use crate::book_tests::opened;
+use crate::book_tests::{acts, opened};
 use stamp_check::check;
 use stamp_core::{Call, Layout, Limits, Record, Reply};
 use stamp_threads::{Book, BookError, Shared};
@@ -10,6 +10,20 @@ use std::alloc::Global;
 use std::sync::{Barrier, Wait};
 use std::test::Fail;
 use std::thread::{Threads, join};
+
+/// Whether a call by this thread is answered so.
+pub fn tells<R: Wait>(
+    rt: &R,
+    shared: &Shared,
+    thread: u64,
+    call: Call,
+    answer: Result<Reply, BookError>,
+) -> bool
+    requires call { IsTrue (is_lock_call call) }
+    requires thread { thread < 64 }
+{
+    shared.call(rt, thread, call) == answer
+}
 
 /// What a thread called, and what it was answered.
 #[derive(Drop)]
@@ -82,27 +96,32 @@ fn two_threads_read_and_their_calls_are_entered(rt: HostRuntime) -> Result<(), F
         || read_100(&rt, &shared, last),
     );
     let record = shared.record(&rt)?;
-    assert_eq!(rt; check(&record), Ok(400));
+    assert!(rt; check(&record) == Ok(400));
     assert!(rt; is_kept(&record, &first.ok_or("refused")?));
     assert!(rt; is_kept(&record, &last.ok_or("refused")?));
-    assert_eq!(rt; shared.call(&rt, 2, Call::ReadCount), Ok(Reply::Count(0)));
+    assert!(rt; tells(&rt, &shared, 2, Call::ReadCount, Ok(Reply::Count(0))));
     Ok(())
 }
 
 #[test]
 fn a_full_book_is_told_to_those_who_share_it(rt: HostRuntime) -> Result<(), Fail> {
     let shared = Shared::new(opened(rt.alloc(), 1)?);
-    assert_eq!(rt; shared.call(&rt, 7, Call::TryWrite), Ok(Reply::Stamp(384)));
-    assert_eq!(rt;
-        shared.call(&rt, 7, Call::UnlockWrite(384)),
-        Err(BookError::Full)
+    assert!(rt; tells(&rt, &shared, 7, Call::TryWrite, Ok(Reply::Stamp(384))));
+    assert!(rt;
+        tells(
+            &rt,
+            &shared,
+            7,
+            Call::UnlockWrite(384),
+            Err(BookError::Full)
+        )
     );
     let record = shared.record(&rt)?;
-    assert_eq!(rt; record.entries().len(), 1);
-    assert_eq!(rt; check(&record), Ok(1));
+    assert!(rt; record.entries().len() == 1);
+    assert!(rt; check(&record) == Ok(1));
     let none = Shared::new(opened(rt.alloc(), 0)?);
-    assert_eq!(rt; none.call(&rt, 7, Call::Optimistic), Err(BookError::Full));
-    assert_eq!(rt; none.record(&rt)?.entries().len(), 0);
+    assert!(rt; tells(&rt, &none, 7, Call::Optimistic, Err(BookError::Full)));
+    assert!(rt; none.record(&rt)?.entries().len() == 0);
     Ok(())
 }
 
@@ -110,17 +129,17 @@ fn a_full_book_is_told_to_those_who_share_it(rt: HostRuntime) -> Result<(), Fail
 fn a_shared_book_is_the_one_handed_in(rt: HostRuntime) -> Result<(), Fail> {
     let limits = Limits::in_layout(Layout::Two, 3, 5)?;
     let mut book = Book::new(rt.alloc(), limits, 2);
-    assert_eq!(rt; book.act(3, Call::TryWrite), Ok(Reply::Stamp(196_608)));
+    assert!(rt; acts(&mut book, 3, Call::TryWrite, Ok(Reply::Stamp(196_608))));
     let before = book.record()?;
     let shared = Shared::new(book);
     let record = shared.record(&rt)?;
     assert!(rt; record.entries() == before.entries());
-    assert_eq!(rt; record.limits(), limits);
-    assert_eq!(rt; shared.call(&rt, 4, Call::Unlock(196_608)), Ok(Reply::Done));
-    assert_eq!(rt; shared.call(&rt, 4, Call::TryRead), Err(BookError::Full));
+    assert!(rt; record.limits() == limits);
+    assert!(rt; tells(&rt, &shared, 4, Call::Unlock(196_608), Ok(Reply::Done)));
+    assert!(rt; tells(&rt, &shared, 4, Call::TryRead, Err(BookError::Full)));
     let record = shared.record(&rt)?;
     assert!(rt; record.entries().first() == before.entries().first());
-    assert_eq!(rt; check(&record), Ok(2));
+    assert!(rt; check(&record) == Ok(2));
     Ok(())
 }
 
@@ -152,16 +171,10 @@ fn two_readers_see_each_other(rt: HostRuntime) -> Result<(), Fail> {
         || read_beside(&rt, &shared, one, &both),
     );
     let mut two = Caller::new(rt.alloc(), 2);
-    assert_eq!(rt;
-        two.call(&rt, &shared, &Call::Unlock(257)),
-        Some(Reply::Done)
-    );
-    assert_eq!(rt;
-        two.call(&rt, &shared, &Call::Unlock(257)),
-        Some(Reply::Done)
-    );
+    assert!(rt; two.call(&rt, &shared, &Call::Unlock(257)) == Some(Reply::Done));
+    assert!(rt; two.call(&rt, &shared, &Call::Unlock(257)) == Some(Reply::Done));
     let record = shared.record(&rt)?;
-    assert_eq!(rt; check(&record), Ok(record.entries().len() as u64));
+    assert!(rt; check(&record) == Ok(record.entries().len() as u64));
     assert!(rt; is_kept(&record, &zero.ok_or("not seen")?));
     assert!(rt; is_kept(&record, &one.ok_or("not seen")?));
     assert!(rt; is_kept(&record, &two));
@@ -216,7 +229,7 @@ fn four_threads_of_50_000_calls(rt: HostRuntime) -> Result<(), Fail> {
         || two_mixed(&rt, rt.alloc(), &shared, 2),
     );
     let record = shared.record(&rt)?;
-    assert_eq!(rt; check(&record), Ok(200_000));
+    assert!(rt; check(&record) == Ok(200_000));
     for caller in [zero, one, two, three] {
         assert!(rt; is_kept(&record, &caller.ok_or("refused")?));
     }

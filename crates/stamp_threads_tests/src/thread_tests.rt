@@ -2,7 +2,7 @@
 ghost use Rattle.std.specs.Prelude.{◌≡◌, IsTrue};
 ghost use Rattle.stamp_core.specs.Call.{is_lock_call};
 
-use crate::lock_tests::made;
+use crate::lock_tests::{answers, made};
 use stamp_core::{Call, Layout, Reply};
 use stamp_threads::{Lost, Pass, RunningLock};
 use std::sync::atomic::{AtomicBool, AtomicU64, Ordering};
@@ -36,7 +36,7 @@ fn two_threads_write_in_turns(rt: HostRuntime) -> Result<(), Fail> {
     );
     let (first, second) = lock.meet(first, second);
     drop(second);
-    assert_eq!(rt; lock.close(first), 256 * 3);
+    assert!(rt; lock.close(first) == 256 * 3);
     Ok(())
 }
 
@@ -59,16 +59,13 @@ fn what_one_pass_acquired_the_other_meets(rt: HostRuntime) -> Result<(), Fail> {
         || once_by(&lock, first, Call::TryWrite),
         || once_by(&lock, second, Call::Validate(0)),
     );
-    assert_eq!(rt; written, Ok(Reply::Stamp(384)));
-    assert_eq!(rt; validated, Ok(Reply::No));
+    assert!(rt; written == Ok(Reply::Stamp(384)));
+    assert!(rt; validated == Ok(Reply::No));
     let (first, mut second) = lock.meet(first, second);
     drop(first);
-    assert_eq!(rt; lock.once(&mut second, Call::IsWriteLocked), Ok(Reply::Yes));
-    assert_eq!(rt;
-        lock.once(&mut second, Call::WriteLock),
-        Ok(Reply::Stamp(0))
-    );
-    assert_eq!(rt; lock.close(second), 384);
+    assert!(rt; answers(&lock, &mut second, Call::IsWriteLocked, Reply::Yes));
+    assert!(rt; answers(&lock, &mut second, Call::WriteLock, Reply::Stamp(0)));
+    assert!(rt; lock.close(second) == 384);
     Ok(())
 }
 
@@ -162,11 +159,8 @@ fn four_threads_of_mixed_calls_leave_their_count(rt: HostRuntime) -> Result<(), 
     );
     let (mut first, second) = lock.meet(first, second);
     drop(second);
-    assert_eq!(rt; lock.once(&mut first, Call::ReadCount), Ok(Reply::Count(0)));
-    assert_eq!(rt;
-        lock.close(first),
-        a.wrapping_add(b).wrapping_add(1).wrapping_mul(256)
-    );
+    assert!(rt; answers(&lock, &mut first, Call::ReadCount, Reply::Count(0)));
+    assert!(rt; lock.close(first) == a.wrapping_add(b).wrapping_add(1).wrapping_mul(256));
     Ok(())
 }
 
@@ -199,10 +193,7 @@ fn the_readers_are_those_that_were_answered(rt: HostRuntime) -> Result<(), Fail>
     drop(second);
     let readers = a.wrapping_add(b);
     assert!(rt; readers <= 127);
-    assert_eq!(rt;
-        lock.once(&mut first, Call::ReadCount),
-        Ok(Reply::Count(readers))
-    );
+    assert!(rt; answers(&lock, &mut first, Call::ReadCount, Reply::Count(readers)));
     Ok(())
 }
 
@@ -278,10 +269,10 @@ fn a_reader_waits_for_the_writer(rt: HostRuntime) -> Result<(), Fail> {
         || write_beside(&rt, &lock, first, &both),
         || read_beside(&rt, &lock, second, &both),
     );
-    assert_eq!(rt; written, Reply::Stamp(384));
-    assert_eq!(rt; released, Reply::Done);
-    assert_eq!(rt; read, Reply::Stamp(513));
-    assert_eq!(rt; lock.close(first), 513);
+    assert!(rt; written == Reply::Stamp(384));
+    assert!(rt; released == Reply::Done);
+    assert!(rt; read == Reply::Stamp(513));
+    assert!(rt; lock.close(first) == 513);
     Ok(())
 }
 

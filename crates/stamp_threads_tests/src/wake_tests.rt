@@ -2,6 +2,7 @@
 ghost use Rattle.std.specs.Prelude.{◌<◌, IsTrue};
 ghost use Rattle.stamp_core.specs.Call.{is_lock_call};
 
+use crate::shared_tests::tells;
 use stamp_core::{Call, Limits, Reply};
 use stamp_threads::{Book, Shared};
 use std::alloc::Global;
@@ -93,13 +94,13 @@ fn leave_by<R: Threads + Wait + Clock + Copy + Send + 'static>(
 #[test]
 fn a_writer_who_leaves_wakes_a_reader(rt: HostRuntime) -> Result<(), Fail> {
     let by_stamp = leave_by(&rt, rt.alloc(), Call::UnlockWrite(384))?;
-    assert_eq!(rt; by_stamp, (Some(Reply::Done), 513));
+    assert!(rt; by_stamp == (Some(Reply::Done), 513));
     let by_any = leave_by(&rt, rt.alloc(), Call::Unlock(384))?;
-    assert_eq!(rt; by_any, (Some(Reply::Done), 513));
+    assert!(rt; by_any == (Some(Reply::Done), 513));
     let without_stamp = leave_by(&rt, rt.alloc(), Call::TryUnlockWrite)?;
-    assert_eq!(rt; without_stamp, (Some(Reply::Yes), 513));
+    assert!(rt; without_stamp == (Some(Reply::Yes), 513));
     let for_optimistic = leave_by(&rt, rt.alloc(), Call::ToOptimistic(384))?;
-    assert_eq!(rt; for_optimistic, (Some(Reply::Stamp(512)), 513));
+    assert!(rt; for_optimistic == (Some(Reply::Stamp(512)), 513));
     Ok(())
 }
 
@@ -108,49 +109,43 @@ fn a_writer_who_leaves_wakes_a_reader(rt: HostRuntime) -> Result<(), Fail> {
 fn a_waiting_writer_is_told_that_no_version_is_left(rt: HostRuntime) -> Result<(), Fail> {
     let book = Book::new(rt.alloc(), Limits::new(2, 1)?, 1_000);
     let shared = Arc::new(rt.alloc(), Shared::new(book))?;
-    assert_eq!(rt; shared.call(&rt, 0, Call::ReadLock), Ok(Reply::Stamp(257)));
+    assert!(rt; tells(&rt, &shared, 0, Call::ReadLock, Ok(Reply::Stamp(257))));
     let writer = Waiter::start(&rt, rt.alloc(), &shared, 1, Call::WriteLock)?;
-    assert_eq!(rt;
-        shared.call(&rt, 0, Call::ToWrite(257)),
-        Ok(Reply::Stamp(384))
-    );
-    assert_eq!(rt; writer.stamp(&rt), 0);
+    assert!(rt; tells(&rt, &shared, 0, Call::ToWrite(257), Ok(Reply::Stamp(384))));
+    assert!(rt; writer.stamp(&rt) == 0);
     Ok(())
 }
 
 #[test]
 fn a_downgrade_wakes_a_reader(rt: HostRuntime) -> Result<(), Fail> {
     let shared = shared_book(rt.alloc())?;
-    assert_eq!(rt; shared.call(&rt, 0, Call::WriteLock), Ok(Reply::Stamp(384)));
+    assert!(rt; tells(&rt, &shared, 0, Call::WriteLock, Ok(Reply::Stamp(384))));
     let reader = Waiter::start(&rt, rt.alloc(), &shared, 1, Call::ReadLock)?;
-    assert_eq!(rt;
-        shared.call(&rt, 0, Call::ToRead(384)),
-        Ok(Reply::Stamp(513))
-    );
-    assert_eq!(rt; reader.stamp(&rt), 514);
+    assert!(rt; tells(&rt, &shared, 0, Call::ToRead(384), Ok(Reply::Stamp(513))));
+    assert!(rt; reader.stamp(&rt) == 514);
     Ok(())
 }
 
 #[test]
 fn a_reader_who_leaves_wakes_one_who_waits_for_room(rt: HostRuntime) -> Result<(), Fail> {
     let shared = shared_book(rt.alloc())?;
-    assert_eq!(rt; shared.call(&rt, 0, Call::ReadLock), Ok(Reply::Stamp(257)));
-    assert_eq!(rt; shared.call(&rt, 0, Call::ReadLock), Ok(Reply::Stamp(258)));
+    assert!(rt; tells(&rt, &shared, 0, Call::ReadLock, Ok(Reply::Stamp(257))));
+    assert!(rt; tells(&rt, &shared, 0, Call::ReadLock, Ok(Reply::Stamp(258))));
     let reader = Waiter::start(&rt, rt.alloc(), &shared, 1, Call::ReadLock)?;
-    assert_eq!(rt; shared.call(&rt, 0, Call::UnlockRead(257)), Ok(Reply::Done));
-    assert_eq!(rt; reader.stamp(&rt), 258);
+    assert!(rt; tells(&rt, &shared, 0, Call::UnlockRead(257), Ok(Reply::Done)));
+    assert!(rt; reader.stamp(&rt) == 258);
     Ok(())
 }
 
 #[test]
 fn the_last_reader_wakes_a_writer(rt: HostRuntime) -> Result<(), Fail> {
     let shared = shared_book(rt.alloc())?;
-    assert_eq!(rt; shared.call(&rt, 0, Call::ReadLock), Ok(Reply::Stamp(257)));
-    assert_eq!(rt; shared.call(&rt, 0, Call::ReadLock), Ok(Reply::Stamp(258)));
+    assert!(rt; tells(&rt, &shared, 0, Call::ReadLock, Ok(Reply::Stamp(257))));
+    assert!(rt; tells(&rt, &shared, 0, Call::ReadLock, Ok(Reply::Stamp(258))));
     let writer = Waiter::start(&rt, rt.alloc(), &shared, 1, Call::WriteLock)?;
-    assert_eq!(rt; shared.call(&rt, 0, Call::TryUnlockRead), Ok(Reply::Yes));
-    assert_eq!(rt; shared.call(&rt, 0, Call::TryUnlockRead), Ok(Reply::Yes));
-    assert_eq!(rt; writer.stamp(&rt), 384);
+    assert!(rt; tells(&rt, &shared, 0, Call::TryUnlockRead, Ok(Reply::Yes)));
+    assert!(rt; tells(&rt, &shared, 0, Call::TryUnlockRead, Ok(Reply::Yes)));
+    assert!(rt; writer.stamp(&rt) == 384);
     Ok(())
 }
 
@@ -159,20 +154,17 @@ fn the_last_reader_wakes_a_writer(rt: HostRuntime) -> Result<(), Fail> {
 fn a_downgrade_wakes_the_reader_among_writers(rt: HostRuntime) -> Result<(), Fail> {
     for _ in 0..8u64 {
         let shared = shared_book(rt.alloc())?;
-        assert_eq!(rt; shared.call(&rt, 0, Call::WriteLock), Ok(Reply::Stamp(384)));
+        assert!(rt; tells(&rt, &shared, 0, Call::WriteLock, Ok(Reply::Stamp(384))));
         let first = Waiter::start(&rt, rt.alloc(), &shared, 1, Call::WriteLock)?;
         let second = Waiter::start(&rt, rt.alloc(), &shared, 2, Call::WriteLock)?;
         let reader = Waiter::start(&rt, rt.alloc(), &shared, 3, Call::ReadLock)?;
         let third = Waiter::start(&rt, rt.alloc(), &shared, 4, Call::WriteLock)?;
-        assert_eq!(rt;
-            shared.call(&rt, 0, Call::ToRead(384)),
-            Ok(Reply::Stamp(513))
-        );
-        assert_eq!(rt; reader.stamp(&rt), 514);
-        assert_eq!(rt; shared.call(&rt, 0, Call::UnlockRead(513)), Ok(Reply::Done));
+        assert!(rt; tells(&rt, &shared, 0, Call::ToRead(384), Ok(Reply::Stamp(513))));
+        assert!(rt; reader.stamp(&rt) == 514);
+        assert!(rt; tells(&rt, &shared, 0, Call::UnlockRead(513), Ok(Reply::Done)));
         let mut written = [first.stamp(&rt), second.stamp(&rt), third.stamp(&rt)];
         written.sort_unstable();
-        assert_eq!(rt; written, [640, 896, 1_152]);
+        assert!(rt; written == [640, 896, 1_152]);
     }
     Ok(())
 }

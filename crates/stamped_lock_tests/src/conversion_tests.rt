@@ -83,7 +83,7 @@ fn each_mode_is_converted_to_each(rt: HostRuntime) -> Result<(), Fail> {
         let mut lock = lock.enter();
         bring(&rt, &mut lock, found);
         let got = answer(&rt, &mut lock, ask, Stamp::new(old));
-        assert_eq!(rt; got, Some(new), "row {at}");
+        assert!(rt; got == Some(new), "row {at}");
     }
     Ok(())
 }

@@ -24,7 +24,7 @@ const WRITTEN: [Row; 15] = [
 #[test]
 fn a_released_write_stamp_validates_until_the_next_writer(rt: HostRuntime) -> Result<(), Fail> {
     let lock = made(rt.alloc())?;
-    assert_eq!(rt; first_wrong(&rt, &mut lock.enter(), &WRITTEN), None);
+    assert!(rt; first_wrong(&rt, &mut lock.enter(), &WRITTEN) == None);
     Ok(())
 }
 
@@ -44,7 +44,7 @@ const READ: [Row; 10] = [
 #[test]
 fn readers_are_counted_and_keep_a_writer_out(rt: HostRuntime) -> Result<(), Fail> {
     let lock = made(rt.alloc())?;
-    assert_eq!(rt; first_wrong(&rt, &mut lock.enter(), &READ), None);
+    assert!(rt; first_wrong(&rt, &mut lock.enter(), &READ) == None);
     Ok(())
 }
 
@@ -61,7 +61,7 @@ const MISMATCHED: [Row; 7] = [
 #[test]
 fn a_release_by_another_stamp_is_a_mismatch(rt: HostRuntime) -> Result<(), Fail> {
     let lock = made(rt.alloc())?;
-    assert_eq!(rt; first_wrong(&rt, &mut lock.enter(), &MISMATCHED), None);
+    assert!(rt; first_wrong(&rt, &mut lock.enter(), &MISMATCHED) == None);
     Ok(())
 }
 
@@ -80,7 +80,7 @@ const WITHOUT_A_STAMP: [Row; 9] = [
 #[test]
 fn a_release_without_a_stamp_says_whether_there_was_a_hold(rt: HostRuntime) -> Result<(), Fail> {
     let lock = made(rt.alloc())?;
-    assert_eq!(rt; first_wrong(&rt, &mut lock.enter(), &WITHOUT_A_STAMP), None);
+    assert!(rt; first_wrong(&rt, &mut lock.enter(), &WITHOUT_A_STAMP) == None);
     Ok(())
 }
 
@@ -97,7 +97,7 @@ const AT_ITS_LIMITS: [Row; 7] = [
 #[test]
 fn beyond_its_limits_a_lock_answers_none(rt: HostRuntime) -> Result<(), Fail> {
     let lock = made_with(rt.alloc(), Layout::One, 1, 1)?;
-    assert_eq!(rt; first_wrong(&rt, &mut lock.enter(), &AT_ITS_LIMITS), None);
+    assert!(rt; first_wrong(&rt, &mut lock.enter(), &AT_ITS_LIMITS) == None);
     Ok(())
 }
 
@@ -111,7 +111,7 @@ const IN_LAYOUT_TWO: [Row; 4] = [
 #[test]
 fn the_second_layout_has_stamps_of_its_own(rt: HostRuntime) -> Result<(), Fail> {
     let lock = made_with(rt.alloc(), Layout::Two, 65_535, 1_000_000)?;
-    assert_eq!(rt; first_wrong(&rt, &mut lock.enter(), &IN_LAYOUT_TWO), None);
+    assert!(rt; first_wrong(&rt, &mut lock.enter(), &IN_LAYOUT_TWO) == None);
     Ok(())
 }
 
@@ -127,7 +127,7 @@ const CONVERTED: [Row; 6] = [
 #[test]
 fn a_conversion_releases_what_was_held(rt: HostRuntime) -> Result<(), Fail> {
     let lock = made(rt.alloc())?;
-    assert_eq!(rt; first_wrong(&rt, &mut lock.enter(), &CONVERTED), None);
+    assert!(rt; first_wrong(&rt, &mut lock.enter(), &CONVERTED) == None);
     Ok(())
 }
 
@@ -137,9 +137,9 @@ fn what_one_handle_acquired_the_other_meets(rt: HostRuntime) -> Result<(), Fail>
     let (mut first, mut second) = (lock.enter(), lock.enter());
     let written = first.write(&rt).ok_or("not acquired")?;
     let met = (second.is_write_locked(), second.try_read(&rt));
-    assert_eq!(rt; met, (true, None));
+    assert!(rt; met == (true, None));
     let released = (second.unlock_write(written), first.is_write_locked());
-    assert_eq!(rt; released, (Ok::<(), Mismatch>(()), false));
+    assert!(rt; released == (Ok::<(), Mismatch>(()), false));
     Ok(())
 }
 
@@ -158,9 +158,6 @@ fn entering_changes_nothing(rt: HostRuntime) -> Result<(), Fail> {
     let read_by = third.read_count();
     let released = third.unlock_read(&rt, read).is_ok();
     let numbers = (written.number(), read.number(), read_by);
-    assert_eq!(rt;
-        (met, numbers, released),
-        ((true, true), (384, 513, 1), true)
-    );
+    assert!(rt; (met, numbers, released) == ((true, true), (384, 513, 1), true));
     Ok(())
 }

@@ -32,6 +32,6 @@ const ROWS: [Row; 24] = [
 #[test]
 fn alone_a_call_that_is_tried_once_is_made(rt: HostRuntime) -> Result<(), Fail> {
     let lock = made(rt.alloc())?;
-    assert_eq!(rt; first_wrong(&rt, &mut lock.enter(), &ROWS), None);
+    assert!(rt; first_wrong(&rt, &mut lock.enter(), &ROWS) == None);
     Ok(())
 }

@@ -48,11 +48,11 @@ fn readers_rely_on_the_rule_beside_a_writer(rt: HostRuntime) -> Result<(), Fail>
         || quote(&rt, board.enter()),
         || spreads(&rt, board.enter()),
     );
-    assert_eq!(rt; quoted, Ok(()));
+    assert!(rt; quoted == Ok(()));
     assert!(rt; least >= 1 && most <= 7);
     let mut last = board.enter();
-    assert_eq!(rt; last.get_once(), Ok([1_000, 1_007]));
-    assert_eq!(rt; last.split().get(&rt), [1_000, 1_007]);
+    assert!(rt; last.get_once() == Ok([1_000, 1_007]));
+    assert!(rt; last.split().get(&rt) == [1_000, 1_007]);
     Ok(())
 }
 
@@ -63,10 +63,10 @@ fn the_first_content_takes_a_version(rt: HostRuntime) -> Result<(), Fail> {
         return Err(Fail::from("no memory for the record"));
     };
     let mut handle = board.enter();
-    assert_eq!(rt; handle.get_once(), Ok([3, 5]));
-    assert_eq!(rt; handle.put_once([4, 6]), Ok(()));
-    assert_eq!(rt; handle.put_once([5, 7]), Err(PutFault::Spent(393_216)));
-    assert_eq!(rt; handle.put(&rt, [5, 7]), Err(Spent));
-    assert_eq!(rt; handle.get(&rt), [4, 6]);
+    assert!(rt; handle.get_once() == Ok([3, 5]));
+    assert!(rt; handle.put_once([4, 6]) == Ok(()));
+    assert!(rt; handle.put_once([5, 7]) == Err(PutFault::Spent(393_216)));
+    assert!(rt; handle.put(&rt, [5, 7]) == Err(Spent));
+    assert!(rt; handle.get(&rt) == [4, 6]);
     Ok(())
 }

@@ -8,10 +8,10 @@ use std::test::Fail;
 fn a_section_answers_its_closure_and_is_released(rt: HostRuntime) -> Result<(), Fail> {
     let lock = made(rt.alloc())?;
     let (mut lock, mut other) = (lock.enter(), lock.enter());
-    assert_eq!(rt; lock.write_with(&rt, |_| other.is_write_locked()), Ok(true));
-    assert_eq!(rt; lock.try_optimistic_read(), Stamp::new(512));
-    assert_eq!(rt; lock.read_with(&rt, |_| other.read_count()), Ok(1));
-    assert_eq!(rt; lock.read_count(), 0);
+    assert!(rt; lock.write_with(&rt, |_| other.is_write_locked()) == Ok(true));
+    assert!(rt; lock.try_optimistic_read() == Stamp::new(512));
+    assert!(rt; lock.read_with(&rt, |_| other.read_count()) == Ok(1));
+    assert!(rt; lock.read_count() == 0);
     Ok(())
 }
 
@@ -21,8 +21,8 @@ fn an_optimistic_read_that_validates_runs_once(rt: HostRuntime) -> Result<(), Fa
     let mut lock = lock.enter();
     let runs = AtomicU64::new(0);
     let answer = lock.read_optimistically(&rt, |_| runs.fetch_add(1, Ordering::SeqCst));
-    assert_eq!(rt; answer, Ok(0));
-    assert_eq!(rt; runs.load(Ordering::SeqCst), 1);
+    assert!(rt; answer == Ok(0));
+    assert!(rt; runs.load(Ordering::SeqCst) == 1);
     Ok(())
 }
 
@@ -30,15 +30,9 @@ fn an_optimistic_read_that_validates_runs_once(rt: HostRuntime) -> Result<(), Fa
 fn a_section_that_was_released_by_others_is_a_mismatch(rt: HostRuntime) -> Result<(), Fail> {
     let lock = made(rt.alloc())?;
     let (mut lock, mut other) = (lock.enter(), lock.enter());
-    assert_eq!(rt;
-        lock.write_with(&rt, |_| other.try_unlock_write(&rt)),
-        Err(WriteError::Mismatch)
-    );
-    assert_eq!(rt;
-        lock.read_with(&rt, |_| other.try_unlock_read(&rt)),
-        Err(Mismatch)
-    );
-    assert_eq!(rt; lock.try_optimistic_read(), Stamp::new(512));
+    assert!(rt; lock.write_with(&rt, |_| other.try_unlock_write(&rt)) == Err(WriteError::Mismatch));
+    assert!(rt; lock.read_with(&rt, |_| other.try_unlock_read(&rt)) == Err(Mismatch));
+    assert!(rt; lock.try_optimistic_read() == Stamp::new(512));
     Ok(())
 }
 
@@ -48,9 +42,9 @@ fn with_no_version_left_a_closure_does_not_run(rt: HostRuntime) -> Result<(), Fa
     let mut lock = lock.enter();
     let runs = AtomicU64::new(0);
     let first = lock.write_with(&rt, |_| runs.fetch_add(1, Ordering::SeqCst));
-    assert_eq!(rt; first, Ok(0));
+    assert!(rt; first == Ok(0));
     let second = lock.write_with(&rt, |_| runs.fetch_add(1, Ordering::SeqCst));
-    assert_eq!(rt; second, Err(WriteError::Spent));
-    assert_eq!(rt; runs.load(Ordering::SeqCst), 1);
+    assert!(rt; second == Err(WriteError::Spent));
+    assert!(rt; runs.load(Ordering::SeqCst) == 1);
     Ok(())
 }

@@ -6,7 +6,7 @@ use std::test::Fail;
 #[test]
 fn zero_is_no_stamp(rt: HostRuntime) -> Result<(), Fail> {
     let made = [Stamp::new(0), Stamp::new(1), Stamp::new(u64::MAX)];
-    assert_eq!(rt; made.map(number), [0, 1, u64::MAX]);
+    assert!(rt; made.map(number) == [0, 1, u64::MAX]);
     Ok(())
 }
 
@@ -23,7 +23,7 @@ fn a_stamp_is_of_a_kind_by_its_number(rt: HostRuntime) -> Result<(), Fail> {
     ];
     for (number, layout, want) in rows {
         let stamp = Stamp::new(number).ok_or("no stamp")?;
-        assert_eq!(rt; stamp.kind_in(layout), want, "at {number}");
+        assert!(rt; stamp.kind_in(layout) == want, "at {number}");
     }
     Ok(())
 }

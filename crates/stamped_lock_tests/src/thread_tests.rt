@@ -30,8 +30,8 @@ fn sections_of_two_writers_come_one_after_the_other(rt: HostRuntime) -> Result<(
         || add_often(&rt, second, &sum),
     );
     let mut lock = third;
-    assert_eq!(rt; sum.load(Ordering::SeqCst), 20_000);
-    assert_eq!(rt; lock.try_optimistic_read(), Stamp::new(256 * 20_001));
+    assert!(rt; sum.load(Ordering::SeqCst) == 20_000);
+    assert!(rt; lock.try_optimistic_read() == Stamp::new(256 * 20_001));
     Ok(())
 }
 
@@ -65,7 +65,7 @@ fn an_optimistic_read_that_a_writer_came_into_runs_again(rt: HostRuntime) -> Res
         || write_between(&rt, writer, &turn),
         || read_beside(&rt, reader, &turn),
     );
-    assert_eq!(rt; run, Ok(1));
+    assert!(rt; run == Ok(1));
     Ok(())
 }
 
@@ -133,8 +133,8 @@ fn a_read_that_gets_no_stamp_waits_and_runs_once(rt: HostRuntime) -> Result<(), 
         || count_runs(&rt, reader, &runs),
         || release_late(&rt, writer, stamp, &runs),
     );
-    assert_eq!(rt; read, Ok(0));
-    assert_eq!(rt; before, 0);
-    assert_eq!(rt; runs.load(Ordering::SeqCst), 1);
+    assert!(rt; read == Ok(0));
+    assert!(rt; before == 0);
+    assert!(rt; runs.load(Ordering::SeqCst) == 1);
     Ok(())
 }
