@@ -1,10 +1,11 @@
 -- The laws of observed histories, over the definitions alone.
-use Rattle.std.specs.Prelude.{ℕ, ◌≡◌, ◌↔◌, true, false, List, [], ◌∷◌}
+use Rattle.std.specs.Prelude.{ℕ, ◌≡◌, ◌↔◌, true, false, List, [], ◌∷◌, slice_get, Some}
+use Rattle.std.specs.List.{Contains}
 use Rattle.stamp_core.specs.Limits.{Bounds}
 use Rattle.stamp_core.specs.declared.call.Call.{Call}
 use Rattle.stamp_core.specs.declared.reply.Reply.{Reply}
 use Rattle.stamp_explain.specs.declared.observed.Observation.{Observation}
-use Rattle.stamp_explain.specs.Observed.{ObservedHistory, IsObserved, HasReturned}
+use Rattle.stamp_explain.specs.Observed.{ObservedHistory, IsObserved, HasReturned, IsInterval, AreOfOneObject}
 use Rattle.stamp_explain.specs.Explained.{Effect, IsExplained}
 use Rattle.stamp_core.specs.Record.{Recorded}
 use Rattle.stamp_core.specs.Linearized.{IsLinearized}
@@ -54,6 +55,25 @@ ObserversAtOnce =
     changes_nothing x.entry.call x.reply ≡ true →
     CanComplete (LockSteps limits) entries to_come s taken →
     CanComplete (LockSteps limits) entries to_come s (x.index ∷ taken)
+
+-- a call of the awaited one's object may take effect, and the search can be completed then
+pub record GoesOnAlike (limits : Bounds) (entries : List Observation) (i : ℕ) (awaited : Observation)
+    (to_come : List ℕ) (s : LockState) (taken : List ℕ) : Type 0 where
+  pub effect : Effect
+  pub alike : AreOfOneObject awaited effect.entry
+  pub state : LockState
+  pub may : MayTake (LockSteps limits) entries awaited s taken effect state
+  pub can : CanComplete (LockSteps limits) entries (i ∷ to_come) state (effect.index ∷ taken)
+
+-- Where a return is awaited, nothing is lost if of the open calls only those of its object are tried: those of the
+-- lock, or those of the record.
+abbrev pub OneObjectSuffices : Type 0
+OneObjectSuffices =
+    (limits : Bounds) (entries : List Observation) (i : ℕ) (awaited : Observation) (to_come : List ℕ) (s : LockState)
+    (taken : List ℕ) →
+    slice_get entries i ≡ Some awaited → IsInterval awaited → ¬ Contains taken i →
+    CanComplete (LockSteps limits) entries (i ∷ to_come) s taken →
+    GoesOnAlike limits entries i awaited to_come s taken
 
 -- A record of an observed history that is linearized explains it.
 abbrev pub PointsExplain : Type 0
