@@ -9,7 +9,7 @@ use Rattle.stamp_core.specs.declared.reply.Reply.{Reply}
 use Rattle.stamp_explain.specs.declared.observed.Observation.{Observation}
 use Rattle.stamp_explain.specs.Observed.{IsBefore}
 use Rattle.stamp_explain.specs.Explained.{Effect, IsEffectOf, history_of, indices_of, AreApart, RespectsBefore}
-use Rattle.stamp_explain.specs.Search.{Runs, IsCompletedBy, MayTake}
+use Rattle.stamp_explain.specs.Search.{Runs, IsCompletedBy, IsFirstReturn, MayTake}
 use Rattle.stamp_explain.proofs.Lists.{none_in_empty, contains_cases, contains_first, contains_rest, pairs_head}
 use Rattle.stamp_explain.proofs.Lists.{pairs_tail, pairs_cons, pairs_none}
 
@@ -233,11 +233,6 @@ never_empty step entries i returns s taken not_yet by = neither
     neither : Contains taken i ⊎ Contains (indices_of []) i → ⊥
     neither (inl has) = not_yet has
     neither (inr has) = none_in_empty i has
-
--- of the calls that have not taken effect this one returned first: what another had returned before, it had too
-abbrev pub IsFirstReturn : List Observation → List ℕ → Observation → Type 0
-IsFirstReturn entries taken a = (j : ℕ) (e x : Observation) → slice_get entries j ≡ Some e → ¬ Contains taken j →
-    IsBefore e x → IsBefore a x
 
 -- and conversely: a call that may take effect, and an order that completes what it leaves, make an order
 pub puts_first : {S : Type 0} (step : S → Call × Reply → S →

@@ -5,14 +5,14 @@ use Rattle.stamp_core.specs.Limits.{Bounds}
 use Rattle.stamp_core.specs.declared.call.Call.{Call}
 use Rattle.stamp_core.specs.declared.reply.Reply.{Reply}
 use Rattle.stamp_explain.specs.declared.observed.Observation.{Observation}
-use Rattle.stamp_explain.specs.Observed.{ObservedHistory, IsObserved, HasReturned, IsInterval, AreOfOneObject}
+use Rattle.stamp_explain.specs.Observed.{ObservedHistory, IsObserved, HasReturned, IsInterval, IsBefore, AreOfOneObject}
 use Rattle.stamp_explain.specs.Explained.{Effect, IsExplained}
 use Rattle.stamp_core.specs.Record.{Recorded}
 use Rattle.stamp_core.specs.Linearized.{IsLinearized}
 use Rattle.stamp_explain.specs.Points.{IsRecordOf}
 use Rattle.stamp_explain.specs.Cut.{cut, seen_at, IsStuck}
 use Rattle.stamp_explain.specs.Search.{LockState, FindsOrder, CanComplete, MayTake, AreReturns, AreReturnsOf}
-use Rattle.stamp_explain.specs.Search.{LockSteps, LockAlone, RecordAlone, opening}
+use Rattle.stamp_explain.specs.Search.{LockSteps, LockAlone, RecordAlone, opening, IsFirstReturn, IsAlikeSooner}
 use Rattle.stamp_core.specs.Content.{zeros}
 use Rattle.stamp_explain.specs.Observer.{changes_nothing}
 
@@ -74,6 +74,23 @@ OneObjectSuffices =
     slice_get entries i ≡ Some awaited → IsInterval awaited → ¬ Contains taken i →
     CanComplete (LockSteps limits) entries (i ∷ to_come) s taken →
     GoesOnAlike limits entries i awaited to_come s taken
+
+-- this call may take effect, and the search can be completed then
+pub record MayGoBy (limits : Bounds) (entries : List Observation) (awaited : Observation) (to_come : List ℕ)
+    (s t : LockState) (taken : List ℕ) (y : Effect) : Type 0 where
+  pub may : MayTake (LockSteps limits) entries awaited s taken y t
+  pub can : CanComplete (LockSteps limits) entries to_come t (y.index ∷ taken)
+
+-- Of open calls that are alike, nothing is lost if the one that returned first takes effect before the others.
+abbrev pub AlikeInTurn : Type 0
+AlikeInTurn =
+    (limits : Bounds) (entries : List Observation) (awaited : Observation) (to_come : List ℕ) (s t : LockState)
+    (taken : List ℕ) (x : Effect) (k : ℕ) (e : Observation) →
+    IsFirstReturn entries taken awaited → MayTake (LockSteps limits) entries awaited s taken x t →
+    CanComplete (LockSteps limits) entries to_come t (x.index ∷ taken) →
+    slice_get entries k ≡ Some e → IsAlikeSooner e x.entry → ¬ Contains taken k → ¬ IsBefore awaited e →
+    Contains to_come k →
+    MayGoBy limits entries awaited to_come s t taken (record { index = k; entry = e; reply = x.reply })
 
 -- A record of an observed history that is linearized explains it.
 abbrev pub PointsExplain : Type 0
