@@ -12,15 +12,15 @@ pub are_of_one_object-requires-clause-other : goal.are_of_one_object-requires-cl
 are_of_one_object-requires-clause-other c =
     let calls : List ℕ = c.as_slice-calls.result.now in
     open_within c.args.observed.now c.args.plan.now c.args.node.now.past c.index.result.now calls
-    (length calls - 1 - c.loop-k.k) c.requires.at.is_plan c.requires.at.past c.index.ensures c.as_slice-calls.ensures.value
-    (omega (arith, c.loop-k-test.true))
+    (length calls - 1 - c.loop-k.k) c.requires.at.is_plan c.requires.at.past c.index.ensures
+    c.as_slice-calls.ensures.value (omega (arith, c.loop-k-test.true))
 
 pub take_of-requires-clause-inside : goal.take_of-requires-clause-inside
 take_of-requires-clause-inside c =
     let calls : List ℕ = c.as_slice-calls.result.now in
     open_within c.args.observed.now c.args.plan.now c.args.node.now.past c.index.result.now calls
-    (length calls - 1 - c.loop-k.k) c.requires.at.is_plan c.requires.at.past c.index.ensures c.as_slice-calls.ensures.value
-    (omega (arith, c.loop-k-test.true))
+    (length calls - 1 - c.loop-k.k) c.requires.at.is_plan c.requires.at.past c.index.ensures
+    c.as_slice-calls.ensures.value (omega (arith, c.loop-k-test.true))
 
 false_true : false ≡ true → ⊥
 false_true h = cc

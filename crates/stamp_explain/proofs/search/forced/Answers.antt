@@ -28,8 +28,9 @@ returns-in-Some-clause-one c =
     (λ bit. false_true (sym c.if-has_bit.false ∙ c.has_bit.ensures.1 bit))
     (sym c.observes_at.ensures ∙ c.if-observes_at.true)
     (c.in-Some.ensures c.args.plan.now.returns.items c.requires.is_plan.are
-    (open_read c.args.observed.now c.args.plan.now c.args.node.now.past c.index-2.result.now c.as_slice-i-items.result.now
-    c.loop-i.i-index c.requires.is_plan c.requires.past c.index-2.ensures c.as_slice-i-items.ensures.value c.loop-i-test.true))
+    (open_read c.args.observed.now c.args.plan.now c.args.node.now.past c.index-2.result.now
+    c.as_slice-i-items.result.now c.loop-i.i-index c.requires.is_plan c.requires.past c.index-2.ensures
+    c.as_slice-i-items.ensures.value c.loop-i-test.true))
 
 pub returns-clause-none : goal.returns-clause-none
 returns-clause-none c = record {
