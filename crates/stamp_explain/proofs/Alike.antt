@@ -141,7 +141,8 @@ replaced_completes limits entries a to_come s t taken x k e xs first may by at a
       (λ (j : ℕ). Contains (k ∷ taken) j ⊎ Contains (indices_of r.others) j) moved to_come by.returned;
   ordered = replaced_pairs RespectsBefore x r.old r.replaces
       (λ j d lt before. may.begun (first (get_or xs j d).index (get_or xs j d).entry x.entry
-      (by.effects j d lt).is_entry (λ has. by.fresh j d lt (contains_rest x.index taken (get_or xs j d).index has)) before))
+      (by.effects j d lt).is_entry
+      (λ has. by.fresh j d lt (contains_rest x.index taken (get_or xs j d).index has)) before))
       (λ j d lt respects. not_sooner e x.entry (get_or xs j d).entry alike
       (subst (λ (o : Observation). ¬ IsBefore o (get_or xs j d).entry) entry respects)) by.ordered;
   runs = subst (λ (h : History). Runs (LockSteps limits) t h)

@@ -6,6 +6,7 @@ use Rattle.stamp_core.specs.declared.call.Call.{Call}
 use Rattle.stamp_core.specs.declared.reply.Reply.{Reply}
 use Rattle.stamp_explain.specs.declared.observed.Observation.{Observation}
 use Rattle.stamp_explain.specs.Observed.{ObservedHistory, IsObserved, HasReturned, IsInterval, IsBefore, AreOfOneObject}
+use Rattle.stamp_explain.specs.Observed.{of_lock, of_record}
 use Rattle.stamp_explain.specs.Explained.{Effect, IsExplained}
 use Rattle.stamp_core.specs.Record.{Recorded}
 use Rattle.stamp_core.specs.Linearized.{IsLinearized}
@@ -101,7 +102,14 @@ abbrev pub ExplainedHasPoints : Type 0
 ExplainedHasPoints = (h : ObservedHistory) → IsObserved h → IsExplained h →
     (r : Recorded) × (IsRecordOf h r × IsLinearized r)
 
--- Lock and record may be judged apart: linearizability is local.
+-- Lock and record may be judged apart, each by the history of its own calls: linearizability is local.
+abbrev pub JudgedApart : Type 0
+JudgedApart =
+    (h : ObservedHistory) → IsObserved h →
+    (IsObserved (of_lock h) × IsObserved (of_record h)) ×
+    (IsExplained h ↔ (IsExplained (of_lock h) × IsExplained (of_record h)))
+
+-- And each by its own steps alone, in a search among all calls.
 abbrev pub Locality : Type 0
 Locality =
     (h : ObservedHistory) (locks records : List ℕ) → IsObserved h → AreReturnsOf h.entries true locks →
