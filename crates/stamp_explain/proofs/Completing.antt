@@ -1,14 +1,15 @@
 -- An order is found one call at a time, each no sooner than a return asks for it.
-use Rattle.std.proofs.Common.{◌≡◌, ◌≢◌, ◌⊎◌, ℕ, List, [], ◌∷◌, get_or, sym, ◌∙◌, ap, subst, inl, inr, Some}
+use Rattle.std.proofs.Common.{◌≡◌, ◌≢◌, ◌⊎◌, ℕ, suc, List, [], ◌∷◌, length, get_or, refl, sym, ◌∙◌, ap, subst, inl}
+use Rattle.std.proofs.Common.{inr, Some}
 use Rattle.std.specs.Prelude.{slice_get}
-use Rattle.std.specs.List.{All, Contains}
+use Rattle.std.specs.List.{All, AllPairs, Contains}
 use Rattle.std.proofs.lemmas.List.Elements.{All-nil, All-cons, All-head, All-tail, All-weaker}
 use Rattle.stamp_core.specs.declared.call.Call.{Call}
 use Rattle.stamp_core.specs.declared.reply.Reply.{Reply}
 use Rattle.stamp_explain.specs.declared.observed.Observation.{Observation}
 use Rattle.stamp_explain.specs.Observed.{IsBefore}
-use Rattle.stamp_explain.specs.Explained.{Effect, IsEffectOf, indices_of, AreApart, RespectsBefore}
-use Rattle.stamp_explain.specs.Search.{IsCompletedBy, MayTake}
+use Rattle.stamp_explain.specs.Explained.{Effect, IsEffectOf, history_of, indices_of, AreApart, RespectsBefore}
+use Rattle.stamp_explain.specs.Search.{Runs, IsCompletedBy, IsFirstReturn, MayTake}
 use Rattle.stamp_explain.proofs.Lists.{none_in_empty, contains_cases, contains_first, contains_rest, pairs_head}
 use Rattle.stamp_explain.proofs.Lists.{pairs_tail, pairs_cons, pairs_none}
 
@@ -79,37 +80,107 @@ pub record IsAwaited (entries : List Observation) (i : ℕ) (a : Observation) : 
   pub is_entry : slice_get entries i ≡ Some a
   pub begun : ¬ IsBefore a a
 
--- the first call of an order may take effect, and the others complete what it leaves
-pub takes_first : {S : Type 0} (step : S → Call × Reply → S →
-    Type 0) (entries : List Observation) (i : ℕ) (a : Observation) (returns : List ℕ) (s : S) (taken : List ℕ)
-    (x : Effect) (rest : List Effect) → IsAwaited entries i a → ¬ Contains taken i →
-    IsCompletedBy step entries (i ∷ returns) s taken (x ∷ rest) →
-    (t : S) × (MayTake step entries a s taken x t × IsCompletedBy step entries (i ∷ returns) t (x.index ∷ taken) rest)
-takes_first {S} step entries i a returns s taken x rest awaited not_yet by = (by.runs.0, (may, left))
+-- the effect stands in the first list behind such alone for which this holds; the second list has all others
+pub data IsBehind (P : Effect → Type 0) (x : Effect) : List Effect → List Effect → Type 0 where
+  at_first : {xs : List Effect} → IsBehind P x (x ∷ xs) xs
+  behind : {y : Effect} {xs ys : List Effect} → P y → IsBehind P x xs ys → IsBehind P x (y ∷ xs) (y ∷ ys)
+
+behind_all : (P Q : Effect → Type 0) (x : Effect) {xs ys : List Effect} → IsBehind P x xs ys → All Q xs →
+    Q x × All Q ys
+behind_all P Q x (at_first {xs}) all = (All-head Q x xs all, All-tail Q x xs all)
+behind_all P Q x (behind {y} {xs} {ys} p b) all =
+    let both : Q x × All Q ys = behind_all P Q x b (All-tail Q y xs all) in
+    (both.0, All-cons Q y ys (All-head Q y xs all) both.1)
+
+behind_pairs : (P : Effect → Type 0) (R : Effect → Effect → Type 0) (x : Effect) {xs ys : List Effect} →
+    IsBehind P x xs ys → AllPairs R xs → AllPairs R ys
+behind_pairs P R x (at_first {xs}) all = pairs_tail R x xs all
+behind_pairs P R x (behind {y} {xs} {ys} p b) all = pairs_cons R y ys
+    (behind_all P (R y) x b (pairs_head R y xs all)).1 (behind_pairs P R x b (pairs_tail R y xs all))
+
+behind_apart : (P : Effect → Type 0) (x : Effect) {xs ys : List Effect} → IsBehind P x xs ys → AllPairs AreApart xs →
+    All (AreApart x) ys
+behind_apart P x (at_first {xs}) all = pairs_head AreApart x xs all
+behind_apart P x (behind {y} {xs} {ys} p b) all = All-cons (AreApart x) y ys
+    (λ e. (behind_all P (AreApart y) x b (pairs_head AreApart y xs all)).0 (sym e))
+    (behind_apart P x b (pairs_tail AreApart y xs all))
+
+behind_index : (P : Effect → Type 0) (x : Effect) (j : ℕ) {xs ys : List Effect} → IsBehind P x xs ys →
+    Contains (indices_of xs) j → (x.index ≡ j) ⊎ Contains (indices_of ys) j
+behind_index P x j (at_first {xs}) has = contains_cases x.index (indices_of xs) j has
+behind_index P x j (behind {y} {xs} {ys} p b) has = by (contains_cases y.index (indices_of xs) j has)
+    (behind_index P x j b)
   where
-    first : IsEffectOf entries x
-    first = All-head (IsEffectOf entries) x rest by.effects
+    more : (x.index ≡ j) ⊎ Contains (indices_of ys) j → (x.index ≡ j) ⊎ Contains (y.index ∷ indices_of ys) j
+    more (inl same) = inl same
+    more (inr has) = inr (contains_rest y.index (indices_of ys) j has)
 
-    others : All (IsEffectOf entries) rest
-    others = All-tail (IsEffectOf entries) x rest by.effects
+    by : (y.index ≡ j) ⊎ Contains (indices_of xs) j →
+        (Contains (indices_of xs) j → (x.index ≡ j) ⊎ Contains (indices_of ys) j) →
+        (x.index ≡ j) ⊎ Contains (y.index ∷ indices_of ys) j
+    by (inl same) again = inr (contains_first y.index (indices_of ys) j same)
+    by (inr has) again = more (again has)
 
-    begun_by : Contains taken i ⊎ Contains (x.index ∷ indices_of rest) i → ¬ IsBefore a x.entry
-    begun_by (inl has) = absurd (not_yet has)
-    begun_by (inr has) = which (contains_cases x.index (indices_of rest) i has)
-      where
-        which : (x.index ≡ i) ⊎ Contains (indices_of rest) i → ¬ IsBefore a x.entry
-        which (inl same) = subst (λ (o : Observation). ¬ IsBefore a o)
-            (sym (same_entry entries x i a first same awaited.is_entry)) awaited.begun
-        which (inr has) = later_of entries i a x.entry rest awaited.is_entry others
-            (pairs_head RespectsBefore x rest by.ordered) has
+pub behind_length : (P : Effect → Type 0) (x : Effect) {xs ys : List Effect} → IsBehind P x xs ys →
+    length xs ≡ suc (length ys)
+behind_length P x at_first = refl
+behind_length P x (behind p b) = ap suc (behind_length P x b)
 
-    may : MayTake step entries a s taken x by.runs.0
+-- it began no later than the awaited call returned, if that does not stand before it
+behind_begun : (P : Effect → Type 0) (entries : List Observation) (i : ℕ) (a : Observation) (x : Effect)
+    {xs ys : List Effect} → IsAwaited entries i a → ((y : Effect) → IsEffectOf entries y → P y → y.index ≢ i) →
+    IsBehind P x xs ys → All (IsEffectOf entries) xs → AllPairs RespectsBefore xs → Contains (indices_of xs) i →
+    ¬ IsBefore a x.entry
+behind_begun P entries i a x awaited other (at_first {xs}) effects ordered has =
+    which (contains_cases x.index (indices_of xs) i has)
+  where
+    which : (x.index ≡ i) ⊎ Contains (indices_of xs) i → ¬ IsBefore a x.entry
+    which (inl same) = subst (λ (o : Observation). ¬ IsBefore a o)
+        (sym (same_entry entries x i a (All-head (IsEffectOf entries) x xs effects) same awaited.is_entry))
+        awaited.begun
+    which (inr has) = later_of entries i a x.entry xs awaited.is_entry (All-tail (IsEffectOf entries) x xs effects)
+        (pairs_head RespectsBefore x xs ordered) has
+behind_begun P entries i a x awaited other (behind {y} {xs} {ys} p b) effects ordered has =
+    behind_begun P entries i a x awaited other b (All-tail (IsEffectOf entries) y xs effects)
+    (pairs_tail RespectsBefore y xs ordered) (rest_only (contains_cases y.index (indices_of xs) i has))
+  where
+    rest_only : (y.index ≡ i) ⊎ Contains (indices_of xs) i → Contains (indices_of xs) i
+    rest_only (inl same) = absurd (other y (All-head (IsEffectOf entries) y xs effects) p same)
+    rest_only (inr has) = has
+
+-- so the awaited call is of the order
+pub awaited_in : (i : ℕ) (returns taken : List ℕ) (rest : List Effect) → ¬ Contains taken i →
+    All (λ (j : ℕ). Contains taken j ⊎ Contains (indices_of rest) j) (i ∷ returns) → Contains (indices_of rest) i
+awaited_in i returns taken rest not_yet returned =
+    by (All-head (λ (j : ℕ). Contains taken j ⊎ Contains (indices_of rest) j) i returns returned)
+  where
+    by : Contains taken i ⊎ Contains (indices_of rest) i → Contains (indices_of rest) i
+    by (inl has) = absurd (not_yet has)
+    by (inr has) = has
+
+-- an effect of an order may be the next, if what stands before it may wait; the others complete what it leaves
+pub takes_next : {S : Type 0} (step : S → Call × Reply → S → Type 0) (entries : List Observation) (i : ℕ)
+    (a : Observation) (returns : List ℕ) (s t : S) (taken : List ℕ) (P : Effect → Type 0) (x : Effect)
+    {rest others : List Effect} → IsAwaited entries i a → ¬ Contains taken i →
+    ((y : Effect) → IsEffectOf entries y → P y → y.index ≢ i) → IsBehind P x rest others →
+    step s (x.entry.call, x.reply) t → Runs step t (history_of others) →
+    IsCompletedBy step entries (i ∷ returns) s taken rest →
+    MayTake step entries a s taken x t × IsCompletedBy step entries (i ∷ returns) t (x.index ∷ taken) others
+takes_next step entries i a returns s t taken P x {rest} {others} awaited not_yet other b steps runs by = (may, left)
+  where
+    effects : IsEffectOf entries x × All (IsEffectOf entries) others
+    effects = behind_all P (IsEffectOf entries) x b by.effects
+
+    fresh : (¬ Contains taken x.index) × All (λ (y : Effect). ¬ Contains taken y.index) others
+    fresh = behind_all P (λ (y : Effect). ¬ Contains taken y.index) x b by.fresh
+
+    may : MayTake step entries a s taken x t
     may = record {
-      effect = first;
-      fresh = All-head (λ (y : Effect). ¬ Contains taken y.index) x rest by.fresh;
-      begun = begun_by (All-head (λ (j : ℕ). Contains taken j ⊎ Contains (x.index ∷ indices_of rest) j) i returns
-          by.returned);
-      steps = by.runs.1.0;
+      effect = effects.0;
+      fresh = fresh.0;
+      begun = behind_begun P entries i a x awaited other b by.effects by.ordered
+          (awaited_in i returns taken rest not_yet by.returned);
+      steps = steps;
     }
 
     still_fresh : (y : Effect) → x.index ≢ y.index → ¬ Contains taken y.index → ¬ Contains (x.index ∷ taken) y.index
@@ -119,27 +190,38 @@ takes_first {S} step entries i a returns s taken x rest awaited not_yet by = (by
         neither (inl e) = apart e
         neither (inr has) = misses has
 
-    moved : (j : ℕ) → Contains taken j ⊎ Contains (x.index ∷ indices_of rest) j →
-        Contains (x.index ∷ taken) j ⊎ Contains (indices_of rest) j
+    moved : (j : ℕ) → Contains taken j ⊎ Contains (indices_of rest) j →
+        Contains (x.index ∷ taken) j ⊎ Contains (indices_of others) j
     moved j (inl has) = inl (contains_rest x.index taken j has)
-    moved j (inr has) = which (contains_cases x.index (indices_of rest) j has)
+    moved j (inr has) = which (behind_index P x j b has)
       where
-        which : (x.index ≡ j) ⊎ Contains (indices_of rest) j →
-            Contains (x.index ∷ taken) j ⊎ Contains (indices_of rest) j
+        which : (x.index ≡ j) ⊎ Contains (indices_of others) j →
+            Contains (x.index ∷ taken) j ⊎ Contains (indices_of others) j
         which (inl e) = inl (contains_first x.index taken j e)
         which (inr has) = inr has
 
-    left : IsCompletedBy step entries (i ∷ returns) by.runs.0 (x.index ∷ taken) rest
+    left : IsCompletedBy step entries (i ∷ returns) t (x.index ∷ taken) others
     left = record {
-      effects = others;
-      once = pairs_tail AreApart x rest by.once;
-      fresh = λ k d lt. still_fresh (get_or rest k d) (pairs_head AreApart x rest by.once k d lt)
-          (All-tail (λ (y : Effect). ¬ Contains taken y.index) x rest by.fresh k d lt);
-      returned = All-weaker (λ (j : ℕ). Contains taken j ⊎ Contains (x.index ∷ indices_of rest) j)
-          (λ (j : ℕ). Contains (x.index ∷ taken) j ⊎ Contains (indices_of rest) j) moved (i ∷ returns) by.returned;
-      ordered = pairs_tail RespectsBefore x rest by.ordered;
-      runs = by.runs.1.1;
+      effects = effects.1;
+      once = behind_pairs P AreApart x b by.once;
+      fresh = λ k d lt. still_fresh (get_or others k d) (behind_apart P x b by.once k d lt) (fresh.1 k d lt);
+      returned = All-weaker (λ (j : ℕ). Contains taken j ⊎ Contains (indices_of rest) j)
+          (λ (j : ℕ). Contains (x.index ∷ taken) j ⊎ Contains (indices_of others) j) moved (i ∷ returns) by.returned;
+      ordered = behind_pairs P RespectsBefore x b by.ordered;
+      runs = runs;
     }
+
+-- the first call of an order may take effect
+pub takes_first : {S : Type 0} (step : S → Call × Reply → S →
+    Type 0) (entries : List Observation) (i : ℕ) (a : Observation) (returns : List ℕ) (s : S) (taken : List ℕ)
+    (x : Effect) (rest : List Effect) → IsAwaited entries i a → ¬ Contains taken i →
+    IsCompletedBy step entries (i ∷ returns) s taken (x ∷ rest) →
+    (t : S) × (MayTake step entries a s taken x t × IsCompletedBy step entries (i ∷ returns) t (x.index ∷ taken) rest)
+takes_first step entries i a returns s taken x rest awaited not_yet by = (
+  by.runs.0,
+  takes_next step entries i a returns s by.runs.0 taken (λ (y : Effect). ⊥) x awaited not_yet
+      (λ y is none. absurd none) at_first by.runs.1.0 by.runs.1.1 by,
+)
 
 -- nothing is left to take effect only where the return is not awaited
 pub never_empty : {S : Type 0} (step : S → Call × Reply → S →
@@ -151,11 +233,6 @@ never_empty step entries i returns s taken not_yet by = neither
     neither : Contains taken i ⊎ Contains (indices_of []) i → ⊥
     neither (inl has) = not_yet has
     neither (inr has) = none_in_empty i has
-
--- of the calls that have not taken effect this one returned first: what another had returned before, it had too
-abbrev pub IsFirstReturn : List Observation → List ℕ → Observation → Type 0
-IsFirstReturn entries taken a = (j : ℕ) (e x : Observation) → slice_get entries j ≡ Some e → ¬ Contains taken j →
-    IsBefore e x → IsBefore a x
 
 -- and conversely: a call that may take effect, and an order that completes what it leaves, make an order
 pub puts_first : {S : Type 0} (step : S → Call × Reply → S →

@@ -17,11 +17,11 @@ use Rattle.stamp_explain.specs.declared.observed.Returned.{Returned}
 use Rattle.stamp_explain.specs.Observed.{ObservedHistory, IsBefore, HasReturned, IsInterval, IsObserved}
 use Rattle.stamp_explain.specs.Explained.{Effect, history_of, indices_of, IsExplained}
 use Rattle.stamp_explain.specs.Search.{Runs, IsCompletedBy, CanComplete, FindsOrder, ReturnsNoLater, AreInOrder}
-use Rattle.stamp_explain.specs.Search.{IsReturnAt, LockState, opening, after_call, LockSteps}
+use Rattle.stamp_explain.specs.Search.{IsReturnAt, IsFirstReturn, LockState, opening, after_call, LockSteps}
 use Rattle.stamp_explain.specs.Search.FindsOrder.{at_end, returns, takes}
 use Rattle.stamp_explain.specs.ExplainLaws.{JustInTime}
 use Rattle.stamp_explain.proofs.Lists.{none_in_empty, contains_cases, contains_rest, pairs_head, pairs_tail, either_in}
-use Rattle.stamp_explain.proofs.Completing.{IsAwaited, IsFirstReturn, completed_by_none, past_return}
+use Rattle.stamp_explain.proofs.Completing.{IsAwaited, completed_by_none, past_return}
 use Rattle.stamp_explain.proofs.Completing.{before_return, takes_first, never_empty, puts_first}
 
 -- what is awaited, of each return to come

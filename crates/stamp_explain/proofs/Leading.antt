@@ -57,7 +57,7 @@ leads_reached h returns node next reached leads =
       stands = l.stands;
       way = subst (λ (to_come : List ℕ). Reaches h returns to_come l.state (l.effect.index ∷ reached.taken))
           (come_as_well returns node.past next.node.past leads.inside l.past)
-          (goes_on_by way l.awaited l.effect l.state l.is_awaited l.not_yet l.may);
+          (goes_on_by way l.awaited l.effect l.state l.is_awaited l.not_yet l.tried l.may);
     }
 
 -- so a call that took effect there did so in some state

@@ -29,34 +29,35 @@ use Rattle.stamp_explain.proofs.Lists.{none_in_empty, contains_cases, contains_f
 use Rattle.stamp_explain.proofs.Lists.{pairs_head, pairs_tail}
 
 -- the third list is the first two, each in its order
-data IsMerge : List Effect → List Effect → List Effect → Type 0 where
+pub data IsMerge : List Effect → List Effect → List Effect → Type 0 where
   none : IsMerge [] [] []
   left : {x : Effect} {xs ys zs : List Effect} → IsMerge xs ys zs → IsMerge (x ∷ xs) ys (x ∷ zs)
   right : {y : Effect} {xs ys zs : List Effect} → IsMerge xs ys zs → IsMerge xs (y ∷ ys) (y ∷ zs)
 
-merge_all : (P : Effect → Type 0) {xs ys zs : List Effect} → IsMerge xs ys zs → All P xs → All P ys → All P zs
+pub merge_all : (P : Effect → Type 0) {xs ys zs : List Effect} → IsMerge xs ys zs → All P xs → All P ys → All P zs
 merge_all P none a b = a
 merge_all P (left {x} {xs} {ys} {zs} m) a b = All-cons P x zs (All-head P x xs a) (merge_all P m (All-tail P x xs a) b)
 merge_all P (right {y} {xs} {ys} {zs} m) a b = All-cons P y zs (All-head P y ys b)
     (merge_all P m a (All-tail P y ys b))
 
-left_all : (P : Effect → Type 0) {xs ys zs : List Effect} → IsMerge xs ys zs → All P zs → All P xs
+pub left_all : (P : Effect → Type 0) {xs ys zs : List Effect} → IsMerge xs ys zs → All P zs → All P xs
 left_all P none all = all
 left_all P (left {x} {xs} {ys} {zs} m) all = All-cons P x xs (All-head P x zs all) (left_all P m (All-tail P x zs all))
 left_all P (right {y} {xs} {ys} {zs} m) all = left_all P m (All-tail P y zs all)
 
-flipped : {xs ys zs : List Effect} → IsMerge xs ys zs → IsMerge ys xs zs
+pub flipped : {xs ys zs : List Effect} → IsMerge xs ys zs → IsMerge ys xs zs
 flipped none = none
 flipped (left m) = right (flipped m)
 flipped (right m) = left (flipped m)
 
-left_pairs : (R : Effect → Effect → Type 0) {xs ys zs : List Effect} → IsMerge xs ys zs → AllPairs R zs → AllPairs R xs
+pub left_pairs : (R : Effect → Effect → Type 0) {xs ys zs : List Effect} → IsMerge xs ys zs → AllPairs R zs →
+    AllPairs R xs
 left_pairs R none all = all
 left_pairs R (left {x} {xs} {ys} {zs} m) all = pairs_cons R x xs (left_all (R x) m (pairs_head R x zs all))
     (left_pairs R m (pairs_tail R x zs all))
 left_pairs R (right {y} {xs} {ys} {zs} m) all = left_pairs R m (pairs_tail R y zs all)
 
-merge_apart : {xs ys zs : List Effect} → IsMerge xs ys zs → AllPairs AreApart xs → AllPairs AreApart ys →
+pub merge_apart : {xs ys zs : List Effect} → IsMerge xs ys zs → AllPairs AreApart xs → AllPairs AreApart ys →
     All (λ (x : Effect). All (AreApart x) ys) xs → AllPairs AreApart zs
 merge_apart none a b across = a
 merge_apart (left {x} {xs} {ys} {zs} m) a b across =
@@ -70,7 +71,7 @@ merge_apart (right {y} {xs} {ys} {zs} m) a b across =
     (merge_apart m a (pairs_tail AreApart y ys b) (All-weaker (λ (x : Effect). All (AreApart x) (y ∷ ys))
     (λ (x : Effect). All (AreApart x) ys) (λ x each. All-tail (AreApart x) y ys each) xs across))
 
-left_index : (i : ℕ) {xs ys zs : List Effect} → IsMerge xs ys zs → Contains (indices_of xs) i →
+pub left_index : (i : ℕ) {xs ys zs : List Effect} → IsMerge xs ys zs → Contains (indices_of xs) i →
     Contains (indices_of zs) i
 left_index i none has = has
 left_index i (left {x} {xs} {ys} {zs} m) has = by (contains_cases x.index (indices_of xs) i has) (left_index i m)
@@ -82,12 +83,12 @@ left_index i (left {x} {xs} {ys} {zs} m) has = by (contains_cases x.index (indic
 left_index i (right {y} {xs} {ys} {zs} m) has = contains_rest y.index (indices_of zs) i (left_index i m has)
 
 -- merged by their beginnings, both keep what is before
-record Merges (xs ys : List Effect) : Type 0 where
-  order : List Effect
-  merge : IsMerge xs ys order
-  ordered : AllPairs RespectsBefore order
+pub record Merges (xs ys : List Effect) : Type 0 where
+  pub order : List Effect
+  pub merge : IsMerge xs ys order
+  pub ordered : AllPairs RespectsBefore order
 
-abbrev IsSound : Effect → Type 0
+abbrev pub IsSound : Effect → Type 0
 IsSound x = IsInterval x.entry
 
 -- none of a list that begins no sooner had returned when this one began
@@ -113,15 +114,15 @@ respects_all x y ys le sound all = All-cons (RespectsBefore x) y ys (not_yet y.e
         by None before = before
         by (Some r) before = omega arith
 
-all_left : (xs : List Effect) → IsMerge xs [] xs
+pub all_left : (xs : List Effect) → IsMerge xs [] xs
 all_left [] = none
 all_left (x ∷ xs) = left (all_left xs)
 
-all_right : (ys : List Effect) → IsMerge [] ys ys
+pub all_right : (ys : List Effect) → IsMerge [] ys ys
 all_right [] = none
 all_right (y ∷ ys) = right (all_right ys)
 
-merges : (n : ℕ) (xs ys : List Effect) → length xs + length ys ≤ n → All IsSound xs → All IsSound ys →
+pub merges : (n : ℕ) (xs ys : List Effect) → length xs + length ys ≤ n → All IsSound xs → All IsSound ys →
     AllPairs RespectsBefore xs → AllPairs RespectsBefore ys → Merges xs ys
 merges n [] ys few a b p q = record { order = ys; merge = all_right ys; ordered = q }
 merges n (x ∷ xs) [] few a b p q = record { order = x ∷ xs; merge = all_left (x ∷ xs); ordered = p }
@@ -167,7 +168,7 @@ record_appends limits events (Put words) guarded = append-nil events
 record_appends limits events (PutIf expected words) guarded = append-nil events
 record_appends limits events _ guarded = absurd (true≢false guarded)
 
-merge_legal : (limits : Bounds) (events : List LockEvent) (content : List ℕ) {xs ys zs : List Effect} →
+pub merge_legal : (limits : Bounds) (events : List LockEvent) (content : List ℕ) {xs ys zs : List Effect} →
     IsMerge xs ys zs → Runs (LockAlone limits) events (history_of xs) → Runs RecordAlone content (history_of ys) →
     IsLegalFrom limits events content (history_of zs)
 merge_legal limits events content none a b = tt
@@ -191,14 +192,14 @@ merge_legal limits events content (right {y} {xs} {ys} {zs} m) a b =
     )
 
 -- and the other way round
-record Splits (limits : Bounds) (events : List LockEvent) (content : List ℕ) (zs : List Effect) : Type 0 where
-  locks : List Effect
-  records : List Effect
-  merge : IsMerge locks records zs
-  lock_runs : Runs (LockAlone limits) events (history_of locks)
-  record_runs : Runs RecordAlone content (history_of records)
+pub record Splits (limits : Bounds) (events : List LockEvent) (content : List ℕ) (zs : List Effect) : Type 0 where
+  pub locks : List Effect
+  pub records : List Effect
+  pub merge : IsMerge locks records zs
+  pub lock_runs : Runs (LockAlone limits) events (history_of locks)
+  pub record_runs : Runs RecordAlone content (history_of records)
 
-splits : (limits : Bounds) (events : List LockEvent) (content : List ℕ) (zs : List Effect) →
+pub splits : (limits : Bounds) (events : List LockEvent) (content : List ℕ) (zs : List Effect) →
     IsLegalFrom limits events content (history_of zs) → Splits limits events content zs
 splits limits events content [] legal = record {
   locks = [];
@@ -258,20 +259,20 @@ splits limits events content (z ∷ zs) legal =
       );
     }
 
-all_locks : (limits : Bounds) (events : List LockEvent) (xs : List Effect) →
+pub all_locks : (limits : Bounds) (events : List LockEvent) (xs : List Effect) →
     Runs (LockAlone limits) events (history_of xs) → All (λ (x : Effect). is_lock_call x.entry.call ≡ true) xs
 all_locks limits events [] runs = All-nil (λ (x : Effect). is_lock_call x.entry.call ≡ true)
 all_locks limits events (x ∷ xs) runs = All-cons (λ (x : Effect). is_lock_call x.entry.call ≡ true) x xs runs.1.0.lock
     (all_locks limits runs.0 xs runs.1.1)
 
-all_records : (content : List ℕ) (xs : List Effect) → Runs RecordAlone content (history_of xs) →
+pub all_records : (content : List ℕ) (xs : List Effect) → Runs RecordAlone content (history_of xs) →
     All (λ (x : Effect). is_lock_call x.entry.call ≡ false) xs
 all_records content [] runs = All-nil (λ (x : Effect). is_lock_call x.entry.call ≡ false)
 all_records content (x ∷ xs) runs = All-cons (λ (x : Effect). is_lock_call x.entry.call ≡ false) x xs runs.1.0.guarded
     (all_records runs.0 xs runs.1.1)
 
 -- the index of a merged order whose entry is of the other kind is of the other list
-left_only : (hs : List Observation) (i : ℕ) (e : Observation) (b c : Bool) → slice_get hs i ≡ Some e →
+pub left_only : (hs : List Observation) (i : ℕ) (e : Observation) (b c : Bool) → slice_get hs i ≡ Some e →
     is_lock_call e.call ≡ b → b ≢ c → {xs ys zs : List Effect} → IsMerge xs ys zs → All (IsEffectOf hs) ys →
     All (λ (y : Effect). is_lock_call y.entry.call ≡ c) ys → Contains (indices_of zs) i → Contains (indices_of xs) i
 left_only hs i e b c at kind differ none effects kinds has = has
@@ -295,14 +296,14 @@ left_only hs i e b c at kind differ (right {y} {xs} {ys} {zs} m) effects kinds h
         All-head (λ (y : Effect). is_lock_call y.entry.call ≡ c) y ys kinds))
     by (inr found) again = again found
 
-other_kind : (hs : List Observation) (x y : Effect) → IsEffectOf hs x → IsEffectOf hs y →
+pub other_kind : (hs : List Observation) (x y : Effect) → IsEffectOf hs x → IsEffectOf hs y →
     is_lock_call x.entry.call ≡ true → is_lock_call y.entry.call ≡ false → AreApart x y
 other_kind hs x y x_is y_is lock guarded same =
     let it : x.entry ≡ y.entry = same_Some x.entry y.entry (sym x_is.is_entry ∙ ap (λ (k : ℕ). slice_get hs k) same ∙
     y_is.is_entry) in
     true≢false (sym lock ∙ ap (λ (o : Observation). is_lock_call o.call) it ∙ guarded)
 
-sound_of : (h : ObservedHistory) (xs : List Effect) → IsObserved h → All (IsEffectOf h.entries) xs → All IsSound xs
+pub sound_of : (h : ObservedHistory) (xs : List Effect) → IsObserved h → All (IsEffectOf h.entries) xs → All IsSound xs
 sound_of h xs observed all = All-weaker (IsEffectOf h.entries) IsSound
     (λ x is. subst IsInterval (get_or_from_slice_get h.entries x.index x.entry x.entry is.is_entry)
     (observed.intervals x.index x.entry (slice_get_within h.entries x.index x.entry is.is_entry))) xs all

@@ -1,14 +1,17 @@
 -- What a search with a store of nodes that it has seen keeps: nothing is lost while some node waits.
-use Rattle.std.proofs.Common.{◌≡◌, ◌⊎◌, ℕ, ◌+◌, ◌<◌, ◌≤◌, zero, suc, List, [], ◌∷◌, length, refl, subst, inl}
+use Rattle.std.proofs.Common.{◌≡◌, ◌⊎◌, ℕ, ◌+◌, ◌<◌, ◌≤◌, zero, suc, List, ◌∷◌, length, refl, subst, inl}
 use Rattle.std.proofs.Common.{inr, arith}
 use Rattle.std.specs.List.{Contains}
+use Rattle.stamp_core.specs.Limits.{Bounds}
 use Rattle.stamp_core.specs.declared.call.Call.{Call}
 use Rattle.stamp_core.specs.declared.reply.Reply.{Reply}
 use Rattle.stamp_explain.specs.declared.observed.Observation.{Observation}
+use Rattle.stamp_explain.specs.Observed.{AreOfOneObject}
 use Rattle.stamp_explain.specs.Explained.{Effect}
-use Rattle.stamp_explain.specs.Search.{IsCompletedBy, MayTake}
+use Rattle.stamp_explain.specs.Search.{IsCompletedBy, MayTake, LockState, LockSteps}
 use Rattle.stamp_explain.proofs.Lists.{either_in}
-use Rattle.stamp_explain.proofs.Completing.{IsAwaited, past_return, takes_first, never_empty}
+use Rattle.stamp_explain.proofs.Completing.{IsAwaited, past_return}
+use Rattle.stamp_explain.proofs.Swapping.{TakesAlike, takes_alike}
 
 -- an order completes it, in so many steps: returns and calls that take effect
 pub record CompletesIn {S : Type 0} (step : S → Call × Reply → S →
@@ -25,45 +28,49 @@ pub record GoesPast {S : Type 0} (step : S → Call × Reply → S →
   pub fewer : n ≡ suc left
   pub completes : CompletesIn step entries to_come s taken left
 
--- a call takes effect, and the rest takes a step less
-pub record GoesOnBy {S : Type 0} (step : S → Call × Reply → S →
-    Type 0) (entries : List Observation) (i : ℕ) (a : Observation) (to_come : List ℕ) (s : S) (taken : List ℕ)
-    (n : ℕ) : Type 0 where
+-- a call of the awaited one's object takes effect, and the rest takes a step less
+pub record GoesOnBy (limits : Bounds) (entries : List Observation) (i : ℕ) (a : Observation) (to_come : List ℕ)
+    (s : LockState) (taken : List ℕ) (n : ℕ) : Type 0 where
   pub awaited : ¬ Contains taken i
   pub effect : Effect
-  pub state : S
-  pub may : MayTake step entries a s taken effect state
+  pub alike : AreOfOneObject a effect.entry
+  pub state : LockState
+  pub may : MayTake (LockSteps limits) entries a s taken effect state
   pub left : ℕ
   pub fewer : n ≡ suc left
-  pub completes : CompletesIn step entries (i ∷ to_come) state (effect.index ∷ taken) left
+  pub completes : CompletesIn (LockSteps limits) entries (i ∷ to_come) state (effect.index ∷ taken) left
 
 -- what can be completed goes on by one step of these two
-pub goes_on : {S : Type 0} (step : S → Call × Reply → S → Type 0) (entries : List Observation) (i : ℕ)
-    (a : Observation) (to_come : List ℕ) (s : S) (taken : List ℕ) (n : ℕ) → IsAwaited entries i a →
-    CompletesIn step entries (i ∷ to_come) s taken n → GoesPast step entries i to_come s taken n ⊎
-    GoesOnBy step entries i a to_come s taken n
-goes_on {S} step entries i a to_come s taken n awaited can = which can.rest can.by can.steps (either_in taken i)
+pub goes_on : (limits : Bounds) (entries : List Observation) (i : ℕ) (a : Observation) (to_come : List ℕ)
+    (s : LockState) (taken : List ℕ) (n : ℕ) → IsAwaited entries i a →
+    CompletesIn (LockSteps limits) entries (i ∷ to_come) s taken n →
+    GoesPast (LockSteps limits) entries i to_come s taken n ⊎ GoesOnBy limits entries i a to_come s taken n
+goes_on limits entries i a to_come s taken n awaited can = which (either_in taken i)
   where
-    which : (rest : List Effect) → IsCompletedBy step entries (i ∷ to_come) s taken rest →
-        length (i ∷ to_come) + length rest ≡ n → Contains taken i ⊎ (¬ Contains taken i) →
-        GoesPast step entries i to_come s taken n ⊎ GoesOnBy step entries i a to_come s taken n
-    which rest by steps (inl has) = inl (record {
+    which : Contains taken i ⊎ (¬ Contains taken i) →
+        GoesPast (LockSteps limits) entries i to_come s taken n ⊎ GoesOnBy limits entries i a to_come s taken n
+    which (inl has) = inl (record {
       in_effect = has;
-      left = length to_come + length rest;
-      fewer = omega arith;
-      completes = record { rest = rest; by = past_return step entries i to_come s taken rest by; steps = refl };
+      left = length to_come + length can.rest;
+      fewer = omega (arith, can.steps);
+      completes = record {
+        rest = can.rest;
+        by = past_return (LockSteps limits) entries i to_come s taken can.rest can.by;
+        steps = refl;
+      };
     })
-    which [] by steps (inr not_yet) = absurd (never_empty step entries i to_come s taken not_yet by)
-    which (x ∷ rest) by steps (inr not_yet) =
-        let first = takes_first step entries i a to_come s taken x rest awaited not_yet by in
+    which (inr not_yet) =
+        let one : TakesAlike limits entries i a to_come s taken can.rest =
+        takes_alike limits entries i a to_come s taken can.rest awaited not_yet can.by in
         inr (record {
           awaited = not_yet;
-          effect = x;
-          state = first.0;
-          may = first.1.0;
-          left = length (i ∷ to_come) + length rest;
-          fewer = omega arith;
-          completes = record { rest = rest; by = first.1.1; steps = refl };
+          effect = one.effect;
+          alike = one.alike;
+          state = one.state;
+          may = one.may;
+          left = length (i ∷ to_come) + length one.others;
+          fewer = omega (arith, can.steps, one.fewer);
+          completes = record { rest = one.others; by = one.by; steps = refl };
         })
 
 -- a waiting node that can be completed, in no more steps

@@ -35,114 +35,114 @@ abbrev is_early : ℕ → Observation → Bool
 is_early last e = not (nat_lt last e.first)
 
 -- where the k-th entry that is kept stands, and how many are kept before one
-place_of : ℕ → List Observation → ℕ → ℕ
-place_of last [] k = 0
-place_of last (e ∷ es) zero = cond (is_early last e) 0 (suc (place_of last es zero))
-place_of last (e ∷ es) (suc k) = cond (is_early last e) (suc (place_of last es k)) (suc (place_of last es (suc k)))
+pub place_of : (Observation → Bool) → List Observation → ℕ → ℕ
+place_of p [] k = 0
+place_of p (e ∷ es) zero = cond (p e) 0 (suc (place_of p es zero))
+place_of p (e ∷ es) (suc k) = cond (p e) (suc (place_of p es k)) (suc (place_of p es (suc k)))
 
-rank_of : ℕ → List Observation → ℕ → ℕ
-rank_of last [] i = 0
-rank_of last (e ∷ es) zero = 0
-rank_of last (e ∷ es) (suc i) = cond (is_early last e) (suc (rank_of last es i)) (rank_of last es i)
+pub rank_of : (Observation → Bool) → List Observation → ℕ → ℕ
+rank_of p [] i = 0
+rank_of p (e ∷ es) zero = 0
+rank_of p (e ∷ es) (suc i) = cond (p e) (suc (rank_of p es i)) (rank_of p es i)
 
-abbrev kept : ℕ → List Observation → List Observation
-kept last es = filter (is_early last) es
+abbrev pub kept : (Observation → Bool) → List Observation → List Observation
+kept p es = filter p es
 
 -- the k-th that is kept
-record IsKeptAt (last : ℕ) (es : List Observation) (k i : ℕ) (e : Observation) : Type 0 where
-  is_entry : slice_get es i ≡ Some e
-  is_kept : slice_get (kept last es) k ≡ Some e
-  early : is_early last e ≡ true
-  place : place_of last es k ≡ i
-  rank : rank_of last es i ≡ k
+pub record IsKeptAt (p : Observation → Bool) (es : List Observation) (k i : ℕ) (e : Observation) : Type 0 where
+  pub is_entry : slice_get es i ≡ Some e
+  pub is_kept : slice_get (kept p es) k ≡ Some e
+  pub passes : p e ≡ true
+  pub place : place_of p es k ≡ i
+  pub rank : rank_of p es i ≡ k
 
-kept_here : (last : ℕ) (x : Observation) (es : List Observation) → is_early last x ≡ true →
-    IsKeptAt last (x ∷ es) 0 0 x
+kept_here : (p : Observation → Bool) (x : Observation) (es : List Observation) → p x ≡ true →
+    IsKeptAt p (x ∷ es) 0 0 x
 unfolding place_of rank_of
-kept_here last x es early = record {
+kept_here p x es early = record {
   is_entry = refl;
-  is_kept = ap (λ (b : Bool). slice_get (cond b (x ∷ filter (is_early last) es) (filter (is_early last) es)) 0) early;
-  early = early;
-  place = ap (λ (b : Bool). cond b 0 (suc (place_of last es zero))) early;
+  is_kept = ap (λ (b : Bool). slice_get (cond b (x ∷ filter p es) (filter p es)) 0) early;
+  passes = early;
+  place = ap (λ (b : Bool). cond b 0 (suc (place_of p es zero))) early;
   rank = refl;
 }
 
-kept_after_kept : (last : ℕ) (x : Observation) (es : List Observation) (k i : ℕ) (e : Observation) →
-    is_early last x ≡ true → IsKeptAt last es k i e → IsKeptAt last (x ∷ es) (suc k) (suc i) e
+kept_after_kept : (p : Observation → Bool) (x : Observation) (es : List Observation) (k i : ℕ) (e : Observation) →
+    p x ≡ true → IsKeptAt p es k i e → IsKeptAt p (x ∷ es) (suc k) (suc i) e
 unfolding place_of rank_of
-kept_after_kept last x es k i e early is = record {
+kept_after_kept p x es k i e early is = record {
   is_entry = is.is_entry;
-  is_kept = ap (λ (b : Bool). slice_get (cond b (x ∷ filter (is_early last) es) (filter (is_early last) es)) (suc k))
+  is_kept = ap (λ (b : Bool). slice_get (cond b (x ∷ filter p es) (filter p es)) (suc k))
       early ∙ is.is_kept;
-  early = is.early;
-  place = ap (λ (b : Bool). cond b (suc (place_of last es k)) (suc (place_of last es (suc k)))) early ∙
+  passes = is.passes;
+  place = ap (λ (b : Bool). cond b (suc (place_of p es k)) (suc (place_of p es (suc k)))) early ∙
       ap (λ (n : ℕ). suc n) is.place;
-  rank = ap (λ (b : Bool). cond b (suc (rank_of last es i)) (rank_of last es i)) early ∙
+  rank = ap (λ (b : Bool). cond b (suc (rank_of p es i)) (rank_of p es i)) early ∙
       ap (λ (n : ℕ). suc n) is.rank;
 }
 
-kept_after_late : (last : ℕ) (x : Observation) (es : List Observation) (k i : ℕ) (e : Observation) →
-    is_early last x ≡ false → IsKeptAt last es k i e → IsKeptAt last (x ∷ es) k (suc i) e
+kept_after_late : (p : Observation → Bool) (x : Observation) (es : List Observation) (k i : ℕ) (e : Observation) →
+    p x ≡ false → IsKeptAt p es k i e → IsKeptAt p (x ∷ es) k (suc i) e
 unfolding place_of rank_of
-kept_after_late last x es k i e late is = record {
+kept_after_late p x es k i e late is = record {
   is_entry = is.is_entry;
-  is_kept = ap (λ (b : Bool). slice_get (cond b (x ∷ filter (is_early last) es) (filter (is_early last) es)) k) late ∙
+  is_kept = ap (λ (b : Bool). slice_get (cond b (x ∷ filter p es) (filter p es)) k) late ∙
       is.is_kept;
-  early = is.early;
+  passes = is.passes;
   place = by k is.place;
-  rank = ap (λ (b : Bool). cond b (suc (rank_of last es i)) (rank_of last es i)) late ∙ is.rank;
+  rank = ap (λ (b : Bool). cond b (suc (rank_of p es i)) (rank_of p es i)) late ∙ is.rank;
 }
   where
-    by : (m : ℕ) → place_of last es m ≡ i → place_of last (x ∷ es) m ≡ suc i
-    by zero at = ap (λ (b : Bool). cond b 0 (suc (place_of last es zero))) late ∙ ap (λ (n : ℕ). suc n) at
-    by (suc m) at = ap (λ (b : Bool). cond b (suc (place_of last es m)) (suc (place_of last es (suc m)))) late ∙
+    by : (m : ℕ) → place_of p es m ≡ i → place_of p (x ∷ es) m ≡ suc i
+    by zero at = ap (λ (b : Bool). cond b 0 (suc (place_of p es zero))) late ∙ ap (λ (n : ℕ). suc n) at
+    by (suc m) at = ap (λ (b : Bool). cond b (suc (place_of p es m)) (suc (place_of p es (suc m)))) late ∙
         ap (λ (n : ℕ). suc n) at
 
 some_inj : {X : Type 0} (x y : X) → Some x ≡ Some y → x ≡ y
 some_inj x y e = cc
 
--- an early entry is kept somewhere
-rank_gives : (last : ℕ) (es : List Observation) (i : ℕ) (e : Observation) → slice_get es i ≡ Some e →
-    is_early last e ≡ true → (k : ℕ) × IsKeptAt last es k i e
-rank_gives last [] i e at early = absurd (none-some e at)
-rank_gives last (x ∷ es) zero e at early =
+-- an entry that passes is kept somewhere
+pub rank_gives : (p : Observation → Bool) (es : List Observation) (i : ℕ) (e : Observation) → slice_get es i ≡ Some e →
+    p e ≡ true → (k : ℕ) × IsKeptAt p es k i e
+rank_gives p [] i e at early = absurd (none-some e at)
+rank_gives p (x ∷ es) zero e at early =
     let same : x ≡ e = some_inj x e at in (
       0,
-      subst (λ (o : Observation). IsKeptAt last (x ∷ es) 0 0 o) same
-          (kept_here last x es (ap (is_early last) same ∙ early)),
+      subst (λ (o : Observation). IsKeptAt p (x ∷ es) 0 0 o) same
+          (kept_here p x es (ap p same ∙ early)),
     )
-rank_gives last (x ∷ es) (suc i) e at early = by (is_early last x) refl (rank_gives last es i e at early)
+rank_gives p (x ∷ es) (suc i) e at early = by (p x) refl (rank_gives p es i e at early)
   where
-    by : (b : Bool) → is_early last x ≡ b → (k : ℕ) × IsKeptAt last es k i e →
-        (k : ℕ) × IsKeptAt last (x ∷ es) k (suc i) e
-    by true is found = (suc found.0, kept_after_kept last x es found.0 i e is found.1)
-    by false is found = (found.0, kept_after_late last x es found.0 i e is found.1)
+    by : (b : Bool) → p x ≡ b → (k : ℕ) × IsKeptAt p es k i e →
+        (k : ℕ) × IsKeptAt p (x ∷ es) k (suc i) e
+    by true is found = (suc found.0, kept_after_kept p x es found.0 i e is found.1)
+    by false is found = (found.0, kept_after_late p x es found.0 i e is found.1)
 
--- and what is kept is an early entry
-place_gives : (last : ℕ) (es : List Observation) (k : ℕ) (e : Observation) → slice_get (kept last es) k ≡ Some e →
-    (i : ℕ) × IsKeptAt last es k i e
-place_gives last [] k e at = absurd (none-some e at)
-place_gives last (x ∷ es) k e at = by (is_early last x) refl k at (λ m here. place_gives last es m e here)
+-- and what is kept passes
+pub place_gives : (p : Observation → Bool) (es : List Observation) (k : ℕ) (e : Observation) →
+    slice_get (kept p es) k ≡ Some e → (i : ℕ) × IsKeptAt p es k i e
+place_gives p [] k e at = absurd (none-some e at)
+place_gives p (x ∷ es) k e at = by (p x) refl k at (λ m here. place_gives p es m e here)
   where
-    by : (b : Bool) → is_early last x ≡ b → (m : ℕ) →
-        slice_get (cond b (x ∷ filter (is_early last) es) (filter (is_early last) es)) m ≡ Some e →
-        ((n : ℕ) → slice_get (kept last es) n ≡ Some e → (i : ℕ) × IsKeptAt last es n i e) →
-        (i : ℕ) × IsKeptAt last (x ∷ es) m i e
+    by : (b : Bool) → p x ≡ b → (m : ℕ) →
+        slice_get (cond b (x ∷ filter p es) (filter p es)) m ≡ Some e →
+        ((n : ℕ) → slice_get (kept p es) n ≡ Some e → (i : ℕ) × IsKeptAt p es n i e) →
+        (i : ℕ) × IsKeptAt p (x ∷ es) m i e
     by true is zero here later = (
       0,
-      subst (λ (o : Observation). IsKeptAt last (x ∷ es) 0 0 o) (some_inj x e here)
-          (kept_here last x es is),
+      subst (λ (o : Observation). IsKeptAt p (x ∷ es) 0 0 o) (some_inj x e here)
+          (kept_here p x es is),
     )
-    by true is (suc m) here later = let found : (i : ℕ) × IsKeptAt last es m i e = later m here in
-        (suc found.0, kept_after_kept last x es m found.0 e is found.1)
-    by false is m here later = let found : (i : ℕ) × IsKeptAt last es m i e = later m here in
-        (suc found.0, kept_after_late last x es m found.0 e is found.1)
+    by true is (suc m) here later = let found : (i : ℕ) × IsKeptAt p es m i e = later m here in
+        (suc found.0, kept_after_kept p x es m found.0 e is found.1)
+    by false is m here later = let found : (i : ℕ) × IsKeptAt p es m i e = later m here in
+        (suc found.0, kept_after_late p x es m found.0 e is found.1)
 
 -- the same effects, with their entries at other places
-moved : (ℕ → ℕ) → Effect → Effect
+pub moved : (ℕ → ℕ) → Effect → Effect
 moved f x = record { index = f x.index; entry = x.entry; reply = x.reply }
 
-moved_indices : (f : ℕ → ℕ) (xs : List Effect) → indices_of (map (moved f) xs) ≡ map f (indices_of xs)
+pub moved_indices : (f : ℕ → ℕ) (xs : List Effect) → indices_of (map (moved f) xs) ≡ map f (indices_of xs)
 unfolding moved
 moved_indices f [] = refl
 moved_indices f (x ∷ xs) = ap (λ (is : List ℕ). f x.index ∷ is) (moved_indices f xs)
@@ -170,22 +170,27 @@ WasReturned : List Observation → (ℕ → ℕ) → List Effect → Type 0
 WasReturned ks f order = (k : ℕ) (e : Observation) → slice_get ks k ≡ Some e → HasReturned e →
     (i : ℕ) × ((f i ≡ k) × Contains (indices_of order) i)
 
-reindexed : (h : ObservedHistory) (ks : List Observation) (f back : ℕ → ℕ) (order : List Effect) →
-    IsExplainedBy h order → All (IsMovedTo ks f back) order → WasReturned ks f order →
-    IsExplained (record h { entries = ks })
-unfolding WasReturned moved
-reindexed h ks f back order by each returned = record {
-  order = map (moved f) order;
-  by = record {
-    effects = All-map (IsEffectOf ks) (moved f) order (λ k d lt. effect (get_or order k d) (by.effects k d lt)
-        (each k d lt));
-    once = pairs_map AreApart AreApart (IsMovedTo ks f back) (moved f) order
-        (λ x y x_is y_is apart. still_apart x y x_is y_is apart) each by.once;
-    returned = λ k e at has. found k (returned k e at has);
-    ordered = pairs_map RespectsBefore RespectsBefore (IsMovedTo ks f back) (moved f) order
-        (λ x y x_is y_is respects. still_ordered x y respects) each by.ordered;
-    legal = subst (λ (history : History). IsLegal h.limits h.width history) (sym (moved_history f order)) by.legal;
-  };
+-- what explains a history, but for what returned in it
+pub record IsPartOf (h : ObservedHistory) (order : List Effect) : Type 0 where
+  pub effects : All (IsEffectOf h.entries) order
+  pub once : AllPairs AreApart order
+  pub ordered : AllPairs RespectsBefore order
+  pub legal : IsLegal h.limits h.width (history_of order)
+
+part_of : (h : ObservedHistory) (order : List Effect) → IsExplainedBy h order → IsPartOf h order
+part_of h order by = record { effects = by.effects; once = by.once; ordered = by.ordered; legal = by.legal }
+
+moved_part : (h : ObservedHistory) (ks : List Observation) (f back : ℕ → ℕ) (order : List Effect) →
+    IsPartOf h order → All (IsMovedTo ks f back) order → IsPartOf (record h { entries = ks }) (map (moved f) order)
+unfolding moved
+moved_part h ks f back order by each = record {
+  effects = All-map (IsEffectOf ks) (moved f) order (λ k d lt. effect (get_or order k d) (by.effects k d lt)
+      (each k d lt));
+  once = pairs_map AreApart AreApart (IsMovedTo ks f back) (moved f) order
+      (λ x y x_is y_is apart. still_apart x y x_is y_is apart) each by.once;
+  ordered = pairs_map RespectsBefore RespectsBefore (IsMovedTo ks f back) (moved f) order
+      (λ x y x_is y_is respects. still_ordered x y respects) each by.ordered;
+  legal = subst (λ (history : History). IsLegal h.limits h.width history) (sym (moved_history f order)) by.legal;
 }
   where
     effect : (x : Effect) → IsEffectOf h.entries x → IsMovedTo ks f back x → IsEffectOf ks (moved f x)
@@ -198,10 +203,94 @@ reindexed h ks f back order by each returned = record {
     still_ordered : (x y : Effect) → RespectsBefore x y → RespectsBefore (moved f x) (moved f y)
     still_ordered x y respects = respects
 
-    found : (k : ℕ) → (i : ℕ) × ((f i ≡ k) × Contains (indices_of order) i) →
-        Contains (indices_of (map (moved f) order)) k
-    found k (i, (to, has)) = subst (λ (is : List ℕ). Contains is k) (sym (moved_indices f order))
-        (subst (λ (n : ℕ). Contains (map f (indices_of order)) n) to (contains_map f (indices_of order) i has))
+moved_has : (f : ℕ → ℕ) (order : List Effect) (k : ℕ) → (i : ℕ) × ((f i ≡ k) × Contains (indices_of order) i) →
+    Contains (indices_of (map (moved f) order)) k
+moved_has f order k (i, (to, has)) = subst (λ (is : List ℕ). Contains is k) (sym (moved_indices f order))
+    (subst (λ (n : ℕ). Contains (map f (indices_of order)) n) to (contains_map f (indices_of order) i has))
+
+reindexed : (h : ObservedHistory) (ks : List Observation) (f back : ℕ → ℕ) (order : List Effect) →
+    IsPartOf h order → All (IsMovedTo ks f back) order → WasReturned ks f order →
+    IsExplained (record h { entries = ks })
+unfolding WasReturned
+reindexed h ks f back order by each returned = record {
+  order = map (moved f) order;
+  by = record {
+    effects = part.effects;
+    once = part.once;
+    returned = λ k e at has. moved_has f order k (returned k e at has);
+    ordered = part.ordered;
+    legal = part.legal;
+  };
+}
+  where
+    part : IsPartOf (record h { entries = ks }) (map (moved f) order)
+    part = moved_part h ks f back order by each
+
+-- effects of entries that pass alone, of all of these that returned
+abbrev pub AllPass : (Observation → Bool) → List Effect → Type 0
+AllPass p order = All (λ (x : Effect). p x.entry ≡ true) order
+
+abbrev pub HasReturnsOf : ObservedHistory → (Observation → Bool) → List Effect → Type 0
+HasReturnsOf h p order = (i : ℕ) (e : Observation) → slice_get h.entries i ≡ Some e → HasReturned e → p e ≡ true →
+    Contains (indices_of order) i
+
+-- explain the history of these entries alone
+pub parted : (h : ObservedHistory) (p : Observation → Bool) (order : List Effect) → IsPartOf h order →
+    AllPass p order → HasReturnsOf h p order → IsExplained (record h { entries = kept p h.entries })
+unfolding WasReturned
+parted h p order by passes returned = reindexed h (kept p h.entries) (rank_of p h.entries) (place_of p h.entries) order
+    by (λ k d lt. moves (get_or order k d) (by.effects k d lt) (passes k d lt)) was
+  where
+    moves : (x : Effect) → IsEffectOf h.entries x → p x.entry ≡ true →
+        IsMovedTo (kept p h.entries) (rank_of p h.entries) (place_of p h.entries) x
+    moves x is pass =
+        let found : (k : ℕ) × IsKeptAt p h.entries k x.index x.entry =
+        rank_gives p h.entries x.index x.entry is.is_entry pass in
+        record {
+          there = ap (λ (k : ℕ). slice_get (kept p h.entries) k) found.1.rank ∙ found.1.is_kept;
+          inverse = ap (place_of p h.entries) found.1.rank ∙ found.1.place;
+        }
+
+    was : WasReturned (kept p h.entries) (rank_of p h.entries) order
+    was k e at has = let found : (i : ℕ) × IsKeptAt p h.entries k i e = place_gives p h.entries k e at in
+        (found.0, (found.1.rank, returned found.0 e found.1.is_entry has found.1.passes))
+
+-- and back
+pub record Restored (h : ObservedHistory) (p : Observation → Bool) : Type 0 where
+  pub order : List Effect
+  pub by : IsPartOf h order
+  pub passes : AllPass p order
+  pub returned : HasReturnsOf h p order
+
+pub restored : (h : ObservedHistory) (p : Observation → Bool) → IsExplained (record h { entries = kept p h.entries }) →
+    Restored h p
+unfolding moved
+restored h p explained = record {
+  order = map (moved f) explained.order;
+  by = moved_part (record h { entries = kept p h.entries }) h.entries f (rank_of p h.entries) explained.order
+      (part_of (record h { entries = kept p h.entries }) explained.order explained.by)
+      (λ k d lt. moves (get_or explained.order k d) (explained.by.effects k d lt));
+  passes = All-map (λ (x : Effect). p x.entry ≡ true) (moved f) explained.order
+      (λ k d lt. pass (get_or explained.order k d) (explained.by.effects k d lt));
+  returned = λ i e at has passes. moved_has f explained.order i
+      (let found : (k : ℕ) × IsKeptAt p h.entries k i e = rank_gives p h.entries i e at passes in
+      (found.0, (found.1.place, explained.by.returned found.0 e found.1.is_kept has)));
+}
+  where
+    f : ℕ → ℕ
+    f = place_of p h.entries
+
+    moves : (x : Effect) → IsEffectOf (kept p h.entries) x → IsMovedTo h.entries f (rank_of p h.entries) x
+    moves x is =
+        let found : (i : ℕ) × IsKeptAt p h.entries x.index i x.entry =
+        place_gives p h.entries x.index x.entry is.is_entry in
+        record {
+          there = ap (λ (i : ℕ). slice_get h.entries i) found.1.place ∙ found.1.is_entry;
+          inverse = ap (rank_of p h.entries) found.1.place ∙ found.1.rank;
+        }
+
+    pass : (x : Effect) → IsEffectOf (kept p h.entries) x → p x.entry ≡ true
+    pass x is = (place_gives p h.entries x.index x.entry is.is_entry).1.passes
 
 -- an order up to the first call that begins later
 until : ℕ → List Effect → List Effect
@@ -437,7 +526,7 @@ seen_is_observed h last bound is = record {
     Suit : Observation → Type 0
     Suit e = IsTrue (call_suits h.width e.call)
 
-    apart : AllPairs (EarlyApart last) (kept last (known_from last bound 0 h.entries))
+    apart : AllPairs (EarlyApart last) (kept (is_early last) (known_from last bound 0 h.entries))
     apart = AllPairs-filter (EarlyApart last) (is_early last) (known_from last bound 0 h.entries)
         (zip_pairs (IsSeenAs last) DoNotOverlap (EarlyApart last) h.entries (known_from last bound 0 h.entries)
         (λ a b k l a_seen b_seen apart. early_apart last a b k l a_seen b_seen apart)
@@ -445,62 +534,36 @@ seen_is_observed h last bound is = record {
 
 -- what is explained by an order is explained without what begins later, and the other way round
 leaves_out : (h : ObservedHistory) (last : ℕ) → All (IsUntil last) h.entries → IsExplained h →
-    IsExplained (record h { entries = kept last h.entries })
+    IsExplained (record h { entries = kept (is_early last) h.entries })
 unfolding WasReturned
-leaves_out h last ends explained = reindexed h (kept last h.entries) (rank_of last h.entries)
-    (place_of last h.entries) (until last explained.order) by (λ k d lt. moves (get_or (until last explained.order) k d)
-    (by.effects k d lt) (until_early last explained.order k d lt)) was
-  where
-    by : IsExplainedBy h (until last explained.order)
-    by = record {
-      effects = until_all (IsEffectOf h.entries) last explained.order explained.by.effects;
-      once = until_pairs AreApart last explained.order explained.by.once;
-      returned = λ i e at has. let ended : (e.first ≤ last) × (has.0.last ≤ last) =
-          (at_place (IsUntil last) h.entries i e ends at).ended has.0 has.1 in
-          until_has h.entries last i e has.0 explained.order at has.1 ended.1 ended.0 explained.by.effects
-          explained.by.ordered (explained.by.returned i e at has);
-      ordered = until_pairs RespectsBefore last explained.order explained.by.ordered;
-      legal = until_legal h.limits [] (zeros h.width) last explained.order explained.by.legal;
-    }
-
-    moves : (x : Effect) → IsEffectOf h.entries x → is_early last x.entry ≡ true →
-        IsMovedTo (kept last h.entries) (rank_of last h.entries) (place_of last h.entries) x
-    moves x is early =
-        let found : (k : ℕ) × IsKeptAt last h.entries k x.index x.entry =
-        rank_gives last h.entries x.index x.entry is.is_entry early in
-        record {
-          there = ap (λ (k : ℕ). slice_get (kept last h.entries) k) found.1.rank ∙ found.1.is_kept;
-          inverse = ap (place_of last h.entries) found.1.rank ∙ found.1.place;
-        }
-
-    was : WasReturned (kept last h.entries) (rank_of last h.entries) (until last explained.order)
-    was k e at has = let found : (i : ℕ) × IsKeptAt last h.entries k i e = place_gives last h.entries k e at in
-        (found.0, (found.1.rank, by.returned found.0 e found.1.is_entry has))
+leaves_out h last ends explained = parted h (is_early last) (until last explained.order) (record {
+  effects = until_all (IsEffectOf h.entries) last explained.order explained.by.effects;
+  once = until_pairs AreApart last explained.order explained.by.once;
+  ordered = until_pairs RespectsBefore last explained.order explained.by.ordered;
+  legal = until_legal h.limits [] (zeros h.width) last explained.order explained.by.legal;
+}) (until_early last explained.order)
+    (λ i e at has early.
+    let ended : (e.first ≤ last) × (has.0.last ≤ last) = (at_place (IsUntil last) h.entries i e ends at).ended has.0
+    has.1 in
+    until_has h.entries last i e has.0 explained.order at has.1 ended.1 ended.0 explained.by.effects
+    explained.by.ordered (explained.by.returned i e at has))
 
 takes_back : (h : ObservedHistory) (last : ℕ) → All (IsUntil last) h.entries →
-    IsExplained (record h { entries = kept last h.entries }) → IsExplained h
-unfolding WasReturned
-takes_back h last ends explained = reindexed (record h { entries = kept last h.entries }) h.entries
-    (place_of last h.entries) (rank_of last h.entries) explained.order explained.by
-    (λ k d lt. moves (get_or explained.order k d) (explained.by.effects k d lt)) was
+    IsExplained (record h { entries = kept (is_early last) h.entries }) → IsExplained h
+takes_back h last ends explained = record {
+  order = back.order;
+  by = record {
+    effects = back.by.effects;
+    once = back.by.once;
+    returned = λ i e at has. back.returned i e at has (early_is last e
+        ((at_place (IsUntil last) h.entries i e ends at).ended has.0 has.1).0);
+    ordered = back.by.ordered;
+    legal = back.by.legal;
+  };
+}
   where
-    moves : (x : Effect) → IsEffectOf (kept last h.entries) x →
-        IsMovedTo h.entries (place_of last h.entries) (rank_of last h.entries) x
-    moves x is =
-        let found : (i : ℕ) × IsKeptAt last h.entries x.index i x.entry =
-        place_gives last h.entries x.index x.entry is.is_entry in
-        record {
-          there = ap (λ (i : ℕ). slice_get h.entries i) found.1.place ∙ found.1.is_entry;
-          inverse = ap (rank_of last h.entries) found.1.place ∙ found.1.rank;
-        }
-
-    was : WasReturned h.entries (place_of last h.entries) explained.order
-    was i e at has =
-        let ended : (e.first ≤ last) × (has.0.last ≤ last) =
-        (at_place (IsUntil last) h.entries i e ends at).ended has.0 has.1 in
-        let found : (k : ℕ) × IsKeptAt last h.entries k i e =
-        rank_gives last h.entries i e at (early_is last e ended.0) in
-        (found.0, (found.1.place, explained.by.returned found.0 e found.1.is_kept has))
+    back : Restored h (is_early last)
+    back = restored h (is_early last) explained
 
 pub seen_explains_as_much : SeenExplainsAsMuch
 seen_explains_as_much h last bound is = (

@@ -1,5 +1,5 @@
 -- The nodes that come next.
-use Rattle.std.proofs.Common.{◌≡◌, ◌≢◌, ◌⊎◌, ℕ, ◌+◌, ◌-◌, ◌<◌, ◌≤◌, zero, suc, List, [], ◌∷◌}
+use Rattle.std.proofs.Common.{◌≡◌, ◌≢◌, ◌⊎◌, ℕ, ◌+◌, ◌-◌, ◌<◌, ◌≤◌, suc, List, [], ◌∷◌}
 use Rattle.std.proofs.Common.{◌++◌, length, get_or, refl, sym, ◌∙◌, ap, subst, inl, inr, arith, None}
 use Rattle.std.proofs.Common.{Option, Some, Vec, Global}
 use Rattle.std.specs.Prelude.{slice_get, take, drop, MatchOption, true, false}
@@ -15,14 +15,14 @@ use Rattle.stamp_explain.specs.declared.node.Node.{Node}
 use Rattle.stamp_explain.specs.declared.node.Next.{Next}
 use Rattle.stamp_explain.specs.declared.plan.Plan.{Plan}
 use Rattle.stamp_core.specs.declared.reply.Reply.{Reply}
-use Rattle.stamp_explain.specs.Observed.{ObservedHistory, IsObserved, HasReturned, MayReply}
+use Rattle.stamp_explain.specs.Observed.{ObservedHistory, IsObserved, HasReturned, MayReply, AreOfOneObject}
 use Rattle.stamp_explain.specs.Explained.{Effect, IsEffectOf}
 use Rattle.stamp_explain.specs.Observer.{changes_nothing, observes_by, observes, observes_in, observes_at}
 use Rattle.stamp_explain.specs.Search.{LockState, LockSteps, MayTake, IsReturnAt}
-use Rattle.stamp_explain.specs.Node.{IsNext, AreTaken, StandsFor}
+use Rattle.stamp_explain.specs.Node.{IsNext, AreTaken, StandsFor, IsTried}
 use Rattle.stamp_explain.specs.Plan.{IsPlan, IsAwaitedAt, IsOpenAt, AreOpen, ClearsBit}
-use Rattle.stamp_explain.specs.Expand.{Hope, GoesOn, Expands, Leads, LeadsBy, IsTakenTo, Takes, Took, Tried}
-use Rattle.stamp_explain.specs.Expand.{IsNotInEffect}
+use Rattle.stamp_explain.specs.Expand.{Hope, GoesOn, Expands, Leads, LeadsBy, IsTakenTo, Took, Tried}
+use Rattle.stamp_explain.specs.Expand.{IsNotInEffect, IsTakenAlike}
 use Rattle.stamp_explain.proofs.Finding.{not_before_itself}
 use Rattle.stamp_explain.proofs.Completing.{IsAwaited}
 use Rattle.stamp_explain.proofs.Searching.{CompletesIn, GoesPast, GoesOnBy, goes_on}
@@ -30,7 +30,7 @@ use Rattle.stamp_explain.proofs.Standing.{taken_by_bit, taken_past}
 use Rattle.stamp_explain.proofs.Staying.{observers_change_nothing}
 use Rattle.stamp_explain.proofs.Observing.{TakesAtOnce, takes_at_once}
 use Rattle.stamp_explain.proofs.Expanding.{orderly, next_awaited, in_take, open_may, same_read}
-use Rattle.stamp_explain.proofs.Lists.{none_in_empty}
+use Rattle.stamp_explain.proofs.Lists.{none_in_empty, contains_cases, contains_first}
 
 -- of whatever the node stands for, the last k of these calls were tried
 pub record Tries (h : ObservedHistory) (returns : List ℕ) (node : Node) (calls : List ℕ) (k : ℕ)
@@ -38,86 +38,101 @@ pub record Tries (h : ObservedHistory) (returns : List ℕ) (node : Node) (calls
   pub tried : (a : Observation) (s : LockState) (taken : List ℕ) → IsAwaitedAt h returns node.past a →
       StandsFor h returns node s taken → Tried h returns node a s taken calls k nexts
 
+-- one of these nodes stands for the state, with these calls in effect
+abbrev Makes : ObservedHistory → List ℕ → Node → LockState → List ℕ → List Next → Type 0
+Makes h returns node u taken nexts = (w : Next) × (Contains nexts w ×
+    ((w.node.past ≡ node.past) × StandsFor h returns w.node u taken))
+
 pub none_tried : (h : ObservedHistory) (returns : List ℕ) (node : Node) (calls : List ℕ) →
     Tries h returns node calls 0 []
 none_tried h returns node calls = record {
   tried = λ a s taken awaited stands. record {
     each = λ w has. absurd (none_in_empty w has);
-    whole = λ x u may p lt le is. absurd (omega (arith, lt, le));
+    whole = λ x u may alike p lt le is. absurd (omega (arith, lt, le));
   };
 }
 
 last_or_less : (p k n : ℕ) → n ≤ p + (k + 1) → p < n → k < n → (n ≤ p + k) ⊎ (p ≡ n - 1 - k)
 last_or_less p k n le lt less = grind arith
 
+-- one more was tried, if it makes a node where it is the one that takes effect
+one_more_tried : (h : ObservedHistory) (returns : List ℕ) (node : Node) (a : Observation) (s : LockState)
+    (taken calls : List ℕ) (k : ℕ) (nexts : List Next) → Tried h returns node a s taken calls k nexts →
+    k < length calls →
+    ((x : Effect) (u : LockState) → MayTake (LockSteps h.limits) h.entries a s taken x u → AreOfOneObject a x.entry →
+    get_or calls (length calls - 1 - k) 0 ≡ x.index → Makes h returns node u (x.index ∷ taken) nexts) →
+    Tried h returns node a s taken calls (k + 1) nexts
+one_more_tried h returns node a s taken calls k nexts tried more makes = record {
+  each = tried.each;
+  whole = λ x u may alike p lt le is. by x u may alike p lt is (last_or_less p k (length calls) le lt more);
+}
+  where
+    by : (x : Effect) (u : LockState) → MayTake (LockSteps h.limits) h.entries a s taken x u →
+        AreOfOneObject a x.entry → (p : ℕ) → p < length calls → get_or calls p 0 ≡ x.index →
+        (length calls ≤ p + k) ⊎ (p ≡ length calls - 1 - k) → Makes h returns node u (x.index ∷ taken) nexts
+    by x u may alike p lt is (inl le) = tried.whole x u may alike p lt le is
+    by x u may alike p lt is (inr same) =
+        makes x u may alike (ap (λ (n : ℕ). get_or calls n 0) (sym same) ∙ is)
+
+-- it can't take effect
 pub tried_none : (h : ObservedHistory) (returns : List ℕ) (node : Node) (calls : List ℕ) (k : ℕ) (nexts : List Next) →
     Tries h returns node calls k nexts → k < length calls →
     Took h returns node (get_or calls (length calls - 1 - k) 0) None → Tries h returns node calls (k + 1) nexts
 tried_none h returns node calls k nexts tries more took = record {
-  tried = λ a s taken awaited stands. record {
-    each = (tries.tried a s taken awaited stands).each;
-    whole = λ x u may p lt le is. by a s taken (tries.tried a s taken awaited stands)
-        (took.takes a s taken awaited stands) x u may p lt is (last_or_less p k (length calls) le lt more);
-  };
+  tried = λ a s taken awaited stands.
+      one_more_tried h returns node a s taken calls k nexts (tries.tried a s taken awaited stands) more
+      (λ x u may alike is. absurd (took.takes a s taken awaited stands x u may (sym is)));
 }
-  where
-    by : (a : Observation) (s : LockState) (taken : List ℕ) → Tried h returns node a s taken calls k nexts →
-        Takes h returns node a (get_or calls (length calls - 1 - k) 0) s taken None → (x : Effect) (u : LockState) →
-        MayTake (LockSteps h.limits) h.entries a s taken x u → (p : ℕ) → p < length calls →
-        get_or calls p 0 ≡ x.index → (length calls ≤ p + k) ⊎ (p ≡ length calls - 1 - k) →
-        (w : Next) × (Contains nexts w × ((w.node.past ≡ node.past) ×
-        StandsFor h returns w.node u (x.index ∷ taken)))
-    by a s taken tried none x u may p lt is (inl le) = tried.whole x u may p lt le is
-    by a s taken tried none x u may p lt is (inr same) =
-        absurd (none x u may (sym is ∙ ap (λ (n : ℕ). get_or calls n 0) same))
 
+-- it is of the other object
+pub tried_other : (h : ObservedHistory) (returns : List ℕ) (node : Node) (calls : List ℕ) (k : ℕ)
+    (nexts : List Next) → Tries h returns node calls k nexts → k < length calls →
+    ((a e : Observation) → IsAwaitedAt h returns node.past a →
+    slice_get h.entries (get_or calls (length calls - 1 - k) 0) ≡ Some e → ¬ AreOfOneObject a e) →
+    Tries h returns node calls (k + 1) nexts
+tried_other h returns node calls k nexts tries more other = record {
+  tried = λ a s taken awaited stands.
+      one_more_tried h returns node a s taken calls k nexts (tries.tried a s taken awaited stands) more
+      (λ x u may alike is. absurd (other a x.entry awaited
+      (ap (λ (i : ℕ). slice_get h.entries i) is ∙ may.effect.is_entry) alike));
+}
+
+-- it takes effect
 pub tried_some : (h : ObservedHistory) (returns : List ℕ) (node : Node) (calls : List ℕ) (k : ℕ) (nexts : List Next)
     (w : Next) → Tries h returns node calls k nexts → k < length calls →
     Took h returns node (get_or calls (length calls - 1 - k) 0) (Some w) →
+    ((a e : Observation) → IsAwaitedAt h returns node.past a →
+    slice_get h.entries (get_or calls (length calls - 1 - k) 0) ≡ Some e → AreOfOneObject a e) →
     Tries h returns node calls (k + 1) (nexts ++ w ∷ [])
-tried_some h returns node calls k nexts w tries more took = record {
-  tried = λ a s taken awaited stands. record {
-    each = λ v has. each a s taken (tries.tried a s taken awaited stands)
-        (took.takes a s taken awaited stands) v (Contains-push_cases nexts w v has);
-    whole = λ x u may p lt le is. by a s taken (tries.tried a s taken awaited stands)
-        (took.takes a s taken awaited stands) x u may p lt is (last_or_less p k (length calls) le lt more);
-  };
+tried_some h returns node calls k nexts w tries more took alike = record {
+  tried = λ a s taken awaited stands.
+      let some : IsTakenTo h returns node a i s taken w = took.takes a s taken awaited stands in
+      one_more_tried h returns node a s taken calls k (nexts ++ w ∷ [])
+      (pushed a s taken (tries.tried a s taken awaited stands) (
+        some,
+        alike a some.effect.entry awaited
+            (ap (λ (j : ℕ). slice_get h.entries j) (sym some.index) ∙ some.may.effect.is_entry),
+      )) more
+      (λ x u may alike is. (w, (Contains-push nexts w, (some.past, some.only x u may (sym is)))));
 }
   where
     i : ℕ
     i = get_or calls (length calls - 1 - k) 0
 
-    each : (a : Observation) (s : LockState) (taken : List ℕ) → Tried h returns node a s taken calls k nexts →
-        IsTakenTo h returns node a i s taken w → (v : Next) → Contains nexts v ⊎ (w ≡ v) →
-        (j : ℕ) × IsTakenTo h returns node a j s taken v
-    each a s taken tried some v (inl has) = tried.each v has
-    each a s taken tried some v (inr same) = (
-      i,
-      subst (λ (n : Next). IsTakenTo h returns node a i s taken n) same
-          some,
-    )
+    pushed : (a : Observation) (s : LockState) (taken : List ℕ) → Tried h returns node a s taken calls k nexts →
+        IsTakenAlike h returns node a i s taken w → Tried h returns node a s taken calls k (nexts ++ w ∷ [])
+    pushed a s taken tried some = record {
+      each = λ v has. each v (Contains-push_cases nexts w v has);
+      whole = λ x u may alike p lt le is. kept x u (tried.whole x u may alike p lt le is);
+    }
+      where
+        each : (v : Next) → Contains nexts v ⊎ (w ≡ v) → (j : ℕ) × IsTakenAlike h returns node a j s taken v
+        each v (inl has) = tried.each v has
+        each v (inr same) = (i, subst (λ (n : Next). IsTakenAlike h returns node a i s taken n) same some)
 
-    by : (a : Observation) (s : LockState) (taken : List ℕ) → Tried h returns node a s taken calls k nexts →
-        IsTakenTo h returns node a i s taken w → (x : Effect) (u : LockState) →
-        MayTake (LockSteps h.limits) h.entries a s taken x u → (p : ℕ) → p < length calls →
-        get_or calls p 0 ≡ x.index → (length calls ≤ p + k) ⊎ (p ≡ length calls - 1 - k) →
-        (v : Next) × (Contains (nexts ++ w ∷ []) v × ((v.node.past ≡ node.past) ×
-        StandsFor h returns v.node u (x.index ∷ taken)))
-    by a s taken tried some x u may p lt is (inl le) =
-        let found : (v : Next) × (Contains nexts v × ((v.node.past ≡ node.past) ×
-        StandsFor h returns v.node u (x.index ∷ taken))) = tried.whole x u may p lt le is in
-        (found.0, (Contains-append_left nexts (w ∷ []) found.0 found.1.0, found.1.1))
-    by a s taken tried some x u may p lt is (inr same) = (
-      w,
-      (
-        Contains-push nexts w,
-        (
-          some.past,
-          some.only x u may
-              (sym is ∙ ap (λ (n : ℕ). get_or calls n 0) same),
-        ),
-      ),
-    )
+        kept : (x : Effect) (u : LockState) → Makes h returns node u (x.index ∷ taken) nexts →
+            Makes h returns node u (x.index ∷ taken) (nexts ++ w ∷ [])
+        kept x u found = (found.0, (Contains-append_left nexts (w ∷ []) found.0 found.1.0, found.1.1))
 
 -- what is known of a node whose return is awaited
 pub record Awaits (h : ObservedHistory) (plan : Plan) (node : Node) (a : Observation) : Type 0 where
@@ -150,6 +165,68 @@ steps_of h plan node a n is hope =
     hope.taken n in
     subst P (left_of h plan node a is) (record { rest = hope.rest; by = hope.by; steps = hope.steps })
 
+the_awaited : (h : ObservedHistory) (plan : Plan) (node : Node) (a : Observation) → Awaits h plan node a →
+    IsAwaited h.entries (get_or plan.returns.items node.past 0) a
+the_awaited h plan node a is = record {
+  is_entry = is.at;
+  begun = not_before_itself a ((orderly h is.observed).interval (get_or plan.returns.items node.past 0) a is.at);
+}
+
+not_yet : (h : ObservedHistory) (plan : Plan) (node : Node) (a : Observation) (s : LockState) (taken : List ℕ) →
+    Awaits h plan node a → bit_at node.threads a.thread ≢ 1 → StandsFor h plan.returns.items node s taken →
+    ¬ Contains taken (get_or plan.returns.items node.past 0)
+not_yet h plan node a s taken is bit stands has =
+    bit (taken_by_bit h.entries (take node.past plan.returns.items) node.threads taken
+    (get_or plan.returns.items node.past 0) a stands.in_effect is.at (the_next h plan node a is).still has).0
+
+-- a node comes next where a call that is tried takes effect
+leads_by_call : (h : ObservedHistory) (plan : Plan) (node : Node) (a : Observation) (i : ℕ) (s : LockState)
+    (taken : List ℕ) (w : Next) → Awaits h plan node a → bit_at node.threads a.thread ≢ 1 →
+    StandsFor h plan.returns.items node s taken → (to : IsTakenTo h plan.returns.items node a i s taken w) →
+    IsTried a to.effect.entry → LeadsBy h plan.returns.items node w.node s taken w.took
+leads_by_call h plan node a i s taken w is bit stands to tried =
+    subst (λ (o : Option ℕ). LeadsBy h plan.returns.items node w.node s taken o) (sym to.took) (record {
+      past = to.past;
+      awaited = a;
+      is_awaited = is.at;
+      not_yet = not_yet h plan node a s taken is bit stands;
+      effect = to.effect;
+      index = refl;
+      tried = tried;
+      state = to.state;
+      may = to.may;
+      stands = to.stands;
+    })
+
+-- one of these stands for what an order completes in fewer steps
+goes_on_to : (h : ObservedHistory) (returns : List ℕ) (nexts : List Next) (w : Next) (s : LockState)
+    (taken : List ℕ) (left n : ℕ) → Contains nexts w → suc left ≤ n → StandsFor h returns w.node s taken →
+    CompletesIn (LockSteps h.limits) h.entries (drop w.node.past returns) s taken left → GoesOn h returns nexts n
+goes_on_to h returns nexts w s taken left n among fewer stands completes = record {
+  next = w;
+  left = left;
+  among = among;
+  fewer = omega (arith, fewer);
+  hope = record {
+    state = s;
+    taken = taken;
+    stands = stands;
+    rest = completes.rest;
+    by = completes.by;
+    steps = completes.steps;
+  };
+}
+
+alone : (w : Next) → Contains (w ∷ []) w
+alone w = contains_first w [] w refl
+
+only_one : (w v : Next) → Contains (w ∷ []) v → w ≡ v
+only_one w v has = by (contains_cases w [] v has)
+  where
+    by : (w ≡ v) ⊎ Contains [] v → w ≡ v
+    by (inl same) = same
+    by (inr none) = absurd (none_in_empty v none)
+
 -- where the call is in effect, its return is past
 pub expands_past : (h : ObservedHistory) (plan : Plan) (node : Node) (a : Observation) (threads : ℕ) →
     Awaits h plan node a → bit_at node.threads a.thread ≡ 1 → ClearsBit node.threads threads a.thread →
@@ -158,9 +235,9 @@ pub expands_past : (h : ObservedHistory) (plan : Plan) (node : Node) (a : Observ
       took = None;
     } ∷ [])
 expands_past h plan node a threads is bit clears = record {
-  each = λ w has. subst (λ (v : Next). Leads h plan.returns.items node v) (only w has) leads;
-  whole = λ n hope. goes n hope (goes_on (LockSteps h.limits) h.entries i a
-      (drop (suc node.past) plan.returns.items) hope.state hope.taken n awaited (steps_of h plan node a n is hope));
+  each = λ w has. subst (λ (v : Next). Leads h plan.returns.items node v) (only_one next w has) leads;
+  whole = λ n hope. goes n hope (goes_on h.limits h.entries i a (drop (suc node.past) plan.returns.items)
+      hope.state hope.taken n (the_awaited h plan node a is) (steps_of h plan node a n is hope));
 }
   where
     i : ℕ
@@ -172,18 +249,11 @@ expands_past h plan node a threads is bit clears = record {
     next : Next
     next = record { node = it; took = None }
 
-    only : (w : Next) → Contains (next ∷ []) w → next ≡ w
-    only w (zero, lt, e) = e
-    only w (suc k, lt, e) = absurd (omega (arith, lt))
-
     one_more : suc node.past ≡ node.past + 1
     one_more = omega arith
 
     next_left : drop (suc node.past) plan.returns.items ≡ drop it.past plan.returns.items
     next_left = ap (λ (n : ℕ). drop n plan.returns.items) one_more
-
-    awaited : IsAwaited h.entries i a
-    awaited = record { is_entry = is.at; begun = not_before_itself a ((orderly h is.observed).interval i a is.at) }
 
     in_effect : (s : LockState) (taken : List ℕ) → StandsFor h plan.returns.items node s taken → Contains taken i
     in_effect s taken stands = stands.in_effect.each_next i a (the_next h plan node a is) bit
@@ -212,31 +282,16 @@ expands_past h plan node a threads is bit clears = record {
 
     goes : (n : ℕ) (hope : Hope h plan.returns.items node n) →
         GoesPast (LockSteps h.limits) h.entries i (drop (suc node.past) plan.returns.items) hope.state hope.taken n
-        ⊎ GoesOnBy (LockSteps h.limits) h.entries i a (drop (suc node.past) plan.returns.items) hope.state
-        hope.taken n → GoesOn h plan.returns.items (next ∷ []) n
+        ⊎ GoesOnBy h.limits h.entries i a (drop (suc node.past) plan.returns.items) hope.state hope.taken n →
+        GoesOn h plan.returns.items (next ∷ []) n
     goes n hope (inl past) =
         let P : List ℕ → Type 0 = λ (to_come : List ℕ). CompletesIn (LockSteps h.limits) h.entries to_come
         hope.state hope.taken past.left in
-        let left : CompletesIn (LockSteps h.limits) h.entries (drop it.past plan.returns.items) hope.state
-        hope.taken past.left = subst P next_left past.completes in
-        let none : 0 < length (next ∷ []) = omega arith in
-        record {
-          next = next;
-          left = past.left;
-          among = (0, none, refl);
-          fewer = omega (arith, past.fewer);
-          hope = record {
-            state = hope.state;
-            taken = hope.taken;
-            stands = stands hope.state hope.taken hope.stands;
-            rest = left.rest;
-            by = left.by;
-            steps = left.steps;
-          };
-        }
+        goes_on_to h plan.returns.items (next ∷ []) next hope.state hope.taken past.left n (alone next)
+        (omega (arith, past.fewer)) (stands hope.state hope.taken hope.stands) (subst P next_left past.completes)
     goes n hope (inr on) = absurd (on.awaited (in_effect hope.state hope.taken hope.stands))
 
--- else an open call takes effect
+-- else an open call of the same object takes effect
 pub expands_taken : (h : ObservedHistory) (plan : Plan) (node : Node) (a : Observation) (calls : List ℕ) (k : ℕ)
     (nexts : List Next) → Awaits h plan node a → bit_at node.threads a.thread ≢ 1 →
     AreOpen h plan.returns.items node.past calls → length calls ≤ k →
@@ -247,71 +302,39 @@ expands_taken h plan node a calls k nexts is bit are all tries = record {
     leads = λ s taken stands. to w s taken stands
         ((tries.tried a s taken (awaited_at h plan node a is) stands).each w has);
   };
-  whole = λ n hope. goes n hope (goes_on (LockSteps h.limits) h.entries i a
-      (drop (suc node.past) plan.returns.items) hope.state hope.taken n awaited (steps_of h plan node a n is hope));
+  whole = λ n hope. goes n hope (goes_on h.limits h.entries i a (drop (suc node.past) plan.returns.items)
+      hope.state hope.taken n (the_awaited h plan node a is) (steps_of h plan node a n is hope));
 }
   where
     i : ℕ
     i = get_or plan.returns.items node.past 0
-
-    awaited : IsAwaited h.entries i a
-    awaited = record { is_entry = is.at; begun = not_before_itself a ((orderly h is.observed).interval i a is.at) }
-
-    not_yet : (s : LockState) (taken : List ℕ) → StandsFor h plan.returns.items node s taken → ¬ Contains taken i
-    not_yet s taken stands has = bit (taken_by_bit h.entries (take node.past plan.returns.items) node.threads taken
-        i a stands.in_effect is.at (the_next h plan node a is).still has).0
 
     same_left : (w : Node) → w.past ≡ node.past → i ∷ drop (suc node.past) plan.returns.items ≡ drop w.past
         plan.returns.items
     same_left w same = sym (left_of h plan node a is) ∙ ap (λ (n : ℕ). drop n plan.returns.items) (sym same)
 
     to : (w : Next) (s : LockState) (taken : List ℕ) → StandsFor h plan.returns.items node s taken →
-        (j : ℕ) × IsTakenTo h plan.returns.items node a j s taken w →
+        (j : ℕ) × IsTakenAlike h plan.returns.items node a j s taken w →
         LeadsBy h plan.returns.items node w.node s taken w.took
     to w s taken stands (j, took) =
-        subst (λ (o : Option ℕ). LeadsBy h plan.returns.items node w.node s taken o) (sym took.took) (record {
-          past = took.past;
-          awaited = a;
-          is_awaited = is.at;
-          not_yet = not_yet s taken stands;
-          effect = took.effect;
-          index = refl;
-          state = took.state;
-          may = took.may;
-          stands = took.stands;
-        })
+        leads_by_call h plan node a j s taken w is bit stands took.0 (inl took.1)
 
     goes : (n : ℕ) (hope : Hope h plan.returns.items node n) →
         GoesPast (LockSteps h.limits) h.entries i (drop (suc node.past) plan.returns.items) hope.state hope.taken n
-        ⊎ GoesOnBy (LockSteps h.limits) h.entries i a (drop (suc node.past) plan.returns.items) hope.state
-        hope.taken n → GoesOn h plan.returns.items nexts n
-    goes n hope (inl past) = absurd (not_yet hope.state hope.taken hope.stands past.in_effect)
+        ⊎ GoesOnBy h.limits h.entries i a (drop (suc node.past) plan.returns.items) hope.state hope.taken n →
+        GoesOn h plan.returns.items nexts n
+    goes n hope (inl past) =
+        absurd (not_yet h plan node a hope.state hope.taken is bit hope.stands past.in_effect)
     goes n hope (inr on) =
         let it : Contains calls on.effect.index = are.whole on.effect.index (open_may h plan.returns.items node.past
         node.threads a hope.state on.state hope.taken on.effect is.at hope.stands.in_effect on.may) in
-        let found : (w : Next) × (Contains nexts w × ((w.node.past ≡ node.past) ×
-        StandsFor h plan.returns.items w.node on.state (on.effect.index ∷ hope.taken))) =
+        let found : Makes h plan.returns.items node on.state (on.effect.index ∷ hope.taken) nexts =
         (tries.tried a hope.state hope.taken (awaited_at h plan node a is) hope.stands).whole on.effect on.state
-        on.may it.0 it.1 (omega (arith, all)) (same_read calls it.0 0 on.effect.index it.1 ∙ it.2) in
+        on.may on.alike it.0 it.1 (omega (arith, all)) (same_read calls it.0 0 on.effect.index it.1 ∙ it.2) in
         let P : List ℕ → Type 0 = λ (to_come : List ℕ). CompletesIn (LockSteps h.limits) h.entries to_come on.state
         (on.effect.index ∷ hope.taken) on.left in
-        let left : CompletesIn (LockSteps h.limits) h.entries (drop found.0.node.past plan.returns.items) on.state
-        (on.effect.index ∷ hope.taken) on.left = subst P (same_left found.0.node found.1.1.0) on.completes in
-        record {
-          next = found.0;
-          left = on.left;
-          among = found.1.0;
-          fewer = omega (arith, on.fewer);
-          hope = record {
-            state = on.state;
-            taken = on.effect.index ∷ hope.taken;
-            stands = found.1.1.1;
-            rest =
-                left.rest;
-            by = left.by;
-            steps = left.steps;
-          };
-        }
+        goes_on_to h plan.returns.items nexts found.0 on.state (on.effect.index ∷ hope.taken) on.left n found.1.0
+        (omega (arith, on.fewer)) found.1.1.1 (subst P (same_left found.0.node found.1.1.0) on.completes)
 
 -- what is behind so many of a list is in the rest
 in_drop : (xs : List ℕ) (n k j : ℕ) → n ≤ k → k < length xs → get_or xs k j ≡ j → Contains (drop n xs) j
@@ -366,53 +389,28 @@ pub expands_at_once : (h : ObservedHistory) (plan : Plan) (node : Node) (a : Obs
     Awaits h plan node a → bit_at node.threads a.thread ≢ 1 → observes_at h.entries i ≡ true →
     Took h plan.returns.items node i (Some w) → Expands h plan.returns.items node (w ∷ [])
 expands_at_once h plan node a i w is bit observer takes = record {
-  each = λ v has. subst (λ (n : Next). Leads h plan.returns.items node n) (only v has) leads;
+  each = λ v has. subst (λ (n : Next). Leads h plan.returns.items node n) (only_one w v has) (record {
+    inside = is.inside;
+    leads = λ s taken stands. leads_by_call h plan node a i s taken w is bit stands (took s taken stands)
+        (inr (observing s taken (took s taken stands)));
+  });
   whole = λ n hope. goes n hope (took hope.state hope.taken hope.stands);
 }
   where
-    only : (v : Next) → Contains (w ∷ []) v → w ≡ v
-    only v (zero, lt, e) = e
-    only v (suc k, lt, e) = absurd (omega (arith, lt))
-
-    not_yet : (s : LockState) (taken : List ℕ) → StandsFor h plan.returns.items node s taken →
-        ¬ Contains taken (get_or plan.returns.items node.past 0)
-    not_yet s taken stands has = bit (taken_by_bit h.entries (take node.past plan.returns.items) node.threads taken
-        (get_or plan.returns.items node.past 0) a stands.in_effect is.at (the_next h plan node a is).still has).0
-
     took : (s : LockState) (taken : List ℕ) → StandsFor h plan.returns.items node s taken →
         IsTakenTo h plan.returns.items node a i s taken w
     took s taken stands = takes.takes a s taken (awaited_at h plan node a is) stands
 
-    leads : Leads h plan.returns.items node w
-    leads = record {
-      inside = is.inside;
-      leads = λ s taken stands. to s taken stands (took s taken stands);
-    }
-      where
-        to : (s : LockState) (taken : List ℕ) → StandsFor h plan.returns.items node s taken →
-            IsTakenTo h plan.returns.items node a i s taken w →
-            LeadsBy h plan.returns.items node w.node s taken w.took
-        to s taken stands took =
-            subst (λ (o : Option ℕ). LeadsBy h plan.returns.items node w.node s taken o) (sym took.took) (record {
-              past = took.past;
-              awaited = a;
-              is_awaited = is.at;
-              not_yet = not_yet s taken stands;
-              effect = took.effect;
-              index = refl;
-              state = took.state;
-              may = took.may;
-              stands = took.stands;
-            })
+    observing : (s : LockState) (taken : List ℕ) → (to : IsTakenTo h plan.returns.items node a i s taken w) →
+        observes to.effect.entry ≡ true
+    observing s taken to = ap observes_in (sym to.may.effect.is_entry) ∙ ap (observes_at h.entries) to.index ∙ observer
 
     goes : (n : ℕ) (hope : Hope h plan.returns.items node n) →
         IsTakenTo h plan.returns.items node a i hope.state hope.taken w → GoesOn h plan.returns.items (w ∷ []) n
     goes n hope took =
         let x : Effect = took.effect in
         let tells : HasReturned x.entry × (changes_nothing x.entry.call x.reply ≡ true) =
-        observes_so x.entry x.reply
-        (ap observes_in (sym took.may.effect.is_entry) ∙ ap (observes_at h.entries) took.index ∙ observer)
-        took.may.effect.replies in
+        observes_so x.entry x.reply (observing hope.state hope.taken took) took.may.effect.replies in
         let once : TakesAtOnce (LockSteps h.limits) h.entries (drop node.past plan.returns.items) hope.state
         (x.index ∷ hope.taken) n =
         takes_at_once (LockSteps h.limits) h.entries (drop node.past plan.returns.items) hope.state hope.taken x n
@@ -424,27 +422,23 @@ expands_at_once h plan node a i w is bit observer takes = record {
         took.state tells.1 took.may.steps in
         let P : List ℕ → Type 0 = λ (to_come : List ℕ). CompletesIn (LockSteps h.limits) h.entries to_come hope.state
         (x.index ∷ hope.taken) once.left in
-        let left : CompletesIn (LockSteps h.limits) h.entries (drop w.node.past plan.returns.items) hope.state
-        (x.index ∷ hope.taken) once.left =
-        subst P (ap (λ (m : ℕ). drop m plan.returns.items) (sym took.past)) once.completes in
-        let one : 0 < length (w ∷ []) = omega arith in
-        record {
-          next = w;
-          left = once.left;
-          among = (0, one, refl);
-          fewer = omega (arith, once.fewer);
-          hope = record {
-            state = hope.state;
-            taken = x.index ∷ hope.taken;
-            stands = subst (λ (t : LockState). StandsFor h plan.returns.items w.node t (x.index ∷ hope.taken)) same
-                took.stands;
-            rest = left.rest;
-            by = left.by;
-            steps = left.steps;
-          };
-        }
+        goes_on_to h plan.returns.items (w ∷ []) w hope.state (x.index ∷ hope.taken) once.left n (alone w) once.fewer
+        (subst (λ (t : LockState). StandsFor h plan.returns.items w.node t (x.index ∷ hope.taken)) same took.stands)
+        (subst P (ap (λ (m : ℕ). drop m plan.returns.items) (sym took.past)) once.completes)
 
--- the entry that is read at the awaited return
+-- the awaited call is read
+index_read : (returns : List ℕ) (past i : ℕ) → past < length returns → i ≡ get_or returns past i →
+    get_or returns past 0 ≡ i
+index_read returns past i inside read = same_Some (get_or returns past 0) i
+    (sym (slice_get-get_or returns past 0 inside) ∙
+    slice_get_read returns (length returns) past i refl inside read)
+
+pub awaited_read : (h : ObservedHistory) (returns : List ℕ) (past i : ℕ) (a : Observation) →
+    IsAwaitedAt h returns past a → i ≡ get_or returns past i → slice_get h.entries i ≡ Some a
+awaited_read h returns past i a awaited read =
+    ap (λ (k : ℕ). slice_get h.entries k) (sym (index_read returns past i awaited.inside read)) ∙ awaited.is_entry
+
+-- and its entry
 pub awaits_of : (h : ObservedHistory) (plan : Plan) (node : Node) (i : ℕ) (read : List Observation)
     (d : Observation) → IsObserved h → IsPlan h plan → node.past < length plan.returns.items →
     i ≡ get_or plan.returns.items node.past i → read ≡ h.entries → Awaits h plan node (get_or read i d)
@@ -460,9 +454,7 @@ awaits_of h plan node i read d observed is inside index same = record {
     there = is.are.each node.past 0 inside
 
     here : get_or plan.returns.items node.past 0 ≡ i
-    here = same_Some (get_or plan.returns.items node.past 0) i
-        (sym (slice_get-get_or plan.returns.items node.past 0 inside) ∙
-        slice_get_read plan.returns.items (length plan.returns.items) node.past i refl inside index)
+    here = index_read plan.returns.items node.past i inside index
 
     within : i < length h.entries
     within = subst (λ (k : ℕ). k < length h.entries) here (slice_get_within h.entries
@@ -481,6 +473,14 @@ pub open_read : (h : ObservedHistory) (plan : Plan) (past : ℕ) (v : Vec ℕ Gl
     k < length slice → IsOpenAt h plan.returns.items past (get_or slice k 0)
 open_read h plan past v slice k is lt read same within =
     (opens_read h plan past v slice is lt read same).each (get_or slice k 0) (Contains-get_or slice k 0 within)
+
+pub open_within : (h : ObservedHistory) (plan : Plan) (past : ℕ) (v : Vec ℕ Global) (slice : List ℕ) (k : ℕ) →
+    IsPlan h plan → past < length plan.returns.items → v ≡ get_or plan.opens.items past v → slice ≡ v.items →
+    k < length slice → get_or slice k 0 < length h.entries
+open_within h plan past v slice k is lt read same within =
+    let it : IsOpenAt h plan.returns.items past (get_or slice k 0) =
+    open_read h plan past v slice k is lt read same within in
+    slice_get_within h.entries (get_or slice k 0) it.entry it.is_entry
 
 -- where the awaited call is not in effect an open call takes effect
 pub expands_open : (h : ObservedHistory) (plan : Plan) (node : Node) (calls : List ℕ) (k : ℕ) (nexts : List Next) →

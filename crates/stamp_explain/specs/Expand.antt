@@ -10,13 +10,21 @@ use Rattle.stamp_explain.specs.declared.node.Origin.{Origin}
 use Rattle.stamp_explain.specs.declared.store.Store.{Store}
 use Rattle.stamp_explain.specs.declared.search.Found.{Found}
 use Rattle.stamp_explain.specs.declared.search.Found.TheVariants.{Order, Nothing, Undecided}
-use Rattle.stamp_explain.specs.Observed.{ObservedHistory}
+use Rattle.stamp_explain.specs.declared.plan.Plan.{Plan}
+use Rattle.stamp_explain.specs.Observed.{ObservedHistory, IsObserved, AreOfOneObject}
 use Rattle.stamp_explain.specs.Explained.{Effect, IsEffectOf, IsExplained}
 use Rattle.stamp_explain.specs.Search.{LockState, LockSteps, MayTake, IsCompletedBy}
-use Rattle.stamp_explain.specs.Node.{IsAt, StandsFor, IsReached, IsOpening, ReachesMany}
-use Rattle.stamp_explain.specs.Plan.{IsAwaitedAt}
+use Rattle.stamp_explain.specs.Node.{IsAt, StandsFor, IsTried, IsReached, IsOpening, ReachesMany}
+use Rattle.stamp_explain.specs.Plan.{IsPlan, IsAwaitedAt}
 use Rattle.stamp_explain.specs.Store.{Keeps}
 use Rattle.stamp_explain.specs.Order.{IsOrderOf}
+
+-- a node that a search reached, with a return to come
+pub record MayGoOn (h : ObservedHistory) (plan : Plan) (node : Node) : Type 0 where
+  pub observed : IsObserved h
+  pub is_plan : IsPlan h plan
+  pub reached : IsReached h plan.returns.items node
+  pub past : node.past < length plan.returns.items
 
 -- an order completes what the node stands for, in so many steps: returns and calls that take effect
 pub record Hope (h : ObservedHistory) (returns : List ℕ) (node : Node) (n : ℕ) : Type 0 where
@@ -44,6 +52,7 @@ pub record LeadsByCall (h : ObservedHistory) (returns : List ℕ) (node w : Node
   pub not_yet : ¬ Contains taken (slice_index returns node.past)
   pub effect : Effect
   pub index : effect.index ≡ i
+  pub tried : IsTried awaited effect.entry
   pub state : LockState
   pub may : MayTake (LockSteps h.limits) h.entries awaited s taken effect state
   pub stands : StandsFor h returns w state (effect.index ∷ taken)
@@ -101,6 +110,11 @@ pub record IsTakenTo (h : ObservedHistory) (returns : List ℕ) (node : Node) (a
   pub only : (x : Effect) (u : LockState) → MayTake (LockSteps h.limits) h.entries a s taken x u → x.index ≡ i →
       StandsFor h returns w.node u (x.index ∷ taken)
 
+-- the same, and the call is of the awaited one's object
+abbrev pub IsTakenAlike : ObservedHistory → List ℕ → Node → Observation → ℕ → LockState → List ℕ → Next → Type 0
+IsTakenAlike h returns node a i s taken w =
+    (to : IsTakenTo h returns node a i s taken w) × AreOfOneObject a to.effect.entry
+
 abbrev pub Takes : ObservedHistory → List ℕ → Node → Observation → ℕ → LockState → List ℕ → Option Next → Type 0
 Takes h returns node a i s taken None = (x : Effect) (u : LockState) →
     MayTake (LockSteps h.limits) h.entries a s taken x u → x.index ≢ i
@@ -111,14 +125,14 @@ pub record Took (h : ObservedHistory) (returns : List ℕ) (node : Node) (i : �
   pub takes : (a : Observation) (s : LockState) (taken : List ℕ) → IsAwaitedAt h returns node.past a →
       StandsFor h returns node s taken → Takes h returns node a i s taken found
 
--- of the last k of these calls: each node that was made is one of these, and each call that may take effect
--- makes one
+-- of the last k of these calls: each node that was made is one of these, and each call of the awaited one's object
+-- that may take effect makes one
 pub record Tried (h : ObservedHistory) (returns : List ℕ) (node : Node) (a : Observation) (s : LockState)
     (taken calls : List ℕ) (k : ℕ) (nexts : List Next) : Type 0 where
-  pub each : (w : Next) → Contains nexts w → (i : ℕ) × IsTakenTo h returns node a i s taken w
-  pub whole : (x : Effect) (u : LockState) → MayTake (LockSteps h.limits) h.entries a s taken x u → (p : ℕ) →
-      p < length calls → length calls ≤ p + k → slice_index calls p ≡ x.index → (w : Next) × (Contains nexts w ×
-      ((w.node.past ≡ node.past) × StandsFor h returns w.node u (x.index ∷ taken)))
+  pub each : (w : Next) → Contains nexts w → (i : ℕ) × IsTakenAlike h returns node a i s taken w
+  pub whole : (x : Effect) (u : LockState) → MayTake (LockSteps h.limits) h.entries a s taken x u →
+      AreOfOneObject a x.entry → (p : ℕ) → p < length calls → length calls ≤ p + k → slice_index calls p ≡ x.index →
+      (w : Next) × (Contains nexts w × ((w.node.past ≡ node.past) × StandsFor h returns w.node u (x.index ∷ taken)))
 
 -- what a search finds within so many configurations
 abbrev pub IsFound : ObservedHistory → ℕ → Found → Type 0

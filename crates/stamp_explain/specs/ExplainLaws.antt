@@ -1,17 +1,19 @@
 -- The laws of observed histories, over the definitions alone.
-use Rattle.std.specs.Prelude.{ℕ, ◌≡◌, ◌↔◌, true, false, List, [], ◌∷◌}
+use Rattle.std.specs.Prelude.{ℕ, ◌≡◌, ◌↔◌, true, false, List, [], ◌∷◌, slice_get, Some}
+use Rattle.std.specs.List.{Contains}
 use Rattle.stamp_core.specs.Limits.{Bounds}
 use Rattle.stamp_core.specs.declared.call.Call.{Call}
 use Rattle.stamp_core.specs.declared.reply.Reply.{Reply}
 use Rattle.stamp_explain.specs.declared.observed.Observation.{Observation}
-use Rattle.stamp_explain.specs.Observed.{ObservedHistory, IsObserved, HasReturned}
+use Rattle.stamp_explain.specs.Observed.{ObservedHistory, IsObserved, HasReturned, IsInterval, IsBefore, AreOfOneObject}
+use Rattle.stamp_explain.specs.Observed.{of_lock, of_record}
 use Rattle.stamp_explain.specs.Explained.{Effect, IsExplained}
 use Rattle.stamp_core.specs.Record.{Recorded}
 use Rattle.stamp_core.specs.Linearized.{IsLinearized}
 use Rattle.stamp_explain.specs.Points.{IsRecordOf}
 use Rattle.stamp_explain.specs.Cut.{cut, seen_at, IsStuck}
 use Rattle.stamp_explain.specs.Search.{LockState, FindsOrder, CanComplete, MayTake, AreReturns, AreReturnsOf}
-use Rattle.stamp_explain.specs.Search.{LockSteps, LockAlone, RecordAlone, opening}
+use Rattle.stamp_explain.specs.Search.{LockSteps, LockAlone, RecordAlone, opening, IsFirstReturn, IsAlikeSooner}
 use Rattle.stamp_core.specs.Content.{zeros}
 use Rattle.stamp_explain.specs.Observer.{changes_nothing}
 
@@ -55,6 +57,42 @@ ObserversAtOnce =
     CanComplete (LockSteps limits) entries to_come s taken →
     CanComplete (LockSteps limits) entries to_come s (x.index ∷ taken)
 
+-- a call of the awaited one's object may take effect, and the search can be completed then
+pub record GoesOnAlike (limits : Bounds) (entries : List Observation) (i : ℕ) (awaited : Observation)
+    (to_come : List ℕ) (s : LockState) (taken : List ℕ) : Type 0 where
+  pub effect : Effect
+  pub alike : AreOfOneObject awaited effect.entry
+  pub state : LockState
+  pub may : MayTake (LockSteps limits) entries awaited s taken effect state
+  pub can : CanComplete (LockSteps limits) entries (i ∷ to_come) state (effect.index ∷ taken)
+
+-- Where a return is awaited, nothing is lost if of the open calls only those of its object are tried: those of the
+-- lock, or those of the record.
+abbrev pub OneObjectSuffices : Type 0
+OneObjectSuffices =
+    (limits : Bounds) (entries : List Observation) (i : ℕ) (awaited : Observation) (to_come : List ℕ) (s : LockState)
+    (taken : List ℕ) →
+    slice_get entries i ≡ Some awaited → IsInterval awaited → ¬ Contains taken i →
+    CanComplete (LockSteps limits) entries (i ∷ to_come) s taken →
+    GoesOnAlike limits entries i awaited to_come s taken
+
+-- this call may take effect, and the search can be completed then
+pub record MayGoBy (limits : Bounds) (entries : List Observation) (awaited : Observation) (to_come : List ℕ)
+    (s t : LockState) (taken : List ℕ) (y : Effect) : Type 0 where
+  pub may : MayTake (LockSteps limits) entries awaited s taken y t
+  pub can : CanComplete (LockSteps limits) entries to_come t (y.index ∷ taken)
+
+-- Of open calls that are alike, nothing is lost if the one that returned first takes effect before the others.
+abbrev pub AlikeInTurn : Type 0
+AlikeInTurn =
+    (limits : Bounds) (entries : List Observation) (awaited : Observation) (to_come : List ℕ) (s t : LockState)
+    (taken : List ℕ) (x : Effect) (k : ℕ) (e : Observation) →
+    IsFirstReturn entries taken awaited → MayTake (LockSteps limits) entries awaited s taken x t →
+    CanComplete (LockSteps limits) entries to_come t (x.index ∷ taken) →
+    slice_get entries k ≡ Some e → IsAlikeSooner e x.entry → ¬ Contains taken k → ¬ IsBefore awaited e →
+    Contains to_come k →
+    MayGoBy limits entries awaited to_come s t taken (record { index = k; entry = e; reply = x.reply })
+
 -- A record of an observed history that is linearized explains it.
 abbrev pub PointsExplain : Type 0
 PointsExplain = (h : ObservedHistory) (r : Recorded) → IsRecordOf h r → IsLinearized r → IsExplained h
@@ -64,7 +102,14 @@ abbrev pub ExplainedHasPoints : Type 0
 ExplainedHasPoints = (h : ObservedHistory) → IsObserved h → IsExplained h →
     (r : Recorded) × (IsRecordOf h r × IsLinearized r)
 
--- Lock and record may be judged apart: linearizability is local.
+-- Lock and record may be judged apart, each by the history of its own calls: linearizability is local.
+abbrev pub JudgedApart : Type 0
+JudgedApart =
+    (h : ObservedHistory) → IsObserved h →
+    (IsObserved (of_lock h) × IsObserved (of_record h)) ×
+    (IsExplained h ↔ (IsExplained (of_lock h) × IsExplained (of_record h)))
+
+-- And each by its own steps alone, in a search among all calls.
 abbrev pub Locality : Type 0
 Locality =
     (h : ObservedHistory) (locks records : List ℕ) → IsObserved h → AreReturnsOf h.entries true locks →

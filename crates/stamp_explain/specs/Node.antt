@@ -1,6 +1,6 @@
 -- Where a search for an order is, and what a node of it stands for.
 use Rattle.std.specs.Prelude.{ℕ, ◌≡◌, ◌≢◌, ◌≤◌, ◌⊎◌, List, [], ◌∷◌, length, take, drop, slice_get, Option}
-use Rattle.std.specs.Prelude.{Some, None}
+use Rattle.std.specs.Prelude.{Some, None, true}
 use Rattle.std.specs.List.{All, AllPairs, Contains}
 use Rattle.std.specs.Int.{bit_at}
 use Rattle.stamp_core.specs.Word.{Represents, word_at}
@@ -11,7 +11,8 @@ use Rattle.stamp_core.specs.declared.reply.Reply.{Reply}
 use Rattle.stamp_explain.specs.declared.observed.Observation.{Observation}
 use Rattle.stamp_explain.specs.declared.node.Node.{Node}
 use Rattle.stamp_explain.specs.declared.node.Step.{Step}
-use Rattle.stamp_explain.specs.Observed.{ObservedHistory, IsBefore, MayReply}
+use Rattle.stamp_explain.specs.Observed.{ObservedHistory, IsBefore, MayReply, AreOfOneObject}
+use Rattle.stamp_explain.specs.Observer.{observes}
 use Rattle.stamp_explain.specs.Explained.{Effect}
 use Rattle.stamp_explain.specs.Search.{LockState, LockSteps, MayTake, AreReturns, opening, after_call}
 
@@ -55,15 +56,20 @@ pub record StandsFor (h : ObservedHistory) (returns : List ℕ) (node : Node) (s
   pub at : IsAt h node.bits node.writer s
   pub in_effect : AreTaken h.entries (take node.past returns) node.threads taken
 
+-- where the return of the one is awaited, the other is tried: it is of the same object, or tells that it changes
+-- nothing
+abbrev pub IsTried : Observation → Observation → Type 0
+IsTried awaited e = AreOfOneObject awaited e ⊎ (observes e ≡ true)
+
 -- a way through a search from the opening: a call in effect returns; where one that is not in effect is to
--- return, an open call takes effect
+-- return, an open call that is tried takes effect
 pub data Reaches (h : ObservedHistory) (returns : List ℕ) : List ℕ → LockState → List ℕ → Type 0 where
   begins : Reaches h returns returns (opening h.width) []
   goes_past : {i : ℕ} {to_come : List ℕ} {s : LockState} {taken : List ℕ} →
       Reaches h returns (i ∷ to_come) s taken → Contains taken i → Reaches h returns to_come s taken
   goes_on_by : {i : ℕ} {to_come : List ℕ} {s : LockState} {taken : List ℕ} →
       Reaches h returns (i ∷ to_come) s taken → (awaited : Observation) (x : Effect) (t : LockState) →
-      slice_get h.entries i ≡ Some awaited → ¬ Contains taken i →
+      slice_get h.entries i ≡ Some awaited → ¬ Contains taken i → IsTried awaited x.entry →
       MayTake (LockSteps h.limits) h.entries awaited s taken x t → Reaches h returns (i ∷ to_come) t (x.index ∷ taken)
 
 -- the node at which a search begins

@@ -1,7 +1,8 @@
 -- ObservedHistory histories: what each call was, when it began and, unless it is under way, when it returned and what.
-use Rattle.std.specs.Prelude.{ℕ, ◌≡◌, ◌≤◌, ◌<◌, ◌⊎◌, List, length, Some, MatchOption, IsTrue}
+use Rattle.std.specs.Prelude.{ℕ, ◌≡◌, ◌≤◌, ◌<◌, ◌⊎◌, List, length, Some, MatchOption, IsTrue, Bool}
+use Rattle.std.specs.Prelude.{filter, not}
 use Rattle.std.specs.List.{All, AllPairs}
-use Rattle.stamp_core.specs.Call.{call_suits}
+use Rattle.stamp_core.specs.Call.{call_suits, is_lock_call}
 use Rattle.stamp_core.specs.Limits.{Bounds}
 use Rattle.stamp_core.specs.declared.reply.Reply.{Reply}
 use Rattle.stamp_explain.specs.declared.observed.Observation.{Observation}
@@ -36,6 +37,24 @@ MayReply e reply = MatchOption e.returned (Unit {0}) (λ (r : Returned). r.reply
 
 abbrev pub HasReturned : Observation → Type 0
 HasReturned e = (r : Returned) × (e.returned ≡ Some r)
+
+-- the call is of the lock, or of the record
+abbrev pub is_of_lock : Observation → Bool
+is_of_lock e = is_lock_call e.call
+
+abbrev pub is_of_record : Observation → Bool
+is_of_record e = not (is_lock_call e.call)
+
+-- the history of the lock's calls alone, and that of the record's
+abbrev pub of_lock : ObservedHistory → ObservedHistory
+of_lock h = record h { entries = filter is_of_lock h.entries }
+
+abbrev pub of_record : ObservedHistory → ObservedHistory
+of_record h = record h { entries = filter is_of_record h.entries }
+
+-- both calls are of the lock, or both of the record
+abbrev pub AreOfOneObject : Observation → Observation → Type 0
+AreOfOneObject a b = is_lock_call a.call ≡ is_lock_call b.call
 
 -- a call is not over before it began
 abbrev pub IsInterval : Observation → Type 0

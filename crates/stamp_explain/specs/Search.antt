@@ -45,6 +45,21 @@ pub record MayTake {S : Type 0} (step : S → Call × Reply → S →
   pub begun : ¬ IsBefore awaited x.entry
   pub steps : step s (x.entry.call, x.reply) t
 
+-- of the calls that are not in effect this one returned first: what another had returned before, it had too
+abbrev pub IsFirstReturn : List Observation → List ℕ → Observation → Type 0
+IsFirstReturn entries taken a = (j : ℕ) (e x : Observation) → slice_get entries j ≡ Some e → ¬ Contains taken j →
+    IsBefore e x → IsBefore a x
+
+-- both returned, with one call and one reply, and the first no later than the second
+pub record IsAlikeSooner (e f : Observation) : Type 0 where
+  pub call : e.call ≡ f.call
+  pub first : Returned
+  pub at_first : e.returned ≡ Some first
+  pub later : Returned
+  pub at_later : f.returned ≡ Some later
+  pub reply : first.reply ≡ later.reply
+  pub sooner : first.last ≤ later.last
+
 -- a way to the end: a call in effect may return; where one that is not in effect is to return, an open call
 -- takes effect
 pub data FindsOrder {S : Type 0} (step : S → Call × Reply → S → Type 0) (entries : List Observation) : List ℕ → S →

@@ -4,13 +4,13 @@ ghost use Rattle.std.specs.Option.{IfNone};
 ghost use Rattle.stamp_core.specs.Word.{IsAdmitted, word_at};
 ghost use Rattle.stamp_explain.specs.Observed.{IsObserved};
 ghost use Rattle.stamp_explain.specs.Search.{AreReturns};
-ghost use Rattle.stamp_explain.specs.Node.{IsReached, IsOpening};
+ghost use Rattle.stamp_explain.specs.Node.{IsOpening};
 ghost use Rattle.stamp_explain.specs.Plan.{IsPlan, IsOpenAt};
 ghost use Rattle.stamp_explain.specs.Store.{Keeps};
-ghost use Rattle.stamp_explain.specs.Expand.{Expands, Took, IsNotInEffect, IsFound, Enters};
+ghost use Rattle.stamp_explain.specs.Expand.{MayGoOn, Expands, Took, IsNotInEffect, IsFound, Enters};
 
 use crate::node::{Next, Node, Origin};
-use crate::observed::Observed;
+use crate::observed::{Observed, are_of_one_object};
 use crate::observer::observes_at;
 use crate::order::{Taken, order_to};
 use crate::plan::{Plan, has_bit, with_bit, without_bit};
@@ -84,10 +84,7 @@ fn take_of(observed: &Observed, node: &Node, i: usize) -> Option<Next>
 /// The one node that comes next, where no other has to be looked at: the awaited return is past, where
 /// its call is in effect; else an open call takes effect that changes nothing.
 fn forced(observed: &Observed, plan: &Plan, node: &Node) -> Option<Next>
-    requires observed { IsObserved observed.now }
-    requires plan { IsPlan observed.now plan.now }
-    requires reached { IsReached observed.now plan.now.returns.items node.now }
-    requires past { node.now.past < length plan.now.returns.items }
+    requires { MayGoOn observed.now plan.now node.now }
     ensures one { IfSome result (λ next. Expands observed.now plan.now.returns.items node.now (next ∷ [])) }
     ensures none { IfNone result (IsNotInEffect observed.now plan.now.returns.items node.now) }
 {
@@ -113,26 +110,27 @@ fn forced(observed: &Observed, plan: &Plan, node: &Node) -> Option<Next>
     None
 }
 
-/// The nodes that come next where an open call has to take effect. The one of that which returns first
-/// comes last.
+/// The nodes that come next where an open call has to take effect. Only those of the awaited call's
+/// object, lock or record, are tried; the node of that which returns first comes last.
 fn choices(
     observed: &Observed,
     plan: &Plan,
     node: &Node,
     nexts: &mut Vec<Next>,
 ) -> Result<(), AllocError>
-    requires observed { IsObserved observed.now }
-    requires plan { IsPlan observed.now plan.now }
-    requires reached { IsReached observed.now plan.now.returns.items node.now }
-    requires past { node.now.past < length plan.now.returns.items }
+    requires at { MayGoOn observed.now plan.now node.now }
     requires awaited { IsNotInEffect observed.now plan.now.returns.items node.now }
     ensures { IfOk result (λ _. Expands observed.now plan.now.returns.items node.now nexts.new.items) }
 {
     nexts.clear();
+    let awaited = plan.returns[node.past];
     let calls = plan.opens[node.past].as_slice();
     for k in 0..calls.len() {
-        if let Some(next) = take_of(observed, node, calls[calls.len() - 1 - k]) {
-            nexts.push(next)?;
+        let i = calls[calls.len() - 1 - k];
+        if are_of_one_object(observed, awaited, i) {
+            if let Some(next) = take_of(observed, node, i) {
+                nexts.push(next)?;
+            }
         }
     }
     Ok(())
@@ -145,10 +143,7 @@ fn successors(
     node: &Node,
     nexts: &mut Vec<Next>,
 ) -> Result<(), AllocError>
-    requires observed { IsObserved observed.now }
-    requires plan { IsPlan observed.now plan.now }
-    requires reached { IsReached observed.now plan.now.returns.items node.now }
-    requires past { node.now.past < length plan.now.returns.items }
+    requires { MayGoOn observed.now plan.now node.now }
     ensures { IfOk result (λ _. Expands observed.now plan.now.returns.items node.now nexts.new.items) }
 {
     let Some(next) = forced(observed, plan, node) else {

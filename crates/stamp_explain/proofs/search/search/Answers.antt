@@ -39,17 +39,19 @@ order_to-requires-clause-end c = record {
   );
 }
 
-pub successors-requires-clause-reached : goal.successors-requires-clause-reached
-successors-requires-clause-reached c = popped_reached c.args.observed.now c.args.plan.now.returns.items
-    c.loop.counter c.loop.store c.loop.waiting.items c.pop.new.self.items c.in-Some.place
-    c.index.result.now c.loop.invariant c.in-Some.ensures.items c.index.ensures
-
-pub successors-requires-clause-past : goal.successors-requires-clause-past
-successors-requires-clause-past c = omega (
-  arith,
-  c.if-node-returns.false,
-  ap (λ (xs : List ℕ). length xs) c.as_slice-returns.ensures.value,
-)
+pub successors-requires : goal.successors-requires
+successors-requires c = record {
+  observed = c.requires.observed;
+  is_plan = c.requires.plan;
+  reached = popped_reached c.args.observed.now c.args.plan.now.returns.items c.loop.counter c.loop.store
+      c.loop.waiting.items c.pop.new.self.items c.in-Some.place c.index.result.now c.loop.invariant
+      c.in-Some.ensures.items c.index.ensures;
+  past = omega (
+    arith,
+    c.if-node-returns.false,
+    ap (λ (xs : List ℕ). length xs) c.as_slice-returns.ensures.value,
+  );
+}
 
 pub loop-preserved : goal.loop-preserved
 loop-preserved c =

@@ -1,0 +1,175 @@
+-- Lock and record are judged apart, each by the history of its own calls.
+use Rattle.std.proofs.Common.{◌≡◌, ◌⊎◌, ℕ, ◌+◌, ◌<◌, Bool, true, false, List, [], ◌∷◌, ◌++◌, length, refl, sym, ap}
+use Rattle.std.proofs.Common.{subst, inl, inr, arith, Some}
+use Rattle.std.specs.Prelude.{slice_get, filter, not, IsTrue}
+use Rattle.std.specs.Bool.{MatchBool}
+use Rattle.std.specs.List.{All, Contains}
+use Rattle.std.proofs.lemmas.List.Elements.{All-head, All-tail, All-filter, All-weaker}
+use Rattle.std.proofs.lemmas.List.Kept.{AllPairs-filter}
+use Rattle.std.proofs.lemmas.Bool.{cases_Bool, true≢false}
+use Rattle.stamp_core.specs.Call.{is_lock_call, call_suits}
+use Rattle.stamp_core.specs.Content.{zeros, content_next, RecordReplies}
+use Rattle.stamp_core.specs.Limits.{Bounds}
+use Rattle.stamp_core.specs.LockEvent.{LockEvent}
+use Rattle.stamp_core.specs.Transition.{transition}
+use Rattle.stamp_core.specs.History.{Replies, IsLegalFrom, appended_by}
+use Rattle.stamp_explain.specs.declared.observed.Observation.{Observation}
+use Rattle.stamp_explain.specs.Observed.{ObservedHistory, IsObserved, IsInterval, DoNotOverlap, HasReturned}
+use Rattle.stamp_explain.specs.Observed.{is_of_lock, is_of_record, of_lock, of_record}
+use Rattle.stamp_explain.specs.Explained.{Effect, IsEffectOf, history_of, indices_of, AreApart, RespectsBefore}
+use Rattle.stamp_explain.specs.Explained.{IsExplained}
+use Rattle.stamp_explain.specs.Search.{Runs, LockAlone, RecordAlone}
+use Rattle.stamp_explain.specs.ExplainLaws.{JudgedApart}
+use Rattle.stamp_explain.proofs.Merging.{IsMerge, merge_all, left_all, flipped, left_pairs, merge_apart, left_index}
+use Rattle.stamp_explain.proofs.Merging.{all_left, all_right, Merges, merges, merge_legal, Splits, splits, all_locks}
+use Rattle.stamp_explain.proofs.Merging.{all_records, left_only, other_kind, sound_of}
+use Rattle.stamp_explain.proofs.Seeing.{parted, Restored, restored}
+
+-- it may be observed
+part_observed : (h : ObservedHistory) (p : Observation → Bool) → IsObserved h →
+    IsObserved (record h { entries = filter p h.entries })
+part_observed h p is = record {
+  intervals = All-filter p IsInterval h.entries is.intervals;
+  apart = AllPairs-filter DoNotOverlap p h.entries is.apart;
+  threads = All-filter p (λ (e : Observation). e.thread < 64) h.entries is.threads;
+  suit = All-filter p (λ (e : Observation). IsTrue (call_suits h.width e.call)) h.entries is.suit;
+}
+
+-- legal calls of the lock alone are its runs, and those of the record its
+legal_locks : (limits : Bounds) (events : List LockEvent) (content : List ℕ) (xs : List Effect) →
+    All (λ (x : Effect). is_lock_call x.entry.call ≡ true) xs → IsLegalFrom limits events content (history_of xs) →
+    Runs (LockAlone limits) events (history_of xs)
+legal_locks limits events content [] all legal = tt
+legal_locks limits events content (x ∷ xs) all legal =
+    let lock : is_lock_call x.entry.call ≡ true =
+    All-head (λ (x : Effect). is_lock_call x.entry.call ≡ true) x xs all in (
+      events ++ appended_by (transition limits events x.entry.call),
+      (
+        record {
+          lock = lock;
+          replies = subst (λ (b : Bool). MatchBool b (Replies (transition limits events x.entry.call) x.reply)
+              (RecordReplies content x.entry.call x.reply)) lock legal.0;
+          appends = refl;
+        },
+        legal_locks limits (events ++ appended_by (transition limits events x.entry.call))
+            (content_next content x.entry.call x.reply) xs
+            (All-tail (λ (x : Effect). is_lock_call x.entry.call ≡ true) x xs all) legal.1,
+      ),
+    )
+
+legal_records : (limits : Bounds) (events : List LockEvent) (content : List ℕ) (xs : List Effect) →
+    All (λ (x : Effect). is_lock_call x.entry.call ≡ false) xs → IsLegalFrom limits events content (history_of xs) →
+    Runs RecordAlone content (history_of xs)
+legal_records limits events content [] all legal = tt
+legal_records limits events content (x ∷ xs) all legal =
+    let guarded : is_lock_call x.entry.call ≡ false =
+    All-head (λ (x : Effect). is_lock_call x.entry.call ≡ false) x xs all in (
+      content_next content x.entry.call x.reply,
+      (
+        record {
+          guarded = guarded;
+          replies = subst (λ (b : Bool). MatchBool b (Replies (transition limits events x.entry.call) x.reply)
+              (RecordReplies content x.entry.call x.reply)) guarded legal.0;
+          leaves = refl;
+        },
+        legal_records limits (events ++ appended_by (transition limits events x.entry.call))
+            (content_next content x.entry.call x.reply) xs
+            (All-tail (λ (x : Effect). is_lock_call x.entry.call ≡ false) x xs all) legal.1,
+      ),
+    )
+
+is_not : (b : Bool) → b ≡ false → not b ≡ true
+is_not b same = ap not same
+
+not_is : (b : Bool) → not b ≡ true → b ≡ false
+not_is true same = absurd (true≢false (sym same))
+not_is false same = refl
+
+-- an order has an order of the lock's calls in it, and one of the record's
+parts : (h : ObservedHistory) → IsExplained h → IsExplained (of_lock h) × IsExplained (of_record h)
+parts h explained = (
+  parted h is_of_lock s.locks
+      (record {
+        effects = lock_effects;
+        once = left_pairs AreApart s.merge explained.by.once;
+        ordered = left_pairs RespectsBefore s.merge explained.by.ordered;
+        legal = merge_legal h.limits [] (zeros h.width) (all_left s.locks) s.lock_runs tt;
+      })
+      lock_kinds
+      (λ i e at has lock. left_only h.entries i e true false at lock true≢false s.merge record_effects record_kinds
+      (explained.by.returned i e at has)),
+  parted h is_of_record s.records
+      (record {
+        effects = record_effects;
+        once = left_pairs AreApart flip explained.by.once;
+        ordered = left_pairs RespectsBefore flip explained.by.ordered;
+        legal = merge_legal h.limits [] (zeros h.width) (all_right s.records) tt s.record_runs;
+      })
+      (All-weaker (λ (x : Effect). is_lock_call x.entry.call ≡ false) (λ (x : Effect). is_of_record x.entry ≡ true)
+      (λ x guarded. is_not (is_lock_call x.entry.call) guarded) s.records record_kinds)
+      (λ i e at has guarded. left_only h.entries i e false true at (not_is (is_lock_call e.call) guarded)
+      (λ same. true≢false (sym same)) flip lock_effects lock_kinds (explained.by.returned i e at has)),
+)
+  where
+    s : Splits h.limits [] (zeros h.width) explained.order
+    s = splits h.limits [] (zeros h.width) explained.order explained.by.legal
+
+    flip : IsMerge s.records s.locks explained.order
+    flip = flipped s.merge
+
+    lock_effects : All (IsEffectOf h.entries) s.locks
+    lock_effects = left_all (IsEffectOf h.entries) s.merge explained.by.effects
+
+    record_effects : All (IsEffectOf h.entries) s.records
+    record_effects = left_all (IsEffectOf h.entries) flip explained.by.effects
+
+    lock_kinds : All (λ (x : Effect). is_lock_call x.entry.call ≡ true) s.locks
+    lock_kinds = all_locks h.limits [] s.locks s.lock_runs
+
+    record_kinds : All (λ (x : Effect). is_lock_call x.entry.call ≡ false) s.records
+    record_kinds = all_records (zeros h.width) s.records s.record_runs
+
+-- and the other way round they are merged
+together : (h : ObservedHistory) → IsObserved h → IsExplained (of_lock h) → IsExplained (of_record h) → IsExplained h
+together h observed locks_are records_are = record {
+  order = m.order;
+  by = record {
+    effects = merge_all (IsEffectOf h.entries) m.merge locks.by.effects records.by.effects;
+    once = merge_apart m.merge locks.by.once records.by.once
+        (λ k d lt j c less. other_kind h.entries _ _ (locks.by.effects k d lt) (records.by.effects j c less)
+        (locks.passes k d lt) (record_kinds j c less));
+    returned = λ i e at has. which i e at has (cases_Bool (is_lock_call e.call));
+    ordered = m.ordered;
+    legal = merge_legal h.limits [] (zeros h.width) m.merge
+        (legal_locks h.limits [] (zeros h.width) locks.order locks.passes locks.by.legal)
+        (legal_records h.limits [] (zeros h.width) records.order record_kinds records.by.legal);
+  };
+}
+  where
+    locks : Restored h is_of_lock
+    locks = restored h is_of_lock locks_are
+
+    records : Restored h is_of_record
+    records = restored h is_of_record records_are
+
+    record_kinds : All (λ (x : Effect). is_lock_call x.entry.call ≡ false) records.order
+    record_kinds = All-weaker (λ (x : Effect). is_of_record x.entry ≡ true)
+        (λ (x : Effect). is_lock_call x.entry.call ≡ false) (λ x guarded. not_is (is_lock_call x.entry.call) guarded)
+        records.order records.passes
+
+    m : Merges locks.order records.order
+    m = merges (length locks.order + length records.order) locks.order records.order (omega arith)
+        (sound_of h locks.order observed locks.by.effects) (sound_of h records.order observed records.by.effects)
+        locks.by.ordered records.by.ordered
+
+    which : (i : ℕ) (e : Observation) → slice_get h.entries i ≡ Some e → HasReturned e →
+        (is_lock_call e.call ≡ true) ⊎ (is_lock_call e.call ≡ false) → Contains (indices_of m.order) i
+    which i e at has (inl lock) = left_index i m.merge (locks.returned i e at has lock)
+    which i e at has (inr guarded) =
+        left_index i (flipped m.merge) (records.returned i e at has (is_not (is_lock_call e.call) guarded))
+
+pub judged_apart : JudgedApart
+judged_apart h observed = (
+  (part_observed h is_of_lock observed, part_observed h is_of_record observed),
+  (parts h, λ both. together h observed both.0 both.1),
+)

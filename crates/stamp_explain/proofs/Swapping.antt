@@ -1,0 +1,221 @@
+-- Lock and record do not touch one another: a call of the one may take effect before those of the other.
+use Rattle.std.proofs.Common.{◌≡◌, ◌≢◌, ◌⊎◌, ℕ, suc, Bool, true, false, List, [], ◌∷◌, ◌++◌, length, refl, sym, ◌∙◌}
+use Rattle.std.proofs.Common.{ap, subst, inl, inr, Some}
+use Rattle.std.specs.Prelude.{slice_get}
+use Rattle.std.specs.Bool.{MatchBool}
+use Rattle.std.specs.List.{All, Contains}
+use Rattle.std.proofs.lemmas.List.Elements.{All-head, All-tail}
+use Rattle.std.proofs.lemmas.Bool.{true≢false}
+use Rattle.stamp_core.specs.Limits.{Bounds}
+use Rattle.stamp_core.specs.Call.{is_lock_call}
+use Rattle.stamp_core.specs.Content.{content_next, RecordReplies}
+use Rattle.stamp_core.specs.LockEvent.{LockEvent}
+use Rattle.stamp_core.specs.Transition.{transition}
+use Rattle.stamp_core.specs.History.{Replies, appended_by}
+use Rattle.stamp_core.specs.declared.call.Call.{Call}
+use Rattle.stamp_core.specs.declared.reply.Reply.{Reply}
+use Rattle.stamp_explain.specs.declared.observed.Observation.{Observation}
+use Rattle.stamp_explain.specs.Observed.{AreOfOneObject}
+use Rattle.stamp_explain.specs.Explained.{Effect, IsEffectOf, history_of, indices_of}
+use Rattle.stamp_explain.specs.Search.{Runs, IsCompletedBy, MayTake, LockState, LockSteps}
+use Rattle.stamp_explain.specs.ExplainLaws.{OneObjectSuffices}
+use Rattle.stamp_explain.proofs.Lists.{none_in_empty, contains_cases}
+use Rattle.stamp_explain.proofs.Completing.{IsAwaited, IsBehind, same_entry, behind_length, awaited_in, takes_next}
+use Rattle.stamp_explain.proofs.Completing.IsBehind.{at_first, behind}
+use Rattle.stamp_explain.proofs.Finding.{not_before_itself}
+use Rattle.stamp_explain.proofs.Merging.{lock_leaves, record_appends}
+
+-- what a call of the lock leaves, and one of the record
+abbrev after_lock : Bounds → LockState → Call → LockState
+after_lock limits s call = (s.0 ++ appended_by (transition limits s.0 call), s.1)
+
+abbrev after_record : LockState → Call × Reply → LockState
+after_record s x = (s.0, content_next s.1 x.0 x.1)
+
+lock_steps : (limits : Bounds) (s t : LockState) (x : Call × Reply) → is_lock_call x.0 ≡ true →
+    LockSteps limits s x t → Replies (transition limits s.0 x.0) x.1 × (t ≡ after_lock limits s x.0)
+lock_steps limits s t x lock is = (
+  subst (λ (b : Bool). MatchBool b (Replies (transition limits s.0 x.0) x.1) (RecordReplies s.1 x.0 x.1)) lock
+      is.replies,
+  is.next ∙ ap (λ (c : List ℕ). (s.0 ++ appended_by (transition limits s.0 x.0), c))
+      (lock_leaves s.1 x.0 x.1 lock),
+)
+
+by_lock : (limits : Bounds) (s : LockState) (x : Call × Reply) → is_lock_call x.0 ≡ true →
+    Replies (transition limits s.0 x.0) x.1 → LockSteps limits s x (after_lock limits s x.0)
+by_lock limits s x lock replies = record {
+  replies = subst (λ (b : Bool). MatchBool b (Replies (transition limits s.0 x.0) x.1) (RecordReplies s.1 x.0 x.1))
+      (sym lock) replies;
+  next = ap (λ (c : List ℕ). (s.0 ++ appended_by (transition limits s.0 x.0), c))
+      (sym (lock_leaves s.1 x.0 x.1 lock));
+}
+
+record_steps : (limits : Bounds) (s t : LockState) (x : Call × Reply) → is_lock_call x.0 ≡ false →
+    LockSteps limits s x t → RecordReplies s.1 x.0 x.1 × (t ≡ after_record s x)
+record_steps limits s t x guarded is = (
+  subst (λ (b : Bool). MatchBool b (Replies (transition limits s.0 x.0) x.1) (RecordReplies s.1 x.0 x.1)) guarded
+      is.replies,
+  is.next ∙ ap (λ (events : List LockEvent). (events, content_next s.1 x.0 x.1))
+      (record_appends limits s.0 x.0 guarded),
+)
+
+by_record : (limits : Bounds) (s : LockState) (x : Call × Reply) → is_lock_call x.0 ≡ false →
+    RecordReplies s.1 x.0 x.1 → LockSteps limits s x (after_record s x)
+by_record limits s x guarded replies = record {
+  replies = subst (λ (b : Bool). MatchBool b (Replies (transition limits s.0 x.0) x.1) (RecordReplies s.1 x.0 x.1))
+      (sym guarded) replies;
+  next = ap (λ (events : List LockEvent). (events, content_next s.1 x.0 x.1))
+      (sym (record_appends limits s.0 x.0 guarded));
+}
+
+-- the second call may be made first
+record Swaps (limits : Bounds) (s t : LockState) (x y : Call × Reply) : Type 0 where
+  state : LockState
+  sooner : LockSteps limits s x state
+  later : LockSteps limits state y t
+
+swaps : (limits : Bounds) (s u t : LockState) (x y : Call × Reply) → is_lock_call y.0 ≢ is_lock_call x.0 →
+    LockSteps limits s y u → LockSteps limits u x t → Swaps limits s t x y
+swaps limits s u t x y other one two = by (is_lock_call x.0) (is_lock_call y.0) refl refl
+  where
+    by : (b c : Bool) → is_lock_call x.0 ≡ b → is_lock_call y.0 ≡ c → Swaps limits s t x y
+    by true true x_is y_is = absurd (other (y_is ∙ sym x_is))
+    by false false x_is y_is = absurd (other (y_is ∙ sym x_is))
+    by true false x_is y_is =
+        let f : RecordReplies s.1 y.0 y.1 × (u ≡ after_record s y) = record_steps limits s u y y_is one in
+        let g : Replies (transition limits u.0 x.0) x.1 × (t ≡ after_lock limits u x.0) =
+        lock_steps limits u t x x_is two in
+        record {
+          state = after_lock limits s x.0;
+          sooner = by_lock limits s x x_is
+              (subst (λ (w : LockState). Replies (transition limits w.0 x.0) x.1) f.1 g.0);
+          later = subst (λ (w : LockState). LockSteps limits (after_lock limits s x.0) y w)
+              (sym (g.1 ∙ ap (λ (w : LockState). after_lock limits w x.0) f.1))
+              (by_record limits (after_lock limits s x.0) y y_is f.0);
+        }
+    by false true x_is y_is =
+        let f : Replies (transition limits s.0 y.0) y.1 × (u ≡ after_lock limits s y.0) =
+        lock_steps limits s u y y_is one in
+        let g : RecordReplies u.1 x.0 x.1 × (t ≡ after_record u x) = record_steps limits u t x x_is two in
+        record {
+          state = after_record s x;
+          sooner = by_record limits s x x_is (subst (λ (w : LockState). RecordReplies w.1 x.0 x.1) f.1 g.0);
+          later = subst (λ (w : LockState). LockSteps limits (after_record s x) y w)
+              (sym (g.1 ∙ ap (λ (w : LockState). after_record w x) f.1))
+              (by_lock limits (after_record s x) y y_is f.0);
+        }
+
+abbrev IsOfOther : Bool → Effect → Type 0
+IsOfOther lock y = is_lock_call y.entry.call ≢ lock
+
+-- the first effect of the lock, or of the record, may be made before all others
+record Brings (limits : Bounds) (s : LockState) (lock : Bool) (rest : List Effect) : Type 0 where
+  effect : Effect
+  others : List Effect
+  kind : is_lock_call effect.entry.call ≡ lock
+  out : IsBehind (IsOfOther lock) effect rest others
+  state : LockState
+  steps : LockSteps limits s (effect.entry.call, effect.reply) state
+  runs : Runs (LockSteps limits) state (history_of others)
+
+same_or_other : (b c : Bool) → (b ≡ c) ⊎ (b ≢ c)
+same_or_other true true = inl refl
+same_or_other false false = inl refl
+same_or_other true false = inr true≢false
+same_or_other false true = inr (λ e. true≢false (sym e))
+
+-- an effect of another object is of another call
+other_call : (entries : List Observation) (i : ℕ) (a : Observation) → slice_get entries i ≡ Some a → (y : Effect) →
+    IsEffectOf entries y → IsOfOther (is_lock_call a.call) y → y.index ≢ i
+other_call entries i a at y is other same =
+    other (ap (λ (o : Observation). is_lock_call o.call) (same_entry entries y i a is same at))
+
+brings : (limits : Bounds) (entries : List Observation) (i : ℕ) (a : Observation) (s : LockState)
+    (rest : List Effect) → slice_get entries i ≡ Some a → All (IsEffectOf entries) rest →
+    Runs (LockSteps limits) s (history_of rest) → Contains (indices_of rest) i →
+    Brings limits s (is_lock_call a.call) rest
+brings limits entries i a s [] at effects runs has = absurd (none_in_empty i has)
+brings limits entries i a s (y ∷ rest) at effects runs has =
+    by (same_or_other (is_lock_call y.entry.call) (is_lock_call a.call))
+    (brings limits entries i a runs.0 rest at (All-tail (IsEffectOf entries) y rest effects) runs.1.1)
+  where
+    rest_only : IsOfOther (is_lock_call a.call) y → (y.index ≡ i) ⊎ Contains (indices_of rest) i →
+        Contains (indices_of rest) i
+    rest_only other (inl same) =
+        absurd (other_call entries i a at y (All-head (IsEffectOf entries) y rest effects) other same)
+    rest_only other (inr has) = has
+
+    by : (is_lock_call y.entry.call ≡ is_lock_call a.call) ⊎ IsOfOther (is_lock_call a.call) y →
+        (Contains (indices_of rest) i → Brings limits runs.0 (is_lock_call a.call) rest) →
+        Brings limits s (is_lock_call a.call) (y ∷ rest)
+    by (inl same) again = record {
+      effect = y;
+      others = rest;
+      kind = same;
+      out = at_first;
+      state = runs.0;
+      steps = runs.1.0;
+      runs = runs.1.1;
+    }
+    by (inr other) again =
+        let b : Brings limits runs.0 (is_lock_call a.call) rest =
+        again (rest_only other (contains_cases y.index (indices_of rest) i has)) in
+        let w : Swaps limits s b.state (b.effect.entry.call, b.effect.reply) (y.entry.call, y.reply) =
+        swaps limits s runs.0 b.state (b.effect.entry.call, b.effect.reply) (y.entry.call, y.reply)
+        (λ e. other (e ∙ b.kind)) runs.1.0 b.steps in
+        record {
+          effect = b.effect;
+          others = y ∷ b.others;
+          kind = b.kind;
+          out = behind other b.out;
+          state = w.state;
+          steps = w.sooner;
+          runs = (b.state, (w.later, b.runs));
+        }
+
+-- where a return is awaited, an effect of its object may be the next; the others complete what it leaves
+pub record TakesAlike (limits : Bounds) (entries : List Observation) (i : ℕ) (a : Observation) (to_come : List ℕ)
+    (s : LockState) (taken : List ℕ) (rest : List Effect) : Type 0 where
+  pub effect : Effect
+  pub others : List Effect
+  pub alike : AreOfOneObject a effect.entry
+  pub state : LockState
+  pub may : MayTake (LockSteps limits) entries a s taken effect state
+  pub by : IsCompletedBy (LockSteps limits) entries (i ∷ to_come) state (effect.index ∷ taken) others
+  pub fewer : length rest ≡ suc (length others)
+
+pub takes_alike : (limits : Bounds) (entries : List Observation) (i : ℕ) (a : Observation) (to_come : List ℕ)
+    (s : LockState) (taken : List ℕ) (rest : List Effect) → IsAwaited entries i a → ¬ Contains taken i →
+    IsCompletedBy (LockSteps limits) entries (i ∷ to_come) s taken rest →
+    TakesAlike limits entries i a to_come s taken rest
+takes_alike limits entries i a to_come s taken rest awaited not_yet by = record {
+  effect = b.effect;
+  others = b.others;
+  alike = sym b.kind;
+  state = b.state;
+  may = both.0;
+  by = both.1;
+  fewer = behind_length (IsOfOther (is_lock_call a.call)) b.effect b.out;
+}
+  where
+    b : Brings limits s (is_lock_call a.call) rest
+    b = brings limits entries i a s rest awaited.is_entry by.effects by.runs
+        (awaited_in i to_come taken rest not_yet by.returned)
+
+    both : MayTake (LockSteps limits) entries a s taken b.effect b.state ×
+        IsCompletedBy (LockSteps limits) entries (i ∷ to_come) b.state (b.effect.index ∷ taken) b.others
+    both = takes_next (LockSteps limits) entries i a to_come s b.state taken (IsOfOther (is_lock_call a.call)) b.effect
+        awaited not_yet (other_call entries i a awaited.is_entry) b.out b.steps b.runs by
+
+pub one_object_suffices : OneObjectSuffices
+one_object_suffices limits entries i a to_come s taken at interval not_yet can =
+    let one : TakesAlike limits entries i a to_come s taken can.rest =
+    takes_alike limits entries i a to_come s taken can.rest
+    (record { is_entry = at; begun = not_before_itself a interval }) not_yet can.by in
+    record {
+      effect = one.effect;
+      alike = one.alike;
+      state = one.state;
+      may = one.may;
+      can = record { rest = one.others; by = one.by };
+    }
