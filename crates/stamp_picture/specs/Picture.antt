@@ -22,12 +22,12 @@ pub record Drawn : Type 0 where
   pub opening : State
   pub ribbon : List Moment
 
--- the verdict is the one that a check finds; of a bad history, also what was due to the call of its first fault
+-- the verdict is the one that a check finds; of a bad history, also the call of its first fault, and what was due to it
 abbrev pub IsJudged : Recorded → Result ℕ Fault → Type 0
 IsJudged r (Ok n) = IsVerdict r (Ok n)
 IsJudged r (Err fault) = IsVerdict r (Err fault.bad) ×
     ((e : Entry) → slice_get r.entries fault.bad.entry ≡ Some e →
-    IsDue r.limits r.width (take fault.bad.entry r.entries) e.call fault.due)
+    (fault.call ≡ e.call) × IsDue r.limits r.width (take fault.bad.entry r.entries) e.call fault.due)
 
 -- how many entries have no fault before or at them
 abbrev pub right_in : Result ℕ Fault → ℕ
