@@ -1,5 +1,5 @@
 -- The bars of entries.
-use Rattle.std.specs.Prelude.{ℕ, ◌+◌, min, max, List, [], ◌∷◌, if◌then◌else◌}
+use Rattle.std.specs.Prelude.{ℕ, ◌≡◌, ◌≤◌, ◌+◌, min, max, true, List, [], ◌∷◌, if◌then◌else◌}
 use Rattle.stamp_core.specs.declared.entry.Entry.{Entry}
 use Rattle.stamp_picture.specs.declared.bar.Bar.{Bar}
 use Rattle.stamp_picture.specs.declared.window.Window.{Window}
@@ -26,6 +26,13 @@ abbrev pub bars_from : Window → ℕ → List Entry → List Bar
 bars_from w number [] = []
 bars_from w number (e ∷ es) =
     if meets w e then bar_of w number e ∷ bars_from w (number + 1) es else bars_from w (number + 1) es
+
+-- what is drawn of the bar lies in the window, and so does its point if that is marked
+pub record IsInside (w : Window) (b : Bar) : Type 0 where
+  pub begins : w.from ≤ b.begin
+  pub goes_on : b.begin ≤ b.end
+  pub ends : b.end ≤ w.to
+  pub point : b.marked ≡ true → (w.from ≤ b.point) × (b.point ≤ w.to)
 
 abbrev pub bars_of : Window → List Entry → List Bar
 bars_of w entries = bars_from w 0 entries
