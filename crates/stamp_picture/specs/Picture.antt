@@ -1,5 +1,6 @@
 -- The picture of a recorded history.
-use Rattle.std.specs.Prelude.{ℕ, ◌≡◌, ◌<◌, ◌+◌, List, take, slice_get, Some, Result, Ok, Err, count_by}
+use Rattle.std.specs.Prelude.{ℕ, ◌≡◌, ◌<◌, ◌+◌, List, ◌++◌, take, slice_get, Some, Result, Ok, Err, count_by}
+use Rattle.std.specs.Prelude.{codes, decimal}
 use Rattle.stamp_core.specs.Record.{Recorded}
 use Rattle.stamp_core.specs.declared.entry.Entry.{Entry}
 use Rattle.stamp_check.specs.Verdict.{IsVerdict}
@@ -50,6 +51,11 @@ pub record IsPicture (r : Recorded) (w : Window) (p : Drawn) : Type 0 where
   pub bars : p.bars ≡ bars_of w (take (drawn_in p.verdict) r.entries)
   pub opening : p.opening ≡ opening_of r.limits r.width w (take (right_in p.verdict) r.entries)
   pub ribbon : p.ribbon ≡ moments_of r.limits r.width w (take (right_in p.verdict) r.entries)
+
+-- why there is no picture, in words
+abbrev pub error_text : PictureError → List ℕ
+error_text Memory = codes "out of memory"
+error_text (TooMany n) = decimal n ++ codes " entries to draw, of at most 2000"
 
 -- there are so many bars to draw, which are too many
 pub record IsCrowded (r : Recorded) (w : Window) (n : ℕ) : Type 0 where

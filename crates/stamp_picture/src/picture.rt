@@ -43,6 +43,11 @@ pub enum PictureError {
 }
 
 impl fmt::Display for PictureError {
+    ghost use Rattle.std.specs.Prelude.{Some};
+    ghost use Rattle.stamp_picture.specs.Picture.{error_text};
+
+    ghost output = { λ e. Some (error_text e) };
+
     fn fmt<W: fmt::Write>(&self, f: &mut fmt::Formatter<W>) -> fmt::Result {
         match self {
             PictureError::Memory => write!(f, "out of memory"),
