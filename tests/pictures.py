@@ -2,11 +2,13 @@
 
     pictures.py PROGRAM [FOLDER]
 
-Each picture is XML; it has a bar for each entry up to the first fault, in its thread's lane, with its
-call; a faulty entry is the one that is marked. In characters, two pictures are those that are written
-here, and each is cut off where it is told; words that are no form are refused. Those of docs/pictures are made again and compared. With
-FOLDER all of them are written there: so `pictures.py PROGRAM docs/pictures` makes those pages' pictures
-again (it leaves the others there, which are not kept)."""
+Each picture is XML; it has a bar for each entry up to the first fault that the window shows, in its thread's
+lane, with its call, and a mark for each of them whose point is in the window; a faulty entry is of another
+class. Of one window the bars and marks stand where it is written here. In characters, some pictures are those
+that are written here, each is cut off where it is told, and a cut line says so; words that are no form are
+refused. Those of docs/pictures are made again and compared. With FOLDER all of them are written there: so
+`pictures.py PROGRAM docs/pictures` makes those pages' pictures again (it leaves the others there, which are
+not kept)."""
 import json
 import os
 import subprocess
@@ -42,6 +44,11 @@ TORN_GET = [
     entry(1, ["put", [3, 4]], "done", 1, 6, 7),
     entry(2, ["get"], [1, 4], 2, 8, 9),
 ]
+RIGHT_GET = [
+    entry(0, ["put", [1, 2]], "done", 0, 3, 7),
+    entry(1, ["put", [3, 4]], "done", 1, 5, 6),
+    entry(2, ["get"], [3, 4], 2, 8, 9),
+]
 MANY = [entry(n, ["try_read"], 257 + n, n, 64 + n, 128 + n) for n in range(64)]
 READ = at(0, 0, ["try_read"], 257)
 FAULTS = {
@@ -56,10 +63,25 @@ PICTURES = {
     "torn_get": (history(TORN_GET, 2), [], 2),
     "many_threads": (history(MANY), [], None),
     "window": (history(MANY), ["--from", "130", "--to", "131"], None),
+    "window_of_a_put": (history(RIGHT_GET, 2), ["--from", "4", "--to", "7"], None),
+    "window_of_a_point": (history(FAULTS["interval"]), ["--from", "1", "--to", "3"], 0),
+    "window_turned": (history([READ, entry(1, ["try_read"], 258, 6, 5, 4)]), ["--from", "4", "--to", "4"], 0),
     **{f"fault_{why}": (history(entries), [], len(entries) - 1) for why, entries in FAULTS.items()},
     "long": (history([at(n, n % 64, ["read_count"], {"count": 0}) for n in range(2000)]), [], None),
 }
-DRAWN = {"window": 62}
+DRAWN = {"window": 62, "window_of_a_point": 1, "window_turned": 1}
+# The left side and the width of each bar, and the left side of each mark: the ends are 4, 4, 4, 5, 6, 7 and 7.
+BOXES = {"window_of_a_put": ([(136, 280), (136, 200), (136, 280)], [273])}
+VERDICTS = {
+    "schedule": "3 entries, in order",
+    "window_of_a_put": "3 entries, in order",
+    "torn_get": "entry 2: the record would have answered otherwise (due here: [3, 4])",
+    "fault_interval": "entry 1: its point is not between its first and last",
+    "fault_order": "entry 2: its point is not above the one before",
+    "fault_overlap": "entry 1: it began before its thread's last call ended",
+    "fault_reply": "entry 2: the lock would have answered otherwise (due here: 640)",
+    "fault_wait": "entry 1: the lock would have answered otherwise (it would wait here)",
+}
 TOO_MANY = history([at(n, 0, ["read_count"], {"count": 0}) for n in range(2001)])
 TOO_MANY_LINE = b"stamped: 2001 entries to draw, over 2000: give --from A --to B\n"
 LEGEND = ", begins  | goes on  * takes effect  ' ends; the faulty entry has ! and X"
@@ -78,7 +100,7 @@ TEXTS = {
         "   '  !       7  1: = done",
         "      X       8  2: get = [1, 4] (entry 2)",
         "      !       9  2: = [1, 4]",
-        "entry 2: the lock would have answered otherwise (due here: [3, 4])",
+        VERDICTS["torn_get"],
     ],
     "fault_overlap": [
         LEGEND,
@@ -90,7 +112,32 @@ TEXTS = {
         "!       5  0: = 257",
         "X       6  0: try_read = 258 (entry 1)",
         "!       7  0: = 258",
-        "entry 1: it began before its thread's last call ended (due here: 258)",
+        VERDICTS["fault_overlap"],
+    ],
+    "window_of_a_put": [
+        LEGEND,
+        "at first: free v 0 [1, 2]",
+        "0  1  2  " + HEADING,
+        "|  |  |       4",
+        "|  *  |       5  1: put [3, 4] = done (entry 1) -> free v 0 [3, 4]",
+        "|  '  |       6  1: = done",
+        "'     |       7  0: = done",
+        VERDICTS["window_of_a_put"],
+    ],
+    "window_of_a_point": [
+        LEGEND,
+        "at first: 1 rd v 0",
+        "0  1  " + HEADING,
+        "   X       2  1: try_read = 258 (entry 1)",
+        "   !       3",
+        VERDICTS["fault_interval"],
+    ],
+    "window_turned": [
+        LEGEND,
+        "at first: 1 rd v 0",
+        "0  1  " + HEADING,
+        "   !       4  1: = 258",
+        VERDICTS["fault_interval"],
     ],
 }
 BAD_WORDS = [
@@ -125,35 +172,57 @@ def bars_of(root):
     ]
 
 
+def marks_of(root):
+    """Each mark's left side and title; that of the legend has no title."""
+    marks = [(int(box.get("x")), box.find(SVG + "title").text) for box in boxes(root, ["mark"])]
+    return [(x, title) for x, title in marks if title]
+
+
+def window_in(words):
+    """The window that the words give, or all positions."""
+    return (int(words[-3]), int(words[-1])) if "--from" in words else (0, 2**64 - 1)
+
+
 def call_text(call):
     return " ".join([call[0], *map(str, call[1:])])
 
 
-def look(name, drawn, answer, bad):
-    """The picture's status, its bars and the fault that it marks are those of the history."""
+def look(name, drawn, words, answer, bad):
+    """The picture's status, its bars, marks and fault are those of the history in the window."""
     status, text, told = answer
     if (status, told) != (0 if bad is None else 1, b""):
         sys.exit(f"{name}: status {status}, {told}")
     marked = ["bad" if number == bad else "bar" for number in range(len(drawn))]
     wanted = [(e["thread"], kind, call_text(e["call"])) for e, kind in zip(drawn, marked)]
-    bars = bars_of(xml.fromstring(text))
+    root = xml.fromstring(text)
+    bars, marks = bars_of(root), marks_of(root)
     if bars != wanted:
         sys.exit(f"{name}: {bars}, and not {wanted}")
+    begin, end = window_in(words)
+    points = [f", point {e['point']}" for e in drawn if begin <= e["point"] <= end]
+    if len(marks) != len(points) or not all(title.endswith(it) for (_, title), it in zip(marks, points)):
+        sys.exit(f"{name}: the marks are {marks}, and not at {points}")
+    if name in BOXES:
+        sides = [(int(box.get("x")), int(box.get("width"))) for box in boxes(root, ["bar"])][: len(bars)]
+        if (sides, [x for x, _ in marks]) != BOXES[name]:
+            sys.exit(f"{name}: {sides} and {marks}, and not {BOXES[name]}")
 
 
 def look_at_text(name, program, told, words, bad):
-    """Its lines in characters are at most as wide as told, and begin as those of other widths do."""
+    """Its lines in characters are at most as wide as told, and say where they are cut off."""
     text = json.dumps(told).encode()
     status = 0 if bad is None else 1
     whole = ended(program, text, ["--text", "--width", "18446744073709551615", *words])[1].decode().splitlines()
     for width, option in [(80, []), (1, ["--width", "1"]), (33, ["--width", "33"])]:
         drawn = ended(program, text, ["--text", *option, *words])
-        wanted = "".join(f"{line[:width]}\n" for line in whole)
+        wanted = "".join(f"{line if len(line) <= width else line[:width - 1] + '>'}\n" for line in whole)
         if drawn != (status, wanted.encode(), b""):
             sys.exit(f"{name} in {width} characters: {drawn}, and not {wanted}")
     if name in TEXTS and whole != TEXTS[name]:
         sys.exit(f"{name} in characters: {whole}")
-    if len(whole) < 3 + len(told["entries"]):
+    if name in VERDICTS and whole[-1] != VERDICTS[name]:
+        sys.exit(f"{name} in characters ends in {whole[-1]}")
+    if not words and len(whole) < 3 + len(told["entries"]):
         sys.exit(f"{name} in characters has {len(whole)} lines")
 
 
@@ -163,7 +232,7 @@ def main():
     for name, (told, words, bad) in PICTURES.items():
         answer = ended(program, json.dumps(told).encode(), words)
         drawn = told["entries"][-DRAWN[name]:] if name in DRAWN else told["entries"]
-        look(name, drawn, answer, bad)
+        look(name, drawn, words, answer, bad)
         look_at_text(name, program, told, words, bad)
         kept = os.path.join(KEPT, f"{name}.svg")
         for room in folder:

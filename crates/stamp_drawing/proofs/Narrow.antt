@@ -1,9 +1,11 @@
 -- The lines of a picture in characters.
-use Rattle.std.proofs.Common.{◌≡◌, ◌∙◌, ℕ, ◌≤◌, List, [], ◌∷◌, ◌++◌, length, map, take, sym, ap, append_assoc, arith}
+use Rattle.std.proofs.Common.{◌≡◌, ◌∙◌, ℕ, ◌≤◌, ◌<◌, ◌-◌, List, [], ◌∷◌, ◌++◌, length, map, take, sym, ap, append_assoc}
+use Rattle.std.proofs.Common.{arith, Bool, true, false, refl, codes, length-append}
+use Rattle.std.specs.Prelude.{nat_le, ◌==◌, if◌then◌else◌}
 use Rattle.std.specs.List.{concat}
 use Rattle.std.proofs.lemmas.List.{append-nil, length-take}
 use Rattle.stamp_picture.specs.Picture.{Drawn}
-use Rattle.stamp_drawing.specs.Rows.{row_text, cut_text, AreNarrow}
+use Rattle.stamp_drawing.specs.Rows.{row_text, cut, cut_text, AreNarrow}
 use Rattle.stamp_drawing.specs.Rows.AreNarrow.{none, line}
 
 -- the rows, and a last line behind them
@@ -15,9 +17,17 @@ rows_joined width p (t ∷ ts) last =
     ap (λ (rest : List ℕ). cut_text width (row_text p t) ++ rest) (rows_joined width p ts last)
     ∙ sym (append_assoc (cut_text width (row_text p t)) _ (cut_text width last))
 
-few : (width : ℕ) (row : List ℕ) → length (take width row) ≤ width
-few width row = rw length-take (omega arith)
+short : (fits no_room : Bool) (width : ℕ) (row : List ℕ) → (fits ≡ true → length row ≤ width) →
+    (no_room ≡ false → 0 < width) →
+    length (if fits then row else if no_room then [] else take (width - 1) row ++ codes ">") ≤ width
+short true no_room width row whole some = whole refl
+short false true width row whole some = omega arith
+short false false width row whole some = rw (length-append, length-take) (omega (arith, some refl))
+
+few : (width : ℕ) (row : List ℕ) → length (cut width row) ≤ width
+few width row = short (nat_le (length row) width) (width == 0) width row (λ fits. grind (arith, fits))
+    (λ some. grind (arith, some))
 
 pub all_narrow : (width : ℕ) (rows : List (List ℕ)) → AreNarrow width (concat (map (cut_text width) rows))
 all_narrow width [] = none
-all_narrow width (row ∷ rows) = line (take width row) _ (few width row) (all_narrow width rows)
+all_narrow width (row ∷ rows) = line (cut width row) _ (few width row) (all_narrow width rows)

@@ -1,29 +1,50 @@
 -- Ends, lanes and boxes, one more.
-use Rattle.std.proofs.Common.{◌≡◌, ◌∙◌, ℕ, ◌+◌, ◌*◌, ◌<◌, List, []}
-use Rattle.std.proofs.Common.{◌∷◌, ◌++◌, length, map, take, drop, get_or, refl, sym, ap}
+use Rattle.std.proofs.Common.{◌≡◌, ◌∙◌, ℕ, ◌+◌, ◌*◌, ◌<◌, ◌≤◌, List, [], length-append}
+use Rattle.std.proofs.Common.{◌∷◌, ◌++◌, length, map, take, drop, get_or, sym, ap}
 use Rattle.std.proofs.Common.{arith, append_assoc, Bool, true, false, add-one, drop-cons}
 use Rattle.std.specs.Prelude.{if◌then◌else◌, max, Option}
-use Rattle.std.specs.List.{range_with_len}
-use Rattle.std.proofs.lemmas.List.{take_more, map_more, map_push}
+use Rattle.std.specs.List.{filter, range_with_len}
+use Rattle.std.proofs.lemmas.List.{take_more, map_more, map_push, map-append, append-nil}
+use Rattle.std.proofs.Math.Bool.{cond}
+use Rattle.std.proofs.lemmas.List.Elements.{filter_more}
 use Rattle.std.proofs.lemmas.List.FromFn.{map-range_with_len_more}
 use Rattle.stamp_picture.specs.declared.bar.Bar.{Bar}
 use Rattle.stamp_picture.specs.declared.state.Moment.{Moment}
 use Rattle.stamp_drawing.specs.declared.sheet.Shape.{Shape}
-use Rattle.stamp_drawing.specs.Places.{ends_of, lanes_in, point_x}
-use Rattle.stamp_drawing.specs.Sheet.{Box, box_of, boxes_of, same_content, content_box, change_boxes}
+use Rattle.stamp_drawing.specs.Places.{ends_in, ends_of, lanes_in, point_x}
+use Rattle.stamp_drawing.specs.Sheet.{Box, box_of, boxes_of, mark_box, mark_boxes, same_content}
+use Rattle.stamp_drawing.specs.Sheet.{content_box, change_boxes}
 
-ends_push : (xs : List Bar) (b : Bar) → ends_of (xs ++ b ∷ []) ≡ ends_of xs ++ b.first ∷ b.point ∷ b.last ∷ []
-ends_push [] b = refl
-ends_push (x ∷ xs) b = ap (λ (ends : List ℕ). x.first ∷ x.point ∷ x.last ∷ ends) (ends_push xs b)
+ends_push : (xs : List Bar) (b : Bar) → ends_of (xs ++ b ∷ []) ≡ ends_of xs ++ ends_in b
+ends_push [] b = append-nil (ends_in b)
+ends_push (x ∷ xs) b = ap (λ (ends : List ℕ). ends_in x ++ ends) (ends_push xs b)
+    ∙ sym (append_assoc (ends_in x) (ends_of xs) (ends_in b))
 
 pub ends_more : (xs : List Bar) (i : ℕ) (b : Bar) → i < length xs → b ≡ get_or xs i b →
-    ends_of (take (i + 1) xs) ≡ ends_of (take i xs) ++ b.first ∷ b.point ∷ b.last ∷ []
+    ends_of (take (i + 1) xs) ≡ ends_of (take i xs) ++ ends_in b
 ends_more xs i b lt is = ap (λ (ys : List Bar). ends_of ys) (take_more xs i b lt) ∙
     ap (λ (x : Bar). ends_of (take i xs ++ x ∷ [])) (sym is) ∙ ends_push (take i xs) b
 
-pub three_ends : (xs : List Bar) → length (ends_of xs) ≡ 3 * length xs
-three_ends [] = refl
-three_ends (x ∷ xs) = omega (arith, three_ends xs)
+few_ends : (b : Bool) (x y z : ℕ) → length (x ∷ (if b then y ∷ z ∷ [] else z ∷ [])) ≤ 3
+few_ends true x y z = omega arith
+few_ends false x y z = omega arith
+
+pub three_ends : (xs : List Bar) → length (ends_of xs) ≤ 3 * length xs
+three_ends [] = omega arith
+three_ends (x ∷ xs) = rw length-append
+    (omega (arith, few_ends x.marked x.begin x.point x.end, three_ends xs))
+
+-- the ends of a bar whose point is marked, and of one whose point is not
+pub marked_ends : (b : Bar) (old new : List ℕ) → b.marked ≡ true →
+    new ≡ ((old ++ b.begin ∷ []) ++ b.point ∷ []) ++ b.end ∷ [] → new ≡ old ++ ends_in b
+marked_ends b old new on is = is ∙ append_assoc (old ++ b.begin ∷ []) (b.point ∷ []) (b.end ∷ [])
+    ∙ append_assoc old (b.begin ∷ []) (b.point ∷ b.end ∷ [])
+    ∙ ap (λ (m : Bool). old ++ b.begin ∷ (if m then b.point ∷ b.end ∷ [] else b.end ∷ [])) (sym on)
+
+pub unmarked_ends : (b : Bar) (old new : List ℕ) → b.marked ≡ false →
+    new ≡ (old ++ b.begin ∷ []) ++ b.end ∷ [] → new ≡ old ++ ends_in b
+unmarked_ends b old new off is = is ∙ append_assoc old (b.begin ∷ []) (b.end ∷ [])
+    ∙ ap (λ (m : Bool). old ++ b.begin ∷ (if m then b.point ∷ b.end ∷ [] else b.end ∷ [])) (sym off)
 
 lanes_push : (xs : List Bar) (b : Bar) → lanes_in (xs ++ b ∷ []) ≡ max (lanes_in xs) (b.lane + 1)
 lanes_push [] b = omega arith
@@ -46,6 +67,36 @@ boxed_more {X} box xs i x old new shape front lt is before more at =
     ∙ ap (λ (b : Box). (front ++ first) ++ b ∷ []) (at ∙ ap box is)
     ∙ append_assoc front first (box (get_or xs i x) ∷ [])
     ∙ ap (λ (bs : List Box). front ++ bs) (sym (map_more box xs i x lt))
+
+-- one bar more, whose point is marked or not
+abbrev one_mark : List ℕ → Bool → Bar → List Box
+one_mark ends marked b = map (mark_box ends) (cond marked (b ∷ []) [])
+
+marks_more : (ends : List ℕ) (xs : List Bar) (i : ℕ) (b : Bar) → i < length xs → b ≡ get_or xs i b →
+    mark_boxes ends (take (i + 1) xs) ≡ mark_boxes ends (take i xs) ++ one_mark ends b.marked b
+marks_more ends xs i b lt is =
+    ap (λ (bars : List Bar). map (mark_box ends) bars) (filter_more (λ (x : Bar). x.marked) xs i b lt)
+    ∙ map-append (mark_box ends) (filter (λ (x : Bar). x.marked) (take i xs)) _
+    ∙ ap (λ (x : Bar). mark_boxes ends (take i xs) ++ one_mark ends x.marked x) (sym is)
+
+pub marked_more : (ends : List ℕ) (xs : List Bar) (i : ℕ) (b : Bar) (old new : List Shape) (shape : Shape) →
+    i < length xs → b ≡ get_or xs i b → b.marked ≡ true → boxes_of old ≡ mark_boxes ends (take i xs) →
+    new ≡ old ++ shape ∷ [] → box_of shape ≡ mark_box ends b →
+    boxes_of new ≡ mark_boxes ends (take (i + 1) xs)
+marked_more ends xs i b old new shape lt is on before more at =
+    ap (λ (s : List Shape). boxes_of s) more ∙ map_push box_of old shape
+    ∙ ap (λ (bs : List Box). bs ++ box_of shape ∷ []) before
+    ∙ ap (λ (x : Box). mark_boxes ends (take i xs) ++ x ∷ []) at
+    ∙ ap (λ (m : Bool). mark_boxes ends (take i xs) ++ one_mark ends m b) (sym on)
+    ∙ sym (marks_more ends xs i b lt is)
+
+pub unmarked_more : (ends : List ℕ) (xs : List Bar) (i : ℕ) (b : Bar) (old new : List Shape) →
+    i < length xs → b ≡ get_or xs i b → b.marked ≡ false → boxes_of old ≡ mark_boxes ends (take i xs) →
+    new ≡ old → boxes_of new ≡ mark_boxes ends (take (i + 1) xs)
+unmarked_more ends xs i b old new lt is off before same =
+    ap (λ (s : List Shape). boxes_of s) same ∙ before ∙ sym (append-nil (mark_boxes ends (take i xs)))
+    ∙ ap (λ (m : Bool). mark_boxes ends (take i xs) ++ one_mark ends m b) (sym off)
+    ∙ sym (marks_more ends xs i b lt is)
 
 -- one lane more
 pub laned_more : (box : ℕ → Box) (n : ℕ) (old new : List Shape) (shape : Shape) →

@@ -1,6 +1,6 @@
 -- Where bars, marks and moments stand on the sheet.
-use Rattle.std.specs.Prelude.{ℕ, ◌+◌, ◌*◌, ◌-◌, ◌==◌, nat_lt, nat_le, min}
-use Rattle.std.specs.Prelude.{max, List, [], ◌∷◌, Result, Ok, Err, length, count_by}
+use Rattle.std.specs.Prelude.{ℕ, ◌+◌, ◌*◌, ◌-◌, ◌==◌, nat_lt, nat_le}
+use Rattle.std.specs.Prelude.{max, List, [], ◌∷◌, ◌++◌, Result, Ok, Err, length, count_by}
 use Rattle.std.specs.Prelude.{Bool, false, if◌then◌else◌}
 use Rattle.stamp_picture.specs.declared.bar.Bar.{Bar}
 use Rattle.stamp_picture.specs.declared.picture.Fault.{Fault}
@@ -12,10 +12,13 @@ use Rattle.stamp_drawing.specs.declared.places.Class.{Class}
 use Rattle.stamp_drawing.specs.declared.places.Class.TheVariants as class
 use Rattle.stamp_drawing.specs.declared.places.Place.{Place}
 
--- the positions at which the bars begin, take effect and end
+-- where the part of a bar that is drawn begins, takes effect if its point is marked, and ends
+abbrev pub ends_in : Bar → List ℕ
+ends_in b = b.begin ∷ (if b.marked then b.point ∷ b.end ∷ [] else b.end ∷ [])
+
 abbrev pub ends_of : List Bar → List ℕ
 ends_of [] = []
-ends_of (b ∷ bs) = b.first ∷ b.point ∷ b.last ∷ ends_of bs
+ends_of (b ∷ bs) = ends_in b ++ ends_of bs
 
 -- how many of them are before the position, and how many are not behind it: positions that no bar has
 -- take no room, and those of several bars take more
@@ -55,19 +58,13 @@ is_bad (Err fault) bar = fault.bad.entry == bar.entry
 abbrev pub bar_class : Result ℕ Fault → Bar → Class
 bar_class verdict bar = if is_bad verdict bar then class.Bad else class.Bar
 
-abbrev pub first_of : Bar → ℕ
-first_of bar = min bar.first bar.last
-
-abbrev pub last_of : Bar → ℕ
-last_of bar = max bar.first bar.last
-
--- in its thread's lane, from the column of its first position to behind that of its last
+-- in its thread's lane, from the column where the part that is drawn begins to behind that where it ends
 abbrev pub bar_place : Result ℕ Fault → List ℕ → Bar → Place
 bar_place verdict ends bar = record {
   class = bar_class verdict bar;
-  x = x_of (column ends (first_of bar));
+  x = x_of (column ends bar.begin);
   y = lane_y bar.lane + 4;
-  width = unit * (column_after ends (last_of bar) - column ends (first_of bar));
+  width = unit * (column_after ends bar.end - column ends bar.begin);
   height = 36;
 }
 

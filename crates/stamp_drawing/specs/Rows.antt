@@ -11,18 +11,19 @@ use Rattle.stamp_picture.specs.declared.picture.Fault.{Fault}
 use Rattle.stamp_picture.specs.declared.state.State.{State}
 use Rattle.stamp_picture.specs.declared.state.Moment.{Moment}
 use Rattle.stamp_picture.specs.Picture.{Drawn}
-use Rattle.stamp_drawing.specs.Places.{ends_of, first_of, last_of, is_bad, lanes_in}
+use Rattle.stamp_drawing.specs.Places.{ends_of, is_bad, lanes_in}
 use Rattle.stamp_drawing.specs.Words.{call_text, reply_text, answered_text, brief_text, verdict_text}
 
--- the positions at which a bar begins, takes effect or ends: each of them once, in rising order
+-- the positions at which the drawn part of a bar begins or ends, and the points that are marked: each of
+-- them once, in rising order
 pub record AreTimes (bars : List Bar) (times : List ℕ) : Type 0 where
   pub rising : IsStrictlyIncreasing times
   pub all : (t : ℕ) → Contains (ends_of bars) t → Contains times t
   pub no_more : (t : ℕ) → Contains times t → Contains (ends_of bars) t
 
--- the bar is there at that time: between its first and its last position, or at its point
+-- the bar is there at that time: in the part that is drawn, or at its point
 abbrev pub is_at : ℕ → Bar → Bool
-is_at t bar = nat_le (first_of bar) t && nat_le t (last_of bar) || bar.point == t
+is_at t bar = nat_le bar.begin t && nat_le t bar.end || bar.point == t
 
 abbrev pub bars_at : ℕ → List Bar → List Bar
 bars_at t bars = filter (is_at t) bars
@@ -89,9 +90,14 @@ lines_of p times =
     legend_text ∷ at_first_text p.opening ∷ heading_text (lanes_in p.bars) ∷
     (map (row_text p) times ++ verdict_text p.verdict ∷ [])
 
--- a line, cut off at the width
+-- a line; one that is longer than the width is cut off there, and ends in a sign of it
+abbrev pub cut : ℕ → List ℕ → List ℕ
+cut width line =
+    if nat_le (length line) width then line
+    else if width == 0 then [] else take (width - 1) line ++ codes ">"
+
 abbrev pub cut_text : ℕ → List ℕ → List ℕ
-cut_text width line = take width line ++ 10 ∷ []
+cut_text width line = cut width line ++ 10 ∷ []
 
 -- the text of the picture, in so many columns
 pub record IsRows (width : ℕ) (p : Drawn) (text : List ℕ) : Type 0 where

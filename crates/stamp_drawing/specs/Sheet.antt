@@ -2,7 +2,7 @@
 use Rattle.std.specs.Prelude.{ℕ, ◌≡◌, ◌+◌, List, [], ◌∷◌, ◌++◌, Option, Some}
 use Rattle.std.specs.Prelude.{None, Result, Ok, Err, Bool, true, false, max, map}
 use Rattle.std.specs.Prelude.{codes, decimal, string_bytes, if◌then◌else◌}
-use Rattle.std.specs.List.{range_with_len}
+use Rattle.std.specs.List.{filter, range_with_len}
 use Rattle.stamp_core.specs.Content.{same_words}
 use Rattle.stamp_picture.specs.declared.bar.Bar.{Bar}
 use Rattle.stamp_picture.specs.declared.picture.Fault.{Fault}
@@ -59,6 +59,10 @@ bar_box verdict ends bar = record {
 
 abbrev pub mark_box : List ℕ → Bar → Box
 mark_box ends bar = record { place = mark_place ends bar; title = bar_title bar; upper = []; lower = [] }
+
+-- one for each bar whose point is in the window
+abbrev pub mark_boxes : List ℕ → List Bar → List Box
+mark_boxes ends bars = map (mark_box ends) (filter (λ (b : Bar). b.marked) bars)
 
 -- who holds the lock above its version
 abbrev pub state_box : Place → State → Box
@@ -131,7 +135,8 @@ note_boxes verdict y =
     legend_box y class.Mark 440 6 [] ∷
     legend_box y class.Note 448 268 (codes "takes effect; v: the version") ∷ []
 
--- a box for each lane, bar, mark and moment, in their order, and the notes; the sheet is as large as they need
+-- a box for each lane, bar, point in the window and moment, in their order, and the notes; the sheet is as
+-- large as they need
 pub record IsSheet (p : Drawn) (sheet : Sheet) : Type 0 where
   pub width : sheet.width ≡ max (right_of (ends_of p.bars)) 716 + 12
   pub height : sheet.height ≡ foot_of p.bars + 32
@@ -140,5 +145,5 @@ pub record IsSheet (p : Drawn) (sheet : Sheet) : Type 0 where
       state_box (opening_place (ends_of p.bars) p.opening) p.opening ∷ map (moment_box (ends_of p.bars)) p.ribbon
   pub content : boxes_of sheet.content.items ≡ content_boxes (ends_of p.bars) p.opening.content p.ribbon
   pub bars : boxes_of sheet.bars.items ≡ map (bar_box p.verdict (ends_of p.bars)) p.bars
-  pub marks : boxes_of sheet.marks.items ≡ map (mark_box (ends_of p.bars)) p.bars
+  pub marks : boxes_of sheet.marks.items ≡ mark_boxes (ends_of p.bars) p.bars
   pub notes : boxes_of sheet.notes.items ≡ note_boxes p.verdict (foot_of p.bars)

@@ -1,6 +1,7 @@
 -- The words of a picture: calls, replies, states and verdicts.
 use Rattle.std.specs.Prelude.{ℕ, ◌==◌, List, [], ◌∷◌, ◌++◌, Option, Some, None, Result, Ok, Err}
 use Rattle.std.specs.Prelude.{codes, decimal, if◌then◌else◌}
+use Rattle.stamp_core.specs.Call.{is_lock_call}
 use Rattle.stamp_core.specs.declared.call.Call.{Call}
 use Rattle.stamp_core.specs.declared.call.Call.TheVariants as call
 use Rattle.stamp_core.specs.declared.reply.Reply.{Reply}
@@ -92,21 +93,25 @@ state_text s = mode_text s.mode ++ (codes ", version " ++ (decimal s.version ++ 
 abbrev pub brief_text : State → List ℕ
 brief_text s = short_mode_text s.mode ++ (codes " v " ++ (decimal s.version ++ behind_text s.content))
 
--- what an entry breaks
-abbrev pub why_text : Why → List ℕ
-why_text why.Interval = codes "its point is not between its first and last"
-why_text why.Order = codes "its point is not above the one before"
-why_text why.Overlap = codes "it began before its thread's last call ended"
-why_text why.Reply = codes "the lock would have answered otherwise"
-
 -- what was due in place of a wrong reply
 abbrev pub due_text : Option Reply → List ℕ
 due_text None = codes "it would wait here"
 due_text (Some r) = codes "due here: " ++ reply_text r
 
--- how many entries there are, or the first fault with its cause and what was due
+-- whose call it is
+abbrev pub callee_text : Call → List ℕ
+callee_text call = if is_lock_call call then codes "the lock" else codes "the record"
+
+-- what an entry with this call breaks, and of a wrong reply what was due
+abbrev pub why_text : Call → Option Reply → Why → List ℕ
+why_text call due why.Interval = codes "its point is not between its first and last"
+why_text call due why.Order = codes "its point is not above the one before"
+why_text call due why.Overlap = codes "it began before its thread's last call ended"
+why_text call due why.Reply =
+    callee_text call ++ (codes " would have answered otherwise (" ++ (due_text due ++ codes ")"))
+
+-- how many entries there are, or the first fault with its cause
 abbrev pub verdict_text : Result ℕ Fault → List ℕ
 verdict_text (Ok n) = decimal n ++ codes " entries, in order"
 verdict_text (Err fault) =
-    codes "entry " ++ (decimal fault.bad.entry ++ (codes ": " ++ (why_text fault.bad.why ++
-    (codes " (" ++ (due_text fault.due ++ codes ")")))))
+    codes "entry " ++ (decimal fault.bad.entry ++ (codes ": " ++ why_text fault.call fault.due fault.bad.why))

@@ -2,7 +2,7 @@
 ghost use Rattle.std.specs.Prelude.{Some};
 ghost use Rattle.stamp_drawing.specs.Words.{words_text, call_text, reply_text, answered_text, mode_text};
 ghost use Rattle.stamp_drawing.specs.Words.{short_mode_text, content_text, state_text};
-ghost use Rattle.stamp_drawing.specs.Words.{brief_text, why_text, due_text, verdict_text};
+ghost use Rattle.stamp_drawing.specs.Words.{brief_text, callee_text, why_text, due_text, verdict_text};
 
 use stamp_check::Why;
 use stamp_core::{Call, Reply, Words};
@@ -173,23 +173,6 @@ impl fmt::Display for BriefLabel {
     }
 }
 
-/// What an entry breaks.
-#[derive(Drop)]
-struct WhyLabel(Why);
-
-impl fmt::Display for WhyLabel {
-    ghost output = { λ label. Some (why_text label.0) };
-
-    fn fmt<W: fmt::Write>(&self, f: &mut fmt::Formatter<W>) -> fmt::Result {
-        match self.0 {
-            Why::Interval => write!(f, "its point is not between its first and last"),
-            Why::Order => write!(f, "its point is not above the one before"),
-            Why::Overlap => write!(f, "it began before its thread's last call ended"),
-            Why::Reply => write!(f, "the lock would have answered otherwise"),
-        }
-    }
-}
-
 /// What was due in place of a wrong reply.
 #[derive(Drop)]
 struct DueLabel(Option<Reply>);
@@ -205,7 +188,43 @@ impl fmt::Display for DueLabel {
     }
 }
 
-/// The verdict; of a bad history its cause, and what was due.
+/// Whose call it is.
+#[derive(Drop)]
+struct CalleeLabel(Call);
+
+impl fmt::Display for CalleeLabel {
+    ghost output = { λ label. Some (callee_text label.0) };
+
+    fn fmt<W: fmt::Write>(&self, f: &mut fmt::Formatter<W>) -> fmt::Result {
+        if self.0.is_lock_call() {
+            write!(f, "the lock")
+        } else {
+            write!(f, "the record")
+        }
+    }
+}
+
+/// What an entry breaks, and of a wrong reply what was due.
+#[derive(Drop)]
+struct WhyLabel(Fault);
+
+impl fmt::Display for WhyLabel {
+    ghost output = { λ label. Some (why_text label.0.call label.0.due label.0.bad.why) };
+
+    fn fmt<W: fmt::Write>(&self, f: &mut fmt::Formatter<W>) -> fmt::Result {
+        match self.0.bad.why {
+            Why::Interval => write!(f, "its point is not between its first and last"),
+            Why::Order => write!(f, "its point is not above the one before"),
+            Why::Overlap => write!(f, "it began before its thread's last call ended"),
+            Why::Reply => {
+                let (callee, due) = (CalleeLabel(self.0.call), DueLabel(self.0.due));
+                write!(f, "{callee} would have answered otherwise ({due})")
+            }
+        }
+    }
+}
+
+/// The verdict; of a bad history its first fault.
 #[derive(Drop)]
 pub(crate) struct VerdictLabel(pub(crate) Result<u64, Fault>);
 
@@ -216,8 +235,8 @@ impl fmt::Display for VerdictLabel {
         match self.0 {
             Ok(count) => write!(f, "{count} entries, in order"),
             Err(fault) => {
-                let (entry, why) = (fault.bad.entry, WhyLabel(fault.bad.why));
-                write!(f, "entry {entry}: {why} ({})", DueLabel(fault.due))
+                let (entry, why) = (fault.bad.entry, WhyLabel(fault));
+                write!(f, "entry {entry}: {why}")
             }
         }
     }

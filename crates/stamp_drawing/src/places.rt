@@ -59,14 +59,18 @@ pub struct Place {
     pub height: u64,
 }
 
-/// The positions at which the bars begin, take effect and end.
+/// The positions at which the drawn parts of the bars begin and end, and the points that are marked.
 pub(crate) fn ends_of(alloc: Global, bars: &[Bar]) -> Result<Vec<u64>, AllocError>
     ensures ends { IfOk result (λ ends. ends.items ≡ ends_of bars.now) }
-    ensures three { IfOk result (λ ends. length ends.items ≡ 3 * length bars.now) }
+    ensures three { IfOk result (λ ends. length ends.items ≤ 3 * length bars.now) }
 {
     let mut ends = Vec::new(alloc);
     for bar in bars {
-        ends.extend_from_slice(&[bar.first, bar.point, bar.last])?;
+        ends.push(bar.begin)?;
+        if bar.marked {
+            ends.push(bar.point)?;
+        }
+        ends.push(bar.end)?;
     }
     Ok(ends)
 }
@@ -143,8 +147,8 @@ pub(crate) fn bar_place(verdict: &Result<u64, Fault>, ends: &[u64], bar: &Bar) -
     requires lane { bar.now.lane < 64 }
     ensures { result ≡ places.bar_place verdict.now ends.now bar.now }
 {
-    let begin = column(ends, bar.first.min(bar.last));
-    let end = column_after(ends, bar.first.max(bar.last));
+    let begin = column(ends, bar.begin);
+    let end = column_after(ends, bar.end);
     Place {
         class: bar_class(verdict, bar),
         x: x_of(begin),

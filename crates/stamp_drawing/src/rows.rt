@@ -17,7 +17,7 @@ const LEGEND: &str = ", begins  | goes on  * takes effect  ' ends; the faulty en
 
 const HEADING: &str = "    at  thread: call = reply -> what the lock was then (v: its version)";
 
-/// The positions at which a bar begins, takes effect or ends.
+/// The positions at which the drawn part of a bar begins or ends, and the points that are marked.
 fn times_of(alloc: Global, bars: &[Bar]) -> Result<Vec<u64>, AllocError>
     ensures { IfOk result (λ times. AreTimes bars.now times.items) }
 {
@@ -30,7 +30,7 @@ fn times_of(alloc: Global, bars: &[Bar]) -> Result<Vec<u64>, AllocError>
 fn is_at(bar: &Bar, time: u64) -> bool
     ensures { result ≡ rows.is_at time bar.now }
 {
-    (bar.first.min(bar.last) <= time && time <= bar.first.max(bar.last)) || bar.point == time
+    (bar.begin <= time && time <= bar.end) || bar.point == time
 }
 
 fn bars_at(alloc: Global, bars: &[Bar], time: u64) -> Result<Vec<Bar>, AllocError>
@@ -191,12 +191,16 @@ fn at_first(alloc: Global, opening: State) -> Result<String, AllocError>
     format!(in alloc; "at first: {}", BriefLabel(opening))
 }
 
-/// Appends a line, cut off at the width.
+/// Appends a line. One that is longer than the width is cut off there, and ends in a sign of it.
 fn push_line(text: &mut Vec<u8>, line: &[u8], width: usize) -> Result<(), AllocError>
     ensures { OnOk result (text.new.items ≡ text.old.items ++ cut_text width line.now) }
 {
-    let end = line.len().min(width);
-    text.extend_from_slice(&line[..end])?;
+    if line.len() <= width {
+        text.extend_from_slice(line)?;
+    } else if width > 0 {
+        text.extend_from_slice(&line[..width - 1])?;
+        text.push(b'>')?;
+    }
     text.push(b'\n')?;
     Ok(())
 }
@@ -220,7 +224,7 @@ fn push_rows(
 }
 
 /// The picture in characters, in lines of at most so many: the lanes of the threads side by side, a line
-/// for each position at which a call begins, takes effect or ends, and the verdict last.
+/// for each position at which a call begins, takes effect or ends in the window, and the verdict last.
 pub fn text_of(alloc: Global, picture: &Picture, width: usize) -> Result<Vec<u8>, AllocError>
     requires { All (λ bar. bar.lane < 64) picture.now.bars }
     ensures rows { IfOk result (λ text. IsRows width picture.now text.items) }

@@ -4,7 +4,8 @@ ghost use Rattle.std.specs.List.{range_with_len};
 ghost use Rattle.stamp_picture.specs.Picture.{most_bars};
 ghost use Rattle.stamp_drawing.specs.Places.{ends_of, opening_place};
 ghost use Rattle.stamp_drawing.specs.Sheet as spec;
-ghost use Rattle.stamp_drawing.specs.Sheet.{IsSheet, box_of, boxes_of, bar_box, mark_box, state_box, moment_box};
+ghost use Rattle.stamp_drawing.specs.Sheet.{IsSheet, box_of, boxes_of, bar_box, mark_box, mark_boxes};
+ghost use Rattle.stamp_drawing.specs.Sheet.{state_box, moment_box};
 ghost use Rattle.stamp_drawing.specs.Sheet.{plain_box, content_box, content_boxes, lane_box, legend_box, note_boxes};
 
 use crate::labels::{
@@ -46,7 +47,7 @@ pub struct Sheet {
     pub content: Vec<Shape>,
     /// The calls.
     pub bars: Vec<Shape>,
-    /// Where the calls take effect.
+    /// Where the calls take effect, in the window.
     pub marks: Vec<Shape>,
     /// The verdict and the legend.
     pub notes: Vec<Shape>,
@@ -108,14 +109,17 @@ fn mark_shape(alloc: Global, ends: &[u64], bar: &Bar) -> Result<Shape, AllocErro
     })
 }
 
+/// A mark for each point in the window.
 fn mark_shapes(alloc: Global, bars: &[Bar], ends: &[u64]) -> Result<Vec<Shape>, AllocError>
     requires few { length ends.now ≤ 6000 }
     requires lanes { All (λ bar. bar.lane < 64) bars.now }
-    ensures { IfOk result (λ shapes. boxes_of shapes.items ≡ map (mark_box ends.now) bars.now) }
+    ensures { IfOk result (λ shapes. boxes_of shapes.items ≡ mark_boxes ends.now bars.now) }
 {
     let mut shapes = Vec::new(alloc);
     for bar in bars {
-        shapes.push(mark_shape(alloc, ends, bar)?)?;
+        if bar.marked {
+            shapes.push(mark_shape(alloc, ends, bar)?)?;
+        }
     }
     Ok(shapes)
 }
@@ -311,8 +315,8 @@ fn note_shapes(
     ]?)
 }
 
-/// The picture as boxes: each call in its thread's lane, from its first position to its last, and in
-/// the ribbon what the lock was from each point on.
+/// The picture as boxes: each call in its thread's lane, from its first position to its last as far as
+/// the window has them, and in the ribbon what the lock was from each point on.
 pub fn sheet_of(alloc: Global, picture: &Picture) -> Result<Sheet, AllocError>
     requires few { length picture.now.bars ≤ most_bars }
     requires lanes { All (λ bar. bar.lane < 64) picture.now.bars }

@@ -50,7 +50,7 @@ bars_push w n [] e = let same : n + 0 ≡ n = omega arith in
     ap (λ (k : ℕ). bars_from w k (e ∷ [])) (sym same)
 bars_push w n (x ∷ xs) e =
     let same : n + 1 + length xs ≡ n + length (x ∷ xs) = omega arith in
-    one_more (meets w x) (bar_of n x) _ _ _
+    one_more (meets w x) (bar_of w n x) _ _ _
     (bars_push w (n + 1) xs e ∙ ap (λ (k : ℕ). bars_from w (n + 1) xs ++ bars_from w k (e ∷ [])) same)
 
 pub bars_more : (w : Window) (xs : List Entry) (i : ℕ) (e : Entry) → i < length xs → e ≡ get_or xs i e →
@@ -97,7 +97,7 @@ opening_more l n w xs i e lt is =
     ∙ ap (λ (ys : List Entry). if precedes e.point w then state_after l n ys else opening_of l n w (take i xs)) (sym more)
 
 -- the lanes are those of a record's threads
-if_all : {X : Type 0} (P : X → Type 0) (b : Bool) (x : X) (xs : List X) → P x → All P xs →
+pub if_all : {X : Type 0} (P : X → Type 0) (b : Bool) (x : X) (xs : List X) → P x → All P xs →
     All P (if b then x ∷ xs else xs)
 if_all P true x xs here all = All-cons P x xs here all
 if_all P false x xs here all = all
@@ -108,5 +108,5 @@ few_lanes width w n [] all = All-nil (λ (b : Bar). b.lane < 64)
 few_lanes width w n (x ∷ xs) all =
     let first : SuitsRecord width x = all 0 x (omega arith) in
     let rest : All (SuitsRecord width) xs = All-tail (SuitsRecord width) x xs all in
-    if_all (λ (b : Bar). b.lane < 64) (meets w x) (bar_of n x) (bars_from w (n + 1) xs) first.thread
+    if_all (λ (b : Bar). b.lane < 64) (meets w x) (bar_of w n x) (bars_from w (n + 1) xs) first.thread
     (few_lanes width w (n + 1) xs rest)

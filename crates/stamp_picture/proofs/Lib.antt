@@ -1,3 +1,4 @@
 pub mod EachInTurn
 pub mod Tracking
 pub mod OnePicture
+pub mod Inside

@@ -67,18 +67,22 @@ same_fault r a b x y =
     let bad : a.bad ≡ b.bad = inner a.bad b.bad bads in
     let e = x.0.entry in
     let before = take a.bad.entry r.entries in
-    let due_there = λ (i : ℕ) (due : Option Reply). (e : Entry) → slice_get r.entries i ≡ Some e →
-    IsDue r.limits r.width (take i r.entries) e.call due in
-    let there : due_there a.bad.entry b.due =
-    subst (λ (k : Bad). due_there k.entry b.due) (sym bad) y.1 in
-    both a b bad (one_due r.limits (events_of r.limits (history_of before)) (content_after r.width (history_of before)) e.call
-    a.due b.due (x.1 e x.0.is_entry) (there e x.0.is_entry))
+    let due_there = λ (i : ℕ). (e : Entry) → slice_get r.entries i ≡ Some e →
+    (b.call ≡ e.call) × IsDue r.limits r.width (take i r.entries) e.call b.due in
+    let there : due_there a.bad.entry = subst (λ (k : Bad). due_there k.entry) (sym bad) y.1 in
+    let one = x.1 e x.0.is_entry in
+    let other = there e x.0.is_entry in
+    both a b bad (one.0 ∙ sym other.0)
+    (one_due r.limits (events_of r.limits (history_of before)) (content_after r.width (history_of before)) e.call
+    a.due b.due one.1 other.1)
   where
     inner : (p q : Bad) → (let l : Result ℕ Bad = Err p in l) ≡ Err q → p ≡ q
     inner p q s = cc
 
-    both : (p q : Fault) → p.bad ≡ q.bad → p.due ≡ q.due → p ≡ q
-    both p q s t = let parts : record { bad = p.bad; due = p.due } ≡ record { bad = q.bad; due = q.due } = cc in parts
+    both : (p q : Fault) → p.bad ≡ q.bad → p.call ≡ q.call → p.due ≡ q.due → p ≡ q
+    both p q s t u =
+        let parts : record { bad = p.bad; call = p.call; due = p.due } ≡
+        record { bad = q.bad; call = q.call; due = q.due } = cc in parts
 
 one_judged : (r : Recorded) (a b : Result ℕ Fault) → IsJudged r a → IsJudged r b → a ≡ b
 one_judged r (Ok n) (Ok m) x y = ap (λ (k : ℕ). Ok k) (x.1 ∙ sym y.1)
@@ -108,7 +112,7 @@ one_longer false x bars n is = omega arith
 
 pub counted : (w : Window) (n : ℕ) (xs : List Entry) → length (bars_from w n xs) ≡ count_by (meets w) xs
 counted w n [] = refl
-counted w n (x ∷ xs) = one_longer (meets w x) (bar_of n x) (bars_from w (n + 1) xs) (count_by (meets w) xs)
+counted w n (x ∷ xs) = one_longer (meets w x) (bar_of w n x) (bars_from w (n + 1) xs) (count_by (meets w) xs)
     (counted w (n + 1) xs) ∙ sym (sum_by-cons (λ (e : Entry). if meets w e then 1 else 0) x xs)
 
 pub crowded_is_counted : CrowdedIsCounted

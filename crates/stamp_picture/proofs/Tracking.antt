@@ -109,12 +109,12 @@ record_due limits track call (Some reply) lock answers = record {
       (after.content (has_record width call lock suits)) answers);
 }
 
--- the reply that is due to the entry at i
+-- the call of the entry at i, and the reply that is due to it
 pub due_at : (r : Recorded) (limits : Bounds) (width : ℕ) (entries : List Entry) (i : ℕ) (track : Track) (e : Entry)
     (due : Option Reply) → limits ≡ r.limits → width ≡ r.width → entries ≡ r.entries →
     All (SuitsRecord r.width) r.entries → IsTrack limits width (take i entries) track → e ≡ get_or entries i e →
     Answers limits track e.call due → (f : Entry) → slice_get r.entries i ≡ Some f →
-    IsDue r.limits r.width (take i r.entries) f.call due
+    (e.call ≡ f.call) × IsDue r.limits r.width (take i r.entries) f.call due
 due_at r limits width entries i track e due l w es suit behind is answers f at =
     let lt : i < length r.entries = slice_get_within r.entries i f at in
     let is_f : get_or r.entries i f ≡ f = get_or_from_slice_get r.entries i f f at in
@@ -128,4 +128,4 @@ due_at r limits width entries i track e due l w es suit behind is answers f at =
     subst (λ (b : Bounds). IsTrack b r.width (take i r.entries) track) l
     (subst (λ (n : ℕ). IsTrack limits n (take i r.entries) track) w
     (subst (λ (xs : List Entry). IsTrack limits width (take i xs) track) es behind)) in
-    answers_f.is r.width (take i r.entries) behind_r suits.call
+    (ap (λ (x : Entry). x.call) same, answers_f.is r.width (take i r.entries) behind_r suits.call)

@@ -1,5 +1,6 @@
 -- The picture of a recorded history.
-use Rattle.std.specs.Prelude.{ℕ, ◌≡◌, ◌<◌, ◌+◌, List, take, slice_get, Some, Result, Ok, Err, count_by}
+use Rattle.std.specs.Prelude.{ℕ, ◌≡◌, ◌<◌, ◌+◌, List, ◌++◌, take, slice_get, Some, Result, Ok, Err, count_by}
+use Rattle.std.specs.Prelude.{codes, decimal}
 use Rattle.stamp_core.specs.Record.{Recorded}
 use Rattle.stamp_core.specs.declared.entry.Entry.{Entry}
 use Rattle.stamp_check.specs.Verdict.{IsVerdict}
@@ -22,12 +23,12 @@ pub record Drawn : Type 0 where
   pub opening : State
   pub ribbon : List Moment
 
--- the verdict is the one that a check finds; of a bad history, also what was due to the call of its first fault
+-- the verdict is the one that a check finds; of a bad history, also the call of its first fault, and what was due to it
 abbrev pub IsJudged : Recorded → Result ℕ Fault → Type 0
 IsJudged r (Ok n) = IsVerdict r (Ok n)
 IsJudged r (Err fault) = IsVerdict r (Err fault.bad) ×
     ((e : Entry) → slice_get r.entries fault.bad.entry ≡ Some e →
-    IsDue r.limits r.width (take fault.bad.entry r.entries) e.call fault.due)
+    (fault.call ≡ e.call) × IsDue r.limits r.width (take fault.bad.entry r.entries) e.call fault.due)
 
 -- how many entries have no fault before or at them
 abbrev pub right_in : Result ℕ Fault → ℕ
@@ -50,6 +51,11 @@ pub record IsPicture (r : Recorded) (w : Window) (p : Drawn) : Type 0 where
   pub bars : p.bars ≡ bars_of w (take (drawn_in p.verdict) r.entries)
   pub opening : p.opening ≡ opening_of r.limits r.width w (take (right_in p.verdict) r.entries)
   pub ribbon : p.ribbon ≡ moments_of r.limits r.width w (take (right_in p.verdict) r.entries)
+
+-- why there is no picture, in words
+abbrev pub error_text : PictureError → List ℕ
+error_text Memory = codes "out of memory"
+error_text (TooMany n) = decimal n ++ codes " entries to draw, of at most 2000"
 
 -- there are so many bars to draw, which are too many
 pub record IsCrowded (r : Recorded) (w : Window) (n : ℕ) : Type 0 where

@@ -12,7 +12,7 @@ use crate::state::{Moment, State};
 use crate::track::Track;
 use crate::window::Window;
 use stamp_check::{Bad, check};
-use stamp_core::{Entry, Limits, Record, Reply};
+use stamp_core::{Call, Entry, Limits, Record, Reply};
 use std::alloc::{AllocError, Global};
 use std::error::Error;
 use std::fmt;
@@ -26,6 +26,8 @@ pub const MOST_BARS: usize = 2_000;
 pub struct Fault {
     /// The entry, and what it breaks.
     pub bad: Bad,
+    /// What that entry called.
+    pub call: Call,
     /// What lock or record would have answered its call after the entries before it; nothing where
     /// the call would have waited.
     pub due: Option<Reply>,
@@ -41,6 +43,11 @@ pub enum PictureError {
 }
 
 impl fmt::Display for PictureError {
+    ghost use Rattle.std.specs.Prelude.{Some};
+    ghost use Rattle.stamp_picture.specs.Picture.{error_text};
+
+    ghost output = { λ e. Some (error_text e) };
+
     fn fmt<W: fmt::Write>(&self, f: &mut fmt::Formatter<W>) -> fmt::Result {
         match self {
             PictureError::Memory => write!(f, "out of memory"),
@@ -139,9 +146,11 @@ fn judged(history: &Record) -> Result<u64, Fault>
     let limits = history.limits();
     let at = bad.entry as usize;
     let track = track_after(limits, history.width(), &entries[..at]);
+    let call = entries[at].call;
     Err(Fault {
         bad,
-        due: track.answer(limits, &entries[at].call),
+        call,
+        due: track.answer(limits, &call),
     })
 }
 
@@ -157,7 +166,7 @@ fn bars_of(alloc: Global, entries: &[Entry], window: Window) -> Result<Vec<Bar>,
     let mut bars = Vec::new(alloc);
     for (number, entry) in entries.iter().enumerate() {
         if window.meets(entry) {
-            bars.push(Bar::of(number as u64, entry))?;
+            bars.push(Bar::of(window, number as u64, entry))?;
         }
     }
     Ok(bars)

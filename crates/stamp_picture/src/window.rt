@@ -1,6 +1,6 @@
 //! The part of a history that is drawn.
 ghost use Rattle.std.specs.Prelude.{◌≡◌};
-ghost use Rattle.stamp_picture.specs.Window.{meets, contains, precedes};
+ghost use Rattle.stamp_picture.specs.Window.{overlaps, meets, contains, nearest, precedes};
 
 use stamp_core::Entry;
 
@@ -25,10 +25,24 @@ impl Window {
     }
 
     /// Whether the entry's interval has a position in the window.
+    fn overlaps(&self, entry: &Entry) -> bool
+        ensures { result ≡ overlaps self.now entry.now }
+    {
+        self.from.max(entry.first.min(entry.last)) <= self.to.min(entry.first.max(entry.last))
+    }
+
+    /// Whether the entry is drawn.
     pub(crate) fn meets(&self, entry: &Entry) -> bool
         ensures { result ≡ meets self.now entry.now }
     {
-        entry.first <= self.to && self.from <= entry.last
+        self.overlaps(entry) || self.contains(entry.point)
+    }
+
+    /// The position of the window that is nearest to this one.
+    pub(crate) fn nearest(&self, position: u64) -> u64
+        ensures { result ≡ nearest self.now position }
+    {
+        self.from.max(position.min(self.to))
     }
 
     pub(crate) fn contains(&self, point: u64) -> bool

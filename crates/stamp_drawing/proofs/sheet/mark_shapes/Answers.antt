@@ -1,10 +1,18 @@
-use Rattle.std.proofs.Common.{[]}
-use Rattle.stamp_drawing.specs.Sheet.{mark_box}
-use Rattle.stamp_drawing.proofs.OneByOne.{boxed_more}
+use Rattle.std.proofs.Common.{refl}
+use Rattle.stamp_drawing.proofs.OneByOne.{marked_more, unmarked_more}
 use Rattle.stamp_drawing.proofs.sheet.mark_shapes.Goals as goal
+use Rattle.stamp_drawing.proofs.sheet.mark_shapes.Goals.{then-bar+in_ok-mark_shape+in_ok-push, else-bar}
 
 pub loop-bar-preserved : goal.loop-bar-preserved
 loop-bar-preserved c =
-    boxed_more (mark_box c.args.ends.now) c.args.bars.now c.loop-bar.bar-index c.bar-item.result
-    _ _ _ [] c.loop-bar-test.true c.bar-item.is c.loop-bar.invariant c.in_ok-push.ensures.items
-    c.in_ok-mark_shape.ensures
+    let ends = c.args.ends.now in
+    let bars = c.args.bars.now in
+    let i = c.loop-bar.bar-index in
+    let b = c.bar-item.result in
+    let old = c.loop-bar.shapes.items in
+    elim c.if-bar.branch [
+      | then-bar+in_ok-mark_shape+in_ok-push w ↦ rw w.shapes-is (marked_more ends bars i b old _ _ c.loop-bar-test.true
+          c.bar-item.is w.if-bar.true c.loop-bar.invariant w.in_ok-push.ensures.items w.in_ok-mark_shape.ensures)
+      | else-bar w ↦ rw w.shapes-is (unmarked_more ends bars i b old _ c.loop-bar-test.true c.bar-item.is w.if-bar.false
+          c.loop-bar.invariant refl)
+    ]

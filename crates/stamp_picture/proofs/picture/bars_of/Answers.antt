@@ -11,7 +11,7 @@ pub loop-number-preserved : goal.loop-number-preserved
 loop-number-preserved c =
     let e = c.index-entries-number.result in
     let i = c.loop-number.number in
-    let bar = bar_of i e in
+    let bar = bar_of c.args.window i e in
     let old = c.loop-number.bars.items in
     let more = bars_more c.args.window c.args.entries.now i e c.loop-number-test.true c.index-entries-number.is ∙
     ap (λ (bars : List Bar). bars ++ (if meets c.args.window e then bar ∷ [] else [])) (sym c.loop-number.invariant) in
