@@ -38,25 +38,25 @@ pub fn words_of(words: &[u64]) -> Result<Words, Fail>
 
 /// Whether a put by this pass is answered so at once.
 pub fn puts<P: ContentRule>(
-    record: &RuledRecord<P>,
+    shared: &RuledRecord<P>,
     pass: &mut RecordPass,
     words: Words,
     answer: Result<(), PutFault>,
 ) -> bool
-    requires table { pass.old.table ≡ record.now.table }
-    requires width { length words ≡ record.now.shape.width }
+    requires table { pass.old.table ≡ shared.now.table }
+    requires width { length words ≡ shared.now.shape.width }
     requires good { P.holds words }
-    ensures { pass.new.table ≡ record.now.table }
+    ensures { pass.new.table ≡ shared.now.table }
 {
-    record.put_once(pass, words) == answer
+    shared.put_once(pass, words) == answer
 }
 
 /// Whether a get by this pass gives these words at once.
-pub fn gives<P: ContentRule>(record: &RuledRecord<P>, pass: &mut RecordPass, words: Words) -> bool
-    requires { pass.old.table ≡ record.now.table }
-    ensures { pass.new.table ≡ record.now.table }
+pub fn gives<P: ContentRule>(shared: &RuledRecord<P>, pass: &mut RecordPass, words: Words) -> bool
+    requires { pass.old.table ≡ shared.now.table }
+    ensures { pass.new.table ≡ shared.now.table }
 {
-    record.get_once(pass) == Ok(words)
+    shared.get_once(pass) == Ok(words)
 }
 
 #[test]
