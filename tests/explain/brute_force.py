@@ -264,11 +264,41 @@ def judge(explain, stamped, model, entries):
     return kind
 
 
+def entry_of(thread, first, last, reply, *call):
+    return {"call": list(call), "first": first, "last": last, "reply": reply, "thread": thread}
+
+
+# Histories that are stuck at their first entry: what it answered is wrong, and so many replies are possible.
+WRONG = {
+    "a get beside two puts": (3, [entry_of(0, 1, 9, [7], "get"), entry_of(1, 2, 5, "done", "put", [1]),
+                                  entry_of(2, 3, 6, "done", "put", [2])]),
+    "a get between two puts": (2, [entry_of(0, 6, 9, [7], "get"), entry_of(1, 2, 5, "done", "put", [1]),
+                                   entry_of(2, 3, 6, "done", "put", [2])]),
+    "an upgrade beside a reader": (2, [entry_of(0, 2, 9, 257, "to_write", 257), entry_of(0, 0, 1, 257, "try_read"),
+                                       entry_of(1, 3, 4, 258, "try_read"), entry_of(1, 5, 6, "done", "unlock", 258)]),
+    "an optimistic stamp": (3, [entry_of(0, 1, 9, 1, "optimistic"), entry_of(1, 2, 3, 384, "try_write"),
+                                entry_of(1, 4, 5, "done", "unlock", 384)]),
+    "a call that would have waited": (0, [entry_of(0, 3, 9, 257, "read_lock"), entry_of(1, 0, 1, 384, "try_write")]),
+    "a call beside one under way": (2, [entry_of(0, 3, 9, 896, "try_write"), entry_of(1, 0, 1, 384, "try_write"),
+                                        {"call": ["unlock", 384], "first": 2, "thread": 1}]),
+}
+
+
+def judge_wrong(explain, stamped):
+    """These histories, whose possible replies are counted by hand too."""
+    model = Model((127, 1000), 1)
+    for name, (count, entries) in WRONG.items():
+        found = len(possible_replies(model, entries, 0))
+        if judge(explain, stamped, model, entries) != "stuck" or found != count:
+            sys.exit(f"{name}: {found} possible replies, and not {count}")
+
+
 def main():
     explain, stamped = sys.argv[1:3]
     count = int(sys.argv[3]) if len(sys.argv) > 3 else 10_000
     chance = random.Random(int(sys.argv[4]) if len(sys.argv) > 4 else 1)
     kinds = {}
+    judge_wrong(explain, stamped)
     for number in range(count):
         model = Model(chance.choice([(1, 1), (2, 3), (127, 1000)]), chance.choice([0, 0, 1, 2]))
         entries = made(chance, model)
