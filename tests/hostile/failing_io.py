@@ -6,6 +6,7 @@ A read that fails is told as `read fault`, and nothing is written; a write that 
 no byte, is told as `write fault`, and what went out is the front of the line that came before it. No
 run leaves a block. NARROW and REFUSE are the shims of narrow_io.c and refuse_malloc.c."""
 import os
+import subprocess
 import sys
 
 from counted_runs import CountedRuns
