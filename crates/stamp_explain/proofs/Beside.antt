@@ -368,7 +368,8 @@ asked_takes asking node found reply h asks is went others = record {
       let at : IsAt (without_return asking.place is.entry asking.seen) node.bits node.writer s =
       at_same asking.seen (without_return asking.place is.entry asking.seen) node.bits node.writer s
       (same_calls_before asking.seen asking.place is.entry is.is_entry)
-      (at_alike h asking.seen asking.place node.bits node.writer s (turned asking.seen h asking.place alike) stands.at) in
+      (at_alike h asking.seen asking.place node.bits node.writer s (turned asking.seen h asking.place alike)
+      stands.at) in
       let replied : reply ≡ x.reply = subst (λ (o : Observation). MayReply o x.reply) is_x may.effect.replies in
       let steps : LockSteps asking.seen.limits s (is.entry.call, x.reply) u =
       subst (λ (o : Observation). LockSteps asking.seen.limits s (o.call, x.reply) u) is_x
@@ -416,7 +417,8 @@ pub asked_waits : (asking : Asking) (node : Node) (replies : List Reply) → IsA
     WentBefore asking node None → AreAsked asking node replies replies
 asked_waits asking node replies asks went = record {
   more = no_more replies;
-  asked = λ reply h is misses. asked_takes asking node None reply h asks is went (λ step at. absurd (none-some step at));
+  asked = λ reply h is misses. asked_takes asking node None reply h asks is went
+      (λ step at. absurd (none-some step at));
 }
 
 pub asked_replies : (asking : Asking) (node : Node) (step : Step) (old new : List Reply) → IsAsking asking →

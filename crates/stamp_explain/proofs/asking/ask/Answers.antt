@@ -11,8 +11,8 @@ returns-then-is_before c =
     (get_or c.entries-entries.result.now c.index.result.now c.index-entries-index.result)
     (get_or c.entries-entries.result.now c.args.asking.now.place c.index-entries-asking.result)
     c.args.replies.now.items c.requires.asking
-    (awaits_of c.args.asking.now.seen c.args.asking.now.plan c.args.node.now c.index.result.now c.entries-entries.result.now
-    c.index-entries-index.result c.requires.asking.observed c.requires.asking.plan c.requires.past c.index.ensures
+    (awaits_of c.args.asking.now.seen c.args.asking.now.plan c.args.node.now c.index.result.now
+    c.entries-entries.result.now c.index-entries-index.result c.requires.asking.observed c.requires.asking.plan c.requires.past c.index.ensures
     c.entries-entries.ensures.entries)
     (asked_read c.args.asking.now c.entries-entries.result.now c.index-entries-asking.result c.requires.asking
     c.entries-entries.ensures.entries)

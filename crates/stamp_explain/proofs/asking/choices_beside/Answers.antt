@@ -19,7 +19,8 @@ take_of-requires-clause-inside c =
     open_read c.args.asking.now.seen c.args.asking.now.plan c.args.node.now.past c.index.result.now calls
     (length calls - 1 - c.loop-k.k) c.requires.asking.plan c.requires.past c.index.ensures
     c.as_slice-calls.ensures.value within in
-    slice_get_within c.args.asking.now.seen.entries (get_or calls (length calls - 1 - c.loop-k.k) 0) it.entry it.is_entry
+    slice_get_within c.args.asking.now.seen.entries (get_or calls (length calls - 1 - c.loop-k.k) 0) it.entry
+    it.is_entry
 
 pub loop-k-preserved : goal.loop-k-preserved
 loop-k-preserved c =

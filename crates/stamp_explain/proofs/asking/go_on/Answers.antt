@@ -20,7 +20,8 @@ pub returns-in-Some-observed_beside-clause-whole :
 returns-in-Some-observed_beside-clause-whole c = record {
   expands = λ reply h is misses. subst (λ (ns : List Next). Expands h c.args.asking.now.plan.returns.items
       c.args.node.now ns) (sym (c.in_ok-push-2.ensures.items ∙
-      ap (λ (ns : List Next). ns ++ c.in-Some-observed_beside.next ∷ []) c.clear.ensures.items)) (c.in-Some-observed_beside.ensures.one reply h is);
+      ap (λ (ns : List Next). ns ++ c.in-Some-observed_beside.next ∷ []) c.clear.ensures.items))
+      (c.in-Some-observed_beside.ensures.one reply h is);
 }
 
 pub returns-clause-whole : goal.returns-clause-whole
