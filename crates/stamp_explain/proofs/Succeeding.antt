@@ -145,7 +145,7 @@ pub awaited_at : (h : ObservedHistory) (plan : Plan) (node : Node) (a : Observat
     IsAwaitedAt h plan.returns.items node.past a
 awaited_at h plan node a is = record { inside = is.inside; is_entry = is.at }
 
-the_next : (h : ObservedHistory) (plan : Plan) (node : Node) (a : Observation) → Awaits h plan node a →
+pub the_next : (h : ObservedHistory) (plan : Plan) (node : Node) (a : Observation) → Awaits h plan node a →
     IsNext h.entries (take node.past plan.returns.items) (get_or plan.returns.items node.past 0) a
 the_next h plan node a is = next_awaited h plan.returns.items node.past a is.observed is.plan_is.are is.plan_is.once
     is.inside is.at
