@@ -2,11 +2,11 @@
 use Rattle.std.proofs.Common.{◌≡◌, ◌≢◌, ◌⊎◌, ℕ, ◌+◌, ◌-◌, ◌<◌, ◌≤◌, List, [], ◌∷◌, ◌++◌, length, get_or, set, refl, sym}
 use Rattle.std.proofs.Common.{◌∙◌, ap, subst, inl, inr, arith, Option, None, Some, Bool, true, false, suc}
 use Rattle.std.specs.Prelude.{not, nat_lt, cond, IsTrue}
-use Rattle.stamp_core.specs.Call.{call_suits}
+use Rattle.stamp_core.specs.Call.{call_suits, is_lock_call}
 use Rattle.std.proofs.lemmas.List.Filters.{length-filter_more}
 use Rattle.std.proofs.lemmas.Bool.Decides.{nat_tests}
 use Rattle.stamp_explain.specs.Cut.{begun_by}
-use Rattle.std.specs.Prelude.{slice_get, slice_index, take, drop}
+use Rattle.std.specs.Prelude.{slice_get, slice_index, take, drop, ◌↔◌}
 use Rattle.std.specs.Int.{bit_at}
 use Rattle.std.specs.List.{All, AllPairs, Contains}
 use Rattle.std.proofs.lemmas.List.Elements.{Contains-append_left, Contains-push, Contains-push_cases, Contains-get_or}
@@ -23,13 +23,13 @@ use Rattle.stamp_explain.specs.declared.node.Step.{Step}
 use Rattle.stamp_explain.specs.declared.plan.Plan.{Plan}
 use Rattle.stamp_explain.specs.declared.store.Store.{Store}
 use Rattle.stamp_explain.specs.declared.asking.Asking.{Asking}
-use Rattle.stamp_explain.specs.Observed.{ObservedHistory, IsObserved, IsBefore, MayReply}
+use Rattle.stamp_explain.specs.Observed.{ObservedHistory, IsObserved, IsBefore, MayReply, AreOfOneObject}
 use Rattle.stamp_explain.specs.Observer.{observes_at, observes_in}
 use Rattle.stamp_explain.specs.Search.{LockState, LockSteps, IsReturnAt, opening}
 use Rattle.stamp_explain.specs.Node.{IsReached, IsAt, StandsFor, HasGone, IsOpening, Reaches, ReachesMany}
 use Rattle.stamp_explain.specs.Node.Reaches.{begins, goes_past, goes_on_by}
 use Rattle.stamp_explain.specs.Store.{Keeps}
-use Rattle.stamp_explain.specs.Plan.{AreOpen, ClearsBit}
+use Rattle.stamp_explain.specs.Plan.{AreOpen, ClearsBit, IsAwaitedAt}
 use Rattle.stamp_explain.specs.Expand.{Expands, Leads, LeadsBy, Took, IsNotInEffect, IsTakenTo, Enters, nodes_of}
 use Rattle.stamp_explain.specs.Possible.{without_return, answering}
 use Rattle.stamp_explain.specs.Asking.{Adds, AreAsked, AreLed, AreMore, AreReplies, ExpandUnless, IsAnswered, IsAsking, LeadsBeside}
@@ -37,13 +37,12 @@ use Rattle.stamp_explain.proofs.Lists.{none_in_empty, contains_cases, contains_f
 use Rattle.stamp_explain.proofs.Replying.{IsAlike, alike_before, replied_is_observed}
 use Rattle.stamp_explain.proofs.Answering.{AreAlike, alike_with_reply, plan_alike, there, other_there, took_alike, turned}
 use Rattle.stamp_explain.proofs.Answering.{same_calls_before, at_same, at_alike, opening_alike}
-use Rattle.stamp_explain.proofs.Standing.{taken_by_bit}
 use Rattle.stamp_explain.proofs.Expanding.{one_reply, at_place}
 use Rattle.stamp_explain.proofs.Leading.{come, come_less, come_as_well}
 use Rattle.stamp_explain.proofs.Exploring.{Searches, searches_first, searches_more, found_nothing, opening_stands}
 use Rattle.stamp_explain.proofs.Exploring.{named, contains_at}
-use Rattle.stamp_explain.proofs.Succeeding.{Awaits, Tries, awaited_at, the_next, expands_past, expands_at_once, expands_open}
-use Rattle.stamp_explain.proofs.Succeeding.{none_tried, tried_none, tried_some}
+use Rattle.stamp_explain.proofs.Succeeding.{Awaits, Tries, awaited_at, expands_past, expands_at_once, expands_open}
+use Rattle.stamp_explain.proofs.Succeeding.{none_tried, tried_none, tried_some, tried_other, leads_by_call}
 
 abbrev pub is_begun : ℕ → Observation → Bool
 is_begun last e = not (nat_lt last e.first)
@@ -198,27 +197,16 @@ at_once_expands asking node a i w reply h asks awaits bit e at observes took oth
 
 took_leads : (h : ObservedHistory) (plan : Plan) (node : Node) (a : Observation) (i : ℕ) (w : Next) →
     Awaits h plan node a → bit_at node.threads a.thread ≢ 1 → Took h plan.returns.items node i (Some w) →
-    Leads h plan.returns.items node w
-took_leads h plan node a i w is bit took = record {
+    ((e : Observation) → slice_get h.entries i ≡ Some e → AreOfOneObject a e) → Leads h plan.returns.items node w
+took_leads h plan node a i w is bit took alike = record {
   inside = is.inside;
   leads = λ s taken stands. to s taken stands (took.takes a s taken (awaited_at h plan node a is) stands);
 }
   where
     to : (s : LockState) (taken : List ℕ) → StandsFor h plan.returns.items node s taken →
         IsTakenTo h plan.returns.items node a i s taken w → LeadsBy h plan.returns.items node w.node s taken w.took
-    to s taken stands it =
-        subst (λ (o : Option ℕ). LeadsBy h plan.returns.items node w.node s taken o) (sym it.took) (record {
-          past = it.past;
-          awaited = a;
-          is_awaited = is.at;
-          not_yet = λ has. bit (taken_by_bit h.entries (take node.past plan.returns.items) node.threads taken
-              (get_or plan.returns.items node.past 0) a stands.in_effect is.at (the_next h plan node a is).still has).0;
-          effect = it.effect;
-          index = refl;
-          state = it.state;
-          may = it.may;
-          stands = it.stands;
-        })
+    to s taken stands it = leads_by_call h plan node a i s taken w is bit stands it (inl (alike it.effect.entry
+        (ap (λ (j : ℕ). slice_get h.entries j) (sym it.index) ∙ it.may.effect.is_entry)))
 
 -- the awaited call, which is not in effect
 pub record AwaitsThere (asking : Asking) (node : Node) : Type 0 where
@@ -273,24 +261,73 @@ beside_none asking node calls k nexts is more other took = record {
       None (alike_of asking reply h answered) other took);
 }
 
+-- the calls of the awaited entry and of another one are those that are seen
+record SeenToo (asking : Asking) (node : Node) (i : ℕ) (a e : Observation) : Type 0 where
+  pub awaited : Observation
+  pub entry : Observation
+  pub is_awaited : IsAwaitedAt asking.seen asking.plan.returns.items node.past awaited
+  pub is_entry : slice_get asking.seen.entries i ≡ Some entry
+  pub objects : AreOfOneObject awaited entry ↔ AreOfOneObject a e
+
+seen_too : (asking : Asking) (reply : Reply) (h : ObservedHistory) (node : Node) (i : ℕ) (a e : Observation) →
+    IsAnswered asking reply h → IsAwaitedAt h asking.plan.returns.items node.past a →
+    slice_get h.entries i ≡ Some e → SeenToo asking node i a e
+seen_too asking reply h node i a e is awaited at =
+    let alike : AreAlike h asking.seen asking.place = turned asking.seen h asking.place (alike_of asking reply h is) in
+    let b : (b : Observation) ×
+    ((slice_get asking.seen.entries (slice_index asking.plan.returns.items node.past) ≡ Some b) × IsAlike a b) =
+    there h asking.seen asking.place (slice_index asking.plan.returns.items node.past) a alike awaited.is_entry in
+    let f : (f : Observation) × ((slice_get asking.seen.entries i ≡ Some f) × IsAlike e f) =
+    there h asking.seen asking.place i e alike at in
+    record {
+      awaited = b.0;
+      entry = f.0;
+      is_awaited = record { inside = awaited.inside; is_entry = b.1.0 };
+      is_entry = f.1.0;
+      objects = (
+        λ same. sym (ap is_lock_call b.1.1.call) ∙ same ∙ ap is_lock_call f.1.1.call,
+        λ same. ap is_lock_call b.1.1.call ∙ same ∙ sym (ap is_lock_call f.1.1.call),
+      );
+    }
+
+pub beside_other : (asking : Asking) (node : Node) (calls : List ℕ) (k : ℕ) (nexts : List Next) →
+    TriesBeside asking node calls k nexts → k < length calls →
+    ((a e : Observation) → IsAwaitedAt asking.seen asking.plan.returns.items node.past a →
+    slice_get asking.seen.entries (get_or calls (length calls - 1 - k) 0) ≡ Some e → ¬ AreOfOneObject a e) →
+    TriesBeside asking node calls (k + 1) nexts
+beside_other asking node calls k nexts is more other = record {
+  led = is.led;
+  tries = λ reply h answered none. tried_other h asking.plan.returns.items node calls k nexts
+      (is.tries reply h answered none) more (λ a e awaited at alike.
+      let it : SeenToo asking node (get_or calls (length calls - 1 - k) 0) a e =
+      seen_too asking reply h node (get_or calls (length calls - 1 - k) 0) a e answered awaited at in
+      other it.awaited it.entry it.is_awaited it.is_entry (it.objects.1 alike));
+}
+
 pub beside_some : (asking : Asking) (node : Node) (a : Observation) (calls : List ℕ) (k : ℕ) (nexts : List Next)
     (w : Next) → Awaits asking.seen asking.plan node a → IsReached asking.seen asking.plan.returns.items node →
     bit_at node.threads a.thread ≢ 1 → TriesBeside asking node calls k nexts → k < length calls →
     get_or calls (length calls - 1 - k) 0 ≢ asking.place →
     Took asking.seen asking.plan.returns.items node (get_or calls (length calls - 1 - k) 0) (Some w) →
+    ((b e : Observation) → IsAwaitedAt asking.seen asking.plan.returns.items node.past b →
+    slice_get asking.seen.entries (get_or calls (length calls - 1 - k) 0) ≡ Some e → AreOfOneObject b e) →
     TriesBeside asking node calls (k + 1) (nexts ++ w ∷ [])
-beside_some asking node a calls k nexts w awaits reached bit is more other took = record {
+beside_some asking node a calls k nexts w awaits reached bit is more other took alike = record {
   led = record { each = λ v has. by v (Contains-push_cases nexts w v has) };
   tries = λ reply h answered none. tried_some h asking.plan.returns.items node calls k nexts w
       (is.tries reply h answered none) more
       (took_alike asking.seen h asking.place asking.plan.returns.items node (get_or calls (length calls - 1 - k) 0)
-      (Some w) (alike_of asking reply h answered) other took);
+      (Some w) (alike_of asking reply h answered) other took) (λ b e awaited at.
+      let it : SeenToo asking node (get_or calls (length calls - 1 - k) 0) b e =
+      seen_too asking reply h node (get_or calls (length calls - 1 - k) 0) b e answered awaited at in
+      it.objects.0 (alike it.awaited it.entry it.is_awaited it.is_entry));
 }
   where
     by : (v : Next) → Contains nexts v ⊎ (w ≡ v) → LeadsBeside asking node v
     by v (inl has) = is.led.each v has
     by v (inr same) = subst (LeadsBeside asking node) same (record {
-      leads = took_leads asking.seen asking.plan node a (get_or calls (length calls - 1 - k) 0) w awaits bit took;
+      leads = took_leads asking.seen asking.plan node a (get_or calls (length calls - 1 - k) 0) w awaits bit took
+          (λ e at. alike a e (awaited_at asking.seen asking.plan node a awaits) at);
       other = took_other asking node (get_or calls (length calls - 1 - k) 0) w a awaits reached took other;
     })
 
@@ -520,7 +557,7 @@ leads_beside asking node next is leads =
         stands = l.stands;
         way = subst (λ (to_come : List ℕ). Reaches h returns to_come l.state (l.effect.index ∷ taken))
             (come_as_well returns node.past next.node.past leads.leads.inside l.past)
-            (goes_on_by way l.awaited l.effect l.state l.is_awaited l.not_yet l.may);
+            (goes_on_by way l.awaited l.effect l.state l.is_awaited l.not_yet l.tried l.may);
       };
       still = λ has. cases (contains_cases l.effect.index taken asking.place has);
     }

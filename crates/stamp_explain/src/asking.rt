@@ -13,7 +13,7 @@ ghost use Rattle.stamp_explain.specs.Asking.{Adds, AreAsked, AreLed, AreMore, Ar
 
 use crate::cut::seen_at;
 use crate::node::{Next, Node};
-use crate::observed::{Observation, Observed, Returned};
+use crate::observed::{Observation, Observed, Returned, are_of_one_object};
 use crate::observer::observes_at;
 use crate::plan::{Plan, has_bit, without_bit};
 use crate::planning::plan_of;
@@ -165,7 +165,7 @@ fn observed_beside(asking: &Asking, node: &Node) -> Option<Next>
     None
 }
 
-/// The nodes that come next where another open call takes effect.
+/// The nodes that come next where another open call of the awaited one's object takes effect.
 fn choices_beside(asking: &Asking, node: &Node, nexts: &mut Vec<Next>) -> Result<(), AllocError>
     requires asking { IsAsking asking.now }
     requires reached { IsReached asking.now.seen asking.now.plan.returns.items node.now }
@@ -177,10 +177,11 @@ fn choices_beside(asking: &Asking, node: &Node, nexts: &mut Vec<Next>) -> Result
         → Expands h asking.now.plan.returns.items node.now nexts.new.items) }
 {
     nexts.clear();
+    let awaited = asking.plan.returns[node.past];
     let calls = asking.plan.opens[node.past].as_slice();
     for k in 0..calls.len() {
         let i = calls[calls.len() - 1 - k];
-        if i != asking.place {
+        if i != asking.place && are_of_one_object(&asking.seen, awaited, i) {
             if let Some(next) = take_of(&asking.seen, node, i) {
                 nexts.push(next)?;
             }
