@@ -6,9 +6,12 @@ Run at the top of the repository. Each history is made by threads that call a lo
 so it is right; half of them are then changed in a reply, a position, a thread, or by what is under way.
 The verdict is the same: a history that can't be observed so (the first entry that is over before it
 began, or overlaps one of its thread that is listed before it), the first return at which no order explains
-it, or a record, which is of this history and which `stamped check` accepts. The model of the lock is the call table in python (bench/common)."""
+it, or a record, which is of this history and which `stamped check` accepts. Where one is stuck, the line on
+standard error tells of that entry just the replies with which an order explains what was known then. The
+model of the lock is the call table in python (bench/common)."""
 import json
 import random
+import re
 import subprocess
 import sys
 from dataclasses import dataclass
@@ -106,6 +109,63 @@ def stuck_at(model, entries):
     return None
 
 
+def known_at(entries, i):
+    """What is known when the entry has returned: what returned before, and at its position was listed before."""
+    end = entries[i]["last"], i
+    return [entry if has_returned(entry) and (entry["last"], j) <= end
+            else {key: entry[key] for key in ("call", "first", "thread")}
+            for j, entry in enumerate(entries) if entry["first"] <= end[0]]
+
+
+def possible_replies(model, entries, i):
+    """The replies with which an order explains what is known when the entry has returned. All orders are
+    tried of the calls that take effect before it; each state gives one reply, or none."""
+    known = known_at(entries, i)
+    asked = next(j for j, entry in enumerate(known) if entry is entries[i])
+    given, seen = [], set()
+
+    def goes_on(taken, state):
+        if (taken, state) in seen:
+            return
+        seen.add((taken, state))
+        for j, entry in enumerate(known):
+            if taken >> j & 1 or any(comes_before(known[k], entry) for k in range(len(known)) if not taken >> k & 1):
+                continue
+            after = model.step(state, entry["call"])
+            if after is None:
+                continue
+            if j == asked:
+                given.append(after[1])
+            elif not has_returned(entry) or after[1] == entry["reply"]:
+                goes_on(taken | 1 << j, after[0])
+
+    goes_on(0, model.start())
+    answered = [(json.dumps(reply), [{**entry, "reply": reply} if j == asked else entry
+                                     for j, entry in enumerate(known)]) for reply in given]
+    return {reply for reply, entries_then in answered if is_explained(model, entries_then)}
+
+
+def in_words(value):
+    """A reply, or a call with what it takes, as the line has it."""
+    if isinstance(value, dict):
+        return f"count {value['count']}"
+    return value if isinstance(value, str) else json.dumps(value)
+
+
+def is_noted(model, entries, i, line):
+    """The line tells what the entry answered, and just its possible replies, each once."""
+    entry, possible = entries[i], possible_replies(model, entries, i)
+    call = " ".join(in_words(part) for part in entry["call"])
+    start = f"stamped: entry {i} of thread {entry['thread']}: {call} answered {in_words(entry['reply'])}; "
+    if not possible:
+        return line == start + "no reply was possible, it would have waited\n"
+    start += "possible: "
+    if not (line.startswith(start) and line.endswith("\n")):
+        return False
+    told = re.split(r", (?![^\[]*\])", line[len(start):-1])
+    return sorted(told) == sorted(in_words(json.loads(reply)) for reply in possible)
+
+
 def random_call(chance, model, stamps):
     draw = chance.random()
     if model.width and draw < 0.4:
@@ -163,7 +223,7 @@ def change(chance, entries):
 
 def output_of(words, text):
     run = subprocess.run(words, input=text.encode(), capture_output=True, timeout=60)
-    return run.returncode, run.stdout.decode()
+    return run.returncode, run.stdout.decode(), run.stderr.decode()
 
 
 def is_of(record, entries):
@@ -188,20 +248,49 @@ def judge(explain, stamped, model, entries):
     """Compares the verdicts; returns which it was."""
     text = json.dumps({"entries": entries, "format": 1, "readers": model.limits[0],
                        "versions": model.limits[1], "width": model.width})
-    status, line = output_of([explain, "--most", str(MOST)], text)
+    status, line, note = output_of([explain, "--most", str(MOST)], text)
     fault = fault_of(entries)
     if fault is not None:
         right, kind = (status, line) == (1, fault + "\n"), fault.split()[2]
     elif is_explained(model, entries):
         kind = "explained"
         right = status == 0 and is_of(json.loads(line), entries)
-        right = right and output_of([stamped, "check"], line) == (0, f"ok {len(json.loads(line)['entries'])}\n")
+        right = right and output_of([stamped, "check"], line)[:2] == (0, f"ok {len(json.loads(line)['entries'])}\n")
     else:
-        kind = "stuck"
-        right = (status, line) == (1, f"stuck {stuck_at(model, entries)}\n")
-    if not right:
-        sys.exit(f"{kind}, and not {line!r} with status {status}, of {text}")
+        kind, at = "stuck", stuck_at(model, entries)
+        right = (status, line) == (1, f"stuck {at}\n") and is_noted(model, entries, at, note)
+    if not right or (kind != "stuck" and note):
+        sys.exit(f"{kind}, and not {line!r} with status {status} and {note!r}, of {text}")
     return kind
+
+
+def entry_of(thread, first, last, reply, *call):
+    return {"call": list(call), "first": first, "last": last, "reply": reply, "thread": thread}
+
+
+# Histories that are stuck at their first entry: what it answered is wrong, and so many replies are possible.
+WRONG = {
+    "a get beside two puts": (3, [entry_of(0, 1, 9, [7], "get"), entry_of(1, 2, 5, "done", "put", [1]),
+                                  entry_of(2, 3, 6, "done", "put", [2])]),
+    "a get between two puts": (2, [entry_of(0, 6, 9, [7], "get"), entry_of(1, 2, 5, "done", "put", [1]),
+                                   entry_of(2, 3, 6, "done", "put", [2])]),
+    "an upgrade beside a reader": (2, [entry_of(0, 2, 9, 257, "to_write", 257), entry_of(0, 0, 1, 257, "try_read"),
+                                       entry_of(1, 3, 4, 258, "try_read"), entry_of(1, 5, 6, "done", "unlock", 258)]),
+    "an optimistic stamp": (3, [entry_of(0, 1, 9, 1, "optimistic"), entry_of(1, 2, 3, 384, "try_write"),
+                                entry_of(1, 4, 5, "done", "unlock", 384)]),
+    "a call that would have waited": (0, [entry_of(0, 3, 9, 257, "read_lock"), entry_of(1, 0, 1, 384, "try_write")]),
+    "a call beside one under way": (2, [entry_of(0, 3, 9, 896, "try_write"), entry_of(1, 0, 1, 384, "try_write"),
+                                        {"call": ["unlock", 384], "first": 2, "thread": 1}]),
+}
+
+
+def judge_wrong(explain, stamped):
+    """These histories, whose possible replies are counted by hand too."""
+    model = Model((127, 1000), 1)
+    for name, (count, entries) in WRONG.items():
+        found = len(possible_replies(model, entries, 0))
+        if judge(explain, stamped, model, entries) != "stuck" or found != count:
+            sys.exit(f"{name}: {found} possible replies, and not {count}")
 
 
 def main():
@@ -209,6 +298,7 @@ def main():
     count = int(sys.argv[3]) if len(sys.argv) > 3 else 10_000
     chance = random.Random(int(sys.argv[4]) if len(sys.argv) > 4 else 1)
     kinds = {}
+    judge_wrong(explain, stamped)
     for number in range(count):
         model = Model(chance.choice([(1, 1), (2, 3), (127, 1000)]), chance.choice([0, 0, 1, 2]))
         entries = made(chance, model)

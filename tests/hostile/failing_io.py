@@ -6,6 +6,7 @@ A read that fails is told as `read fault`, and nothing is written; a write that 
 no byte, is told as `write fault`, and what went out is the front of the line that came before it. No
 run leaves a block. NARROW and REFUSE are the shims of narrow_io.c and refuse_malloc.c."""
 import os
+import subprocess
 import sys
 
 from counted_runs import CountedRuns
@@ -31,10 +32,13 @@ TABLE = [
 OBSERVED = OLD.replace(b'"point":1,', b"")
 FOUND = OLD.replace(b'"last":1,"point":1', b'"last":127,"point":0')
 UNSEEN = OBSERVED.replace(b'"first":0', b'"first":2')
+STUCK = OBSERVED.replace(b'"reply":384', b'"reply":385')
+STUCK_LINE = b"stamped: entry 0 of thread 0: try_write answered 385; possible: 384\n"
 EXPLAIN_TABLE = [
-    ([], OBSERVED, FOUND, 0),
-    (["--most", "9"], OBSERVED, FOUND, 0),
-    ([], UNSEEN, b"bad 0 interval", 1),
+    ([], OBSERVED, FOUND, 0, b""),
+    (["--most", "9"], OBSERVED, FOUND, 0, b""),
+    ([], UNSEEN, b"bad 0 interval", 1, b""),
+    ([], STUCK, b"stuck 0", 1, STUCK_LINE),
 ]
 READ_FAULT = (1, b"", b"stamped: read fault\n")
 WRITE_FAULT = b"stamped: write fault\n"
@@ -79,17 +83,25 @@ def pictures_of(runs, picture):
         print(f"{['stamped_picture', *words]}: {reads} reads and {writes} writes failed in turn")
 
 
+def without_errors(explain):
+    """Where nothing can be written to standard error, a stuck history is told as ever on standard output."""
+    for words in [f"exec {explain} 2>/dev/full", f"exec {explain} 2>&-"]:
+        ran = subprocess.run(["bash", "-c", words], input=STUCK, stdout=subprocess.PIPE, timeout=60)
+        assert_ended([words], (ran.returncode, ran.stdout), (1, b"stuck 0\n"), "no line on standard error")
+
+
 def main():
     narrow, refuse, stamped, explain, picture = (os.path.abspath(path) for path in sys.argv[1:])
     runs = CountedRuns(narrow, refuse)
-    rows = [([stamped, *order], *row) for order, *row in TABLE]
+    rows = [([stamped, *order], *row, b"") for order, *row in TABLE]
     rows += [([explain, *order], *row) for order, *row in EXPLAIN_TABLE]
-    for words, text, line, status in rows:
-        ample = (status, line + b"\n", b"")
+    for words, text, line, status, note in rows:
+        ample = (status, line + b"\n", note)
         reads = reads_of(runs, words, text, ample)
         writes = writes_of(runs, words, text, ample)
         print(f"{[os.path.basename(words[0]), *words[1:]]}: {reads} reads and {writes} writes failed in turn")
     pictures_of(runs, picture)
+    without_errors(explain)
     runs.tell()
 
 

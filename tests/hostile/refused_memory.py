@@ -3,10 +3,10 @@
     refused_memory.py SHIM STAMPED EXPLAIN PICTURE TRIAL
 
 With ample memory each ends as the table says. A refused run of `stamped`, `stamped_explain` or
-`stamped_picture` ends with the memory line
-(or with none, where memory for the line is refused too), status 1 and nothing on standard output, or
-as with ample memory. One of TRIAL ends with status 1 and no output, or as with ample memory. A
-refused step of a schedule is made again there, so some refused runs end as with ample memory.
+`stamped_picture` ends with the memory line (or with none, where memory for the line is refused too),
+status 1 and nothing on standard output, or as with ample memory; of a stuck history also without its line
+on standard error. One of TRIAL ends with status 1 and no output, or as with ample memory. A refused step of
+a schedule is made again there, so some refused runs end as with ample memory.
 
 No run leaves a block: what a refused call was given by value, or had made, is dropped. With a word
 of REFUSALS, TRIAL makes calls that are refused for another cause than want of memory.
@@ -53,6 +53,7 @@ OBSERVED = (
     b'{"call":["try_read"],"first":9,"thread":1}],'
     b'"format":1,"readers":1,"versions":1,"width":0}'
 )
+STUCK_LINE = b"stamped: entry 1 of thread 0: try_write answered 385; possible: 384\n"
 OVERLAPPING = (OBSERVED % b"384").replace(b'"first":3', b'"first":2')
 FOUND = (
     b'{"entries":[{"call":["try_write"],"first":0,"last":191,"point":0,"reply":384,"thread":0},'
@@ -128,7 +129,7 @@ def main():
     ]
     table += [
         ([explain], OBSERVED % b"384", (0, FOUND, b""), told),
-        ([explain, "--most", "100"], OBSERVED % b"385", (1, b"stuck 1\n", b""), told),
+        ([explain, "--most", "100"], OBSERVED % b"385", (1, b"stuck 1\n", STUCK_LINE), [*told, (1, b"stuck 1\n", b"")]),
         ([explain, "--most", "1"], OBSERVED % b"384", (1, b"undecided 1\n", b""), told),
         ([explain], OVERLAPPING, (1, b"bad 1 overlap\n", b""), told),
         ([explain], NO_THREAD, (1, b"", NO_HISTORY_LINE), told),

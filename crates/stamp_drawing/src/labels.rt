@@ -23,7 +23,7 @@ impl fmt::Display for WordsLabel {
 
 /// A call, with what it takes.
 #[derive(Drop)]
-pub(crate) struct CallLabel(pub(crate) Call);
+pub struct CallLabel(pub Call);
 
 impl fmt::Display for CallLabel {
     ghost output = { λ label. Some (call_text label.0) };
@@ -58,7 +58,7 @@ impl fmt::Display for CallLabel {
 
 /// A reply.
 #[derive(Drop)]
-pub(crate) struct ReplyLabel(pub(crate) Reply);
+pub struct ReplyLabel(pub Reply);
 
 impl fmt::Display for ReplyLabel {
     ghost output = { λ label. Some (reply_text label.0) };

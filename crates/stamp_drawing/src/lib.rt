@@ -10,6 +10,7 @@ mod sheet;
 mod svg;
 pub mod svg_laws;
 
+pub use labels::{CallLabel, ReplyLabel};
 pub use places::{Class, Place};
 pub use rows::text_of;
 pub use sheet::{Shape, Sheet, sheet_of};

@@ -98,11 +98,11 @@ opening_reached h returns node is = record {
   way = subst (λ (n : ℕ). Reaches h returns (drop n returns) (opening h.width) []) (sym is.past) begins;
 }
 
-contains_at : {X : Type 0} (xs : List X) (k : ℕ) (x : X) → slice_get xs k ≡ Some x → Contains xs x
+pub contains_at : {X : Type 0} (xs : List X) (k : ℕ) (x : X) → slice_get xs k ≡ Some x → Contains xs x
 contains_at xs k x at = (k, slice_get_within xs k x at, get_or_from_slice_get xs k x x at)
 
 -- the node that comes next, of whose nodes it is
-named : (xs : List Next) (w : Node) → Contains (nodes_of xs) w → (x : Next) × (Contains xs x × (x.node ≡ w))
+pub named : (xs : List Next) (w : Node) → Contains (nodes_of xs) w → (x : Next) × (Contains xs x × (x.node ≡ w))
 named [] w has = absurd (none_in_empty w has)
 named (y ∷ xs) w has = by (contains_cases y.node (nodes_of xs) w has) (named xs w)
   where

@@ -20,15 +20,15 @@ use Rattle.stamp_explain.proofs.Finding.{ArePending, first_of_pending, past_pend
 use Rattle.stamp_explain.proofs.Expanding.{one_reply}
 
 -- the returns to come, by their first
-come : (returns : List ℕ) (past : ℕ) → past < length returns →
+pub come : (returns : List ℕ) (past : ℕ) → past < length returns →
     drop past returns ≡ slice_index returns past ∷ drop (suc past) returns
 come returns past lt = drop-cons returns past 0 lt
 
-come_less : (returns : List ℕ) (past w : ℕ) → w ≡ past + 1 → drop (suc past) returns ≡ drop w returns
+pub come_less : (returns : List ℕ) (past w : ℕ) → w ≡ past + 1 → drop (suc past) returns ≡ drop w returns
 come_less returns past w same =
     let e : suc past ≡ w = omega (arith, same) in ap (λ (n : ℕ). drop n returns) e
 
-come_as_well : (returns : List ℕ) (past w : ℕ) → past < length returns → w ≡ past →
+pub come_as_well : (returns : List ℕ) (past w : ℕ) → past < length returns → w ≡ past →
     slice_index returns past ∷ drop (suc past) returns ≡ drop w returns
 come_as_well returns past w lt same = sym (come returns past lt) ∙ ap (λ (n : ℕ). drop n returns) (sym same)
 

@@ -28,20 +28,20 @@ Tells h i most reply Nothing = ¬ IsPossible h i reply
 Tells h i most reply Undecided = IsUndecidedAtReply h i most reply
 
 -- they returned at one position, or neither did
-IsAlikeBy : Option Returned → Option Returned → Type 0
+unfoldable pub IsAlikeBy : Option Returned → Option Returned → Type 0
 IsAlikeBy None None = Unit {0}
 IsAlikeBy None (Some q) = ⊥
 IsAlikeBy (Some r) None = ⊥
 IsAlikeBy (Some r) (Some q) = q.last ≡ r.last
 
 -- the second is the first but for its reply
-record IsAlike (e k : Observation) : Type 0 where
-  thread : k.thread ≡ e.thread
-  call : k.call ≡ e.call
-  first : k.first ≡ e.first
-  returned : IsAlikeBy e.returned k.returned
+pub record IsAlike (e k : Observation) : Type 0 where
+  pub thread : k.thread ≡ e.thread
+  pub call : k.call ≡ e.call
+  pub first : k.first ≡ e.first
+  pub returned : IsAlikeBy e.returned k.returned
 
-alike_self : (e : Observation) → IsAlike e e
+pub alike_self : (e : Observation) → IsAlike e e
 unfolding IsAlikeBy
 alike_self e = record { thread = refl; call = refl; first = refl; returned = by e.returned }
   where
@@ -49,7 +49,7 @@ alike_self e = record { thread = refl; call = refl; first = refl; returned = by 
     by None = tt
     by (Some r) = refl
 
-alike_answering : (e : Observation) (r : Returned) (reply : Reply) → e.returned ≡ Some r →
+pub alike_answering : (e : Observation) (r : Returned) (reply : Reply) → e.returned ≡ Some r →
     IsAlike e (answering e r reply)
 unfolding IsAlikeBy
 alike_answering e r reply at = record {
@@ -70,7 +70,7 @@ alike_interval e k alike is = by e.returned k.returned alike.returned is
     by (Some r) None same h = absurd same
     by (Some r) (Some q) same h = omega (arith, same, h, alike.first)
 
-alike_before : (a b e k : Observation) → IsAlike a e → IsAlike b k → IsBefore a b → IsBefore e k
+pub alike_before : (a b e k : Observation) → IsAlike a e → IsAlike b k → IsBefore a b → IsBefore e k
 unfolding IsAlikeBy
 alike_before a b e k alike other is = by a.returned e.returned alike.returned is
   where
@@ -88,7 +88,7 @@ alike_apart a b e k alike other apart same = by (apart (sym alike.thread ∙ sam
     by (inr before) = inr (alike_before b a k e other alike before)
 
 -- place by place the entries are alike
-place : (es : List Observation) (i : ℕ) (e y : Observation) → slice_get es i ≡ Some e → IsAlike e y → (k : ℕ)
+pub place : (es : List Observation) (i : ℕ) (e y : Observation) → slice_get es i ≡ Some e → IsAlike e y → (k : ℕ)
     (d : Observation) → IsAlike (get_or es k d) (get_or (set es i y) k d)
 place es i e y at alike k d = by (equal k i)
   where

@@ -145,7 +145,7 @@ pub awaited_at : (h : ObservedHistory) (plan : Plan) (node : Node) (a : Observat
     IsAwaitedAt h plan.returns.items node.past a
 awaited_at h plan node a is = record { inside = is.inside; is_entry = is.at }
 
-the_next : (h : ObservedHistory) (plan : Plan) (node : Node) (a : Observation) → Awaits h plan node a →
+pub the_next : (h : ObservedHistory) (plan : Plan) (node : Node) (a : Observation) → Awaits h plan node a →
     IsNext h.entries (take node.past plan.returns.items) (get_or plan.returns.items node.past 0) a
 the_next h plan node a is = next_awaited h plan.returns.items node.past a is.observed is.plan_is.are is.plan_is.once
     is.inside is.at
@@ -180,7 +180,7 @@ not_yet h plan node a s taken is bit stands has =
     (get_or plan.returns.items node.past 0) a stands.in_effect is.at (the_next h plan node a is).still has).0
 
 -- a node comes next where a call that is tried takes effect
-leads_by_call : (h : ObservedHistory) (plan : Plan) (node : Node) (a : Observation) (i : ℕ) (s : LockState)
+pub leads_by_call : (h : ObservedHistory) (plan : Plan) (node : Node) (a : Observation) (i : ℕ) (s : LockState)
     (taken : List ℕ) (w : Next) → Awaits h plan node a → bit_at node.threads a.thread ≢ 1 →
     StandsFor h plan.returns.items node s taken → (to : IsTakenTo h plan.returns.items node a i s taken w) →
     IsTried a to.effect.entry → LeadsBy h plan.returns.items node w.node s taken w.took

@@ -1,6 +1,6 @@
 -- Which replies a call of an observed history could have had.
-use Rattle.std.specs.Prelude.{ℕ, ◌≡◌, ◌≢◌, ◌↔◌, ◌+◌, List, slice_get, slice_set, Some}
-use Rattle.std.specs.List.{AllPairs, Contains}
+use Rattle.std.specs.Prelude.{ℕ, ◌≡◌, ◌≢◌, ◌↔◌, ◌+◌, ◌⊎◌, List, slice_get, slice_set, Some, None}
+use Rattle.std.specs.List.{All, AllPairs, Contains}
 use Rattle.stamp_core.specs.declared.reply.Reply.{Reply}
 use Rattle.stamp_explain.specs.declared.observed.Observation.{Observation}
 use Rattle.stamp_explain.specs.declared.observed.Returned.{Returned}
@@ -16,6 +16,10 @@ answering e r reply = record e { returned = Some (record r { reply = reply }) }
 -- the history with this reply of the call at this place
 abbrev pub with_reply : ℕ → Observation → Returned → Reply → ObservedHistory → ObservedHistory
 with_reply i e r reply h = record h { entries = slice_set h.entries i (answering e r reply) }
+
+-- the history with the call at this place under way
+abbrev pub without_return : ℕ → Observation → ObservedHistory → ObservedHistory
+without_return i e h = record h { entries = slice_set h.entries i (record e { returned = None }) }
 
 -- with this reply in place of its own, what is known when the call at this place has returned is explained
 pub record IsPossible (h : ObservedHistory) (i : ℕ) (reply : Reply) : Type 0 where
@@ -40,3 +44,21 @@ pub record IsUndecidedAtReply (h : ObservedHistory) (i most : ℕ) (reply : Repl
 
 abbrev pub IsUndecidedAtSome : ObservedHistory → ℕ → ℕ → List Reply → Type 0
 IsUndecidedAtSome h i most tried = (reply : Reply) × (Contains tried reply × IsUndecidedAtReply h i most reply)
+
+-- these are all the possible replies, each once
+pub record AreAllPossible (h : ObservedHistory) (i : ℕ) (found : List Reply) : Type 0 where
+  pub each : All (IsPossible h i) found
+  pub whole : (reply : Reply) → ¬ Contains found reply → ¬ IsPossible h i reply
+  pub once : AllPairs (λ (a b : Reply). a ≢ b) found
+
+-- a search of what is seen when the call at this place has returned reaches so many configurations, with its own
+-- reply or with some other
+pub record IsUndecidedAtOwn (h : ObservedHistory) (i most : ℕ) : Type 0 where
+  pub entry : Observation
+  pub return : Returned
+  pub is_entry : slice_get h.entries i ≡ Some entry
+  pub returned : entry.returned ≡ Some return
+  pub many : ReachesMany (seen_at return.last (i + 1) h) most
+
+abbrev pub IsUndecidedAtAny : ObservedHistory → ℕ → ℕ → Type 0
+IsUndecidedAtAny h i most = IsUndecidedAtOwn h i most ⊎ ((reply : Reply) × IsUndecidedAtReply h i most reply)

@@ -2,8 +2,9 @@
 ghost use Rattle.std.specs.Prelude.{◌≡◌, ◌↔◌, ◌++◌, ◌∷◌, [], IsTrue, IfOk, OnOk, Err, Some, slice_get};
 ghost use Rattle.stamp_explain.specs.Observed.{IsObserved};
 ghost use Rattle.stamp_explain.specs.Search.{IsReturnAt};
-ghost use Rattle.stamp_explain.specs.Possible.{ArePossible, IsPossible, IsUndecidedAtReply, IsUndecidedAtSome, with_reply};
+ghost use Rattle.stamp_explain.specs.Possible.{AreAllPossible, ArePossible, IsPossible, IsUndecidedAtAny, IsUndecidedAtReply, IsUndecidedAtSome, with_reply};
 
+use crate::asking::{asking_of, replies_of};
 use crate::cut::seen_at;
 use crate::observed::{Observation, Observed, Returned};
 use crate::planning::plan_of;
@@ -144,4 +145,31 @@ pub fn possible_among(
         }
     }
     Ok(found)
+}
+
+/// All replies that the call at this place could have had, each once: with such a one in place of its
+/// own, and with no other, what is known when the call has returned is explained. None, where it would
+/// have waited. There is a search for what the other calls may do before it, and one for each reply that
+/// it gets then; each looks at `most` configurations at most. Refuses as 1 `Undecided`, where one of the
+/// searches reached so many, or 2 `Memory`.
+pub fn possible_at(
+    alloc: Global,
+    observed: &Observed,
+    entry: usize,
+    most: u64,
+) -> Result<Vec<Reply>, PossibleError>
+    requires observed { IsObserved observed.now }
+    requires returned { IsReturnAt observed.now.entries entry }
+    ensures possible { IfOk result (λ found. AreAllPossible observed.now entry found.items) }
+    ensures undecided { result ≡ Err PossibleError.Undecided → IsUndecidedAtAny observed.now entry most }
+{
+    let observation = &observed.entries()[entry];
+    let Some(returned) = &observation.returned else {
+        unreachable!();
+    };
+    let asking = asking_of(alloc, observed, entry, *observation, *returned)?;
+    let Some(replies) = replies_of(alloc, &asking, most)? else {
+        return Err(PossibleError::Undecided);
+    };
+    possible_among(alloc, observed, entry, replies.as_slice(), most)
 }

@@ -32,7 +32,7 @@ pub(crate) enum Found {
 
 /// Adds the nodes that were not seen, which come from this place, to those seen, and their places to
 /// those that wait.
-fn enter(
+pub(crate) fn enter(
     store: &mut Store,
     waiting: &mut Vec<usize>,
     from: usize,
@@ -56,7 +56,7 @@ fn enter(
 
 /// What becomes of a node if the call of this entry takes effect; nothing where it is in effect, or
 /// would give another reply.
-fn take_of(observed: &Observed, node: &Node, i: usize) -> Option<Next>
+pub(crate) fn take_of(observed: &Observed, node: &Node, i: usize) -> Option<Next>
     requires observed { IsObserved observed.now }
     requires admitted { IsAdmitted observed.now.limits (word_at observed.now.limits node.now.bits) }
     requires inside { i < length observed.now.entries }
@@ -190,7 +190,7 @@ pub(crate) fn search(
 }
 
 /// The node at which a search begins.
-fn opening(observed: &Observed) -> Node
+pub(crate) fn opening(observed: &Observed) -> Node
     ensures { IsOpening observed.now result }
 {
     Node {

@@ -1,4 +1,5 @@
 pub mod Order
 pub mod Finding
 pub mod FindingText
+pub mod Note
 pub mod Answer

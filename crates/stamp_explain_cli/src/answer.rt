@@ -1,39 +1,56 @@
-//! The line that answers an observed history.
+//! The line that answers an observed history, and what is said of it.
 
 ghost use Rattle.std.specs.Prelude.{◌≡◌, ◌≢◌, ◌↔◌, true, false, IfOk, IfErr, Ok, Err, is_err};
-ghost use Rattle.stamp_cli.specs.Answer.{LineUnlessMemory, line_in};
 ghost use Rattle.stamp_cli.specs.Refusal.{is_of_end};
 ghost use Rattle.stamp_cli.specs.Results.{MakesAtMost, ReadsToTheEnd, any_since, taken_since};
 ghost use Rattle.stamp_cli.specs.Source.{TakesAtMost, most_reads, most_taken};
-ghost use Rattle.stamp_explain_cli.specs.Answer.{Answers, IsAnswer};
+ghost use Rattle.stamp_explain_cli.specs.Answer.{Answers, IsAnswer, ToldUnlessMemory, told_in};
 
 use crate::finding::finding_of;
 use crate::finding_text::line_of_finding;
-use stamp_cli::{Line, ServeFault, Source, read_input, within};
+use crate::note::note_of;
+use stamp_cli::{Line, ServeFault, Source, Verdict, read_input, within};
 use stamp_observed::read_observed;
-use std::alloc::Global;
+use std::alloc::{AllocError, Global};
 
-/// The line that answers what was read.
+/// What was written of an observed history, and what is said of it on standard error: nothing, unless it
+/// is stuck. Where memory is refused for that, it isn't said.
+#[derive(Drop)]
+pub struct Explanation {
+    pub verdict: Verdict,
+    pub note: Result<Option<String>, AllocError>,
+}
+
+/// The line that answers, and what is said.
+#[derive(Drop)]
+pub(crate) struct Told {
+    pub(crate) line: Line,
+    pub(crate) note: Result<Option<String>, AllocError>,
+}
+
+/// The line that answers what was read, and what is said of it.
 #[tactic(auto, using(stamp_cli::proofs::Refusals::inner))]
-fn line_on(alloc: Global, most: u64, input: &[u8]) -> Result<Line, ServeFault>
-    ensures answer { LineUnlessMemory (IsAnswer most input.now) result }
+fn told_on(alloc: Global, most: u64, input: &[u8]) -> Result<Told, ServeFault>
+    ensures answer { ToldUnlessMemory (IsAnswer most input.now) result }
     ensures inner { IfErr result (λ e. is_of_end e ≡ false) }
 {
     let observed = read_observed(alloc, within(input)?)?;
     let finding = finding_of(alloc, &observed, most)?;
-    line_of_finding(alloc, &finding)
+    let line = line_of_finding(alloc, &finding)?;
+    let note = note_of(alloc, &observed, &finding, most);
+    Ok(Told { line, note })
 }
 
-/// The line that answers an observed history, without its line feed.
-pub(crate) fn line_of<S: Source>(
+/// The line that answers an observed history, without its line feed, and what is said of it.
+pub(crate) fn told_of<S: Source>(
     alloc: Global,
     most: u64,
     source: &mut S,
-) -> Result<Line, ServeFault>
+) -> Result<Told, ServeFault>
     ensures reads { MakesAtMost (S.reads source.old) (S.reads source.new) most_reads most_taken }
     ensures took { TakesAtMost (S.left source.old) (S.left source.new) most_taken }
-    ensures ok { IfOk result (λ line. Answers most (S.left source.old) (S.left source.new)
-        (taken_since (S.reads source.old) (S.reads source.new)) (Ok (line_in line))) }
+    ensures ok { IfOk result (λ told. Answers most (S.left source.old) (S.left source.new)
+        (taken_since (S.reads source.old) (S.reads source.new)) (Ok (told_in told))) }
     ensures err { IfErr result (λ e. e ≢ ServeFault.ReadFault → e ≢ ServeFault.Memory
         → Answers most (S.left source.old) (S.left source.new)
         (taken_since (S.reads source.old) (S.reads source.new)) (Err e)) }
@@ -44,5 +61,5 @@ pub(crate) fn line_of<S: Source>(
     ensures not_written { result ≢ Err ServeFault.WriteFault }
 {
     let input = read_input(alloc, source)?;
-    line_on(alloc, most, &input)
+    told_on(alloc, most, &input)
 }

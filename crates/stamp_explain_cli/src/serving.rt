@@ -2,28 +2,28 @@
 
 ghost use Rattle.std.specs.Prelude.{◌≡◌, ◌≢◌, ◌↔◌, ◌++◌, ◌∷◌, ◌+◌, [], true, length, IfOk, IfErr, Ok, Err, is_err};
 ghost use Rattle.std.specs.Io.KnownBytes.{Appends, Keeps};
-ghost use Rattle.stamp_cli.specs.Answer.{Answered};
 ghost use Rattle.stamp_cli.specs.Sink.{AppendsFront};
 ghost use Rattle.stamp_cli.specs.Results.{Makes, MakesAtMost, ReadsToTheEnd, any_since, taken_since};
 ghost use Rattle.stamp_cli.specs.Source.{TakesAtMost, most_reads, most_taken};
 ghost use Rattle.stamp_cli.specs.TakesNone.{takes_none};
-ghost use Rattle.stamp_explain_cli.specs.Answer.{Answers};
+ghost use Rattle.stamp_explain_cli.specs.Answer.{AnsweredSo, Answers};
 
-use crate::answer::line_of;
-use stamp_cli::{Line, ServeFault, Sink, Source, Verdict, write_line};
+use crate::answer::{Explanation, Told, told_of};
+use stamp_cli::{Line, ServeFault, Sink, Source, write_line};
 use std::alloc::Global;
 
 /// Reads an observed history of the source, looks for an order that explains it, and writes one line: the
 /// record found, as a history; or the first fault of what can't have been observed; or the return at which
-/// no order explains it, or at which that isn't known. Or it says why there is no line. Each search looks
-/// at `most` configurations at most. What was read of the source is gone also after a refusal. An input has
+/// no order explains it, or at which that isn't known. Or it says why there is no line. Of a history that is
+/// stuck it answers a line for standard error: what the call answered, and all that it could have answered,
+/// or that this is undecided. Each search looks at `most` configurations at most. What was read of the source is gone also after a refusal. An input has
 /// at most 16,777,216 bytes (one more may be taken, which shows that it is too long).
 pub fn serve_explanation<S: Source, K: Sink>(
     alloc: Global,
     most: u64,
     source: &mut S,
     sink: &mut K,
-) -> Result<Verdict, ServeFault>
+) -> Result<Explanation, ServeFault>
     // However it ends, there are no more reads than these, none after one that took no byte, and they
     // take no more bytes than these.
     ensures reads { MakesAtMost (S.reads source.old) (S.reads source.new) most_reads most_taken }
@@ -33,12 +33,14 @@ pub fn serve_explanation<S: Source, K: Sink>(
     ensures ends { result ≢ Err ServeFault.ReadFault → result ≢ Err ServeFault.Memory
         → ReadsToTheEnd (S.reads source.old) (S.reads source.new) most_taken }
 
-    // The answer to all that was read is written with a line feed, and nothing else; the verdict is its.
-    ensures ok { IfOk result (λ verdict. (line : Answered)
+    // The answer to all that was read is written with a line feed, and nothing else; the verdict and what is
+    // said of a history that is stuck are its.
+    ensures ok { IfOk result (λ found. (told : AnsweredSo)
         × Answers most (S.left source.old) (S.left source.new)
-        (taken_since (S.reads source.old) (S.reads source.new)) (Ok line) × (verdict ≡ line.verdict)
-        × Appends (K.sent sink.old) (K.sent sink.new) (line.text ++ 10 ∷ [])
-        × Makes (K.writes sink.old) (K.writes sink.new) (length line.text + 1)) }
+        (taken_since (S.reads source.old) (S.reads source.new)) (Ok told)
+        × (found.verdict ≡ told.line.verdict) × (found.note ≡ told.note)
+        × Appends (K.sent sink.old) (K.sent sink.new) (told.line.text ++ 10 ∷ [])
+        × Makes (K.writes sink.old) (K.writes sink.new) (length told.line.text + 1)) }
 
     // All that was read is refused so.
     ensures refused { IfErr result (λ e. e ≢ ServeFault.ReadFault → e ≢ ServeFault.WriteFault
@@ -50,16 +52,18 @@ pub fn serve_explanation<S: Source, K: Sink>(
     // A write that failed leaves a front of the line and is the last, and no other refusal writes.
     ensures write_fault { (result ≡ Err ServeFault.WriteFault)
         ↔ (any_since takes_none (K.writes sink.old) (K.writes sink.new) ≡ true) }
-    ensures front { result ≡ Err ServeFault.WriteFault → ((line : Answered)
+    ensures front { result ≡ Err ServeFault.WriteFault → ((told : AnsweredSo)
         × Answers most (S.left source.old) (S.left source.new)
-        (taken_since (S.reads source.old) (S.reads source.new)) (Ok line)
-        × AppendsFront (K.sent sink.old) (K.sent sink.new) (line.text ++ 10 ∷ [])
-        × MakesAtMost (K.writes sink.old) (K.writes sink.new) (length line.text + 1) (length line.text + 1)) }
+        (taken_since (S.reads source.old) (S.reads source.new)) (Ok told)
+        × AppendsFront (K.sent sink.old) (K.sent sink.new) (told.line.text ++ 10 ∷ [])
+        × MakesAtMost (K.writes sink.old) (K.writes sink.new) (length told.line.text + 1)
+        (length told.line.text + 1)) }
     ensures silent { IfErr result (λ e. e ≢ ServeFault.WriteFault
         → Keeps (K.sent sink.old) (K.sent sink.new) × (K.writes sink.new ≡ K.writes sink.old)) }
 {
-    let Line { mut text, verdict } = line_of(alloc, most, source)?;
+    let Told { line, note } = told_of(alloc, most, source)?;
+    let Line { mut text, verdict } = line;
     text.push(b'\n')?;
     write_line(sink, &text)?;
-    Ok(verdict)
+    Ok(Explanation { verdict, note })
 }

@@ -1,18 +1,21 @@
 use stamp_cli::{CommandFault, ReadSource, ServeFault, Verdict, WriteSink};
-use stamp_explain_cli::{MOST, most_of, serve_explanation};
+use stamp_explain_cli::{Explanation, MOST, most_of, serve_explanation};
 use stamp_history::{Field, ReadError};
 use std::alloc::Global;
 use std::test::Fail;
 
-/// What was written of an observed history, and the verdict.
-type Told = (String, Result<Verdict, ServeFault>);
+/// What was written of an observed history, the verdict, and what is said on standard error.
+type Told = (String, Result<Verdict, ServeFault>, Option<String>);
 
 fn told(alloc: Global, most: u64, input: &str) -> Result<Told, Fail> {
     let mut source = ReadSource::new(input.as_bytes());
     let mut sink = WriteSink::new(Vec::new(alloc));
-    let verdict = serve_explanation(alloc, most, &mut source, &mut sink);
+    let answered = serve_explanation(alloc, most, &mut source, &mut sink);
     let written = String::from_utf8(sink.into_inner())?;
-    Ok((written, verdict))
+    match answered {
+        Ok(Explanation { verdict, note }) => Ok((written, Ok(verdict), note?)),
+        Err(fault) => Ok((written, Err(fault), None)),
+    }
 }
 
 /// A write that another thread's optimistic read overlaps, and its release.
@@ -43,10 +46,20 @@ fn what_is_found_is_told_in_one_line(rt: HostRuntime) -> Result<(), Fail> {
     let verdicts = [Ok(Verdict::Accepted), bad, bad, bad, bad, Err(refused)];
     for ((old, new, most, line), verdict) in TOLD.iter().zip(verdicts) {
         let input = SEEN.replace(rt.alloc(), old, new)?;
-        let (written, answered) = told(rt.alloc(), *most, &input)?;
+        let (written, answered, note) = told(rt.alloc(), *most, &input)?;
         assert!(rt; written.as_str() == *line);
         assert!(rt; answered == verdict, "{line}");
+        assert!(rt; note.is_some() == line.starts_with("stuck"), "{line}");
     }
+    Ok(())
+}
+
+#[test]
+fn of_a_stuck_history_all_possible_replies_are_told(rt: HostRuntime) -> Result<(), Fail> {
+    let input = SEEN.replace(rt.alloc(), "\"reply\":0", "\"reply\":768")?;
+    let (_, _, note) = told(rt.alloc(), MOST, &input)?;
+    let wanted = "stamped: entry 2 of thread 1: optimistic answered 768; possible: 256, 0, 512";
+    assert!(rt; note.as_deref() == Some(wanted));
     Ok(())
 }
 

@@ -2,7 +2,7 @@
 #![tactic(auto)]
 
 use stamp_cli::{CommandFault, ReadSource, ServeFault, Verdict, WriteSink, fault_line};
-use stamp_explain_cli::{most_of, serve_explanation};
+use stamp_explain_cli::{Explanation, most_of, serve_explanation};
 use std::alloc::AllocError;
 use std::process::ExitCode;
 use std::rt::Env;
@@ -25,7 +25,7 @@ fn most_given(rt: &(impl Env + AllocGlobal)) -> Result<Result<u64, CommandFault>
 }
 
 /// Explains what comes from standard input to standard output.
-fn run(rt: &(impl Input + Print + AllocGlobal), most: u64) -> Result<Verdict, ServeFault> {
+fn run(rt: &(impl Input + Print + AllocGlobal), most: u64) -> Result<Explanation, ServeFault> {
     let mut source = ReadSource::new(rt.reader());
     let mut sink = WriteSink::new(io::writer(rt));
     serve_explanation(rt.alloc(), most, &mut source, &mut sink)
@@ -50,12 +50,18 @@ fn main(rt: HostRuntime) -> ExitCode {
             return ExitCode::FAILURE;
         }
     };
-    match run(&rt, most) {
-        Ok(Verdict::Accepted) => ExitCode::SUCCESS,
-        Ok(Verdict::Bad) => ExitCode::FAILURE,
+    let Explanation { verdict, note } = match run(&rt, most) {
+        Ok(explanation) => explanation,
         Err(fault) => {
             report(&rt, &fault);
-            ExitCode::FAILURE
+            return ExitCode::FAILURE;
         }
+    };
+    if let Ok(Some(line)) = note {
+        let _ = rt.eprintln(line);
+    }
+    match verdict {
+        Verdict::Accepted => ExitCode::SUCCESS,
+        Verdict::Bad => ExitCode::FAILURE,
     }
 }

@@ -1,10 +1,10 @@
 use Rattle.stamp_cli.proofs.HandedOn.{same_fault}
 use Rattle.stamp_explain_cli.proofs.serving.serve_explanation.Goals as goal
 
-pub returns-in_err-text-clause-refused : goal.returns-in_err-text-clause-refused
-returns-in_err-text-clause-refused g c =
-    same_fault c.from_residual.result c.in_err-text.field-0.0 _ c.from_residual.ensures.1
-    (λ read write memory. c.in_err-text.ensures.err read memory)
+pub returns-in_err-line-clause-refused : goal.returns-in_err-line-clause-refused
+returns-in_err-line-clause-refused g c =
+    same_fault c.from_residual.result c.in_err-line.field-0.0 _ c.from_residual.ensures.1
+    (λ read write memory. c.in_err-line.ensures.err read memory)
 
 pub returns-in_err-write_line-clause-refused : goal.returns-in_err-write_line-clause-refused
 returns-in_err-write_line-clause-refused g c =

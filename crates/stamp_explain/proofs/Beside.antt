@@ -1,0 +1,721 @@
+-- The search for the replies that one call could get.
+use Rattle.std.proofs.Common.{◌≡◌, ◌≢◌, ◌⊎◌, ℕ, ◌+◌, ◌-◌, ◌<◌, ◌≤◌, List, [], ◌∷◌, ◌++◌, length, get_or, set, refl, sym}
+use Rattle.std.proofs.Common.{◌∙◌, ap, subst, inl, inr, arith, Option, None, Some, Bool, true, false, suc}
+use Rattle.std.specs.Prelude.{not, nat_lt, cond, IsTrue}
+use Rattle.stamp_core.specs.Call.{call_suits, is_lock_call}
+use Rattle.std.proofs.lemmas.List.Filters.{length-filter_more}
+use Rattle.std.proofs.lemmas.Bool.Decides.{nat_tests}
+use Rattle.stamp_explain.specs.Cut.{begun_by}
+use Rattle.std.specs.Prelude.{slice_get, slice_index, take, drop, ◌↔◌}
+use Rattle.std.specs.Int.{bit_at}
+use Rattle.std.specs.List.{All, AllPairs, Contains}
+use Rattle.std.proofs.lemmas.List.Elements.{Contains-append_left, Contains-push, Contains-push_cases, Contains-get_or}
+use Rattle.std.proofs.lemmas.List.Quantifiers.{all_pairs_push}
+use Rattle.std.proofs.lemmas.Option.{none-some, same_Some, slice_get_within, slice_get-get_or, slice_get_read, get_or_from_slice_get}
+use Rattle.std.proofs.lemmas.List.{get_or-set_same, length-set, length-append, length-map, take_all}
+use Rattle.std.proofs.lemmas.List.Elements.{All-append, All-weaker, All-contains, All-contains_itself, Contains-append_cases}
+use Rattle.stamp_core.specs.Limits.{Bounds}
+use Rattle.stamp_core.specs.declared.reply.Reply.{Reply}
+use Rattle.stamp_explain.specs.declared.observed.Observation.{Observation}
+use Rattle.stamp_explain.specs.declared.node.Node.{Node}
+use Rattle.stamp_explain.specs.declared.node.Next.{Next}
+use Rattle.stamp_explain.specs.declared.node.Step.{Step}
+use Rattle.stamp_explain.specs.declared.plan.Plan.{Plan}
+use Rattle.stamp_explain.specs.declared.store.Store.{Store}
+use Rattle.stamp_explain.specs.declared.asking.Asking.{Asking}
+use Rattle.stamp_explain.specs.Observed.{ObservedHistory, IsObserved, IsBefore, MayReply, AreOfOneObject}
+use Rattle.stamp_explain.specs.Observer.{observes_at, observes_in}
+use Rattle.stamp_explain.specs.Search.{LockState, LockSteps, IsReturnAt, opening}
+use Rattle.stamp_explain.specs.Node.{IsReached, IsAt, StandsFor, HasGone, IsOpening, Reaches, ReachesMany}
+use Rattle.stamp_explain.specs.Node.Reaches.{begins, goes_past, goes_on_by}
+use Rattle.stamp_explain.specs.Store.{Keeps}
+use Rattle.stamp_explain.specs.Plan.{AreOpen, ClearsBit, IsAwaitedAt}
+use Rattle.stamp_explain.specs.Expand.{Expands, Leads, LeadsBy, Took, IsNotInEffect, IsTakenTo, Enters, nodes_of}
+use Rattle.stamp_explain.specs.Possible.{without_return, answering}
+use Rattle.stamp_explain.specs.Asking.{Adds, AreAsked, AreLed, AreMore, AreReplies, ExpandUnless, IsAnswered, IsAsking, LeadsBeside}
+use Rattle.stamp_explain.proofs.Lists.{none_in_empty, contains_cases, contains_first, pairs_none}
+use Rattle.stamp_explain.proofs.Replying.{IsAlike, alike_before, replied_is_observed}
+use Rattle.stamp_explain.proofs.Answering.{AreAlike, alike_with_reply, plan_alike, there, other_there, took_alike, turned}
+use Rattle.stamp_explain.proofs.Answering.{same_calls_before, at_same, at_alike, opening_alike}
+use Rattle.stamp_explain.proofs.Expanding.{one_reply, at_place}
+use Rattle.stamp_explain.proofs.Leading.{come, come_less, come_as_well}
+use Rattle.stamp_explain.proofs.Exploring.{Searches, searches_first, searches_more, found_nothing, opening_stands}
+use Rattle.stamp_explain.proofs.Exploring.{named, contains_at}
+use Rattle.stamp_explain.proofs.Succeeding.{Awaits, Tries, awaited_at, expands_past, expands_at_once, expands_open}
+use Rattle.stamp_explain.proofs.Succeeding.{none_tried, tried_none, tried_some, tried_other, leads_by_call}
+
+abbrev pub is_begun : ℕ → Observation → Bool
+is_begun last e = not (nat_lt last e.first)
+
+-- the replies so far
+pub no_more : (xs : List Reply) → AreMore xs xs
+no_more xs = record { kept = λ r has. has; once = λ once. once }
+
+pub adds_none : (xs : List Reply) (reply : Reply) → Contains xs reply → Adds xs reply xs
+adds_none xs reply has = record { more = no_more xs; added = has }
+
+pub adds_one : (xs : List Reply) (reply : Reply) → ¬ Contains xs reply → Adds xs reply (xs ++ reply ∷ [])
+adds_one xs reply misses = record {
+  more = record {
+    kept = λ r has. Contains-append_left xs (reply ∷ []) r has;
+    once = λ once. all_pairs_push (λ (a b : Reply). a ≢ b) xs reply once
+        (λ k d lt same. misses (subst (Contains xs) same (Contains-get_or xs k d lt)));
+  };
+  added = Contains-push xs reply;
+}
+
+-- of the first k calls so many had begun
+pub record IsCounted (last k : ℕ) (es : List Observation) (n : ℕ) : Type 0 where
+  pub few : n ≤ k
+  pub count : n ≡ length (begun_by last (take k es))
+
+pub counted_one : (last k : ℕ) (es : List Observation) (e : Observation) (n : ℕ) → k < length es →
+    e ≡ get_or es k e → e.first ≤ last → IsCounted last k es n → IsCounted last (k + 1) es (n + 1)
+counted_one last k es e n lt at begun is = record {
+  few = omega (arith, is.few);
+  count = omega (
+    arith,
+    is.count,
+    length-filter_more (is_begun last) es k e lt,
+    ap {B = ℕ} (λ (b : Bool). cond b 1 0) (ap (is_begun last) (sym at) ∙ early),
+  );
+}
+  where
+    early : is_begun last e ≡ true
+    early = grind (arith, nat_tests)
+
+pub counted_none : (last k : ℕ) (es : List Observation) (e : Observation) (n : ℕ) → k < length es →
+    e ≡ get_or es k e → ¬ (e.first ≤ last) → IsCounted last k es n → IsCounted last (k + 1) es n
+counted_none last k es e n lt at begun is = record {
+  few = omega (arith, is.few);
+  count = omega (
+    arith,
+    is.count,
+    length-filter_more (is_begun last) es k e lt,
+    ap {B = ℕ} (λ (b : Bool). cond b 1 0) (ap (is_begun last) (sym at) ∙ late),
+  );
+}
+  where
+    late : is_begun last e ≡ false
+    late = grind (arith, nat_tests)
+
+-- what is seen with another reply
+pub alike_of : (asking : Asking) (reply : Reply) (h : ObservedHistory) → IsAnswered asking reply h →
+    AreAlike asking.seen h asking.place
+alike_of asking reply h is = subst (λ (g : ObservedHistory). AreAlike asking.seen g asking.place) (sym is.is)
+    (alike_with_reply asking.seen asking.place is.entry is.return reply is.is_entry is.returned)
+
+pub observed_of : (asking : Asking) (reply : Reply) (h : ObservedHistory) → IsAsking asking →
+    IsAnswered asking reply h → IsObserved h
+observed_of asking reply h asks is = subst IsObserved (sym is.is)
+    (replied_is_observed asking.seen asking.place is.entry is.return reply is.is_entry is.returned asks.observed)
+
+-- a node awaits the same return there
+pub record AwaitsToo (asking : Asking) (h : ObservedHistory) (node : Node) (a : Observation) : Type 0 where
+  pub entry : Observation
+  pub awaits : Awaits h asking.plan node entry
+  pub thread : entry.thread ≡ a.thread
+
+pub awaits_too : (asking : Asking) (reply : Reply) (h : ObservedHistory) (node : Node) (a : Observation) →
+    IsAsking asking → IsAnswered asking reply h → Awaits asking.seen asking.plan node a → AwaitsToo asking h node a
+awaits_too asking reply h node a asks is awaits =
+    let alike : AreAlike asking.seen h asking.place = alike_of asking reply h is in
+    let b : (b : Observation) × ((slice_get h.entries (get_or asking.plan.returns.items node.past 0) ≡ Some b) ×
+    IsAlike a b) =
+    there asking.seen h asking.place (get_or asking.plan.returns.items node.past 0) a alike awaits.at in
+    record {
+      entry = b.0;
+      awaits = record {
+        observed = observed_of asking reply h asks is;
+        plan_is = plan_alike asking.seen h asking.place asking.plan alike awaits.plan_is;
+        inside = awaits.inside;
+        at = b.1.0;
+      };
+      thread = b.1.1.thread;
+    }
+
+-- a node that is the only one
+in_one : (next : Next) → Contains (next ∷ []) next
+in_one next = contains_first next [] next refl
+
+-- a return is past
+abbrev pub past_of : Node → ℕ → Next
+past_of node threads = record {
+  node = record { past = node.past + 1; bits = node.bits; writer = node.writer; threads = threads };
+  took = None;
+}
+
+pub past_leads : (asking : Asking) (node : Node) (a : Observation) (threads : ℕ) →
+    Awaits asking.seen asking.plan node a → bit_at node.threads a.thread ≡ 1 → ClearsBit node.threads threads a.thread →
+    LeadsBeside asking node (past_of node threads)
+past_leads asking node a threads awaits bit clears = record {
+  leads = (expands_past asking.seen asking.plan node a threads awaits bit clears).each (past_of node threads)
+      (in_one (past_of node threads));
+  other = λ e. none-some asking.place e;
+}
+
+pub past_expands : (asking : Asking) (node : Node) (a : Observation) (threads : ℕ) (reply : Reply)
+    (h : ObservedHistory) → IsAsking asking → Awaits asking.seen asking.plan node a →
+    bit_at node.threads a.thread ≡ 1 → ClearsBit node.threads threads a.thread → IsAnswered asking reply h →
+    Expands h asking.plan.returns.items node (past_of node threads ∷ [])
+past_expands asking node a threads reply h asks awaits bit clears is =
+    let too : AwaitsToo asking h node a = awaits_too asking reply h node a asks is awaits in
+    expands_past h asking.plan node too.entry threads too.awaits
+    (ap (λ (t : ℕ). bit_at node.threads t) too.thread ∙ bit)
+    (subst (λ (t : ℕ). ClearsBit node.threads threads t) (sym too.thread) clears)
+
+-- another call than the one asked takes effect
+pub took_other : (asking : Asking) (node : Node) (i : ℕ) (w : Next) (a : Observation) →
+    Awaits asking.seen asking.plan node a → IsReached asking.seen asking.plan.returns.items node →
+    Took asking.seen asking.plan.returns.items node i (Some w) → i ≢ asking.place → w.took ≢ Some asking.place
+took_other asking node i w a awaits reached took other same =
+    let to : IsTakenTo asking.seen asking.plan.returns.items node a i reached.state reached.taken w =
+    took.takes a reached.state reached.taken (awaited_at asking.seen asking.plan node a awaits) reached.stands in
+    other (sym to.index ∙ same_Some to.effect.index asking.place (sym to.took ∙ same))
+
+pub at_once_leads : (asking : Asking) (node : Node) (a : Observation) (i : ℕ) (w : Next) →
+    Awaits asking.seen asking.plan node a → IsReached asking.seen asking.plan.returns.items node →
+    bit_at node.threads a.thread ≢ 1 → observes_at asking.seen.entries i ≡ true →
+    Took asking.seen asking.plan.returns.items node i (Some w) → i ≢ asking.place → LeadsBeside asking node w
+at_once_leads asking node a i w awaits reached bit observes took other = record {
+  leads = (expands_at_once asking.seen asking.plan node a i w awaits bit observes took).each w (in_one w);
+  other = took_other asking node i w a awaits reached took other;
+}
+
+pub at_once_expands : (asking : Asking) (node : Node) (a : Observation) (i : ℕ) (w : Next) (reply : Reply)
+    (h : ObservedHistory) → IsAsking asking → Awaits asking.seen asking.plan node a →
+    bit_at node.threads a.thread ≢ 1 → (e : Observation) → slice_get asking.seen.entries i ≡ Some e →
+    observes_at asking.seen.entries i ≡ true → Took asking.seen asking.plan.returns.items node i (Some w) →
+    i ≢ asking.place → IsAnswered asking reply h → Expands h asking.plan.returns.items node (w ∷ [])
+at_once_expands asking node a i w reply h asks awaits bit e at observes took other is =
+    let alike : AreAlike asking.seen h asking.place = alike_of asking reply h is in
+    let too : AwaitsToo asking h node a = awaits_too asking reply h node a asks is awaits in
+    expands_at_once h asking.plan node too.entry i w too.awaits
+    (λ b. bit (sym (ap (λ (t : ℕ). bit_at node.threads t) too.thread) ∙ b))
+    (ap observes_in (other_there asking.seen h asking.place i e alike other at) ∙ sym (ap observes_in at) ∙ observes)
+    (took_alike asking.seen h asking.place asking.plan.returns.items node i (Some w) alike other took)
+
+took_leads : (h : ObservedHistory) (plan : Plan) (node : Node) (a : Observation) (i : ℕ) (w : Next) →
+    Awaits h plan node a → bit_at node.threads a.thread ≢ 1 → Took h plan.returns.items node i (Some w) →
+    ((e : Observation) → slice_get h.entries i ≡ Some e → AreOfOneObject a e) → Leads h plan.returns.items node w
+took_leads h plan node a i w is bit took alike = record {
+  inside = is.inside;
+  leads = λ s taken stands. to s taken stands (took.takes a s taken (awaited_at h plan node a is) stands);
+}
+  where
+    to : (s : LockState) (taken : List ℕ) → StandsFor h plan.returns.items node s taken →
+        IsTakenTo h plan.returns.items node a i s taken w → LeadsBy h plan.returns.items node w.node s taken w.took
+    to s taken stands it = leads_by_call h plan node a i s taken w is bit stands it (inl (alike it.effect.entry
+        (ap (λ (j : ℕ). slice_get h.entries j) (sym it.index) ∙ it.may.effect.is_entry)))
+
+-- the awaited call, which is not in effect
+pub record AwaitsThere (asking : Asking) (node : Node) : Type 0 where
+  pub entry : Observation
+  pub awaits : Awaits asking.seen asking.plan node entry
+  pub bit : bit_at node.threads entry.thread ≢ 1
+
+pub awaits_there : (asking : Asking) (node : Node) → IsAsking asking → node.past < length asking.plan.returns.items →
+    IsNotInEffect asking.seen asking.plan.returns.items node → AwaitsThere asking node
+awaits_there asking node asks inside awaited =
+    let there : IsReturnAt asking.seen.entries (get_or asking.plan.returns.items node.past 0) =
+    asks.plan.are.each node.past 0 inside in
+    record {
+      entry = there.entry;
+      awaits = record { observed = asks.observed; plan_is = asks.plan; inside = inside; at = there.is_entry };
+      bit = awaited.awaited there.entry (record { inside = inside; is_entry = there.is_entry });
+    }
+
+-- of the last k of these calls, those beside the one asked were tried
+pub record TriesBeside (asking : Asking) (node : Node) (calls : List ℕ) (k : ℕ) (nexts : List Next) : Type 0 where
+  pub led : AreLed asking node nexts
+  pub tries : (reply : Reply) (h : ObservedHistory) → IsAnswered asking reply h →
+      Took h asking.plan.returns.items node asking.place None →
+      Tries h asking.plan.returns.items node calls k nexts
+
+pub beside_first : (asking : Asking) (node : Node) (calls : List ℕ) → TriesBeside asking node calls 0 []
+beside_first asking node calls = record {
+  led = record { each = λ w has. absurd (none_in_empty w has) };
+  tries = λ reply h is none. none_tried h asking.plan.returns.items node calls;
+}
+
+pub beside_asked : (asking : Asking) (node : Node) (calls : List ℕ) (k : ℕ) (nexts : List Next) →
+    TriesBeside asking node calls k nexts → k < length calls →
+    get_or calls (length calls - 1 - k) 0 ≡ asking.place → TriesBeside asking node calls (k + 1) nexts
+beside_asked asking node calls k nexts is more here = record {
+  led = is.led;
+  tries = λ reply h answered none. tried_none h asking.plan.returns.items node calls k nexts
+      (is.tries reply h answered none) more
+      (subst (λ (i : ℕ). Took h asking.plan.returns.items node i None) (sym here) none);
+}
+
+pub beside_none : (asking : Asking) (node : Node) (calls : List ℕ) (k : ℕ) (nexts : List Next) →
+    TriesBeside asking node calls k nexts → k < length calls →
+    get_or calls (length calls - 1 - k) 0 ≢ asking.place →
+    Took asking.seen asking.plan.returns.items node (get_or calls (length calls - 1 - k) 0) None →
+    TriesBeside asking node calls (k + 1) nexts
+beside_none asking node calls k nexts is more other took = record {
+  led = is.led;
+  tries = λ reply h answered none. tried_none h asking.plan.returns.items node calls k nexts
+      (is.tries reply h answered none) more
+      (took_alike asking.seen h asking.place asking.plan.returns.items node (get_or calls (length calls - 1 - k) 0)
+      None (alike_of asking reply h answered) other took);
+}
+
+-- the calls of the awaited entry and of another one are those that are seen
+record SeenToo (asking : Asking) (node : Node) (i : ℕ) (a e : Observation) : Type 0 where
+  pub awaited : Observation
+  pub entry : Observation
+  pub is_awaited : IsAwaitedAt asking.seen asking.plan.returns.items node.past awaited
+  pub is_entry : slice_get asking.seen.entries i ≡ Some entry
+  pub objects : AreOfOneObject awaited entry ↔ AreOfOneObject a e
+
+seen_too : (asking : Asking) (reply : Reply) (h : ObservedHistory) (node : Node) (i : ℕ) (a e : Observation) →
+    IsAnswered asking reply h → IsAwaitedAt h asking.plan.returns.items node.past a →
+    slice_get h.entries i ≡ Some e → SeenToo asking node i a e
+seen_too asking reply h node i a e is awaited at =
+    let alike : AreAlike h asking.seen asking.place = turned asking.seen h asking.place (alike_of asking reply h is) in
+    let b : (b : Observation) ×
+    ((slice_get asking.seen.entries (slice_index asking.plan.returns.items node.past) ≡ Some b) × IsAlike a b) =
+    there h asking.seen asking.place (slice_index asking.plan.returns.items node.past) a alike awaited.is_entry in
+    let f : (f : Observation) × ((slice_get asking.seen.entries i ≡ Some f) × IsAlike e f) =
+    there h asking.seen asking.place i e alike at in
+    record {
+      awaited = b.0;
+      entry = f.0;
+      is_awaited = record { inside = awaited.inside; is_entry = b.1.0 };
+      is_entry = f.1.0;
+      objects = (
+        λ same. sym (ap is_lock_call b.1.1.call) ∙ same ∙ ap is_lock_call f.1.1.call,
+        λ same. ap is_lock_call b.1.1.call ∙ same ∙ sym (ap is_lock_call f.1.1.call),
+      );
+    }
+
+pub beside_other : (asking : Asking) (node : Node) (calls : List ℕ) (k : ℕ) (nexts : List Next) →
+    TriesBeside asking node calls k nexts → k < length calls →
+    ((a e : Observation) → IsAwaitedAt asking.seen asking.plan.returns.items node.past a →
+    slice_get asking.seen.entries (get_or calls (length calls - 1 - k) 0) ≡ Some e → ¬ AreOfOneObject a e) →
+    TriesBeside asking node calls (k + 1) nexts
+beside_other asking node calls k nexts is more other = record {
+  led = is.led;
+  tries = λ reply h answered none. tried_other h asking.plan.returns.items node calls k nexts
+      (is.tries reply h answered none) more (λ a e awaited at alike.
+      let it : SeenToo asking node (get_or calls (length calls - 1 - k) 0) a e =
+      seen_too asking reply h node (get_or calls (length calls - 1 - k) 0) a e answered awaited at in
+      other it.awaited it.entry it.is_awaited it.is_entry (it.objects.1 alike));
+}
+
+pub beside_some : (asking : Asking) (node : Node) (a : Observation) (calls : List ℕ) (k : ℕ) (nexts : List Next)
+    (w : Next) → Awaits asking.seen asking.plan node a → IsReached asking.seen asking.plan.returns.items node →
+    bit_at node.threads a.thread ≢ 1 → TriesBeside asking node calls k nexts → k < length calls →
+    get_or calls (length calls - 1 - k) 0 ≢ asking.place →
+    Took asking.seen asking.plan.returns.items node (get_or calls (length calls - 1 - k) 0) (Some w) →
+    ((b e : Observation) → IsAwaitedAt asking.seen asking.plan.returns.items node.past b →
+    slice_get asking.seen.entries (get_or calls (length calls - 1 - k) 0) ≡ Some e → AreOfOneObject b e) →
+    TriesBeside asking node calls (k + 1) (nexts ++ w ∷ [])
+beside_some asking node a calls k nexts w awaits reached bit is more other took alike = record {
+  led = record { each = λ v has. by v (Contains-push_cases nexts w v has) };
+  tries = λ reply h answered none. tried_some h asking.plan.returns.items node calls k nexts w
+      (is.tries reply h answered none) more
+      (took_alike asking.seen h asking.place asking.plan.returns.items node (get_or calls (length calls - 1 - k) 0)
+      (Some w) (alike_of asking reply h answered) other took) (λ b e awaited at.
+      let it : SeenToo asking node (get_or calls (length calls - 1 - k) 0) b e =
+      seen_too asking reply h node (get_or calls (length calls - 1 - k) 0) b e answered awaited at in
+      it.objects.0 (alike it.awaited it.entry it.is_awaited it.is_entry));
+}
+  where
+    by : (v : Next) → Contains nexts v ⊎ (w ≡ v) → LeadsBeside asking node v
+    by v (inl has) = is.led.each v has
+    by v (inr same) = subst (LeadsBeside asking node) same (record {
+      leads = took_leads asking.seen asking.plan node a (get_or calls (length calls - 1 - k) 0) w awaits bit took
+          (λ e at. alike a e (awaited_at asking.seen asking.plan node a awaits) at);
+      other = took_other asking node (get_or calls (length calls - 1 - k) 0) w a awaits reached took other;
+    })
+
+pub expands_beside : (asking : Asking) (node : Node) (calls : List ℕ) (k : ℕ) (nexts : List Next) (reply : Reply)
+    (h : ObservedHistory) → IsAsking asking → node.past < length asking.plan.returns.items →
+    IsNotInEffect asking.seen asking.plan.returns.items node →
+    AreOpen h asking.plan.returns.items node.past calls → length calls ≤ k → IsAnswered asking reply h →
+    Tries h asking.plan.returns.items node calls k nexts → Expands h asking.plan.returns.items node nexts
+expands_beside asking node calls k nexts reply h asks inside awaited are all is tries =
+    let alike : AreAlike asking.seen h asking.place = alike_of asking reply h is in
+    expands_open h asking.plan node calls k nexts (observed_of asking reply h asks is)
+    (plan_alike asking.seen h asking.place asking.plan alike asks.plan) inside
+    (record {
+      awaited = λ b it bit.
+          let a : (a : Observation) ×
+          ((slice_get asking.seen.entries (slice_index asking.plan.returns.items node.past) ≡ Some a) × IsAlike b a) =
+          there h asking.seen asking.place (slice_index asking.plan.returns.items node.past) b
+          (turned asking.seen h asking.place alike) it.is_entry in
+          awaited.awaited a.0 (record { inside = inside; is_entry = a.1.0 })
+          (ap (λ (t : ℕ). bit_at node.threads t) a.1.1.thread ∙ bit);
+    }) are all tries
+
+-- the entry that was asked, with the reply
+asked_entry : (asking : Asking) (reply : Reply) (h : ObservedHistory) (f : Observation) →
+    (is : IsAnswered asking reply h) → slice_get h.entries asking.place ≡ Some f →
+    f ≡ answering is.entry is.return reply
+asked_entry asking reply h f is at = same_Some f y (sym at ∙
+    ap (λ (g : ObservedHistory). slice_get g.entries asking.place) is.is ∙
+    slice_get-get_or (set asking.seen.entries asking.place y) asking.place y
+    (omega (arith, within, length-set asking.seen.entries asking.place y)) ∙
+    ap (λ (o : Observation). Some o) (get_or-set_same asking.seen.entries asking.place y y within))
+  where
+    y : Observation
+    y = answering is.entry is.return reply
+
+    within : asking.place < length asking.seen.entries
+    within = slice_get_within asking.seen.entries asking.place is.entry is.is_entry
+
+-- where the awaited call had returned before it began, it isn't open
+pub not_begun : (asking : Asking) (node : Node) (a e : Observation) (reply : Reply) (h : ObservedHistory) →
+    IsAsking asking → IsAnswered asking reply h → Awaits asking.seen asking.plan node a →
+    slice_get asking.seen.entries asking.place ≡ Some e → IsBefore a e →
+    Took h asking.plan.returns.items node asking.place None
+not_begun asking node a e reply h asks is awaits at before = record {
+  takes = λ b s taken awaited stands x u may same.
+      let alike : AreAlike asking.seen h asking.place = alike_of asking reply h is in
+      let c : (c : Observation) × ((slice_get h.entries (get_or asking.plan.returns.items node.past 0) ≡ Some c) ×
+      IsAlike a c) =
+      there asking.seen h asking.place (get_or asking.plan.returns.items node.past 0) a alike awaits.at in
+      let f : (f : Observation) × ((slice_get h.entries asking.place ≡ Some f) × IsAlike e f) =
+      there asking.seen h asking.place asking.place e alike at in
+      let is_b : c.0 ≡ b = same_Some c.0 b (sym c.1.0 ∙ awaited.is_entry) in
+      let is_x : f.0 ≡ x.entry = same_Some f.0 x.entry (sym f.1.0 ∙
+      ap (λ (k : ℕ). slice_get h.entries k) (sym same) ∙ may.effect.is_entry) in
+      may.begun (subst (λ (o : Observation). IsBefore o x.entry) is_b
+      (subst (λ (o : Observation). IsBefore c.0 o) is_x (alike_before a e c.0 f.0 c.1.1 f.1.1 before)));
+}
+
+-- what was found of the call while it is under way
+abbrev pub WentBefore : Asking → Node → Option Step → Type 0
+WentBefore asking node found = (e : Observation) (s : LockState) →
+    slice_get asking.before.entries asking.place ≡ Some e → IsAt asking.before node.bits node.writer s →
+    HasGone asking.before e s found
+
+-- it gets no other reply
+pub asked_takes : (asking : Asking) (node : Node) (found : Option Step) (reply : Reply) (h : ObservedHistory) →
+    IsAsking asking → IsAnswered asking reply h → WentBefore asking node found →
+    ((step : Step) → found ≡ Some step → step.reply ≢ reply) → Took h asking.plan.returns.items node asking.place None
+asked_takes asking node found reply h asks is went others = record {
+  takes = λ b s taken awaited stands x u may same.
+      let alike : AreAlike asking.seen h asking.place = alike_of asking reply h is in
+      let at_x : slice_get h.entries asking.place ≡ Some x.entry =
+      ap (λ (k : ℕ). slice_get h.entries k) (sym same) ∙ may.effect.is_entry in
+      let is_x : x.entry ≡ answering is.entry is.return reply = asked_entry asking reply h x.entry is at_x in
+      let at : IsAt (without_return asking.place is.entry asking.seen) node.bits node.writer s =
+      at_same asking.seen (without_return asking.place is.entry asking.seen) node.bits node.writer s
+      (same_calls_before asking.seen asking.place is.entry is.is_entry)
+      (at_alike h asking.seen asking.place node.bits node.writer s (turned asking.seen h asking.place alike)
+      stands.at) in
+      let replied : reply ≡ x.reply = subst (λ (o : Observation). MayReply o x.reply) is_x may.effect.replies in
+      let steps : LockSteps asking.seen.limits s (is.entry.call, x.reply) u =
+      subst (λ (o : Observation). LockSteps asking.seen.limits s (o.call, x.reply) u) is_x
+      (subst (λ (l : Bounds). LockSteps l s (x.entry.call, x.reply) u) alike.limits may.steps) in
+      by found refl s u x.reply replied steps
+      (subst (λ (g : ObservedHistory). HasGone g y s found) before (went y s here (subst (λ (g : ObservedHistory).
+      IsAt g node.bits node.writer s) (sym before) at)));
+}
+  where
+    y : Observation
+    y = record is.entry { returned = None }
+
+    same_entry : asks.entry ≡ is.entry
+    same_entry = same_Some asks.entry is.entry (sym asks.is_entry ∙ is.is_entry)
+
+    before : asking.before ≡ without_return asking.place is.entry asking.seen
+    before = asks.before ∙ ap (λ (o : Observation). without_return asking.place o asking.seen) same_entry
+
+    within : asking.place < length asking.seen.entries
+    within = slice_get_within asking.seen.entries asking.place is.entry is.is_entry
+
+    here : slice_get asking.before.entries asking.place ≡ Some y
+    here = ap (λ (g : ObservedHistory). slice_get g.entries asking.place) before ∙
+        slice_get-get_or (set asking.seen.entries asking.place y) asking.place y
+        (omega (arith, within, length-set asking.seen.entries asking.place y)) ∙
+        ap (λ (o : Observation). Some o) (get_or-set_same asking.seen.entries asking.place y y within)
+
+    by : (o : Option Step) → found ≡ o → (s u : LockState) (r : Reply) → reply ≡ r →
+        LockSteps asking.seen.limits s (is.entry.call, r) u →
+        HasGone (without_return asking.place is.entry asking.seen) y s o → ⊥
+    by None at s u r replied steps gone = gone r u tt steps
+    by (Some step) at s u r replied steps gone = others step at
+        (one_reply asking.seen.limits s.0 s.1 is.entry.call step.reply r gone.steps.replies steps.replies ∙
+        sym replied)
+
+pub asked_not_begun : (asking : Asking) (node : Node) (a e : Observation) (replies : List Reply) → IsAsking asking →
+    Awaits asking.seen asking.plan node a → slice_get asking.seen.entries asking.place ≡ Some e → IsBefore a e →
+    AreAsked asking node replies replies
+asked_not_begun asking node a e replies asks awaits at before = record {
+  more = no_more replies;
+  asked = λ reply h is misses. not_begun asking node a e reply h asks is awaits at before;
+}
+
+pub asked_waits : (asking : Asking) (node : Node) (replies : List Reply) → IsAsking asking →
+    WentBefore asking node None → AreAsked asking node replies replies
+asked_waits asking node replies asks went = record {
+  more = no_more replies;
+  asked = λ reply h is misses. asked_takes asking node None reply h asks is went
+      (λ step at. absurd (none-some step at));
+}
+
+pub asked_replies : (asking : Asking) (node : Node) (step : Step) (old new : List Reply) → IsAsking asking →
+    WentBefore asking node (Some step) → Adds old step.reply new → AreAsked asking node old new
+asked_replies asking node step old new asks went adds = record {
+  more = adds.more;
+  asked = λ reply h is misses. asked_takes asking node (Some step) reply h asks is went (λ other at same.
+      misses (subst (Contains new) (ap (λ (t : Step). t.reply) (same_Some step other at) ∙ same) adds.added));
+}
+
+-- the entry that is asked, as it is read, and with its call under way
+pub asked_read : (asking : Asking) (read : List Observation) (d : Observation) → IsAsking asking →
+    read ≡ asking.seen.entries →
+    slice_get asking.seen.entries asking.place ≡ Some (get_or read asking.place d)
+asked_read asking read d asks same = asks.is_entry ∙ ap (λ (o : Observation). Some o)
+    (sym (get_or_from_slice_get asking.seen.entries asking.place asks.entry d asks.is_entry)) ∙
+    ap (λ (es : List Observation). Some (get_or es asking.place d)) (sym same)
+
+pub asked_inside : (asking : Asking) → IsAsking asking → asking.place < length asking.before.entries
+asked_inside asking asks = omega (
+  arith,
+  slice_get_within asking.seen.entries asking.place asks.entry asks.is_entry,
+  ap (λ (g : ObservedHistory). length g.entries) asks.before,
+  length-set asking.seen.entries asking.place (record asks.entry { returned = None }),
+)
+
+pub asked_suits : (asking : Asking) → IsAsking asking → (e : Observation) →
+    slice_get asking.before.entries asking.place ≡ Some e → IsTrue (call_suits asking.before.width e.call)
+asked_suits asking asks e at = subst (λ (g : ObservedHistory). IsTrue (call_suits g.width e.call)) (sym asks.before)
+    (subst (λ (o : Observation). IsTrue (call_suits asking.seen.width o.call)) same
+    (at_place (λ (o : Observation). IsTrue (call_suits asking.seen.width o.call)) asking.seen.entries asking.place
+    asks.entry asks.observed.suit asks.is_entry))
+  where
+    y : Observation
+    y = record asks.entry { returned = None }
+
+    within : asking.place < length asking.seen.entries
+    within = slice_get_within asking.seen.entries asking.place asks.entry asks.is_entry
+
+    same : y ≡ e
+    same = same_Some y e (sym (slice_get-get_or (set asking.seen.entries asking.place y) asking.place y
+        (omega (arith, within, length-set asking.seen.entries asking.place y)) ∙
+        ap (λ (o : Observation). Some o) (get_or-set_same asking.seen.entries asking.place y y within)) ∙
+        ap (λ (g : ObservedHistory). slice_get g.entries asking.place) (sym asks.before) ∙ at)
+
+-- a node that is reached without the call in effect
+pub record IsReachedBeside (asking : Asking) (node : Node) : Type 0 where
+  pub reached : IsReached asking.seen asking.plan.returns.items node
+  pub still : ¬ Contains reached.taken asking.place
+
+opening_beside : (asking : Asking) (node : Node) → IsOpening asking.seen node → IsReachedBeside asking node
+opening_beside asking node is = record {
+  reached = record {
+    state = opening asking.seen.width;
+    taken = [];
+    stands = opening_stands asking.seen asking.plan.returns.items node is;
+    way = subst (λ (n : ℕ). Reaches asking.seen asking.plan.returns.items (drop n asking.plan.returns.items)
+        (opening asking.seen.width) []) (sym is.past) begins;
+  };
+  still = none_in_empty asking.place;
+}
+
+leads_beside : (asking : Asking) (node : Node) (next : Next) → IsReachedBeside asking node →
+    LeadsBeside asking node next → IsReachedBeside asking next.node
+leads_beside asking node next is leads =
+    by next.took refl (leads.leads.leads is.reached.state is.reached.taken is.reached.stands)
+  where
+    h : ObservedHistory
+    h = asking.seen
+
+    returns : List ℕ
+    returns = asking.plan.returns.items
+
+    s : LockState
+    s = is.reached.state
+
+    taken : List ℕ
+    taken = is.reached.taken
+
+    way : Reaches h returns (slice_index returns node.past ∷ drop (suc node.past) returns) s taken
+    way = subst (λ (to_come : List ℕ). Reaches h returns to_come s taken)
+        (come returns node.past leads.leads.inside) is.reached.way
+
+    by : (o : Option ℕ) → next.took ≡ o → LeadsBy h returns node next.node s taken o → IsReachedBeside asking next.node
+    by None at l = record {
+      reached = record {
+        state = s;
+        taken = taken;
+        stands = l.stands;
+        way = goes_past (subst (λ (to_come : List ℕ). Reaches h returns (slice_index returns node.past ∷ to_come)
+            s taken) (come_less returns node.past next.node.past l.past) way) l.in_effect;
+      };
+      still = is.still;
+    }
+    by (Some i) at l = record {
+      reached = record {
+        state = l.state;
+        taken = l.effect.index ∷ taken;
+        stands = l.stands;
+        way = subst (λ (to_come : List ℕ). Reaches h returns to_come l.state (l.effect.index ∷ taken))
+            (come_as_well returns node.past next.node.past leads.leads.inside l.past)
+            (goes_on_by way l.awaited l.effect l.state l.is_awaited l.not_yet l.tried l.may);
+      };
+      still = λ has. cases (contains_cases l.effect.index taken asking.place has);
+    }
+      where
+        cases : (l.effect.index ≡ asking.place) ⊎ Contains taken asking.place → ⊥
+        cases (inl same) = leads.other (at ∙ ap (λ (k : ℕ). Some k) (sym l.index ∙ same))
+        cases (inr has) = is.still has
+
+-- so a return is awaited there
+pub beside_inside : (asking : Asking) (node : Node) → IsAsking asking → IsReachedBeside asking node →
+    node.past < length asking.plan.returns.items
+beside_inside asking node asks is = which (cases node.past (length asking.plan.returns.items))
+  where
+    cases : (k n : ℕ) → (k < n) ⊎ (n ≤ k)
+    cases k n = grind arith
+
+    which : (node.past < length asking.plan.returns.items) ⊎ (length asking.plan.returns.items ≤ node.past) →
+        node.past < length asking.plan.returns.items
+    which (inl lt) = lt
+    which (inr le) = absurd (is.still (is.reached.stands.in_effect.all_past asking.place
+        (subst (λ (xs : List ℕ). Contains xs asking.place) (sym (take_all node.past asking.plan.returns.items le))
+        (asks.plan.are.whole asking.place asks.entry asks.is_entry (asks.return, asks.returned)))))
+
+-- what the search keeps
+pub record Walks (asking : Asking) (looked : ℕ) (store : Store) (waiting : List ℕ) (replies : List Reply) :
+    Type 0 where
+  pub keeps : Keeps store
+  pub reached : (v : Node) → Contains store.nodes.items v → IsReachedBeside asking v
+  pub inside : All (λ (p : ℕ). p < length store.nodes.items) waiting
+  pub count : looked + length waiting ≡ length store.nodes.items
+  pub once : AllPairs (λ (a b : Reply). a ≢ b) replies
+  pub searches : (reply : Reply) (h : ObservedHistory) → IsAnswered asking reply h → ¬ Contains replies reply →
+      Searches h asking.plan.returns.items looked store waiting
+
+pub walks_first : (asking : Asking) (old new : Store) (waiting : List ℕ) (next : Next) → old.nodes.items ≡ [] →
+    IsOpening asking.seen next.node → Enters old new 0 [] waiting (next ∷ []) → Walks asking 0 new waiting []
+walks_first asking old new waiting next empty is enters = record {
+  keeps = enters.keeps;
+  reached = λ v has. first v (subst (λ (ns : List Node). Contains ns v) all has);
+  inside = subst (All (λ (p : ℕ). p < length new.nodes.items)) (sym enters.to_do) enters.inside;
+  count = omega (
+    arith,
+    ap (λ (ns : List Node). length ns) all,
+    length-map enters.added (λ (w : Next). w.node),
+    enters.many,
+    ap (λ (ps : List ℕ). length ps) enters.to_do,
+  );
+  once = pairs_none (λ (a b : Reply). a ≢ b);
+  searches = λ reply h answered misses. searches_first h asking.plan.returns.items old new waiting next empty
+      (opening_alike asking.seen h asking.place next.node (alike_of asking reply h answered) is) enters;
+}
+  where
+    all : new.nodes.items ≡ nodes_of enters.added
+    all = enters.nodes ∙ ap (λ (ns : List Node). ns ++ nodes_of enters.added) empty
+
+    first : (v : Node) → Contains (nodes_of enters.added) v → IsReachedBeside asking v
+    first v has = let found : (x : Next) × (Contains enters.added x × (x.node ≡ v)) = named enters.added v has in
+        by found.0 v found.1.1 (contains_cases next [] found.0 (All-contains (Contains (next ∷ [])) enters.added
+        found.0 enters.among found.1.0))
+      where
+        by : (x : Next) (v : Node) → x.node ≡ v → (next ≡ x) ⊎ Contains [] x → IsReachedBeside asking v
+        by x v same (inl e) = subst (IsReachedBeside asking) (ap (λ (w : Next). w.node) e ∙ same)
+            (opening_beside asking next.node is)
+        by x v same (inr none) = absurd (none_in_empty x none)
+
+pub walks_more : (asking : Asking) (looked : ℕ) (old new : Store) (before popped after : List ℕ) (nexts : List Next)
+    (replies more : List Reply) (place : ℕ) (v : Node) → Walks asking looked old before replies →
+    before ≡ popped ++ place ∷ [] → slice_get old.nodes.items place ≡ Some v → AreLed asking v nexts →
+    AreMore replies more → ExpandUnless asking v nexts more → Enters old new place popped after nexts →
+    Walks asking (looked + 1) new after more
+walks_more asking looked old new before popped after nexts replies more place v is split at led grows expands enters =
+    record {
+      keeps = enters.keeps;
+      reached = λ w has. by w (Contains-append_cases old.nodes.items (nodes_of enters.added) w
+          (subst (λ (ns : List Node). Contains ns w) enters.nodes has));
+      inside = subst (All (λ (p : ℕ). p < length new.nodes.items)) (sym enters.to_do)
+          (All-append (λ (p : ℕ). p < length new.nodes.items) popped enters.places
+          (All-weaker (Contains popped) (λ (p : ℕ). p < length new.nodes.items)
+          (λ p has. omega (arith, longer, popped_less p has)) popped (All-contains_itself popped)) enters.inside);
+      count = omega (
+        arith,
+        is.count,
+        longer,
+        enters.many,
+        ap (λ (ps : List ℕ). length ps) enters.to_do,
+        ap (λ (ps : List ℕ). length ps) split,
+        length-append popped enters.places,
+        length-append popped (place ∷ []),
+      );
+      once = grows.once is.once;
+      searches = λ reply h answered misses. searches_more h asking.plan.returns.items looked old new before popped after
+          nexts place v (is.searches reply h answered (λ has. misses (grows.kept reply has))) split at
+          (expands.expands reply h answered misses) enters;
+    }
+  where
+    longer : length new.nodes.items ≡ length old.nodes.items + length enters.added
+    longer = omega (
+      arith,
+      ap (λ (ns : List Node). length ns) enters.nodes,
+      length-append old.nodes.items (nodes_of enters.added),
+      length-map enters.added (λ (w : Next). w.node),
+    )
+
+    popped_less : (p : ℕ) → Contains popped p → p < length old.nodes.items
+    popped_less p has = All-contains (λ (q : ℕ). q < length old.nodes.items) before p is.inside
+        (subst (λ (ps : List ℕ). Contains ps p) (sym split) (Contains-append_left popped (place ∷ []) p has))
+
+    by : (w : Node) → Contains old.nodes.items w ⊎ Contains (nodes_of enters.added) w → IsReachedBeside asking w
+    by w (inl has) = is.reached w has
+    by w (inr has) = let found : (x : Next) × (Contains enters.added x × (x.node ≡ w)) = named enters.added w has in
+        subst (IsReachedBeside asking) found.1.1 (leads_beside asking v found.0
+        (is.reached v (contains_at old.nodes.items place v at))
+        (led.each found.0 (All-contains (Contains nexts) enters.added found.0 enters.among found.1.0)))
+
+-- where none waits, no other reply is explained
+pub walks_end : (asking : Asking) (looked : ℕ) (store : Store) (waiting : List ℕ) (replies : List Reply) →
+    IsAsking asking → Walks asking looked store waiting replies → waiting ≡ [] → AreReplies asking replies
+walks_end asking looked store waiting replies asks is none = record {
+  once = is.once;
+  whole = λ reply h answered misses. found_nothing h asking.plan.returns.items looked store waiting
+      (plan_alike asking.seen h asking.place asking.plan (alike_of asking reply h answered) asks.plan).are
+      (is.searches reply h answered misses) none;
+}
+
+pub walks_many : (asking : Asking) (most looked : ℕ) (store : Store) (waiting : List ℕ) (replies : List Reply) →
+    IsAsking asking → Walks asking looked store waiting replies → most ≤ looked → ReachesMany asking.seen most
+walks_many asking most looked store waiting replies asks is all = (
+  asking.plan.returns.items,
+  (
+    asks.plan.are,
+    record {
+      nodes = store.nodes.items;
+      different = is.keeps.different;
+      each = All-weaker (Contains store.nodes.items) (IsReached asking.seen asking.plan.returns.items)
+          (λ v has. (is.reached v has).reached) store.nodes.items (All-contains_itself store.nodes.items);
+      many = omega (arith, is.count, all);
+    },
+  ),
+)
+
+-- the place that is popped, and the node there
+pub walked_inside : (asking : Asking) (looked : ℕ) (store : Store) (before popped : List ℕ) (replies : List Reply)
+    (place : ℕ) → Walks asking looked store before replies → before ≡ popped ++ place ∷ [] →
+    place < length store.nodes.items
+walked_inside asking looked store before popped replies place is split =
+    All-contains (λ (p : ℕ). p < length store.nodes.items) before place is.inside
+    (subst (λ (ps : List ℕ). Contains ps place) (sym split) (Contains-push popped place))
+
+pub walked_node : (asking : Asking) (looked : ℕ) (store : Store) (before popped : List ℕ) (replies : List Reply)
+    (place : ℕ) (v : Node) → Walks asking looked store before replies → before ≡ popped ++ place ∷ [] →
+    v ≡ get_or store.nodes.items place v → slice_get store.nodes.items place ≡ Some v
+walked_node asking looked store before popped replies place v is split read =
+    slice_get_read store.nodes.items (length store.nodes.items) place v refl
+    (walked_inside asking looked store before popped replies place is split) read
+
+pub walked_reached : (asking : Asking) (looked : ℕ) (store : Store) (before popped : List ℕ) (replies : List Reply)
+    (place : ℕ) (v : Node) → Walks asking looked store before replies → before ≡ popped ++ place ∷ [] →
+    v ≡ get_or store.nodes.items place v → IsReachedBeside asking v
+walked_reached asking looked store before popped replies place v is split read =
+    is.reached v (contains_at store.nodes.items place v
+    (walked_node asking looked store before popped replies place v is split read))

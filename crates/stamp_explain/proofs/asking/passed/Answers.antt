@@ -1,0 +1,44 @@
+use Rattle.std.proofs.Common.{◌≡◌, true, false, get_or, sym, ◌∙◌, ap}
+use Rattle.std.specs.Int.{bit_at}
+use Rattle.std.proofs.lemmas.Option.{same_Some}
+use Rattle.stamp_explain.specs.declared.observed.Observation.{Observation}
+use Rattle.stamp_explain.proofs.Succeeding.{Awaits, awaits_of}
+use Rattle.stamp_explain.proofs.Beside.{past_leads, past_expands}
+use Rattle.stamp_explain.proofs.asking.passed.Goals as goal
+
+false_true : false ≡ true → ⊥
+false_true h = cc
+
+pub returns-then-has_bit-clause-leads : goal.returns-then-has_bit-clause-leads
+returns-then-has_bit-clause-leads c =
+    past_leads c.args.asking.now c.args.node.now
+    (get_or c.entries.result.now c.index.result.now c.index-entries-index.result) c.without_bit.result
+    (awaits_of c.args.asking.now.seen c.args.asking.now.plan c.args.node.now c.index.result.now c.entries.result.now
+    c.index-entries-index.result c.requires.asking.observed c.requires.asking.plan c.requires.past c.index.ensures
+    c.entries.ensures.entries)
+    (c.has_bit.ensures.0 c.if-has_bit.true) c.without_bit.ensures
+
+pub returns-then-has_bit-clause-one : goal.returns-then-has_bit-clause-one
+returns-then-has_bit-clause-one c = λ reply h is.
+    past_expands c.args.asking.now c.args.node.now
+    (get_or c.entries.result.now c.index.result.now c.index-entries-index.result) c.without_bit.result reply h
+    c.requires.asking
+    (awaits_of c.args.asking.now.seen c.args.asking.now.plan c.args.node.now c.index.result.now c.entries.result.now
+    c.index-entries-index.result c.requires.asking.observed c.requires.asking.plan c.requires.past c.index.ensures
+    c.entries.ensures.entries)
+    (c.has_bit.ensures.0 c.if-has_bit.true) c.without_bit.ensures is
+
+pub returns-else-has_bit-clause-none : goal.returns-else-has_bit-clause-none
+returns-else-has_bit-clause-none c = record {
+  awaited = λ a it bit.
+      let is : Awaits c.args.asking.now.seen c.args.asking.now.plan c.args.node.now
+      (get_or c.entries.result.now c.index.result.now c.index-entries-index.result) =
+      awaits_of c.args.asking.now.seen c.args.asking.now.plan c.args.node.now c.index.result.now c.entries.result.now
+      c.index-entries-index.result c.requires.asking.observed c.requires.asking.plan c.requires.past c.index.ensures
+      c.entries.ensures.entries in
+      let same : get_or c.entries.result.now c.index.result.now c.index-entries-index.result ≡ a =
+      same_Some (get_or c.entries.result.now c.index.result.now c.index-entries-index.result) a
+      (sym is.at ∙ it.is_entry) in
+      false_true (sym c.if-has_bit.false ∙ c.has_bit.ensures.1
+      (ap (λ (o : Observation). bit_at c.args.node.now.threads o.thread) same ∙ bit));
+}

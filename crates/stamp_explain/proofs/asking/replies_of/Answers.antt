@@ -1,0 +1,55 @@
+use Rattle.std.proofs.Common.{◌<◌, ◌∷◌, [], ℕ, List, sym, ◌∙◌, subst, arith, None}
+use Rattle.stamp_core.specs.declared.reply.Reply.{Reply}
+use Rattle.stamp_explain.specs.declared.node.Next.{Next}
+use Rattle.stamp_explain.specs.Expand.{Enters}
+use Rattle.stamp_explain.proofs.Exploring.{nil_of_length}
+use Rattle.stamp_explain.proofs.Beside.{Walks, walks_first, walks_more, walks_end, walks_many, walked_inside, walked_node}
+use Rattle.stamp_explain.proofs.Beside.{walked_reached, beside_inside}
+use Rattle.stamp_explain.proofs.asking.replies_of.Goals as goal
+
+pub loop-init : goal.loop-init
+loop-init c = subst (λ (rs : List Reply). Walks c.args.asking.now 0 c.enter.new.store c.enter.new.waiting.items rs)
+    (sym c.new-replies.ensures.items)
+    (walks_first c.args.asking.now c.new-store.result c.enter.new.store c.enter.new.waiting.items
+    (record { node = c.opening.result; took = None }) c.new-store.ensures.nodes c.opening.ensures
+    (subst (λ (ps : List ℕ). Enters c.new-store.result c.enter.new.store 0 ps c.enter.new.waiting.items
+    (record { node = c.opening.result; took = None } ∷ [])) c.new-waiting.ensures.items c.in_ok-enter.ensures))
+
+pub returns-in_default-clause-some : goal.returns-in_default-clause-some
+returns-in_default-clause-some c =
+    walks_end c.args.asking.now c.loop.counter c.loop.store c.loop.waiting.items c.loop.replies.items c.requires
+    c.loop.invariant
+    (nil_of_length c.loop.waiting.items (sym c.loop.waiting.ok.0 ∙ c.in_default.ensures.cases.0))
+
+pub index-requires : goal.index-requires
+index-requires c = subst (λ (n : ℕ). c.in-Some.place < n) (sym c.loop.store.nodes.ok.0)
+    (walked_inside c.args.asking.now c.loop.counter c.loop.store c.loop.waiting.items c.pop.new.self.items
+    c.loop.replies.items c.in-Some.place c.loop.invariant c.in-Some.ensures.items)
+
+pub go_on-requires-clause-reached : goal.go_on-requires-clause-reached
+go_on-requires-clause-reached c =
+    (walked_reached c.args.asking.now c.loop.counter c.loop.store c.loop.waiting.items c.pop.new.self.items
+    c.loop.replies.items c.in-Some.place c.index.result.now c.loop.invariant c.in-Some.ensures.items
+    c.index.ensures).reached
+
+pub go_on-requires-clause-past : goal.go_on-requires-clause-past
+go_on-requires-clause-past c = beside_inside c.args.asking.now c.index.result.now c.requires
+    (walked_reached c.args.asking.now c.loop.counter c.loop.store c.loop.waiting.items c.pop.new.self.items
+    c.loop.replies.items c.in-Some.place c.index.result.now c.loop.invariant c.in-Some.ensures.items
+    c.index.ensures)
+
+pub loop-preserved : goal.loop-preserved
+loop-preserved c =
+    walks_more c.args.asking.now c.loop.counter c.loop.store c.enter-in-loop.new.store c.loop.waiting.items
+    c.pop.new.self.items c.enter-in-loop.new.waiting.items c.go_on.new.nexts.items c.loop.replies.items
+    c.go_on.new.replies.items c.in-Some.place c.index.result.now c.loop.invariant c.in-Some.ensures.items
+    (walked_node c.args.asking.now c.loop.counter c.loop.store c.loop.waiting.items c.pop.new.self.items
+    c.loop.replies.items c.in-Some.place c.index.result.now c.loop.invariant c.in-Some.ensures.items
+    c.index.ensures) c.in_ok-go_on.ensures.leads c.in_ok-go_on.ensures.more c.in_ok-go_on.ensures.whole
+    (subst (λ (ns : List Next). Enters c.loop.store c.enter-in-loop.new.store c.in-Some.place c.pop.new.self.items
+    c.enter-in-loop.new.waiting.items ns) c.as_slice.ensures.value c.in_ok-enter-2.ensures)
+
+pub returns-clause-none : goal.returns-clause-none
+returns-clause-none c =
+    walks_many c.args.asking.now c.args.most c.loop.counter c.loop.store c.loop.waiting.items c.loop.replies.items
+    c.requires c.loop.invariant (omega (arith, c.loop-test.false))

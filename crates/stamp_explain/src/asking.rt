@@ -1,0 +1,267 @@
+//! The replies that one call could get: a search goes through all that the others may do before it.
+ghost use Rattle.std.specs.Prelude.{ℕ, ◌≡◌, ◌<◌, ◌∷◌, [], IfOk, IfSome, IsTrue, ◌↔◌, Some, None, slice_get, length};
+ghost use Rattle.std.specs.Option.{IfNone};
+ghost use Rattle.std.specs.List.{Contains};
+ghost use Rattle.stamp_core.specs.declared.reply.Reply.{Reply};
+ghost use Rattle.stamp_explain.specs.declared.observed.Observation.{Observation};
+ghost use Rattle.stamp_explain.specs.declared.observed.Returned.{Returned};
+ghost use Rattle.stamp_explain.specs.Observed.{ObservedHistory, IsObserved, IsBefore};
+ghost use Rattle.stamp_explain.specs.Node.{IsReached, ReachesMany};
+ghost use Rattle.stamp_explain.specs.Expand.{Expands, Took, IsNotInEffect};
+ghost use Rattle.stamp_explain.specs.Possible.{without_return};
+ghost use Rattle.stamp_explain.specs.Asking.{Adds, AreAsked, AreLed, AreMore, AreReplies, ExpandUnless, IsAnswered, IsAsking, IsAskingAt, LeadsBeside, place_of};
+
+use crate::cut::seen_at;
+use crate::node::{Next, Node};
+use crate::observed::{Observation, Observed, Returned, are_of_one_object};
+use crate::observer::observes_at;
+use crate::plan::{Plan, has_bit, without_bit};
+use crate::planning::plan_of;
+use crate::search::{enter, opening, take_of};
+use crate::stepping::step_of;
+use crate::store::Store;
+use stamp_core::Reply;
+use std::alloc::{AllocError, Global};
+
+/// What is seen when a call has returned, the same with the call under way, the plan of the first, and
+/// the place of the call in both.
+#[derive(Drop)]
+pub(crate) struct Asking {
+    pub(crate) seen: Observed,
+    pub(crate) before: Observed,
+    pub(crate) plan: Plan,
+    pub(crate) place: usize,
+}
+
+/// The history with the call at this place under way.
+fn without_return(
+    alloc: Global,
+    observed: &Observed,
+    entry: usize,
+    observation: Observation,
+) -> Result<Observed, AllocError>
+    requires is_entry { slice_get observed.now.entries entry ≡ Some observation }
+    ensures { IfOk result (λ made. made ≡ without_return entry observation observed.now) }
+{
+    let mut entries = observed.entries().to_vec(alloc)?;
+    entries[entry] = Observation {
+        thread: observation.thread,
+        call: observation.call,
+        first: observation.first,
+        returned: None,
+    };
+    match Observed::of(observed.limits(), observed.width(), entries) {
+        Some(made) => Ok(made),
+        None => unreachable!(),
+    }
+}
+
+/// How many of the calls that are listed before this one had begun by this position.
+fn place_of(entries: &[Observation], entry: usize, last: u64) -> usize
+    requires { entry < length entries.now }
+    ensures { result ≡ place_of last entry entries.now }
+{
+    let mut place = 0;
+    for other in &entries[..entry] {
+        if other.first <= last {
+            place += 1;
+        }
+    }
+    place
+}
+
+/// What a search for the replies of the call at this place is given.
+pub(crate) fn asking_of(
+    alloc: Global,
+    observed: &Observed,
+    entry: usize,
+    observation: Observation,
+    returned: Returned,
+) -> Result<Asking, AllocError>
+    requires observed { IsObserved observed.now }
+    requires is_entry { slice_get observed.now.entries entry ≡ Some observation }
+    requires returned { observation.returned ≡ Some returned }
+    ensures { IfOk result (λ asking. IsAskingAt observed.now entry observation returned asking) }
+{
+    let place = place_of(observed.entries(), entry, returned.last);
+    let seen = seen_at(alloc, observed, returned.last, entry + 1)?;
+    let before = without_return(alloc, &seen, place, observation)?;
+    let plan = plan_of(alloc, &seen)?;
+    Ok(Asking {
+        seen,
+        before,
+        plan,
+        place,
+    })
+}
+
+/// Whether the one call had returned when the other began.
+fn is_before(a: &Observation, b: &Observation) -> bool
+    ensures { IsTrue result ↔ IsBefore a.now b.now }
+{
+    match &a.returned {
+        None => false,
+        Some(returned) => returned.last < b.first,
+    }
+}
+
+/// Adds a reply, unless it is there.
+fn add(replies: &mut Vec<Reply>, reply: Reply) -> Result<(), AllocError>
+    ensures { IfOk result (λ _. Adds replies.old.items reply replies.new.items) }
+{
+    for other in replies.as_slice() {
+        if other.is_same(&reply) {
+            return Ok(());
+        }
+    }
+    replies.push(reply)?;
+    Ok(())
+}
+
+/// The one node that comes next, where the awaited call is in effect: its return is past.
+fn passed(asking: &Asking, node: &Node) -> Option<Next>
+    requires asking { IsAsking asking.now }
+    requires reached { IsReached asking.now.seen asking.now.plan.returns.items node.now }
+    requires past { node.now.past < length asking.now.plan.returns.items }
+    ensures leads { IfSome result (λ next. LeadsBeside asking.now node.now next) }
+    ensures one { IfSome result (λ next. (reply : Reply) (h : ObservedHistory) → IsAnswered asking.now reply h
+        → Expands h asking.now.plan.returns.items node.now (next ∷ [])) }
+    ensures none { IfNone result (IsNotInEffect asking.now.seen asking.now.plan.returns.items node.now) }
+{
+    let plan = &asking.plan;
+    let thread = asking.seen.entries()[plan.returns[node.past]].thread;
+    if has_bit(node.threads, thread) {
+        Some(Next {
+            node: Node {
+                past: node.past + 1,
+                bits: node.bits,
+                writer: node.writer,
+                threads: without_bit(node.threads, thread),
+            },
+            took: None,
+        })
+    } else {
+        None
+    }
+}
+
+/// The one node that comes next, where another open call takes effect that changes nothing.
+fn observed_beside(asking: &Asking, node: &Node) -> Option<Next>
+    requires asking { IsAsking asking.now }
+    requires reached { IsReached asking.now.seen asking.now.plan.returns.items node.now }
+    requires past { node.now.past < length asking.now.plan.returns.items }
+    requires awaited { IsNotInEffect asking.now.seen asking.now.plan.returns.items node.now }
+    ensures leads { IfSome result (λ next. LeadsBeside asking.now node.now next) }
+    ensures one { IfSome result (λ next. (reply : Reply) (h : ObservedHistory) → IsAnswered asking.now reply h
+        → Expands h asking.now.plan.returns.items node.now (next ∷ [])) }
+{
+    for i in asking.plan.opens[node.past].as_slice() {
+        if *i != asking.place && observes_at(&asking.seen, *i) {
+            if let Some(next) = take_of(&asking.seen, node, *i) {
+                return Some(next);
+            }
+        }
+    }
+    None
+}
+
+/// The nodes that come next where another open call of the awaited one's object takes effect.
+fn choices_beside(asking: &Asking, node: &Node, nexts: &mut Vec<Next>) -> Result<(), AllocError>
+    requires asking { IsAsking asking.now }
+    requires reached { IsReached asking.now.seen asking.now.plan.returns.items node.now }
+    requires past { node.now.past < length asking.now.plan.returns.items }
+    requires awaited { IsNotInEffect asking.now.seen asking.now.plan.returns.items node.now }
+    ensures leads { IfOk result (λ _. AreLed asking.now node.now nexts.new.items) }
+    ensures whole { IfOk result (λ _. (reply : Reply) (h : ObservedHistory) → IsAnswered asking.now reply h
+        → Took h asking.now.plan.returns.items node.now asking.now.place None
+        → Expands h asking.now.plan.returns.items node.now nexts.new.items) }
+{
+    nexts.clear();
+    let awaited = asking.plan.returns[node.past];
+    let calls = asking.plan.opens[node.past].as_slice();
+    for k in 0..calls.len() {
+        let i = calls[calls.len() - 1 - k];
+        if i != asking.place && are_of_one_object(&asking.seen, awaited, i) {
+            if let Some(next) = take_of(&asking.seen, node, i) {
+                nexts.push(next)?;
+            }
+        }
+    }
+    Ok(())
+}
+
+/// Adds the reply that the call gets here, where it is open and doesn't wait.
+fn ask(asking: &Asking, node: &Node, replies: &mut Vec<Reply>) -> Result<(), AllocError>
+    requires asking { IsAsking asking.now }
+    requires reached { IsReached asking.now.seen asking.now.plan.returns.items node.now }
+    requires past { node.now.past < length asking.now.plan.returns.items }
+    ensures { IfOk result (λ _. AreAsked asking.now node.now replies.old.items replies.new.items) }
+{
+    let entries = asking.seen.entries();
+    let awaited = &entries[asking.plan.returns[node.past]];
+    if is_before(awaited, &entries[asking.place]) {
+        return Ok(());
+    }
+    if let Some(step) = step_of(&asking.before, node.bits, node.writer, asking.place) {
+        add(replies, step.reply)?;
+    }
+    Ok(())
+}
+
+/// The nodes that come next without the call, and the reply that it gets here.
+fn go_on(
+    asking: &Asking,
+    node: &Node,
+    nexts: &mut Vec<Next>,
+    replies: &mut Vec<Reply>,
+) -> Result<(), AllocError>
+    requires asking { IsAsking asking.now }
+    requires reached { IsReached asking.now.seen asking.now.plan.returns.items node.now }
+    requires past { node.now.past < length asking.now.plan.returns.items }
+    ensures leads { IfOk result (λ _. AreLed asking.now node.now nexts.new.items) }
+    ensures more { IfOk result (λ _. AreMore replies.old.items replies.new.items) }
+    ensures whole { IfOk result (λ _. ExpandUnless asking.now node.now nexts.new.items replies.new.items) }
+{
+    nexts.clear();
+    if let Some(next) = passed(asking, node) {
+        nexts.push(next)?;
+        return Ok(());
+    }
+    if let Some(next) = observed_beside(asking, node) {
+        nexts.push(next)?;
+        return Ok(());
+    }
+    ask(asking, node, replies)?;
+    choices_beside(asking, node, nexts)
+}
+
+/// The replies that the call gets, whatever the others do before it: each once. None where so many
+/// configurations were looked at, and the search had not ended.
+pub(crate) fn replies_of(
+    alloc: Global,
+    asking: &Asking,
+    most: u64,
+) -> Result<Option<Vec<Reply>>, AllocError>
+    requires { IsAsking asking.now }
+    ensures some { IfOk result (λ found. IfSome found (λ replies. AreReplies asking.now replies.items)) }
+    ensures none { IfOk result (λ found. IfNone found (ReachesMany asking.now.seen most)) }
+{
+    let mut store = Store::new(alloc);
+    let mut waiting = Vec::new(alloc);
+    let first = Next {
+        node: opening(&asking.seen),
+        took: None,
+    };
+    enter(&mut store, &mut waiting, 0, &[first])?;
+    let mut nexts = Vec::new(alloc);
+    let mut replies = Vec::new(alloc);
+    for _ in 0..most {
+        let Some(place) = waiting.pop() else {
+            return Ok(Some(replies));
+        };
+        let node = store.nodes[place];
+        go_on(asking, &node, &mut nexts, &mut replies)?;
+        enter(&mut store, &mut waiting, place, nexts.as_slice())?;
+    }
+    Ok(None)
+}

@@ -1,0 +1,62 @@
+-- What is said of a history that is stuck.
+use Rattle.std.specs.Prelude.{ℕ, ◌≡◌, ◌++◌, List, [], ◌∷◌, slice_get, Option, Some, None, Result, Ok, Err, Vec, String}
+use Rattle.std.specs.Prelude.{codes, decimal, string_bytes}
+use Rattle.std.specs.List.{flat_map}
+use Rattle.std.specs.declared.alloc.AllocError.{AllocError}
+use Rattle.std.specs.declared.alloc.Global.{Global}
+use Rattle.stamp_core.specs.declared.call.Call.{Call}
+use Rattle.stamp_core.specs.declared.reply.Reply.{Reply}
+use Rattle.stamp_drawing.specs.Words.{call_text, reply_text}
+use Rattle.stamp_explain.specs.declared.observed.Observation.{Observation}
+use Rattle.stamp_explain.specs.declared.observed.Returned.{Returned}
+use Rattle.stamp_explain.specs.Observed.{ObservedHistory}
+use Rattle.stamp_explain.specs.Possible.{AreAllPossible, IsUndecidedAtAny}
+use Rattle.stamp_explain_cli.specs.declared.finding.Finding.{Finding}
+use Rattle.stamp_explain_cli.specs.declared.finding.Finding.TheVariants.{Stuck}
+
+abbrev pub replies_in : Option (Vec Reply Global) → Option (List Reply)
+replies_in None = None
+replies_in (Some replies) = Some replies.items
+
+-- all the replies that the call of this entry could have had; or that is undecided
+abbrev pub ArePossibleAt : ObservedHistory → ℕ → ℕ → Option (List Reply) → Type 0
+ArePossibleAt h most i None = IsUndecidedAtAny h i most
+ArePossibleAt h most i (Some replies) = AreAllPossible h i replies
+
+abbrev pub others_text : List Reply → List ℕ
+others_text replies = flat_map (λ (r : Reply). codes ", " ++ reply_text r) replies
+
+abbrev pub possible_text : List Reply → List ℕ
+possible_text [] = codes "; no reply was possible, it would have waited"
+possible_text (r ∷ replies) = codes "; possible: " ++ reply_text r ++ others_text replies
+
+abbrev pub told_text : Option (List Reply) → List ℕ
+told_text None = codes "; what was possible is undecided"
+told_text (Some replies) = possible_text replies
+
+abbrev pub place_text : ℕ → ℕ → List ℕ
+place_text i thread = codes "stamped: entry " ++ (decimal i ++ (codes " of thread " ++ decimal thread))
+
+abbrev pub answer_text : Call → Reply → List ℕ
+answer_text call reply = codes ": " ++ (call_text call ++ (codes " answered " ++ reply_text reply))
+
+-- what the call answered, and what was possible
+abbrev pub stuck_text : ℕ → Observation → Reply → Option (List Reply) → List ℕ
+stuck_text i e reply replies = place_text i e.thread ++ answer_text e.call reply ++ told_text replies
+
+pub record IsStuckNote (h : ObservedHistory) (most i : ℕ) (text : List ℕ) : Type 0 where
+  pub entry : Observation
+  pub return : Returned
+  pub is_entry : slice_get h.entries i ≡ Some entry
+  pub returned : entry.returned ≡ Some return
+  pub replies : Option (List Reply)
+  pub possible : ArePossibleAt h most i replies
+  pub says : text ≡ stuck_text i entry return.reply replies
+
+-- what is said of what was found: nothing, unless it is stuck; or memory was refused
+abbrev pub IsNote : ObservedHistory → ℕ → Finding → Result (Option (String Global)) AllocError → Type 0
+IsNote h most (Stuck i) (Ok (Some text)) = IsStuckNote h most i (string_bytes text)
+IsNote h most (Stuck i) (Ok None) = ⊥
+IsNote h most found (Ok (Some text)) = ⊥
+IsNote h most found (Ok None) = Unit {0}
+IsNote h most found (Err e) = Unit {0}

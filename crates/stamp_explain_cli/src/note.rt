@@ -1,0 +1,143 @@
+//! What is said of a history that is stuck: what the call answered, and what it could have answered.
+
+ghost use Rattle.std.specs.Prelude.{◌≡◌, ◌++◌, IfOk, Some, slice_get, string_bytes};
+ghost use Rattle.stamp_explain.specs.Observed.{IsObserved};
+ghost use Rattle.stamp_explain.specs.Search.{IsReturnAt};
+ghost use Rattle.stamp_explain_cli.specs.Finding.{IsFound};
+ghost use Rattle.stamp_explain_cli.specs.Note.{IsNote, IsStuckNote, ArePossibleAt, answer_text, others_text, place_text, possible_text, told_text, stuck_text, replies_in};
+
+use crate::finding::Finding;
+use stamp_core::{Call, Reply};
+use stamp_drawing::{CallLabel, ReplyLabel};
+use stamp_explain::{Observation, Observed, PossibleError, possible_at};
+use std::alloc::{AllocError, Global};
+use std::fmt;
+
+/// The replies in words, each behind a comma.
+fn others_text(alloc: Global, replies: &[Reply]) -> Result<String, AllocError>
+    ensures { IfOk result (λ text. string_bytes text ≡ others_text replies.now) }
+{
+    let mut text = String::new(alloc);
+    for reply in replies {
+        let label = ReplyLabel(*reply).to_string(alloc)?;
+        text.push_str(", ")?;
+        text.push_str(&label)?;
+    }
+    Ok(text)
+}
+
+/// The possible replies in words.
+fn possible_text(alloc: Global, replies: &[Reply]) -> Result<String, AllocError>
+    ensures { IfOk result (λ text. string_bytes text ≡ possible_text replies.now) }
+{
+    let Some(first) = replies.first() else {
+        return format!(in alloc; "; no reply was possible, it would have waited");
+    };
+    let others = others_text(alloc, &replies[1..])?;
+    format!(in alloc; "; possible: {}{others}", ReplyLabel(*first))
+}
+
+/// What was possible, in words: these replies, or that it is undecided.
+fn told_text(alloc: Global, replies: &Option<Vec<Reply>>) -> Result<String, AllocError>
+    ensures { IfOk result (λ text. string_bytes text ≡ told_text (replies_in replies.now)) }
+{
+    match replies {
+        None => format!(in alloc; "; what was possible is undecided"),
+        Some(replies) => possible_text(alloc, replies.as_slice()),
+    }
+}
+
+/// Which call it is.
+#[derive(Drop)]
+struct PlaceText(usize, u64);
+
+impl fmt::Display for PlaceText {
+    ghost output = { λ text. Some (place_text text.0 text.1) };
+
+    fn fmt<W: fmt::Write>(&self, f: &mut fmt::Formatter<W>) -> fmt::Result {
+        write!(f, "stamped: entry {} of thread {}", self.0, self.1)
+    }
+}
+
+/// What the call answered.
+#[derive(Drop)]
+struct AnswerText(Call, Reply);
+
+impl fmt::Display for AnswerText {
+    ghost output = { λ text. Some (answer_text text.0 text.1) };
+
+    fn fmt<W: fmt::Write>(&self, f: &mut fmt::Formatter<W>) -> fmt::Result {
+        write!(f, ": {} answered {}", CallLabel(self.0), ReplyLabel(self.1))
+    }
+}
+
+/// What the call answered, and what was possible.
+fn stuck_text(
+    alloc: Global,
+    entry: usize,
+    observation: &Observation,
+    reply: Reply,
+    replies: &Option<Vec<Reply>>,
+) -> Result<String, AllocError>
+    ensures { IfOk result (λ text. string_bytes text
+        ≡ stuck_text entry observation.now reply (replies_in replies.now)) }
+{
+    let mut text = PlaceText(entry, observation.thread).to_string(alloc)?;
+    text.push_str(&AnswerText(observation.call, reply).to_string(alloc)?)?;
+    text.push_str(&told_text(alloc, replies)?)?;
+    Ok(text)
+}
+
+/// The replies that the call at this place could have had; none where that is undecided.
+fn replies_at(
+    alloc: Global,
+    observed: &Observed,
+    entry: usize,
+    most: u64,
+) -> Result<Option<Vec<Reply>>, AllocError>
+    requires observed { IsObserved observed.now }
+    requires returned { IsReturnAt observed.now.entries entry }
+    ensures { IfOk result (λ found. ArePossibleAt observed.now most entry (replies_in found)) }
+{
+    match possible_at(alloc, observed, entry, most) {
+        Ok(replies) => Ok(Some(replies)),
+        Err(PossibleError::Undecided) => Ok(None),
+        Err(PossibleError::Memory) => Err(AllocError),
+    }
+}
+
+/// What is said of a history that is stuck at the return of this entry.
+fn stuck_note(
+    alloc: Global,
+    observed: &Observed,
+    entry: usize,
+    most: u64,
+) -> Result<String, AllocError>
+    requires observed { IsObserved observed.now }
+    requires returned { IsReturnAt observed.now.entries entry }
+    ensures { IfOk result (λ text. IsStuckNote observed.now most entry (string_bytes text)) }
+{
+    let observation = &observed.entries()[entry];
+    let Some(returned) = &observation.returned else {
+        unreachable!();
+    };
+    let replies = replies_at(alloc, observed, entry, most)?;
+    stuck_text(alloc, entry, observation, returned.reply, &replies)
+}
+
+/// What is said of what was found, on standard error: nothing, unless the history is stuck. Each search
+/// looks at `most` configurations at most.
+pub(crate) fn note_of(
+    alloc: Global,
+    observed: &Observed,
+    finding: &Finding,
+    most: u64,
+) -> Result<Option<String>, AllocError>
+    requires { IsFound observed.now most finding.now }
+    ensures { IsNote observed.now most finding.now result }
+{
+    match finding {
+        Finding::Stuck(entry) => Ok(Some(stuck_note(alloc, observed, *entry, most)?)),
+        _ => Ok(None),
+    }
+}
