@@ -8,6 +8,7 @@ text cut off at each place. No run leaves a block."""
 import copy
 import json
 import os
+import re
 import sys
 from dataclasses import dataclass
 from typing import Callable
@@ -234,14 +235,16 @@ class Program:
         self.runs = CountedRuns(shim)
 
     def assert_told(self, orders, text, line):
-        """The line is told of the text; of none, that it is accepted."""
+        """The line is told of the text; of none, that it is accepted, where a stuck history has a line of its own."""
         data = text if isinstance(text, bytes) else text.encode()
         for order in orders:
             words = [self.explain] if order is EXPLAIN else [self.path, order]
             answer, _ = self.runs.ended(words, data)
             _, out, err = answer
             if line is None:
-                right = err == b"" and out != b""
+                stuck = re.fullmatch(rb"stuck (\d+)\n", out)
+                told = rb"stamped: entry %s of .*\n" % stuck[1] if stuck else b""
+                right = out != b"" and re.fullmatch(told, err)
             else:
                 right = answer == (1, b"", f"stamped: {line}\n".encode())
             if not right:
