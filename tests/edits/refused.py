@@ -1,8 +1,11 @@
 """Tries wrong bodies, many over one load of the libraries: the prover must refuse each.
 
-    refused.py [--count FILE] [CRATE | CRATE/NAME.edit ..]
+    refused.py [--count FILE] [--all] [CRATE | CRATE/NAME.edit | CRATE/more/NAME.edit ..]
 
-An edit is a file tests/edits/CRATE/NAME.edit, in the form of the kit's must-fail edits: a line `file:`, then
+Without --all, or an edit's own name, those of the folders `more` are left out: `./test` tries one for each public
+function and those of the faults that a lock, a judge or a picture must not have, and the others take as long again.
+
+An edit is a file tests/edits/CRATE/NAME.edit or tests/edits/CRATE/more/NAME.edit, in the form of the kit's must-fail edits: a line `file:`, then
 pairs of lines `old:` and `new:`. It changes the body of one function (one that changes more stands in the
 crate's own must-fail folder, which `rt ci` tries). A function is proved from the contracts of those that it
 calls, so edits of several functions are tried in one copy of the crate, and only these functions and those that
@@ -187,11 +190,17 @@ def judged(crate, edits, said, calls):
     return told
 
 
-def tried(crate, only):
-    """Tries the crate's edits, or only some, round by round, and gives the lines that tell of it."""
-    folder, begun = f"{FOLDER}/{crate.name}", time.monotonic()
-    names = sorted(name for name in os.listdir(folder) if name.endswith(".edit") and name in (only or name))
-    edits, calls = [Edit(crate, f"{folder}/{name}") for name in names], {}
+def edits_of(crate, more):
+    """The crate's edits, by their path below its folder."""
+    folder = f"{FOLDER}/{crate}"
+    rooms = [room for room in ("", "more/") if os.path.isdir(f"{folder}/{room}") and (more or not room)]
+    return sorted(room + name for room in rooms for name in os.listdir(f"{folder}/{room}") if name.endswith(".edit"))
+
+
+def tried(crate, names):
+    """Tries these edits of the crate, round by round, and gives the lines that tell of it."""
+    begun = time.monotonic()
+    edits, calls = [Edit(crate, f"{FOLDER}/{crate.name}/{name}") for name in names], {}
     lines, rounds = [], 0
     with tempfile.TemporaryDirectory() as room:
         begin = f"{crate.folder}/out/incremental"
@@ -222,11 +231,13 @@ def lines_of(crate, done):
 def main():
     words = sys.argv[1:]
     count = words[1] if words[:1] == ["--count"] else None
+    words = words[2:] if count else words
+    more = words[:1] == ["--all"]
     uses, wanted = listed(), {}
-    for word in words[2 if count else 0 :] or sorted(os.listdir(FOLDER)):
+    for word in (words[1:] if more else words) or sorted(os.listdir(FOLDER)):
         name, _, edit = word.partition("/")
         if os.path.isdir(f"{FOLDER}/{name}"):
-            wanted.setdefault(name, []).extend([edit] if edit else [])
+            wanted.setdefault(name, []).extend([edit] if edit else edits_of(name, more))
     refused = failed = named = 0
     with concurrent.futures.ThreadPoolExecutor(len(os.sched_getaffinity(0))) as pool:
         crates = {name: Crate(name, uses) for name in wanted}

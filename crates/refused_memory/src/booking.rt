@@ -1,8 +1,5 @@
 //! A book, which asks for memory as calls are made on it, and for a copy of its history.
-ghost use Rattle.std.specs.Prelude.{IsTrue};
-ghost use Rattle.stamp_core.specs.Call.{is_lock_call};
-
-use crate::{Outcome, right_if};
+use crate::outcome::Outcome;
 use stamp_check::check;
 use stamp_core::{Call, Limits, Record, Reply};
 use stamp_threads::{Book, BookError};
@@ -11,10 +8,20 @@ use std::alloc::Global;
 /// More calls than a list begins with room for.
 pub(crate) const CALLS: u64 = 12;
 
-/// Makes a call, and once more where memory was refused and the book is as it was.
-fn act_again(book: &mut Book, call: &Call) -> Result<Reply, BookError>
-    requires { IsTrue (is_lock_call call.now) }
-{
+/// The call whose turn it is, and its reply: reads and gives back.
+pub(crate) fn turn(number: u64) -> (Call, Reply) {
+    if number % 2 == 0 {
+        (Call::TryRead, Reply::Stamp(257))
+    } else {
+        (Call::TryUnlockRead, Reply::Yes)
+    }
+}
+
+/// Makes a call of the lock, and once more where memory was refused and the book is as it was.
+fn act_again(book: &mut Book, call: &Call) -> Result<Reply, BookError> {
+    if !call.is_lock_call() {
+        return Err(BookError::Waits);
+    }
     let (word, entries) = (book.word().bits(), book.entries().len());
     let answer = book.act(1, *call);
     let is_same = book.word().bits() == word && book.entries().len() == entries;
@@ -24,17 +31,15 @@ fn act_again(book: &mut Book, call: &Call) -> Result<Reply, BookError>
     answer
 }
 
-/// Reads and gives back in turns, until the book is full; nothing where another answer is due.
-fn filled(alloc: Global, limits: Limits) -> Option<Book> {
-    let mut book = Book::new(alloc, limits, CALLS);
-    for _ in 0..CALLS / 2 {
-        let read = act_again(&mut book, &Call::TryRead);
-        let released = act_again(&mut book, &Call::TryUnlockRead);
-        if read != Ok(Reply::Stamp(257)) || released != Ok(Reply::Yes) {
-            return None;
+/// Makes calls until the book is full; tells whether each reply was due.
+fn is_filled(book: &mut Book) -> bool {
+    for number in 0..CALLS {
+        let (call, reply) = turn(number);
+        if act_again(book, &call) != Ok(reply) {
+            return false;
         }
     }
-    Some(book)
+    true
 }
 
 /// The history, asked for once more where memory was refused.
@@ -46,17 +51,27 @@ fn record_again(book: &Book) -> Result<Record, BookError> {
 }
 
 /// The end is that of a book that was never refused.
-pub(crate) fn book_outcome(alloc: Global) -> Outcome {
-    let Ok(limits) = Limits::new(1, 1) else {
+pub(crate) fn book_outcome(alloc: Global, limits: Limits) -> Outcome {
+    let mut book = Book::new(alloc, limits, CALLS);
+    if !is_filled(&mut book) {
         return Outcome::Wrong;
-    };
-    let Some(mut book) = filled(alloc, limits) else {
-        return Outcome::Wrong;
-    };
+    }
     let Ok(record) = record_again(&book) else {
         return Outcome::Wrong;
     };
     let is_copied = check(&record) == Ok(CALLS) && record.entries() == book.entries();
     let is_full = act_again(&mut book, &Call::TryRead) == Err(BookError::Full);
-    right_if(is_copied && is_full && book.word().bits() == 256)
+    Outcome::right_if(is_copied && is_full && book.word().bits() == 256)
+}
+
+/// A book with an entry, on which a call waits.
+pub(crate) fn book_waits_outcome(alloc: Global, limits: Limits) -> Outcome {
+    let mut book = Book::new(alloc, limits, 1);
+    match book.act(0, Call::TryRead) {
+        Ok(_) => {}
+        Err(BookError::Memory) => return Outcome::Refused,
+        Err(_) => return Outcome::Wrong,
+    }
+    let is_waiting = book.act(1, Call::WriteLock) == Err(BookError::Waits);
+    Outcome::right_if(is_waiting && book.entries().len() == 1)
 }

@@ -1,5 +1,5 @@
 //! The line of each fault.
-use crate::{Outcome, right_if};
+use crate::outcome::Outcome;
 use stamp_cli::{ServeFault, fault_line};
 use stamp_core::ScriptError;
 use stamp_history::{Field, ReadError};
@@ -49,19 +49,17 @@ const FAULTS: [(ServeFault, &str); 15] = [
 
 fn fault_line_outcome(alloc: Global, fault: &ServeFault, expected: &str) -> Outcome {
     match fault_line(alloc, fault) {
-        Ok(line) => right_if(line.as_str() == expected),
+        Ok(line) => Outcome::right_if(line.as_str() == expected),
         Err(ServeFault::Memory) => Outcome::Refused,
         Err(_) => Outcome::Wrong,
     }
 }
 
-/// Each line in turn, up to the first that is refused or wrong.
+/// Each line in turn.
 pub(crate) fn fault_lines_outcome(alloc: Global) -> Outcome {
+    let mut all = Outcome::Right;
     for (fault, line) in &FAULTS {
-        match fault_line_outcome(alloc, fault, line) {
-            Outcome::Right => {}
-            other => return other,
-        }
+        all = all.and(fault_line_outcome(alloc, fault, line));
     }
-    Outcome::Right
+    all
 }

@@ -1,7 +1,7 @@
 //! Judging a record and migrating it take no memory: `test` counts the allocations of a run that
 //! only makes the records, and of those that go on with them.
 
-use crate::Outcome;
+use crate::outcome::Outcome;
 use stamp_core::{Call, Entry, Layout, Limits, Record, Reply};
 use stamp_history::{check, migrate};
 use std::alloc::{AllocError, Global};
@@ -24,9 +24,10 @@ const CASES: [Case; 3] = [
     (Layout::Two, 131_073, 131_072, None),
 ];
 
-fn entry(position: u64, call: Call, reply: Reply) -> Entry {
+/// An entry whose call is made in one step.
+pub(crate) fn entry(position: u64, thread: u64, call: Call, reply: Reply) -> Entry {
     Entry {
-        thread: 0,
+        thread,
         call,
         reply,
         first: position,
@@ -39,20 +40,17 @@ fn entry(position: u64, call: Call, reply: Reply) -> Entry {
 fn entries(alloc: Global, stamp: u64, last: u64) -> Result<Vec<Entry>, AllocError> {
     let mut entries = Vec::new(alloc);
     for i in 0..1000 {
-        entries.push(entry(i * 2, Call::TryRead, Reply::Stamp(stamp)))?;
-        entries.push(entry(i * 2 + 1, Call::UnlockRead(stamp), Reply::Done))?;
+        entries.push(entry(i * 2, 0, Call::TryRead, Reply::Stamp(stamp)))?;
+        entries.push(entry(i * 2 + 1, 0, Call::UnlockRead(stamp), Reply::Done))?;
     }
-    entries.push(entry(2000, Call::Optimistic, Reply::Stamp(last)))?;
+    entries.push(entry(2000, 0, Call::Optimistic, Reply::Stamp(last)))?;
     Ok(entries)
 }
 
-fn record(alloc: Global, layout: Layout, stamp: u64, last: u64) -> Result<Record, Outcome> {
-    let Ok(entries) = entries(alloc, stamp, last) else {
-        return Err(Outcome::Refused);
-    };
-    let Ok(report) = vec![in alloc; (2, 0); 2001] else {
-        return Err(Outcome::Refused);
-    };
+fn record(alloc: Global, case: Case) -> Result<Record, Outcome> {
+    let (layout, stamp, last, _) = case;
+    let entries = entries(alloc, stamp, last)?;
+    let report = vec![in alloc; (2, 0); 2001]?;
     let Ok(limits) = Limits::in_layout(layout, 1, 1) else {
         return Err(Outcome::Wrong);
     };
@@ -63,21 +61,25 @@ fn record(alloc: Global, layout: Layout, stamp: u64, last: u64) -> Result<Record
 fn is_right(task: Task, record: Record, bad: Option<u64>) -> bool {
     match task {
         Task::Make => record.entries().len() == 2001,
-        Task::Check => check(&record).err().map(|found| found.entry) == bad,
-        Task::Migrate => migrate(record).err().map(|found| found.entry) == bad,
+        Task::Check => match check(&record) {
+            Ok(_) => bad.is_none(),
+            Err(found) => bad == Some(found.entry),
+        },
+        Task::Migrate => match migrate(record) {
+            Ok(_) => bad.is_none(),
+            Err(found) => bad == Some(found.entry),
+        },
     }
 }
 
 /// Makes the records, one after the other, and does the task on each.
 pub(crate) fn task_outcome(alloc: Global, task: Task) -> Outcome {
-    for (layout, stamp, last, bad) in CASES {
-        let record = match record(alloc, layout, stamp, last) {
-            Ok(record) => record,
-            Err(outcome) => return outcome,
-        };
-        if !is_right(task, record, bad) {
-            return Outcome::Wrong;
-        }
+    let mut all = Outcome::Right;
+    for case in CASES {
+        all = all.and(match record(alloc, case) {
+            Ok(record) => Outcome::right_if(is_right(task, record, case.3)),
+            Err(outcome) => outcome,
+        });
     }
-    Outcome::Right
+    all
 }

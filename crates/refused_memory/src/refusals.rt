@@ -1,36 +1,34 @@
 //! Calls that are refused for another cause than want of memory, each under a word.
-
-use crate::Outcome;
-use crate::refused_calls::{book_waits_outcome, put_outcome, replay_waits_outcome};
-use crate::refused_orders::{
-    orders_outcome, read_fault_outcome, too_long_outcome, write_fault_outcome,
-};
-use crate::refused_records::{long_record_outcome, records_outcome};
-use crate::refused_scripts::{scripts_outcome, step_outcome, widths_outcome};
-use crate::refused_texts::{
-    answers_outcome, history_texts_outcome, replay_texts_outcome, script_texts_outcome,
-};
+use crate::booking::book_waits_outcome;
+use crate::orders::{READ_FAULT, REFUSED, TOO_LONG, WRITE_FAULT, orders_outcome};
+use crate::outcome::Outcome;
+use crate::refused_records::{is_long_refused, records_outcome};
+use crate::refused_scripts::{SHAPES, WIDTHS, is_step_refused, shapes_outcome};
+use crate::replays::replay_waits_outcome;
+use crate::running::running_record_outcome;
+use crate::texts::{ANSWERS, HISTORIES, REPLAYS, Reading, SCRIPTS, texts_outcome};
+use stamp_core::Limits;
 use std::alloc::Global;
 
 /// The outcome of the refusals that the word names; no other word is right.
-pub(crate) fn refusal_outcome(alloc: Global, word: &str) -> Outcome {
+pub(crate) fn refusal_outcome(alloc: Global, limits: Limits, word: &str) -> Outcome {
     match word {
-        "record" => records_outcome(alloc),
-        "long_record" => long_record_outcome(alloc),
-        "script" => scripts_outcome(alloc),
-        "script_width" => widths_outcome(alloc),
-        "step" => step_outcome(alloc),
-        "replay" => replay_waits_outcome(alloc),
-        "book" => book_waits_outcome(alloc),
-        "put" => put_outcome(alloc),
-        "read_replay" => replay_texts_outcome(alloc),
-        "read_script" => script_texts_outcome(alloc),
-        "read_history" => history_texts_outcome(alloc),
-        "replay_text" => answers_outcome(alloc),
-        "serve" => orders_outcome(alloc),
-        "read_fault" => read_fault_outcome(alloc),
-        "write_fault" => write_fault_outcome(alloc),
-        "too_long" => too_long_outcome(alloc),
+        "record" => records_outcome(alloc, limits),
+        "long_record" => Outcome::of(is_long_refused(alloc, limits)),
+        "script" => shapes_outcome(alloc, limits, &SHAPES),
+        "script_width" => shapes_outcome(alloc, limits, &WIDTHS),
+        "step" => Outcome::of(is_step_refused(alloc)),
+        "replay" => replay_waits_outcome(alloc, limits),
+        "book" => book_waits_outcome(alloc, limits),
+        "put" => running_record_outcome(alloc, limits),
+        "read_replay" => texts_outcome(alloc, Reading::Replay, &REPLAYS),
+        "read_script" => texts_outcome(alloc, Reading::Script, &SCRIPTS),
+        "read_history" => texts_outcome(alloc, Reading::History, &HISTORIES),
+        "replay_text" => texts_outcome(alloc, Reading::Answer, &ANSWERS),
+        "serve" => orders_outcome(alloc, &REFUSED),
+        "read_fault" => orders_outcome(alloc, &READ_FAULT),
+        "write_fault" => orders_outcome(alloc, &WRITE_FAULT),
+        "too_long" => orders_outcome(alloc, &TOO_LONG),
         _ => Outcome::Wrong,
     }
 }

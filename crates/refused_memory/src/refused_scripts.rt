@@ -1,18 +1,18 @@
 //! Scripts that are refused, and a run that has no step left.
 ghost use Rattle.std.specs.Prelude.{◌<◌, length};
 
-use crate::{Outcome, outcome_of};
+use crate::outcome::Outcome;
 use stamp_core::{Limits, Words};
 use stamp_machines::{MOST_STEPS, Run, RunError, Script, ScriptCall, ScriptError};
 use std::alloc::{AllocError, Global};
 
-/// What a script is made of: how many threads, how many calls each of them has, and how many steps,
-/// which all name the same thread.
+/// What a script is made of: how many threads, how many calls each of them has, whether each is a
+/// put of two words, and how many steps, which all name the same thread.
 #[derive(Clone, Copy)]
-struct Shape {
+pub(crate) struct Shape {
     threads: usize,
     calls: usize,
-    call: ScriptCall,
+    is_put: bool,
     steps: usize,
     name: u64,
     width: u64,
@@ -22,88 +22,111 @@ struct Shape {
 const FIT: Shape = Shape {
     threads: 2,
     calls: 3,
-    call: ScriptCall::TryRead,
+    is_put: false,
     steps: 5,
     name: 1,
     width: 0,
 };
 
+/// A script of puts.
+const PUTS: Shape = Shape {
+    is_put: true,
+    ..FIT
+};
+
+/// A shape, and how its script is refused, if it is.
+type Case = (Shape, Option<ScriptError>);
+
+/// The first four causes, and none.
+pub(crate) const SHAPES: [Case; 5] = [
+    (
+        Shape { threads: 65, ..FIT },
+        Some(ScriptError::TooManyThreads),
+    ),
+    (
+        Shape {
+            calls: 10_001,
+            ..FIT
+        },
+        Some(ScriptError::TooManyCalls),
+    ),
+    (
+        Shape {
+            steps: 1_000_001,
+            ..FIT
+        },
+        Some(ScriptError::TooManySteps),
+    ),
+    (Shape { name: 2, ..FIT }, Some(ScriptError::NoSuchThread(0))),
+    (FIT, None),
+];
+
+/// The fifth cause: a width of 17, no record, and words of another length.
+pub(crate) const WIDTHS: [Case; 4] = [
+    (Shape { width: 17, ..FIT }, Some(ScriptError::RecordWidth)),
+    (PUTS, Some(ScriptError::RecordWidth)),
+    (Shape { width: 1, ..PUTS }, Some(ScriptError::RecordWidth)),
+    (Shape { width: 2, ..PUTS }, None),
+];
+
+/// The call of all threads.
+fn call_of(shape: &Shape) -> ScriptCall {
+    match Words::new(&[7, 9]) {
+        Some(words) if shape.is_put => ScriptCall::Put(words),
+        _ => ScriptCall::TryRead,
+    }
+}
+
 fn threads(alloc: Global, shape: &Shape) -> Result<Vec<Vec<ScriptCall>>, AllocError> {
+    let call = call_of(shape);
     let mut threads = Vec::new(alloc);
     for _ in 0..shape.threads {
-        threads.push(vec![in alloc; shape.call; shape.calls]?)?;
+        threads.push(vec![in alloc; call; shape.calls]?)?;
     }
     Ok(threads)
 }
 
-/// How the script is refused, if it is.
-fn fault(alloc: Global, shape: Shape) -> Result<Option<ScriptError>, Outcome> {
-    let Ok(limits) = Limits::new(1, 1) else {
-        return Err(Outcome::Wrong);
-    };
-    let threads = threads(alloc, &shape)?;
+/// The script, or how it is refused.
+fn made(
+    alloc: Global,
+    limits: Limits,
+    shape: &Shape,
+) -> Result<Result<Script, ScriptError>, Outcome> {
+    let threads = threads(alloc, shape)?;
     let steps = vec![in alloc; shape.name; shape.steps]?;
-    Ok(Script::new(limits, shape.width, threads, steps).err())
+    Ok(Script::new(limits, shape.width, threads, steps))
 }
 
-fn has_fault(alloc: Global, shape: Shape, due: Option<ScriptError>) -> Result<bool, Outcome> {
-    Ok(fault(alloc, shape)? == due)
+fn shape_outcome(alloc: Global, limits: Limits, case: &Case) -> Outcome {
+    match made(alloc, limits, &case.0) {
+        Ok(script) => Outcome::right_if(script.err() == case.1),
+        Err(outcome) => outcome,
+    }
 }
 
-/// The first four causes, and none.
-fn are_refused(alloc: Global) -> Result<bool, Outcome> {
-    let wide = Shape { threads: 65, ..FIT };
-    let long = Shape {
-        calls: 10_001,
-        ..FIT
-    };
-    let slow = Shape {
-        steps: 1_000_001,
-        ..FIT
-    };
-    let unknown = Shape { name: 2, ..FIT };
-    Ok(
-        has_fault(alloc, wide, Some(ScriptError::TooManyThreads))?
-            && has_fault(alloc, long, Some(ScriptError::TooManyCalls))?
-            && has_fault(alloc, slow, Some(ScriptError::TooManySteps))?
-            && has_fault(alloc, unknown, Some(ScriptError::NoSuchThread(0)))?
-            && has_fault(alloc, FIT, None)?,
-    )
-}
-
-/// The fifth cause: a width of 17, no record, and words of another length.
-fn are_refused_for_width(alloc: Global) -> Result<bool, Outcome> {
-    let Some(words) = Words::new(&[7, 9]) else {
-        return Err(Outcome::Wrong);
-    };
-    let due = Some(ScriptError::RecordWidth);
-    let put = Shape {
-        call: ScriptCall::Put(words),
-        ..FIT
-    };
-    Ok(
-        has_fault(alloc, Shape { width: 17, ..FIT }, due)?
-            && has_fault(alloc, put, due)?
-            && has_fault(alloc, Shape { width: 1, ..put }, due)?
-            && has_fault(alloc, Shape { width: 2, ..put }, None)?,
-    )
-}
-
-pub(crate) fn scripts_outcome(alloc: Global) -> Outcome {
-    outcome_of(are_refused(alloc))
-}
-
-pub(crate) fn widths_outcome(alloc: Global) -> Outcome {
-    outcome_of(are_refused_for_width(alloc))
+/// Each shape in turn.
+pub(crate) fn shapes_outcome(alloc: Global, limits: Limits, cases: &[Case]) -> Outcome {
+    let mut all = Outcome::Right;
+    for case in cases {
+        all = all.and(shape_outcome(alloc, limits, case));
+    }
+    all
 }
 
 /// A thread with three calls.
 fn script(alloc: Global) -> Result<Script, Outcome> {
+    let alone = Shape {
+        threads: 1,
+        steps: 0,
+        ..FIT
+    };
     let Ok(limits) = Limits::new(3, 0) else {
         return Err(Outcome::Wrong);
     };
-    let threads = threads(alloc, &Shape { threads: 1, ..FIT })?;
-    Script::new(limits, 0, threads, Vec::new(alloc)).map_err(|_| Outcome::Wrong)
+    match made(alloc, limits, &alone)? {
+        Ok(script) => Ok(script),
+        Err(_) => Err(Outcome::Wrong),
+    }
 }
 
 /// Steps until a step is refused: after how many, and why.
@@ -118,7 +141,8 @@ fn first_refusal(run: &mut Run) -> Option<(usize, RunError)>
     None
 }
 
-fn is_step_refused(alloc: Global) -> Result<bool, Outcome> {
+/// Whether a run that has made all its steps makes no more.
+pub(crate) fn is_step_refused(alloc: Global) -> Result<bool, Outcome> {
     let script = script(alloc)?;
     if script.threads().is_empty() {
         return Ok(false);
@@ -131,9 +155,4 @@ fn is_step_refused(alloc: Global) -> Result<bool, Outcome> {
         Some((_, RunError::Memory)) => Err(Outcome::Refused),
         None => Ok(false),
     }
-}
-
-/// A run that has made all its steps.
-pub(crate) fn step_outcome(alloc: Global) -> Outcome {
-    outcome_of(is_step_refused(alloc))
 }

@@ -1,16 +1,11 @@
 //! Scripts, whose runs ask for memory as they go.
-ghost use Rattle.std.specs.Prelude.{◌≡◌, ◌<◌, ◌++◌, ◌∷◌, [], length, OnOk, OnErr};
-ghost use Rattle.stamp_machines.specs.Completing.{after_next};
+ghost use Rattle.std.specs.Prelude.{◌≡◌, ◌<◌, length};
 
-use crate::{Outcome, outcome_of, right_if};
-use stamp_core::{Call, Entry, Limits, Words};
-use stamp_history::{
-    ReadError, check, migrate, read_history, read_script, write_history, write_run,
-};
-use stamp_machines::{
-    Arg, Completions, Run, RunError, Script, ScriptCall, ScriptError, Stepped, run, run_reported,
-};
-use std::alloc::{AllocError, Global};
+use crate::outcome::Outcome;
+use stamp_core::Entry;
+use stamp_history::{check, migrate, read_history, read_script, write_history, write_run};
+use stamp_machines::{Completions, Run, RunError, Script, Stepped, run, run_reported};
+use std::alloc::Global;
 
 const SCRIPT: &[u8] =
     br#"{"readers":1,"steps":[0,0,1,1],"threads":[[["try_write"]],[["unlock",[0,0]]]],"versions":1,"width":0}"#;
@@ -18,71 +13,15 @@ const SCRIPT: &[u8] =
 const HISTORY: &[u8] =
     br#"{"entries":[{"call":["try_write"],"first":0,"last":1,"point":1,"reply":384,"thread":0},{"call":["unlock",384],"first":2,"last":3,"point":3,"reply":"done","thread":1}],"format":1,"readers":1,"versions":1,"width":0}"#;
 
-const TOO_WIDE: &[u8] = br#"{"readers":1,"steps":[],"threads":[],"versions":1,"width":17}"#;
-
-/// Readers who come and go, more often than a list begins with room for.
-fn readers(alloc: Global) -> Result<Vec<ScriptCall>, AllocError> {
-    let mut calls = Vec::new(alloc);
-    for i in 0..6 {
-        calls.push(ScriptCall::TryRead)?;
-        calls.push(ScriptCall::UnlockRead(Arg::Of(0, i * 2)))?;
-    }
-    Ok(calls)
-}
-
-/// A put and a get of two words.
-fn record_calls(alloc: Global) -> Result<Vec<ScriptCall>, AllocError> {
-    let mut calls = Vec::new(alloc);
-    if let Some(words) = Words::new(&[7, 9]) {
-        calls.push(ScriptCall::Put(words))?;
-        calls.push(ScriptCall::Get)?;
-    }
-    Ok(calls)
-}
-
-/// Two threads in turns.
-fn turns(alloc: Global) -> Result<Vec<u64>, AllocError> {
-    let mut steps = Vec::new(alloc);
-    for _ in 0..24 {
-        steps.push(0)?;
-        steps.push(1)?;
-    }
-    Ok(steps)
-}
-
-fn parts(alloc: Global) -> Result<(Vec<Vec<ScriptCall>>, Vec<u64>), AllocError> {
-    let mut threads = Vec::new(alloc);
-    threads.push(readers(alloc)?)?;
-    threads.push(record_calls(alloc)?)?;
-    Ok((threads, turns(alloc)?))
-}
-
-fn script(alloc: Global) -> Result<Script, Outcome> {
-    let Ok(limits) = Limits::new(127, 1000) else {
-        return Err(Outcome::Wrong);
-    };
-    let Ok((threads, steps)) = parts(alloc) else {
-        return Err(Outcome::Refused);
-    };
-    Script::new(limits, 2, threads, steps).map_err(|_| Outcome::Wrong)
-}
-
-fn is_run(alloc: Global) -> Result<bool, Outcome> {
-    let record = run(alloc, &script(alloc)?)?;
-    Ok(record.entries().len() == 14 && record.report().is_empty())
-}
-
-/// The put takes five steps, beside two changes of the word by readers.
-fn is_run_reported(alloc: Global) -> Result<bool, Outcome> {
-    let record = run_reported(alloc, &script(alloc)?)?;
-    let report = record.report();
-    Ok(report.len() == 14 && report.contains(&(5, 2)))
-}
+/// Two threads in turns: readers who come and go, more often than a list begins with room for, and a
+/// put and a get of two words.
+const LONG_SCRIPT: &[u8] =
+    br#"{"readers":127,"steps":[0,1,0,1,0,1,0,1,0,1,0,1,0,1,0,1,0,1,0,1,0,1,0,1,0,1,0,1,0,1,0,1,0,1,0,1,0,1,0,1,0,1,0,1,0,1,0,1],"threads":[[["try_read"],["unlock_read",[0,0]],["try_read"],["unlock_read",[0,2]],["try_read"],["unlock_read",[0,4]],["try_read"],["unlock_read",[0,6]],["try_read"],["unlock_read",[0,8]],["try_read"],["unlock_read",[0,10]]],[["put",[7,9]],["get"]]],"versions":1000,"width":2}"#;
 
 /// Makes a step, and once more where memory was refused.
 fn step_again(run: &mut Run, name: u64) -> Result<Stepped, RunError>
     requires { name < length run.old.script.threads }
-    ensures { OnOk result (run.new ≡ record run.old { names = run.old.names ++ name ∷ [] }) }
+    ensures { run.new.script ≡ run.old.script }
 {
     match run.step(name) {
         Err(RunError::Memory) => run.step(name),
@@ -110,16 +49,8 @@ fn ends_alike(alloc: Global, script: &Script, entries: &[Entry]) -> Result<bool,
     Ok(run.finished() == entries && run.word().bits() == 256 && run.steps() == script.steps())
 }
 
-fn is_stepped_again(alloc: Global) -> Result<bool, Outcome> {
-    let script = script(alloc)?;
-    let record = run(alloc, &script)?;
-    Ok(ends_alike(alloc, &script, record.entries())?)
-}
-
 /// Goes on to the next finished call, and once more where memory was refused.
-fn advance_again(completions: &mut Completions) -> Result<(), RunError>
-    ensures { OnOk result (completions.new ≡ after_next completions.old) }
-{
+fn advance_again(completions: &mut Completions) -> Result<(), RunError> {
     match completions.advance() {
         Err(RunError::Memory) => completions.advance(),
         other => other,
@@ -139,85 +70,37 @@ fn are_handed_on(alloc: Global, script: &Script, entries: &[Entry]) -> Result<bo
     Ok(completions.get().is_none())
 }
 
-fn is_handed_on_again(alloc: Global) -> Result<bool, Outcome> {
-    let script = script(alloc)?;
+/// Whether a script is run as it should be: with a report and without one, step by step, and with its
+/// finished calls passed on. A step that is made again after a refusal is right, and so are finished
+/// calls that are asked for again. The put takes five steps, beside two changes of the word by
+/// readers.
+pub(crate) fn are_runs_alike(alloc: Global) -> Result<bool, Outcome> {
+    let script = read_script(alloc, LONG_SCRIPT)?;
     let record = run(alloc, &script)?;
-    Ok(are_handed_on(alloc, &script, record.entries())?)
+    let reported = run_reported(alloc, &script)?;
+    let (entries, report) = (record.entries(), reported.report());
+    let is_run = entries.len() == 14 && record.report().is_empty();
+    let is_reported = report.len() == 14 && report.contains(&(5, 2));
+    let is_stepped = ends_alike(alloc, &script, entries)?;
+    let is_handed_on = are_handed_on(alloc, &script, entries)?;
+    Ok(is_run && is_reported && is_stepped && is_handed_on)
 }
 
-pub(crate) fn run_outcome(alloc: Global) -> Outcome {
-    outcome_of(is_run(alloc))
-}
-
-pub(crate) fn run_reported_outcome(alloc: Global) -> Outcome {
-    outcome_of(is_run_reported(alloc))
-}
-
-/// A step that is made again after a refusal is right; what comes before it may be refused.
-pub(crate) fn steps_outcome(alloc: Global) -> Outcome {
-    outcome_of(is_stepped_again(alloc))
-}
-
-/// Finished calls that are asked for again after a refusal are right; what comes before them may be
-/// refused.
-pub(crate) fn completions_outcome(alloc: Global) -> Outcome {
-    outcome_of(is_handed_on_again(alloc))
-}
-
-/// The text of the history that a script's text is run to, the run's entries not kept.
-fn run_text(alloc: Global) -> Result<Vec<u8>, ReadError> {
+/// Whether the history that a script's text is run to has its text, the run's entries kept or not.
+pub(crate) fn is_written(alloc: Global) -> Result<bool, Outcome> {
     let script = read_script(alloc, SCRIPT)?;
-    write_run(alloc, &script)
+    let record = run(alloc, &script)?;
+    let text = write_history(alloc, &record)?;
+    let run_text = write_run(alloc, &script)?;
+    Ok(text.as_slice() == HISTORY && run_text.as_slice() == HISTORY)
 }
 
-pub(crate) fn run_text_outcome(alloc: Global) -> Outcome {
-    history_outcome_of(run_text(alloc))
-}
-
-/// The text of the history that a script's text is run to.
-fn history(alloc: Global) -> Result<Vec<u8>, ReadError> {
-    let script = read_script(alloc, SCRIPT)?;
-    match run(alloc, &script) {
-        Ok(record) => write_history(alloc, &record),
-        Err(_) => Err(ReadError::Memory),
-    }
-}
-
-pub(crate) fn history_outcome(alloc: Global) -> Outcome {
-    history_outcome_of(history(alloc))
-}
-
-fn history_outcome_of(written: Result<Vec<u8>, ReadError>) -> Outcome {
-    match written {
-        Ok(text) => right_if(text.as_slice() == HISTORY),
-        Err(ReadError::Memory) => Outcome::Refused,
-        Err(_) => Outcome::Wrong,
-    }
-}
-
-/// A script that is refused is refused for its own fault, or for want of memory.
-pub(crate) fn bad_script_outcome(alloc: Global) -> Outcome {
-    match read_script(alloc, TOO_WIDE) {
-        Err(ReadError::BadScript(ScriptError::RecordWidth)) => Outcome::Right,
-        Err(ReadError::Memory) => Outcome::Refused,
-        _ => Outcome::Wrong,
-    }
-}
-
-/// What a history's text is judged, read and written again in layout 2.
-fn judged(alloc: Global) -> Result<bool, ReadError> {
+/// Whether a history's text is judged, read and written again in layout 2.
+pub(crate) fn is_judged(alloc: Global) -> Result<bool, Outcome> {
     let history = read_history(alloc, HISTORY)?;
     let is_ok = check(&history) == Ok(2);
     match migrate(history) {
         Ok(migrated) => Ok(is_ok && !write_history(alloc, &migrated)?.is_empty()),
         Err(_) => Ok(false),
-    }
-}
-
-pub(crate) fn judged_outcome(alloc: Global) -> Outcome {
-    match judged(alloc) {
-        Ok(holds) => right_if(holds),
-        Err(ReadError::Memory) => Outcome::Refused,
-        Err(_) => Outcome::Wrong,
     }
 }

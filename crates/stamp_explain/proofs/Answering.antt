@@ -21,7 +21,7 @@ use Rattle.stamp_explain.specs.declared.plan.Plan.{Plan}
 use Rattle.stamp_explain.specs.Observed.{ObservedHistory, HasReturned}
 use Rattle.stamp_explain.specs.Explained.{Effect}
 use Rattle.stamp_explain.specs.Search.{LockState, LockSteps, MayTake, IsReturnAt, AreReturns, ReturnsNoLater}
-use Rattle.stamp_explain.specs.Node.{IsNext, AreTaken, IsAt, StandsFor, words_put, words_put_at, content_by, IsOpening}
+use Rattle.stamp_explain.specs.Node.{IsNext, HasNext, AreTaken, IsAt, StandsFor, words_put, words_put_at, content_by, IsOpening}
 use Rattle.stamp_explain.specs.Plan.{IsPlan, IsOpenAt, AreOpen}
 use Rattle.stamp_explain.specs.Expand.{Took, Takes}
 use Rattle.stamp_explain.specs.Possible.{with_reply, without_return, answering}
@@ -112,6 +112,16 @@ taken_alike h g i past threads taken is are = record {
       there g h i k f (turned h g i is) next.is_entry in
       are.each_next k e.0 (next_alike g h i past k f e.0 (turned h g i is) e.1.0 e.1.1 next)
       (ap (λ (t : ℕ). bit_at threads t) e.1.1.thread ∙ bit);
+  has_next = λ t bit.
+      let had : HasNext h.entries past t = are.has_next t bit in
+      let f : (f : Observation) × ((slice_get g.entries had.index ≡ Some f) × IsAlike had.entry f) =
+      there h g i had.index had.entry is had.is.is_entry in
+      record {
+        index = had.index;
+        entry = f.0;
+        is = next_alike h g i past had.index had.entry f.0 is f.1.0 f.1.1 had.is;
+        same = f.1.1.thread ∙ had.same;
+      };
 }
   where
     which : (k : ℕ) (f e : Observation) → slice_get g.entries k ≡ Some f → IsAlike e f →
@@ -216,6 +226,7 @@ pub opening_alike : (h g : ObservedHistory) (i : ℕ) (node : Node) → AreAlike
     IsOpening g node
 opening_alike h g i node is opens = record {
   past = opens.past;
+  writer = opens.writer;
   threads = opens.threads;
   at = subst (λ (w : ℕ). IsAt g node.bits node.writer ([], zeros w)) (sym is.width)
       (at_alike h g i node.bits node.writer ([], zeros h.width) is opens.at);
@@ -328,6 +339,7 @@ took_alike h g i returns node k found is other took = record {
       took = takes.took;
       state = takes.state;
       may = may_alike h g i a b s takes.state taken takes.effect is alike (λ e. other (sym takes.index ∙ e)) takes.may;
+      put = takes.put;
       stands = stands_alike h g i returns w.node takes.state (takes.effect.index ∷ taken) is takes.stands;
       only = λ x u may same. stands_alike h g i returns w.node u (x.index ∷ taken) is
           (takes.only x u (may_alike g h i b a s u taken x (turned h g i is) (alike_turned a b alike)

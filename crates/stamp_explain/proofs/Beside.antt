@@ -1,12 +1,12 @@
 -- The search for the replies that one call could get.
 use Rattle.std.proofs.Common.{◌≡◌, ◌≢◌, ◌⊎◌, ℕ, ◌+◌, ◌-◌, ◌<◌, ◌≤◌, List, [], ◌∷◌, ◌++◌, length, get_or, set, refl, sym}
-use Rattle.std.proofs.Common.{◌∙◌, ap, subst, inl, inr, arith, Option, None, Some, Bool, true, false, suc}
+use Rattle.std.proofs.Common.{◌∙◌, ap, subst, inl, inr, arith, Option, None, Some, Bool, true, false}
 use Rattle.std.specs.Prelude.{not, nat_lt, cond, IsTrue}
 use Rattle.stamp_core.specs.Call.{call_suits, is_lock_call}
 use Rattle.std.proofs.lemmas.List.Filters.{length-filter_more}
 use Rattle.std.proofs.lemmas.Bool.Decides.{nat_tests}
 use Rattle.stamp_explain.specs.Cut.{begun_by}
-use Rattle.std.specs.Prelude.{slice_get, slice_index, take, drop, ◌↔◌}
+use Rattle.std.specs.Prelude.{slice_get, slice_index, take, ◌↔◌}
 use Rattle.std.specs.Int.{bit_at}
 use Rattle.std.specs.List.{All, AllPairs, Contains}
 use Rattle.std.proofs.lemmas.List.Elements.{Contains-append_left, Contains-push, Contains-push_cases, Contains-get_or}
@@ -25,9 +25,9 @@ use Rattle.stamp_explain.specs.declared.store.Store.{Store}
 use Rattle.stamp_explain.specs.declared.asking.Asking.{Asking}
 use Rattle.stamp_explain.specs.Observed.{ObservedHistory, IsObserved, IsBefore, MayReply, AreOfOneObject}
 use Rattle.stamp_explain.specs.Observer.{observes_at, observes_in}
-use Rattle.stamp_explain.specs.Search.{LockState, LockSteps, IsReturnAt, opening}
-use Rattle.stamp_explain.specs.Node.{IsReached, IsAt, StandsFor, HasGone, IsOpening, Reaches, ReachesMany}
-use Rattle.stamp_explain.specs.Node.Reaches.{begins, goes_past, goes_on_by}
+use Rattle.stamp_explain.specs.Search.{LockState, LockSteps, IsReturnAt}
+use Rattle.stamp_explain.specs.Configuration.{ReachesMany}
+use Rattle.stamp_explain.specs.Node.{IsReached, IsAt, StandsFor, HasGone, IsOpening}
 use Rattle.stamp_explain.specs.Store.{Keeps}
 use Rattle.stamp_explain.specs.Plan.{AreOpen, ClearsBit, IsAwaitedAt}
 use Rattle.stamp_explain.specs.Expand.{Expands, Leads, LeadsBy, Took, IsNotInEffect, IsTakenTo, Enters, nodes_of}
@@ -38,8 +38,9 @@ use Rattle.stamp_explain.proofs.Replying.{IsAlike, alike_before, replied_is_obse
 use Rattle.stamp_explain.proofs.Answering.{AreAlike, alike_with_reply, plan_alike, there, other_there, took_alike, turned}
 use Rattle.stamp_explain.proofs.Answering.{same_calls_before, at_same, at_alike, opening_alike}
 use Rattle.stamp_explain.proofs.Expanding.{one_reply, at_place}
-use Rattle.stamp_explain.proofs.Leading.{come, come_less, come_as_well}
-use Rattle.stamp_explain.proofs.Exploring.{Searches, searches_first, searches_more, found_nothing, opening_stands}
+use Rattle.stamp_explain.proofs.Leading.{way_past, way_by}
+use Rattle.stamp_explain.proofs.Counting.{so_many}
+use Rattle.stamp_explain.proofs.Exploring.{Searches, searches_first, searches_more, found_nothing, opening_reached}
 use Rattle.stamp_explain.proofs.Exploring.{named, contains_at}
 use Rattle.stamp_explain.proofs.Succeeding.{Awaits, Tries, awaited_at, expands_past, expands_at_once, expands_open}
 use Rattle.stamp_explain.proofs.Succeeding.{none_tried, tried_none, tried_some, tried_other, leads_by_call}
@@ -390,7 +391,7 @@ not_begun asking node a e reply h asks is awaits at before = record {
 abbrev pub WentBefore : Asking → Node → Option Step → Type 0
 WentBefore asking node found = (e : Observation) (s : LockState) →
     slice_get asking.before.entries asking.place ≡ Some e → IsAt asking.before node.bits node.writer s →
-    HasGone asking.before e s found
+    HasGone asking.before asking.place e node.writer s found
 
 -- it gets no other reply
 pub asked_takes : (asking : Asking) (node : Node) (found : Option Step) (reply : Reply) (h : ObservedHistory) →
@@ -412,7 +413,7 @@ asked_takes asking node found reply h asks is went others = record {
       subst (λ (o : Observation). LockSteps asking.seen.limits s (o.call, x.reply) u) is_x
       (subst (λ (l : Bounds). LockSteps l s (x.entry.call, x.reply) u) alike.limits may.steps) in
       by found refl s u x.reply replied steps
-      (subst (λ (g : ObservedHistory). HasGone g y s found) before (went y s here (subst (λ (g : ObservedHistory).
+      (subst (λ (g : ObservedHistory). HasGone g asking.place y node.writer s found) before (went y s here (subst (λ (g : ObservedHistory).
       IsAt g node.bits node.writer s) (sym before) at)));
 }
   where
@@ -436,7 +437,7 @@ asked_takes asking node found reply h asks is went others = record {
 
     by : (o : Option Step) → found ≡ o → (s u : LockState) (r : Reply) → reply ≡ r →
         LockSteps asking.seen.limits s (is.entry.call, r) u →
-        HasGone (without_return asking.place is.entry asking.seen) y s o → ⊥
+        HasGone (without_return asking.place is.entry asking.seen) asking.place y node.writer s o → ⊥
     by None at s u r replied steps gone = gone r u tt steps
     by (Some step) at s u r replied steps gone = others step at
         (one_reply asking.seen.limits s.0 s.1 is.entry.call step.reply r gone.steps.replies steps.replies ∙
@@ -508,20 +509,13 @@ pub record IsReachedBeside (asking : Asking) (node : Node) : Type 0 where
 
 opening_beside : (asking : Asking) (node : Node) → IsOpening asking.seen node → IsReachedBeside asking node
 opening_beside asking node is = record {
-  reached = record {
-    state = opening asking.seen.width;
-    taken = [];
-    stands = opening_stands asking.seen asking.plan.returns.items node is;
-    way = subst (λ (n : ℕ). Reaches asking.seen asking.plan.returns.items (drop n asking.plan.returns.items)
-        (opening asking.seen.width) []) (sym is.past) begins;
-  };
+  reached = opening_reached asking.seen asking.plan.returns.items node is;
   still = none_in_empty asking.place;
 }
 
 leads_beside : (asking : Asking) (node : Node) (next : Next) → IsReachedBeside asking node →
     LeadsBeside asking node next → IsReachedBeside asking next.node
-leads_beside asking node next is leads =
-    by next.took refl (leads.leads.leads is.reached.state is.reached.taken is.reached.stands)
+leads_beside asking node next is leads = by next.took refl (leads.leads.leads s taken is.reached.stands)
   where
     h : ObservedHistory
     h = asking.seen
@@ -535,18 +529,14 @@ leads_beside asking node next is leads =
     taken : List ℕ
     taken = is.reached.taken
 
-    way : Reaches h returns (slice_index returns node.past ∷ drop (suc node.past) returns) s taken
-    way = subst (λ (to_come : List ℕ). Reaches h returns to_come s taken)
-        (come returns node.past leads.leads.inside) is.reached.way
-
     by : (o : Option ℕ) → next.took ≡ o → LeadsBy h returns node next.node s taken o → IsReachedBeside asking next.node
     by None at l = record {
       reached = record {
         state = s;
         taken = taken;
+        inside = omega (arith, leads.leads.inside, l.past);
         stands = l.stands;
-        way = goes_past (subst (λ (to_come : List ℕ). Reaches h returns (slice_index returns node.past ∷ to_come)
-            s taken) (come_less returns node.past next.node.past l.past) way) l.in_effect;
+        way = way_past h returns node next.node s taken leads.leads.inside is.reached.way l;
       };
       still = is.still;
     }
@@ -554,10 +544,9 @@ leads_beside asking node next is leads =
       reached = record {
         state = l.state;
         taken = l.effect.index ∷ taken;
+        inside = omega (arith, leads.leads.inside, l.past);
         stands = l.stands;
-        way = subst (λ (to_come : List ℕ). Reaches h returns to_come l.state (l.effect.index ∷ taken))
-            (come_as_well returns node.past next.node.past leads.leads.inside l.past)
-            (goes_on_by way l.awaited l.effect l.state l.is_awaited l.not_yet l.tried l.may);
+        way = way_by h returns node next.node s taken i leads.leads.inside is.reached.way l;
       };
       still = λ has. cases (contains_cases l.effect.index taken asking.place has);
     }
@@ -688,13 +677,8 @@ walks_many asking most looked store waiting replies asks is all = (
   asking.plan.returns.items,
   (
     asks.plan.are,
-    record {
-      nodes = store.nodes.items;
-      different = is.keeps.different;
-      each = All-weaker (Contains store.nodes.items) (IsReached asking.seen asking.plan.returns.items)
-          (λ v has. (is.reached v has).reached) store.nodes.items (All-contains_itself store.nodes.items);
-      many = omega (arith, is.count, all);
-    },
+    so_many asking.seen asking.plan.returns.items store.nodes.items (λ v has. (is.reached v has).reached)
+        is.keeps.different most (omega (arith, is.count, all)),
   ),
 )
 

@@ -208,7 +208,7 @@ none_by_bit h returns node a i s taken is bit x u may same =
 -- it gives another reply
 pub none_by_reply : (h : ObservedHistory) (returns : List ℕ) (node : Node) (a : Observation) (i : ℕ)
     (s : LockState) (taken : List ℕ) → Trying h returns node a i s taken →
-    ((e : Observation) → slice_get h.entries i ≡ Some e → HasGone h e s None) →
+    ((e : Observation) → slice_get h.entries i ≡ Some e → HasGone h i e node.writer s None) →
     Takes h returns node a i s taken None
 none_by_reply h returns node a i s taken is gone x u may same =
     gone x.entry (ap (λ (k : ℕ). slice_get h.entries k) (sym same) ∙ may.effect.is_entry) x.reply u
@@ -218,7 +218,7 @@ none_by_reply h returns node a i s taken is gone x u may same =
 pub taken_to : (h : ObservedHistory) (returns : List ℕ) (node : Node) (a : Observation) (i : ℕ) (s : LockState)
     (taken : List ℕ) (threads : ℕ) (step : Step) → (is : Trying h returns node a i s taken) →
     bit_at node.threads is.it.entry.thread ≢ 1 →
-    ((e : Observation) → slice_get h.entries i ≡ Some e → HasGone h e s (Some step)) →
+    ((e : Observation) → slice_get h.entries i ≡ Some e → HasGone h i e node.writer s (Some step)) →
     SetsBit node.threads threads is.it.entry.thread → Takes h returns node a i s taken
     (Some (record {
       node = record { past = node.past; bits = step.bits; writer = step.writer; threads = threads };
@@ -237,6 +237,7 @@ taken_to h returns node a i s taken threads step is bit gone sets = record {
     begun = is.it.begun a is.at;
     steps = went.steps;
   };
+  put = went.writer;
   stands = stands;
   only = λ x u may same.
       let entry : x.entry ≡ e = same_Some x.entry e (sym may.effect.is_entry ∙
@@ -255,7 +256,7 @@ taken_to h returns node a i s taken threads step is bit gone sets = record {
     e : Observation
     e = is.it.entry
 
-    went : Goes h e s step
+    went : Goes h i e node.writer s step
     went = gone e is.it.is_entry
 
     effect : Effect

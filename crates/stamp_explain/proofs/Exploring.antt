@@ -21,8 +21,9 @@ use Rattle.stamp_explain.specs.Observed.{ObservedHistory}
 use Rattle.stamp_explain.specs.Explained.{Effect, IsExplained, IsExplainedBy, history_of, indices_of}
 use Rattle.stamp_explain.specs.Search.{LockSteps, IsCompletedBy, AreReturns, IsReturnAt}
 use Rattle.stamp_explain.specs.Search.{opening}
-use Rattle.stamp_explain.specs.Node.{AreTaken, IsOpening, StandsFor, IsReached, AreReached, Reaches}
-use Rattle.stamp_explain.specs.Node.Reaches.{begins}
+use Rattle.stamp_explain.specs.Configuration.{AreReached, Reaches}
+use Rattle.stamp_explain.specs.Configuration.Reaches.{begins}
+use Rattle.stamp_explain.specs.Node.{AreTaken, IsOpening, StandsFor, IsReached}
 use Rattle.stamp_explain.specs.Store.{Keeps}
 use Rattle.stamp_explain.specs.Expand.{Hope, GoesOn, Leads, Expands, Enters, IsPlaced, IsLinkedAt, AreLinked, nodes_of}
 use Rattle.stamp_explain.specs.Expand.{origins_of}
@@ -31,6 +32,7 @@ use Rattle.stamp_explain.proofs.Finding.{runs_legal, legal_runs}
 use Rattle.stamp_explain.proofs.Searching.{Waits, Follows, LosesNothing, node_kept, none_left}
 use Rattle.stamp_explain.proofs.Entering.{read_left, read_right}
 use Rattle.stamp_explain.proofs.Leading.{leads_reached}
+use Rattle.stamp_explain.proofs.Counting.{so_many}
 
 -- what an order of the whole history is to a search
 pub completed_from : (h : ObservedHistory) (returns : List ℕ) (rest : List Effect) → AreReturns h.entries returns →
@@ -84,18 +86,22 @@ opening_stands h returns node is = record {
         only = λ i e at has. absurd (none_in_empty i has);
         all_past = λ i has. absurd (none_in_empty i has);
         each_next = λ i e next bit. absurd (no_bit e.thread bit);
+        has_next = λ t bit. absurd (no_bit t bit);
       }));
 }
   where
     no_bit : (t : ℕ) → bit_at 0 t ≡ 1 → ⊥
     no_bit t bit = absurd (omega (arith, bit_at-zero t, bit))
 
-opening_reached : (h : ObservedHistory) (returns : List ℕ) (node : Node) → IsOpening h node → IsReached h returns node
+abbrev pub opening_reached : (h : ObservedHistory) (returns : List ℕ) (node : Node) → IsOpening h node → IsReached h returns node
 opening_reached h returns node is = record {
   state = opening h.width;
   taken = [];
+  inside = omega (arith, is.past);
   stands = opening_stands h returns node is;
-  way = subst (λ (n : ℕ). Reaches h returns (drop n returns) (opening h.width) []) (sym is.past) begins;
+  way = subst (λ (put : Option ℕ). Reaches h returns (drop node.past returns) (opening h.width) put [])
+      (sym is.writer) (subst (λ (n : ℕ). Reaches h returns (drop n returns) (opening h.width) None []) (sym is.past)
+      begins);
 }
 
 pub contains_at : {X : Type 0} (xs : List X) (k : ℕ) (x : X) → slice_get xs k ≡ Some x → Contains xs x
@@ -394,13 +400,8 @@ found_nothing h returns looked store waiting are is none explained =
 -- so many configurations were looked at
 pub found_many : (h : ObservedHistory) (returns : List ℕ) (most looked : ℕ) (store : Store) (waiting : List ℕ) →
     Searches h returns looked store waiting → most ≤ looked → AreReached h returns most
-found_many h returns most looked store waiting is all = record {
-  nodes = store.nodes.items;
-  different = is.keeps.different;
-  each = All-weaker (Contains store.nodes.items) (IsReached h returns) is.reached store.nodes.items
-      (All-contains_itself store.nodes.items);
-  many = omega (arith, is.count, all);
-}
+found_many h returns most looked store waiting is all =
+    so_many h returns store.nodes.items is.reached is.keeps.different most (omega (arith, is.count, all))
 
 pub popped_inside : (h : ObservedHistory) (returns : List ℕ) (looked : ℕ) (store : Store) (before popped : List ℕ)
     (place : ℕ) → Searches h returns looked store before → before ≡ popped ++ place ∷ [] →

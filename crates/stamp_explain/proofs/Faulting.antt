@@ -14,7 +14,7 @@ use Rattle.stamp_explain.specs.Observed.{ObservedHistory, IsObserved, HasReturne
 use Rattle.stamp_explain.specs.Explained.{IsEffectOf, AreApart, RespectsBefore, IsExplained, IsExplainedBy}
 use Rattle.stamp_explain.specs.Cut.{known_of, known_from, returned_by, cut, seen_at, IsStuck}
 use Rattle.stamp_explain.specs.Planning.{IsSooner, AreEnds, EndsAt}
-use Rattle.stamp_explain.specs.Node.{ReachesMany}
+use Rattle.stamp_explain.specs.Configuration.{ReachesMany}
 use Rattle.stamp_explain.specs.Order.{IsOrderOf}
 use Rattle.stamp_explain.specs.Expand.{IsFound}
 use Rattle.stamp_explain.specs.Verdict.{IsUndecided, IsUndecidedAt, IsNotFound}

@@ -11,8 +11,9 @@ use Rattle.stamp_explain.specs.declared.order.Taken.{Taken}
 use Rattle.stamp_explain.specs.Observed.{ObservedHistory}
 use Rattle.stamp_explain.specs.Explained.{Effect}
 use Rattle.stamp_explain.specs.Search.{LockState, LockSteps, IsCompletedBy}
-use Rattle.stamp_explain.specs.Node.{StandsFor, IsReached, Reaches}
-use Rattle.stamp_explain.specs.Node.Reaches.{goes_past, goes_on_by}
+use Rattle.stamp_explain.specs.Configuration.{Reaches, put_after}
+use Rattle.stamp_explain.specs.Configuration.Reaches.{goes_past, goes_on_by}
+use Rattle.stamp_explain.specs.Node.{StandsFor, IsReached}
 use Rattle.stamp_explain.specs.Expand.{Leads, LeadsBy, LeadsByCall, LeadsByReturn, IsLed}
 use Rattle.stamp_explain.specs.Order.{taken_of, RepliesAt}
 use Rattle.stamp_explain.proofs.Completing.{completed_by_none, before_return, puts_first}
@@ -32,32 +33,52 @@ pub come_as_well : (returns : List ℕ) (past w : ℕ) → past < length returns
     slice_index returns past ∷ drop (suc past) returns ≡ drop w returns
 come_as_well returns past w lt same = sym (come returns past lt) ∙ ap (λ (n : ℕ). drop n returns) (sym same)
 
+-- a way goes on where the awaited call returns
+pub way_past : (h : ObservedHistory) (returns : List ℕ) (node w : Node) (s : LockState) (taken : List ℕ) →
+    node.past < length returns → Reaches h returns (drop node.past returns) s node.writer taken →
+    LeadsByReturn h returns node w s taken → Reaches h returns (drop w.past returns) s w.writer taken
+way_past h returns node w s taken inside way l =
+    subst (λ (put : Option ℕ). Reaches h returns (drop w.past returns) s put taken) (sym l.put)
+    (goes_past (subst (λ (to_come : List ℕ). Reaches h returns to_come s node.writer taken) there way) l.in_effect)
+  where
+    there : drop node.past returns ≡ slice_index returns node.past ∷ drop w.past returns
+    there = come returns node.past inside ∙ ap (λ (rest : List ℕ). slice_index returns node.past ∷ rest)
+        (come_less returns node.past w.past l.past)
+
+-- and where a call takes effect
+pub way_by : (h : ObservedHistory) (returns : List ℕ) (node w : Node) (s : LockState) (taken : List ℕ) (i : ℕ) →
+    node.past < length returns → Reaches h returns (drop node.past returns) s node.writer taken →
+    (l : LeadsByCall h returns node w s taken i) →
+    Reaches h returns (drop w.past returns) l.state w.writer (l.effect.index ∷ taken)
+way_by h returns node w s taken i inside way l =
+    subst (λ (put : Option ℕ). Reaches h returns (drop w.past returns) l.state put (l.effect.index ∷ taken))
+    (sym l.put) (subst (λ (to_come : List ℕ). Reaches h returns to_come l.state
+    (put_after node.writer l.effect.index l.effect.entry.call l.effect.reply) (l.effect.index ∷ taken))
+    (come_as_well returns node.past w.past inside l.past)
+    (goes_on_by (subst (λ (to_come : List ℕ). Reaches h returns to_come s node.writer taken)
+    (come returns node.past inside) way) l.awaited l.effect l.state l.is_awaited l.not_yet l.tried l.may))
+
 -- what comes from a node that is reached is reached
 pub leads_reached : (h : ObservedHistory) (returns : List ℕ) (node : Node) (next : Next) →
     IsReached h returns node → Leads h returns node next → IsReached h returns next.node
 leads_reached h returns node next reached leads =
     by next.took (leads.leads reached.state reached.taken reached.stands)
   where
-    way : Reaches h returns (slice_index returns node.past ∷ drop (suc node.past) returns) reached.state reached.taken
-    way = subst (λ (to_come : List ℕ). Reaches h returns to_come reached.state reached.taken)
-        (come returns node.past leads.inside) reached.way
-
     by : (o : Option ℕ) → LeadsBy h returns node next.node reached.state reached.taken o →
         IsReached h returns next.node
     by None l = record {
       state = reached.state;
       taken = reached.taken;
+      inside = omega (arith, leads.inside, l.past);
       stands = l.stands;
-      way = goes_past (subst (λ (to_come : List ℕ). Reaches h returns (slice_index returns node.past ∷ to_come)
-          reached.state reached.taken) (come_less returns node.past next.node.past l.past) way) l.in_effect;
+      way = way_past h returns node next.node reached.state reached.taken leads.inside reached.way l;
     }
     by (Some i) l = record {
       state = l.state;
       taken = l.effect.index ∷ reached.taken;
+      inside = omega (arith, leads.inside, l.past);
       stands = l.stands;
-      way = subst (λ (to_come : List ℕ). Reaches h returns to_come l.state (l.effect.index ∷ reached.taken))
-          (come_as_well returns node.past next.node.past leads.inside l.past)
-          (goes_on_by way l.awaited l.effect l.state l.is_awaited l.not_yet l.tried l.may);
+      way = way_by h returns node next.node reached.state reached.taken i leads.inside reached.way l;
     }
 
 -- so a call that took effect there did so in some state

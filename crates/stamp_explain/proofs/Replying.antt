@@ -16,7 +16,7 @@ use Rattle.stamp_explain.specs.Cut.{cut_after, seen_at}
 use Rattle.stamp_explain.specs.declared.search.Found.{Found}
 use Rattle.stamp_explain.specs.declared.search.Found.TheVariants.{Order, Nothing, Undecided}
 use Rattle.stamp_explain.specs.Search.{IsReturnAt}
-use Rattle.stamp_explain.specs.Node.{ReachesMany}
+use Rattle.stamp_explain.specs.Configuration.{ReachesMany}
 use Rattle.stamp_explain.specs.Expand.{IsFound}
 use Rattle.stamp_explain.specs.Possible.{IsPossible, IsUndecidedAtReply, answering, with_reply}
 use Rattle.stamp_explain.proofs.Seeing.{seen_explains_as_much}

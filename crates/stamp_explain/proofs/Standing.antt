@@ -9,7 +9,7 @@ use Rattle.std.proofs.lemmas.Option.{same_Some}
 use Rattle.stamp_explain.specs.declared.observed.Observation.{Observation}
 use Rattle.stamp_explain.specs.declared.observed.Returned.{Returned}
 use Rattle.stamp_explain.specs.Observed.{IsBefore, IsInterval}
-use Rattle.stamp_explain.specs.Node.{IsNext, AreTaken}
+use Rattle.stamp_explain.specs.Node.{IsNext, HasNext, AreTaken}
 use Rattle.stamp_explain.specs.Plan.{SetsBit, ClearsBit}
 use Rattle.stamp_explain.proofs.Lists.{contains_cases, contains_first, contains_rest}
 
@@ -66,8 +66,13 @@ taken_more entries past old new taken i e orderly are next sets = record {
   only = λ j f at has. only j f at (contains_cases i taken j has);
   all_past = λ j has. contains_rest i taken j (are.all_past j has);
   each_next = λ j f is bit. each j f is bit (same_or_not f.thread e.thread);
+  has_next = λ t bit. has t bit (same_or_not t e.thread);
 }
   where
+    has : (t : ℕ) → bit_at new t ≡ 1 → (t ≡ e.thread) ⊎ (t ≢ e.thread) → HasNext entries past t
+    has t bit (inl same) = record { index = i; entry = e; is = next; same = sym same }
+    has t bit (inr other) = are.has_next t (sym (sets.others t other) ∙ bit)
+
     only : (j : ℕ) (f : Observation) → slice_get entries j ≡ Some f → (i ≡ j) ⊎ Contains taken j →
         Contains past j ⊎ ((bit_at new f.thread ≡ 1) × IsNext entries past j f)
     only j f at (inl same) =
@@ -86,13 +91,13 @@ taken_more entries past old new taken i e orderly are next sets = record {
           where
             bit : (f.thread ≡ e.thread) ⊎ (f.thread ≢ e.thread) → bit_at new f.thread ≡ 1
             bit (inl same) = ap (λ (k : ℕ). bit_at new k) same ∙ sets.here
-            bit (inr other) = sets.others f.thread (orderly.thread j f at) other ∙ both.0
+            bit (inr other) = sets.others f.thread other ∙ both.0
 
     each : (j : ℕ) (f : Observation) → IsNext entries past j f → bit_at new f.thread ≡ 1 →
         (f.thread ≡ e.thread) ⊎ (f.thread ≢ e.thread) → Contains (i ∷ taken) j
     each j f is bit (inl same) = contains_first i taken j (one_next entries past i j e f orderly next is (sym same))
     each j f is bit (inr other) = contains_rest i taken j (are.each_next j f is
-        (sym (sets.others f.thread (orderly.thread j f is.is_entry) other) ∙ bit))
+        (sym (sets.others f.thread other) ∙ bit))
 
 -- a call in effect has returned
 pub taken_past : (entries : List Observation) (past : List ℕ) (old new : ℕ) (taken : List ℕ) (i : ℕ)
@@ -102,6 +107,7 @@ taken_past entries past old new taken i e orderly are next has clears = record {
   only = λ j f at in_effect. only j f at (are.only j f at in_effect);
   all_past = λ j found. was (Contains-push_cases past i j found);
   each_next = λ j f is bit. each j f is bit (same_or_not f.thread e.thread);
+  has_next = λ t bit. others t bit (same_or_not t e.thread);
 }
   where
     was : {j : ℕ} → Contains past j ⊎ (i ≡ j) → Contains taken j
@@ -123,6 +129,19 @@ taken_past entries past old new taken i e orderly are next has clears = record {
             let here : e ≡ f = same_Some e f (sym next.is_entry ∙ ap (λ (k : ℕ). slice_get entries k) same ∙
             is.is_entry) in
             other (ap (λ (o : Observation). o.thread) (sym here))
+
+    others : (t : ℕ) → bit_at new t ≡ 1 → (t ≡ e.thread) ⊎ (t ≢ e.thread) → HasNext entries (past ++ i ∷ []) t
+    others t bit (inl same) =
+        let none : bit_at new t ≡ 0 = ap (λ (k : ℕ). bit_at new k) same ∙ clears.here in
+        absurd (omega (arith, none, bit))
+    others t bit (inr other) =
+        let had : HasNext entries past t = are.has_next t (clears.no_more t bit) in
+        record {
+          index = had.index;
+          entry = had.entry;
+          is = later had.index had.entry (λ h. other (sym had.same ∙ h)) had.is;
+          same = had.same;
+        }
 
     sooner : (j : ℕ) (f : Observation) → f.thread ≢ e.thread → IsNext entries (past ++ i ∷ []) j f →
         IsNext entries past j f

@@ -1,7 +1,7 @@
 -- What a call does, by what was found of lock and record.
 use Rattle.std.proofs.Common.{◌≡◌, ℕ, ◌<◌, Bool, true, false, List, refl, sym, ◌∙◌, ap, subst, arith}
 use Rattle.std.proofs.Common.{Option, None, Some}
-use Rattle.std.specs.Prelude.{IsTrue}
+use Rattle.std.specs.Prelude.{IsTrue, slice_get}
 use Rattle.std.specs.Bool.{MatchBool}
 use Rattle.std.proofs.lemmas.Bool.{MatchBool-at_true, MatchBool-at_false}
 use Rattle.std.proofs.lemmas.Bool.Decides.{nat_tests}
@@ -14,18 +14,31 @@ use Rattle.stamp_core.specs.History.{Replies}
 use Rattle.stamp_core.specs.declared.call.Call.{Call}
 use Rattle.stamp_core.specs.declared.call.Call.TheVariants.{Get, Put, PutIf}
 use Rattle.stamp_core.specs.declared.reply.Reply.{Reply}
+use Rattle.stamp_core.specs.declared.reply.Reply.TheVariants.{Yes}
 use Rattle.stamp_explain.specs.declared.observed.Observation.{Observation}
 use Rattle.stamp_explain.specs.Observed.{ObservedHistory}
 use Rattle.stamp_explain.specs.Search.{LockState}
-use Rattle.stamp_explain.specs.Node.{IsAt, Goes, HasGone}
+use Rattle.stamp_explain.specs.Configuration.{put_after}
+use Rattle.stamp_explain.specs.Node.{IsAt, Goes, HasGone, content_by, words_put, words_put_at}
 use Rattle.stamp_explain.specs.Stepping.{LockGoes, RecordGoes}
 use Rattle.stamp_explain.proofs.Merging.{lock_leaves, record_appends}
 
-pub lock_went : (h : ObservedHistory) (e : Observation) (s : LockState) (bits next : ℕ) (writer : Option ℕ)
+false_true : false ≡ true → ⊥
+false_true h = cc
+
+-- a call of the lock leaves the record's words
+lock_puts_none : (put : Option ℕ) (i : ℕ) (call : Call) (reply : Reply) → is_lock_call call ≡ true →
+    put ≡ put_after put i call reply
+lock_puts_none put i Get reply lock = absurd (false_true lock)
+lock_puts_none put i (Put words) reply lock = absurd (false_true lock)
+lock_puts_none put i (PutIf expected words) reply lock = absurd (false_true lock)
+lock_puts_none put i call reply lock = refl
+
+pub lock_went : (h : ObservedHistory) (i : ℕ) (e : Observation) (s : LockState) (bits next : ℕ) (writer : Option ℕ)
     (reply : Reply) → is_lock_call e.call ≡ true → IsAt h bits writer s →
     LockGoes h.limits bits e (Some (next, reply)) →
-    Goes h e s (record { bits = next; writer = writer; reply = reply })
-lock_went h e s bits next writer reply lock at goes =
+    Goes h i e writer s (record { bits = next; writer = writer; reply = reply })
+lock_went h i e s bits next writer reply lock at goes =
     let found = goes.after s.0 at.word in
     record {
       may = found.0;
@@ -38,20 +51,36 @@ lock_went h e s bits next writer reply lock at goes =
         word = found.1.1;
         content = at.content ∙ sym (lock_leaves s.1 e.call reply lock);
       };
+      writer = lock_puts_none writer i e.call reply lock;
     }
 
-pub lock_did_not : (h : ObservedHistory) (e : Observation) (s : LockState) (bits : ℕ) (writer : Option ℕ) →
-    is_lock_call e.call ≡ true → IsAt h bits writer s → LockGoes h.limits bits e None → HasGone h e s None
-lock_did_not h e s bits writer lock at goes reply t may steps =
+pub lock_did_not : (h : ObservedHistory) (i : ℕ) (e : Observation) (s : LockState) (bits : ℕ) (writer : Option ℕ) →
+    is_lock_call e.call ≡ true → IsAt h bits writer s → LockGoes h.limits bits e None → HasGone h i e writer s None
+lock_did_not h i e s bits writer lock at goes reply t may steps =
     goes.after s.0 at.word reply may
     (MatchBool-at_true (Replies (transition h.limits s.0 e.call) reply) (RecordReplies s.1 e.call reply) lock
     steps.replies)
 
-pub record_went : (h : ObservedHistory) (e : Observation) (s : LockState) (bits : ℕ) (writer next : Option ℕ)
-    (reply : Reply) → is_lock_call e.call ≡ false → IsAt h bits writer s →
-    RecordGoes h.width h.entries writer e (Some (next, reply)) →
-    Goes h e s (record { bits = bits; writer = next; reply = reply })
-record_went h e s bits writer next reply guarded at goes = record {
+-- what the record holds by the put whose words it has
+content_put : (width : ℕ) (entries : List Observation) (put : Option ℕ) (i : ℕ) (e : Observation) (reply : Reply) →
+    slice_get entries i ≡ Some e → content_by width entries (put_after put i e.call reply) ≡
+    content_next (content_by width entries put) e.call reply
+content_put width entries put i e reply at = by e.call reply refl
+  where
+    put_here : (words : List ℕ) → words_put width e.call ≡ words → content_by width entries (Some i) ≡ words
+    put_here words same = ap (λ (o : Option Observation). words_put_at width o) at ∙ same
+
+    by : (call : Call) (r : Reply) → e.call ≡ call → content_by width entries (put_after put i call r) ≡
+        content_next (content_by width entries put) call r
+    by (Put words) r same = put_here words (ap (λ (c : Call). words_put width c) same)
+    by (PutIf expected words) Yes same = put_here words (ap (λ (c : Call). words_put width c) same)
+    by call r same = refl
+
+pub record_went : (h : ObservedHistory) (i : ℕ) (e : Observation) (s : LockState) (bits : ℕ)
+    (writer next : Option ℕ) (reply : Reply) → slice_get h.entries i ≡ Some e → is_lock_call e.call ≡ false →
+    IsAt h bits writer s → RecordGoes h.width h.entries writer i e (Some (next, reply)) →
+    Goes h i e writer s (record { bits = bits; writer = next; reply = reply })
+record_went h i e s bits writer next reply is_entry guarded at goes = record {
   may = goes.0;
   steps = record {
     replies = subst (λ (b : Bool). MatchBool b (Replies (transition h.limits s.0 e.call) reply)
@@ -62,14 +91,17 @@ record_went h e s bits writer next reply guarded at goes = record {
   at = record {
     word = subst (λ (events : List LockEvent). Represents h.limits (word_at h.limits bits) events)
         (sym (record_appends h.limits s.0 e.call guarded)) at.word;
-    content = goes.1.1 ∙ ap (λ (content : List ℕ). content_next content e.call reply) at.content;
+    content = ap (λ (put : Option ℕ). content_by h.width h.entries put) goes.1.1 ∙
+        content_put h.width h.entries writer i e reply is_entry ∙
+        ap (λ (content : List ℕ). content_next content e.call reply) at.content;
   };
+  writer = goes.1.1;
 }
 
-pub record_did_not : (h : ObservedHistory) (e : Observation) (s : LockState) (bits : ℕ) (writer : Option ℕ) →
-    is_lock_call e.call ≡ false → IsAt h bits writer s → RecordGoes h.width h.entries writer e None →
-    HasGone h e s None
-record_did_not h e s bits writer guarded at goes reply t may steps =
+pub record_did_not : (h : ObservedHistory) (i : ℕ) (e : Observation) (s : LockState) (bits : ℕ)
+    (writer : Option ℕ) → is_lock_call e.call ≡ false → IsAt h bits writer s →
+    RecordGoes h.width h.entries writer i e None → HasGone h i e writer s None
+record_did_not h i e s bits writer guarded at goes reply t may steps =
     goes reply may (subst (λ (content : List ℕ). RecordReplies content e.call reply) (sym at.content)
     (MatchBool-at_false (Replies (transition h.limits s.0 e.call) reply) (RecordReplies s.1 e.call reply) guarded
     steps.replies))

@@ -19,7 +19,8 @@ use Rattle.stamp_explain.specs.Observed.{ObservedHistory, IsObserved, HasReturne
 use Rattle.stamp_explain.specs.Explained.{Effect, IsEffectOf}
 use Rattle.stamp_explain.specs.Observer.{changes_nothing, observes_by, observes, observes_in, observes_at}
 use Rattle.stamp_explain.specs.Search.{LockState, LockSteps, MayTake, IsReturnAt}
-use Rattle.stamp_explain.specs.Node.{IsNext, AreTaken, StandsFor, IsTried}
+use Rattle.stamp_explain.specs.Configuration.{IsTried}
+use Rattle.stamp_explain.specs.Node.{IsNext, AreTaken, StandsFor}
 use Rattle.stamp_explain.specs.Plan.{IsPlan, IsAwaitedAt, IsOpenAt, AreOpen, ClearsBit}
 use Rattle.stamp_explain.specs.Expand.{Hope, GoesOn, Expands, Leads, LeadsBy, IsTakenTo, Took, Tried}
 use Rattle.stamp_explain.specs.Expand.{IsNotInEffect, IsTakenAlike}
@@ -195,6 +196,7 @@ leads_by_call h plan node a i s taken w is bit stands to tried =
       tried = tried;
       state = to.state;
       may = to.may;
+      put = to.put;
       stands = to.stands;
     })
 
@@ -276,6 +278,7 @@ expands_past h plan node a threads is bit clears = record {
       leads = λ s taken stands_for. record {
         past = refl;
         in_effect = in_effect s taken stands_for;
+        put = refl;
         stands = stands s taken stands_for;
       };
     }

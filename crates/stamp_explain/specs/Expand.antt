@@ -14,7 +14,8 @@ use Rattle.stamp_explain.specs.declared.plan.Plan.{Plan}
 use Rattle.stamp_explain.specs.Observed.{ObservedHistory, IsObserved, AreOfOneObject}
 use Rattle.stamp_explain.specs.Explained.{Effect, IsEffectOf, IsExplained}
 use Rattle.stamp_explain.specs.Search.{LockState, LockSteps, MayTake, IsCompletedBy}
-use Rattle.stamp_explain.specs.Node.{IsAt, StandsFor, IsTried, IsReached, IsOpening, ReachesMany}
+use Rattle.stamp_explain.specs.Configuration.{IsTried, ReachesMany, put_after}
+use Rattle.stamp_explain.specs.Node.{IsAt, StandsFor, IsReached, IsOpening}
 use Rattle.stamp_explain.specs.Plan.{IsPlan, IsAwaitedAt}
 use Rattle.stamp_explain.specs.Store.{Keeps}
 use Rattle.stamp_explain.specs.Order.{IsOrderOf}
@@ -55,6 +56,7 @@ pub record LeadsByCall (h : ObservedHistory) (returns : List ℕ) (node w : Node
   pub tried : IsTried awaited effect.entry
   pub state : LockState
   pub may : MayTake (LockSteps h.limits) h.entries awaited s taken effect state
+  pub put : w.writer ≡ put_after node.writer effect.index effect.entry.call effect.reply
   pub stands : StandsFor h returns w state (effect.index ∷ taken)
 
 -- or the awaited call, which is in effect, returns
@@ -62,6 +64,7 @@ pub record LeadsByReturn (h : ObservedHistory) (returns : List ℕ) (node w : No
     (taken : List ℕ) : Type 0 where
   pub past : w.past ≡ node.past + 1
   pub in_effect : Contains taken (slice_index returns node.past)
+  pub put : w.writer ≡ node.writer
   pub stands : StandsFor h returns w s taken
 
 abbrev pub LeadsBy : ObservedHistory → List ℕ → Node → Node → LockState → List ℕ → Option ℕ → Type 0
@@ -106,6 +109,7 @@ pub record IsTakenTo (h : ObservedHistory) (returns : List ℕ) (node : Node) (a
   pub took : w.took ≡ Some effect.index
   pub state : LockState
   pub may : MayTake (LockSteps h.limits) h.entries a s taken effect state
+  pub put : w.node.writer ≡ put_after node.writer effect.index effect.entry.call effect.reply
   pub stands : StandsFor h returns w.node state (effect.index ∷ taken)
   pub only : (x : Effect) (u : LockState) → MayTake (LockSteps h.limits) h.entries a s taken x u → x.index ≡ i →
       StandsFor h returns w.node u (x.index ∷ taken)

@@ -1,6 +1,6 @@
 -- The laws of observed histories, over the definitions alone.
-use Rattle.std.specs.Prelude.{ℕ, ◌≡◌, ◌↔◌, true, false, List, [], ◌∷◌, slice_get, Some}
-use Rattle.std.specs.List.{Contains}
+use Rattle.std.specs.Prelude.{ℕ, ◌≡◌, ◌≢◌, ◌<◌, ◌↔◌, true, false, List, [], ◌∷◌, length, drop, slice_get, Some}
+use Rattle.std.specs.List.{All, AllPairs, Contains}
 use Rattle.stamp_core.specs.Limits.{Bounds}
 use Rattle.stamp_core.specs.declared.call.Call.{Call}
 use Rattle.stamp_core.specs.declared.reply.Reply.{Reply}
@@ -14,6 +14,7 @@ use Rattle.stamp_explain.specs.Points.{IsRecordOf}
 use Rattle.stamp_explain.specs.Cut.{cut, seen_at, IsStuck}
 use Rattle.stamp_explain.specs.Search.{LockState, FindsOrder, CanComplete, MayTake, AreReturns, AreReturnsOf}
 use Rattle.stamp_explain.specs.Search.{LockSteps, LockAlone, RecordAlone, opening, IsFirstReturn, IsAlikeSooner}
+use Rattle.stamp_explain.specs.Configuration.{Configuration}
 use Rattle.stamp_core.specs.Content.{zeros}
 use Rattle.stamp_explain.specs.Observer.{changes_nothing}
 
@@ -116,3 +117,14 @@ Locality =
     AreReturnsOf h.entries false records →
     IsExplained h ↔ (CanComplete (LockAlone h.limits) h.entries locks [] [] ×
     CanComplete RecordAlone h.entries records (zeros h.width) [])
+
+-- what a search reaches is decided by the calls that took effect, in their order
+pub record AreDecided (h : ObservedHistory) (returns : List ℕ) : Type 0 where
+  pub suffix : (c : Configuration h returns) → (n : ℕ) × (c.to_come ≡ drop n returns)
+  pub inside : (c : Configuration h returns) → All (λ (i : ℕ). i < length h.entries) c.taken
+  pub once : (c : Configuration h returns) → AllPairs (λ (i j : ℕ). i ≢ j) c.taken
+  pub decided : (c d : Configuration h returns) → c.taken ≡ d.taken → (c.state ≡ d.state) × (c.put ≡ d.put)
+
+-- So there are as many configurations at most as there are orders of some of the calls, at each of the returns.
+abbrev pub TheOrderDecides : Type 0
+TheOrderDecides = (h : ObservedHistory) (returns : List ℕ) → AreDecided h returns

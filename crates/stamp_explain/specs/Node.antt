@@ -1,7 +1,7 @@
 -- Where a search for an order is, and what a node of it stands for.
-use Rattle.std.specs.Prelude.{ℕ, ◌≡◌, ◌≢◌, ◌≤◌, ◌⊎◌, List, [], ◌∷◌, length, take, drop, slice_get, Option}
-use Rattle.std.specs.Prelude.{Some, None, true}
-use Rattle.std.specs.List.{All, AllPairs, Contains}
+use Rattle.std.specs.Prelude.{ℕ, ◌≡◌, ◌≢◌, ◌≤◌, ◌⊎◌, List, length, take, drop, slice_get, Option}
+use Rattle.std.specs.Prelude.{Some, None}
+use Rattle.std.specs.List.{Contains}
 use Rattle.std.specs.Int.{bit_at}
 use Rattle.stamp_core.specs.Word.{Represents, word_at}
 use Rattle.stamp_core.specs.Content.{zeros}
@@ -11,10 +11,9 @@ use Rattle.stamp_core.specs.declared.reply.Reply.{Reply}
 use Rattle.stamp_explain.specs.declared.observed.Observation.{Observation}
 use Rattle.stamp_explain.specs.declared.node.Node.{Node}
 use Rattle.stamp_explain.specs.declared.node.Step.{Step}
-use Rattle.stamp_explain.specs.Observed.{ObservedHistory, IsBefore, MayReply, AreOfOneObject}
-use Rattle.stamp_explain.specs.Observer.{observes}
-use Rattle.stamp_explain.specs.Explained.{Effect}
-use Rattle.stamp_explain.specs.Search.{LockState, LockSteps, MayTake, AreReturns, opening, after_call}
+use Rattle.stamp_explain.specs.Observed.{ObservedHistory, IsBefore, MayReply}
+use Rattle.stamp_explain.specs.Search.{LockState, LockSteps, opening, after_call}
+use Rattle.stamp_explain.specs.Configuration.{Reaches, put_after}
 
 -- the words that a call puts; zeros where it is no put
 abbrev pub words_put : ℕ → Call → List ℕ
@@ -38,12 +37,21 @@ pub record IsNext (entries : List Observation) (past : List ℕ) (i : ℕ) (e : 
   pub first : (j : ℕ) (f : Observation) → slice_get entries j ≡ Some f → f.thread ≡ e.thread →
       ¬ Contains past j → j ≢ i → IsBefore e f
 
--- the calls in effect: those whose return is past, and of the threads whose bit is set the next one
+-- this thread has a next call
+pub record HasNext (entries : List Observation) (past : List ℕ) (thread : ℕ) : Type 0 where
+  pub index : ℕ
+  pub entry : Observation
+  pub is : IsNext entries past index entry
+  pub same : entry.thread ≡ thread
+
+-- the calls in effect: those whose return is past, and of the threads whose bit is set, each of which has one, the
+-- next one
 pub record AreTaken (entries : List Observation) (past : List ℕ) (threads : ℕ) (taken : List ℕ) : Type 0 where
   pub only : (i : ℕ) (e : Observation) → slice_get entries i ≡ Some e → Contains taken i →
       Contains past i ⊎ ((bit_at threads e.thread ≡ 1) × IsNext entries past i e)
   pub all_past : (i : ℕ) → Contains past i → Contains taken i
   pub each_next : (i : ℕ) (e : Observation) → IsNext entries past i e → bit_at threads e.thread ≡ 1 → Contains taken i
+  pub has_next : (thread : ℕ) → bit_at threads thread ≡ 1 → HasNext entries past thread
 
 -- the state of lock and record by numbers: of the word, and of the entry that put the content
 pub record IsAt (h : ObservedHistory) (bits : ℕ) (writer : Option ℕ) (s : LockState) : Type 0 where
@@ -56,53 +64,31 @@ pub record StandsFor (h : ObservedHistory) (returns : List ℕ) (node : Node) (s
   pub at : IsAt h node.bits node.writer s
   pub in_effect : AreTaken h.entries (take node.past returns) node.threads taken
 
--- where the return of the one is awaited, the other is tried: it is of the same object, or tells that it changes
--- nothing
-abbrev pub IsTried : Observation → Observation → Type 0
-IsTried awaited e = AreOfOneObject awaited e ⊎ (observes e ≡ true)
-
--- a way through a search from the opening: a call in effect returns; where one that is not in effect is to
--- return, an open call that is tried takes effect
-pub data Reaches (h : ObservedHistory) (returns : List ℕ) : List ℕ → LockState → List ℕ → Type 0 where
-  begins : Reaches h returns returns (opening h.width) []
-  goes_past : {i : ℕ} {to_come : List ℕ} {s : LockState} {taken : List ℕ} →
-      Reaches h returns (i ∷ to_come) s taken → Contains taken i → Reaches h returns to_come s taken
-  goes_on_by : {i : ℕ} {to_come : List ℕ} {s : LockState} {taken : List ℕ} →
-      Reaches h returns (i ∷ to_come) s taken → (awaited : Observation) (x : Effect) (t : LockState) →
-      slice_get h.entries i ≡ Some awaited → ¬ Contains taken i → IsTried awaited x.entry →
-      MayTake (LockSteps h.limits) h.entries awaited s taken x t → Reaches h returns (i ∷ to_come) t (x.index ∷ taken)
-
 -- the node at which a search begins
 pub record IsOpening (h : ObservedHistory) (node : Node) : Type 0 where
   pub past : node.past ≡ 0
+  pub writer : node.writer ≡ None
   pub threads : node.threads ≡ 0
   pub at : IsAt h node.bits node.writer (opening h.width)
 
--- what a call does in a state, which its observation allows: the state afterwards and the reply
-pub record Goes (h : ObservedHistory) (e : Observation) (s : LockState) (step : Step) : Type 0 where
+-- what the call of this place does in a state, with the words of this put in the record, which its observation
+-- allows: the state afterwards and the reply
+pub record Goes (h : ObservedHistory) (i : ℕ) (e : Observation) (put : Option ℕ) (s : LockState)
+    (step : Step) : Type 0 where
   pub may : MayReply e step.reply
   pub steps : LockSteps h.limits s (e.call, step.reply) (after_call h.limits s (e.call, step.reply))
   pub at : IsAt h step.bits step.writer (after_call h.limits s (e.call, step.reply))
+  pub writer : step.writer ≡ put_after put i e.call step.reply
 
 -- what was found of a call in the state: what it does, or that no reply that its observation allows is given
-abbrev pub HasGone : ObservedHistory → Observation → LockState → Option Step → Type 0
-HasGone h e s None = (reply : Reply) (t : LockState) → MayReply e reply → ¬ LockSteps h.limits s (e.call, reply) t
-HasGone h e s (Some step) = Goes h e s step
+abbrev pub HasGone : ObservedHistory → ℕ → Observation → Option ℕ → LockState → Option Step → Type 0
+HasGone h i e put s None = (reply : Reply) (t : LockState) → MayReply e reply → ¬ LockSteps h.limits s (e.call, reply) t
+HasGone h i e put s (Some step) = Goes h i e put s step
 
--- the node stands for what a way through the search reaches
+-- the node stands for what a way through the search reaches, with the words of its writer in the record
 pub record IsReached (h : ObservedHistory) (returns : List ℕ) (node : Node) : Type 0 where
   pub state : LockState
   pub taken : List ℕ
+  pub inside : node.past ≤ length returns
   pub stands : StandsFor h returns node state taken
-  pub way : Reaches h returns (drop node.past returns) state taken
-
--- so many configurations, all of them different, are reached
-pub record AreReached (h : ObservedHistory) (returns : List ℕ) (most : ℕ) : Type 0 where
-  pub nodes : List Node
-  pub different : AllPairs (λ (v w : Node). v ≢ w) nodes
-  pub each : All (IsReached h returns) nodes
-  pub many : most ≤ length nodes
-
--- so a search for an order reaches so many
-abbrev pub ReachesMany : ObservedHistory → ℕ → Type 0
-ReachesMany h most = (returns : List ℕ) × (AreReturns h.entries returns × AreReached h returns most)
+  pub way : Reaches h returns (drop node.past returns) state node.writer taken

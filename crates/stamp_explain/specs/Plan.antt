@@ -33,11 +33,12 @@ pub record IsAwaitedAt (h : ObservedHistory) (returns : List ℕ) (past : ℕ) (
   pub inside : past < length returns
   pub is_entry : slice_get h.entries (slice_index returns past) ≡ Some a
 
--- the bit of this thread is set, or cleared, and the others are as before
+-- the bit of this thread is set, or cleared, and the others are as before; no bit is set that was not
 pub record SetsBit (old new k : ℕ) : Type 0 where
   pub here : bit_at new k ≡ 1
-  pub others : (i : ℕ) → i < 64 → i ≢ k → bit_at new i ≡ bit_at old i
+  pub others : (i : ℕ) → i ≢ k → bit_at new i ≡ bit_at old i
 
 pub record ClearsBit (old new k : ℕ) : Type 0 where
   pub here : bit_at new k ≡ 0
   pub others : (i : ℕ) → i < 64 → i ≢ k → bit_at new i ≡ bit_at old i
+  pub no_more : (i : ℕ) → bit_at new i ≡ 1 → bit_at old i ≡ 1

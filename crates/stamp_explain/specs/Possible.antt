@@ -1,13 +1,15 @@
 -- Which replies a call of an observed history could have had.
-use Rattle.std.specs.Prelude.{ℕ, ◌≡◌, ◌≢◌, ◌↔◌, ◌+◌, ◌⊎◌, List, slice_get, slice_set, Some, None}
+use Rattle.std.specs.Prelude.{ℕ, ◌≡◌, ◌≢◌, ◌↔◌, ◌+◌, ◌⊎◌, List, slice_get, slice_set, Some, None, codes}
 use Rattle.std.specs.List.{All, AllPairs, Contains}
 use Rattle.stamp_core.specs.declared.reply.Reply.{Reply}
 use Rattle.stamp_explain.specs.declared.observed.Observation.{Observation}
 use Rattle.stamp_explain.specs.declared.observed.Returned.{Returned}
+use Rattle.stamp_explain.specs.declared.possible.PossibleError.{PossibleError}
+use Rattle.stamp_explain.specs.declared.possible.PossibleError.TheVariants.{Undecided, Memory}
 use Rattle.stamp_explain.specs.Observed.{ObservedHistory}
 use Rattle.stamp_explain.specs.Explained.{IsExplained}
 use Rattle.stamp_explain.specs.Cut.{cut_after, seen_at}
-use Rattle.stamp_explain.specs.Node.{ReachesMany}
+use Rattle.stamp_explain.specs.Configuration.{ReachesMany}
 
 -- the call, returned at the same position with this reply
 abbrev pub answering : Observation → Returned → Reply → Observation
@@ -62,3 +64,8 @@ pub record IsUndecidedAtOwn (h : ObservedHistory) (i most : ℕ) : Type 0 where
 
 abbrev pub IsUndecidedAtAny : ObservedHistory → ℕ → ℕ → Type 0
 IsUndecidedAtAny h i most = IsUndecidedAtOwn h i most ⊎ ((reply : Reply) × IsUndecidedAtReply h i most reply)
+
+-- why the possible replies are not known, in words
+abbrev pub possible_error_text : PossibleError → List ℕ
+possible_error_text Undecided = codes "the possible replies are undecided"
+possible_error_text Memory = codes "out of memory"

@@ -1,5 +1,6 @@
 -- What is answered of an observed history.
-use Rattle.std.specs.Prelude.{ℕ, ◌≡◌, ◌+◌, ◌⊎◌, Bool, true, false, slice_get, Result, Ok, Err, Some}
+use Rattle.std.specs.Prelude.{ℕ, ◌≡◌, ◌+◌, ◌⊎◌, ◌++◌, Bool, true, false, List, slice_get, Result, Ok, Err, Some}
+use Rattle.std.specs.Prelude.{codes, decimal}
 use Rattle.stamp_core.specs.Record.{Recorded}
 use Rattle.stamp_explain.specs.declared.observed.Observation.{Observation}
 use Rattle.stamp_explain.specs.declared.observed.Returned.{Returned}
@@ -9,7 +10,7 @@ use Rattle.stamp_explain.specs.Observed.{ObservedHistory}
 use Rattle.stamp_explain.specs.Explained.{IsExplained}
 use Rattle.stamp_explain.specs.Cut.{IsStuck, cut, cut_before, seen_at}
 use Rattle.stamp_explain.specs.Points.{HasPoints}
-use Rattle.stamp_explain.specs.Node.{ReachesMany}
+use Rattle.stamp_explain.specs.Configuration.{ReachesMany}
 
 -- a search of what is seen then reaches so many configurations, all of them different; or one of the whole does,
 -- and all of its returns are known then
@@ -44,3 +45,9 @@ IsAnswer h most (Ok made) = HasPoints h made
 IsAnswer h most (Err (Stuck i)) = IsStuck h i
 IsAnswer h most (Err (Undecided i)) = IsUndecided h most i
 IsAnswer h most (Err Memory) = Unit {0}
+
+-- why there is no record, in words
+abbrev pub error_text : ExplainError → List ℕ
+error_text (Stuck i) = codes "no order explains the return of entry " ++ decimal i
+error_text (Undecided i) = codes "undecided at the return of entry " ++ decimal i
+error_text Memory = codes "out of memory"

@@ -26,6 +26,11 @@ pub enum ExplainError {
 }
 
 impl fmt::Display for ExplainError {
+    ghost use Rattle.std.specs.Prelude.{Some};
+    ghost use Rattle.stamp_explain.specs.Verdict.{error_text};
+
+    ghost output = { λ e. Some (error_text e) };
+
     fn fmt<W: fmt::Write>(&self, f: &mut fmt::Formatter<W>) -> fmt::Result {
         match self {
             ExplainError::Stuck(entry) => write!(

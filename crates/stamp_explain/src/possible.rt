@@ -24,6 +24,11 @@ pub enum PossibleError {
 }
 
 impl fmt::Display for PossibleError {
+    ghost use Rattle.std.specs.Prelude.{Some};
+    ghost use Rattle.stamp_explain.specs.Possible.{possible_error_text};
+
+    ghost output = { λ e. Some (possible_error_text e) };
+
     fn fmt<W: fmt::Write>(&self, f: &mut fmt::Formatter<W>) -> fmt::Result {
         match self {
             PossibleError::Undecided => write!(f, "the possible replies are undecided"),
@@ -149,7 +154,7 @@ pub fn possible_among(
 
 /// All replies that the call at this place could have had, each once: with such a one in place of its
 /// own, and with no other, what is known when the call has returned is explained. None, where it would
-/// have waited. There is a search for what the other calls may do before it, and one for each reply that
+/// have waited, or where what was known before it is not explained. There is a search for what the other calls may do before it, and one for each reply that
 /// it gets then; each looks at `most` configurations at most. Refuses as 1 `Undecided`, where one of the
 /// searches reached so many, or 2 `Memory`.
 pub fn possible_at(

@@ -12,7 +12,7 @@ use stamp_core::{Entry, Record, Reply};
 use std::alloc::{AllocError, Global};
 
 /// A position, and how many calls took effect at it.
-#[derive(Clone, Copy, Debug, PartialEq, Eq)]
+#[derive(Clone, Copy)]
 struct Place {
     position: u64,
     before: u64,

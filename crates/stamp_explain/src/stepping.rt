@@ -61,9 +61,8 @@ fn record_step(
     i: usize,
     entry: &Observation,
 ) -> Option<(Option<usize>, Reply)>
-    requires some { 0 < observed.now.width }
-    requires entry { slice_get observed.now.entries i ≡ Some entry.now }
-    ensures { RecordGoes observed.now.width observed.now.entries writer entry.now result }
+    requires { 0 < observed.now.width }
+    ensures { RecordGoes observed.now.width observed.now.entries writer i entry.now result }
 {
     let content = content_of(observed, writer);
     let (next, reply) = match entry.call {
@@ -97,7 +96,7 @@ pub(crate) fn step_of(
     requires suits { (e : Observation) → slice_get observed.now.entries i ≡ Some e
         → IsTrue (call_suits observed.now.width e.call) }
     ensures { (e : Observation) (s : LockState) → slice_get observed.now.entries i ≡ Some e
-        → IsAt observed.now bits writer s → HasGone observed.now e s result }
+        → IsAt observed.now bits writer s → HasGone observed.now i e writer s result }
 {
     let entry = &observed.entries()[i];
     if entry.call.is_lock_call() {

@@ -1,7 +1,7 @@
 use stamp_core::{Call, Entry, Limits, Reply, Words};
 use stamp_explain::{
     END_OF_POSITIONS, ExplainError, Observation, Observed, PossibleError, Returned, explain,
-    has_returned_at, is_observed, possible_among,
+    has_returned_at, is_observed, possible_among, possible_at,
 };
 use std::test::Fail;
 
@@ -12,170 +12,292 @@ fn words(word: u64) -> Result<Words, Fail> {
     }
 }
 
-/// A call that returned, with its first and its last position.
-fn returned(thread: u64, call: Call, reply: Reply, at: (u64, u64)) -> Observation {
-    let (first, last) = at;
+/// A call in short: its thread, the call, its first position, and its last with its reply, unless it is
+/// under way.
+type Short = (u64, Call, u64, Option<(u64, Reply)>);
+
+/// A write acquired from positions 0 to 3.
+const WRITE: Short = (0, Call::TryWrite, 0, Some((3, Reply::Stamp(384))));
+
+fn observation((thread, call, first, end): Short) -> Observation {
+    let returned = match end {
+        None => None,
+        Some((last, reply)) => Some(Returned { last, reply }),
+    };
     Observation {
         thread,
         call,
         first,
-        returned: Some(Returned { last, reply }),
+        returned,
     }
 }
 
-fn under_way(thread: u64, call: Call, first: u64) -> Observation {
-    Observation {
-        thread,
-        call,
-        first,
-        returned: None,
-    }
-}
-
-/// None where it can't be observed so.
+/// The first calls of these; none where they can't be observed so.
 fn made(
     rt: &impl AllocGlobal,
     width: u64,
-    entries: &[Observation],
+    calls: &[Short; 3],
+    count: usize,
 ) -> Result<Option<Observed>, Fail> {
     let Ok(limits) = Limits::new(127, 1000) else {
         return Err(Fail::from("limits"));
     };
-    let mut held = Vec::new(rt.alloc());
-    for entry in entries {
-        held.push(*entry)?;
+    let mut entries = Vec::new(rt.alloc());
+    for i in 0..count.min(3) {
+        entries.push(observation(calls[i]))?;
     }
-    Ok(Observed::of(limits, width, held))
+    Ok(Observed::of(limits, width, entries))
 }
 
-fn observed(rt: &impl AllocGlobal, width: u64, entries: &[Observation]) -> Result<Observed, Fail> {
-    match made(rt, width, entries)? {
-        Some(observed) => Ok(observed),
-        None => Err(Fail::from("observed")),
-    }
+/// A history of one call, two or three, and why no record is given, if none is.
+#[derive(Clone, Copy)]
+struct Case {
+    name: &'static str,
+    calls: [Short; 3],
+    count: usize,
+    fault: Option<ExplainError>,
 }
 
-/// Why no record was given, if none was.
-fn fault(
-    rt: &impl AllocGlobal,
-    width: u64,
-    entries: &[Observation],
-    most: u64,
-) -> Result<Option<ExplainError>, Fail> {
-    let observed = observed(rt, width, entries)?;
+/// Whether a search of so many configurations finds that of the history.
+fn is_right(rt: &impl AllocGlobal, width: u64, most: u64, case: &Case) -> Result<bool, Fail> {
+    let Some(observed) = made(rt, width, &case.calls, case.count)? else {
+        return Ok(false);
+    };
     if !is_observed(&observed) {
-        return Err(Fail::from("not observed"));
+        return Ok(false);
     }
-    Ok(explain(rt.alloc(), &observed, most).err())
+    Ok(explain(rt.alloc(), &observed, most).err() == case.fault)
 }
 
-/// A write acquired from positions 0 to 3.
-fn first_write() -> Observation {
-    returned(0, Call::TryWrite, Reply::Stamp(384), (0, 3))
+/// The name of the first case that is not as it says.
+fn wrong(rt: &impl AllocGlobal, width: u64, cases: &[Case]) -> Result<Option<&'static str>, Fail> {
+    for case in cases {
+        if !is_right(rt, width, 100, case)? {
+            return Ok(Some(case.name));
+        }
+    }
+    Ok(None)
 }
+
+/// A hold that is converted, and a write that failed.
+const CONVERTED: Short = (1, Call::ToRead(384), 6, Some((8, Reply::Stamp(513))));
+
+const FAILED: Short = (1, Call::TryWrite, 2, Some((3, Reply::Stamp(0))));
+
+/// Histories of the lock, with 127 readers.
+const OF_THE_LOCK: [Case; 9] = [
+    Case {
+        name: "no calls",
+        calls: [WRITE; 3],
+        count: 0,
+        fault: None,
+    },
+    Case {
+        name: "a release after its acquisition",
+        calls: [
+            WRITE,
+            (0, Call::UnlockWrite(384), 4, Some((5, Reply::Done))),
+            WRITE,
+        ],
+        count: 2,
+        fault: None,
+    },
+    Case {
+        name: "a release that is told a mismatch",
+        calls: [
+            WRITE,
+            (0, Call::UnlockWrite(384), 4, Some((5, Reply::Mismatch))),
+            WRITE,
+        ],
+        count: 2,
+        fault: Some(ExplainError::Stuck(1)),
+    },
+    Case {
+        name: "an optimistic stamp during an acquisition",
+        calls: [
+            WRITE,
+            (1, Call::Optimistic, 1, Some((2, Reply::Stamp(256)))),
+            WRITE,
+        ],
+        count: 2,
+        fault: None,
+    },
+    Case {
+        name: "an optimistic stamp after an acquisition",
+        calls: [
+            WRITE,
+            (1, Call::Optimistic, 4, Some((5, Reply::Stamp(256)))),
+            WRITE,
+        ],
+        count: 2,
+        fault: Some(ExplainError::Stuck(1)),
+    },
+    Case {
+        name: "a call under way that may have taken effect",
+        calls: [(0, Call::WriteLock, 1, None), FAILED, WRITE],
+        count: 2,
+        fault: None,
+    },
+    Case {
+        name: "a call under way that began too late",
+        calls: [(0, Call::WriteLock, 4, None), FAILED, WRITE],
+        count: 2,
+        fault: Some(ExplainError::Stuck(1)),
+    },
+    Case {
+        name: "a hold that is converted twice",
+        calls: [
+            WRITE,
+            CONVERTED,
+            (2, Call::ToRead(384), 7, Some((9, Reply::Stamp(513)))),
+        ],
+        count: 3,
+        fault: Some(ExplainError::Stuck(2)),
+    },
+    Case {
+        name: "a hold that is converted once",
+        calls: [
+            WRITE,
+            CONVERTED,
+            (2, Call::ToRead(384), 7, Some((9, Reply::Stamp(0)))),
+        ],
+        count: 3,
+        fault: None,
+    },
+];
 
 #[test]
-fn calls_one_after_the_other_are_judged_by_their_replies(rt: HostRuntime) -> Result<(), Fail> {
-    assert!(rt; fault(&rt, 0, &[], 1)? == None);
-    let released = returned(0, Call::UnlockWrite(384), Reply::Done, (4, 5));
-    assert!(rt; fault(&rt, 0, &[first_write(), released], 100)? == None);
-    let mismatch = returned(0, Call::UnlockWrite(384), Reply::Mismatch, (4, 5));
-    assert!(rt; fault(&rt, 0, &[first_write(), mismatch], 100)? == Some(ExplainError::Stuck(1)));
-    Ok(())
-}
-
-#[test]
-fn overlapping_calls_take_effect_in_any_order(rt: HostRuntime) -> Result<(), Fail> {
-    let during = returned(1, Call::Optimistic, Reply::Stamp(256), (1, 2));
-    assert!(rt; fault(&rt, 0, &[first_write(), during], 100)? == None);
-    let after = returned(1, Call::Optimistic, Reply::Stamp(256), (4, 5));
-    assert!(rt; fault(&rt, 0, &[first_write(), after], 100)? == Some(ExplainError::Stuck(1)));
-    Ok(())
-}
-
-#[test]
-fn a_call_under_way_may_have_taken_effect(rt: HostRuntime) -> Result<(), Fail> {
-    let failed = returned(1, Call::TryWrite, Reply::Stamp(0), (2, 3));
-    let begun = under_way(0, Call::WriteLock, 1);
-    assert!(rt; fault(&rt, 0, &[begun, failed], 100)? == None);
-    let later = under_way(0, Call::WriteLock, 4);
-    assert!(rt; fault(&rt, 0, &[later, failed], 100)? == Some(ExplainError::Stuck(1)));
-    Ok(())
-}
-
-#[test]
-fn one_hold_is_converted_once(rt: HostRuntime) -> Result<(), Fail> {
-    let one = returned(1, Call::ToRead(384), Reply::Stamp(513), (6, 8));
-    let other = returned(2, Call::ToRead(384), Reply::Stamp(513), (7, 9));
-    assert!(rt; fault(&rt, 0, &[first_write(), one, other], 100)? == Some(ExplainError::Stuck(2)));
-    let refused = returned(2, Call::ToRead(384), Reply::Stamp(0), (7, 9));
-    assert!(rt; fault(&rt, 0, &[first_write(), one, refused], 100)? == None);
+fn a_history_is_explained_or_stuck_at_one_return(rt: HostRuntime) -> Result<(), Fail> {
+    assert!(rt; wrong(&rt, 0, &OF_THE_LOCK)? == None);
     Ok(())
 }
 
 #[test]
 fn a_get_after_a_get_reads_nothing_older(rt: HostRuntime) -> Result<(), Fail> {
-    let put = returned(0, Call::Put(words(7)?), Reply::Done, (0, 5));
-    let new = returned(1, Call::Get, Reply::Content(words(7)?), (1, 2));
-    let again = returned(2, Call::Get, Reply::Content(words(7)?), (3, 4));
-    assert!(rt; fault(&rt, 1, &[put, new, again], 100)? == None);
-    let old = returned(2, Call::Get, Reply::Content(words(0)?), (3, 4));
-    assert!(rt; fault(&rt, 1, &[put, new, old], 100)? == Some(ExplainError::Stuck(2)));
-    let swapped = returned(2, Call::PutIf(words(7)?, words(8)?), Reply::Yes, (3, 4));
-    assert!(rt; fault(&rt, 1, &[put, new, swapped], 100)? == None);
+    let (zero, seven, eight) = (words(0)?, words(7)?, words(8)?);
+    let put = (0, Call::Put(seven), 0, Some((5, Reply::Done)));
+    let new = (1, Call::Get, 1, Some((2, Reply::Content(seven))));
+    let swapped = Some((4, Reply::Yes));
+    let cases = [
+        Case {
+            name: "the same again",
+            calls: [
+                put,
+                new,
+                (2, Call::Get, 3, Some((4, Reply::Content(seven)))),
+            ],
+            count: 3,
+            fault: None,
+        },
+        Case {
+            name: "the older content",
+            calls: [put, new, (2, Call::Get, 3, Some((4, Reply::Content(zero))))],
+            count: 3,
+            fault: Some(ExplainError::Stuck(2)),
+        },
+        Case {
+            name: "a put that finds the new content",
+            calls: [put, new, (2, Call::PutIf(seven, eight), 3, swapped)],
+            count: 3,
+            fault: None,
+        },
+    ];
+    assert!(rt; wrong(&rt, 1, &cases)? == None);
     Ok(())
 }
 
 #[test]
 fn a_reply_that_comes_later_is_not_known_before(rt: HostRuntime) -> Result<(), Fail> {
-    let failed = returned(1, Call::TryRead, Reply::Stamp(0), (1, 5));
-    let table = [(10, 0), (5, 1), (4, 1)];
-    for (last, stuck) in table {
-        let refused = returned(0, Call::TryWrite, Reply::Stamp(0), (0, last));
-        assert!(rt; fault(&rt, 0, &[refused, failed], 100)? == Some(ExplainError::Stuck(stuck)));
+    let failed = (1, Call::TryRead, 1, Some((5, Reply::Stamp(0))));
+    for (last, stuck) in [(10, 0), (5, 1), (4, 1)] {
+        let refused = (0, Call::TryWrite, 0, Some((last, Reply::Stamp(0))));
+        let case = Case {
+            name: "two that failed",
+            calls: [refused, failed, WRITE],
+            count: 2,
+            fault: Some(ExplainError::Stuck(stuck)),
+        };
+        assert!(rt; is_right(&rt, 0, 100, &case)?, "{last}");
     }
     Ok(())
 }
 
 #[test]
 fn a_search_that_has_not_ended_is_undecided(rt: HostRuntime) -> Result<(), Fail> {
-    let history = [first_write()];
-    assert!(rt; fault(&rt, 0, &history, 0)? == Some(ExplainError::Undecided(0)));
-    assert!(rt; fault(&rt, 0, &history, 2)? == Some(ExplainError::Undecided(0)));
-    assert!(rt; fault(&rt, 0, &history, 3)? == None);
+    let undecided = Some(ExplainError::Undecided(0));
+    for (most, fault) in [(0, undecided), (2, undecided), (3, None)] {
+        let case = Case {
+            name: "a write",
+            calls: [WRITE; 3],
+            count: 1,
+            fault,
+        };
+        assert!(rt; is_right(&rt, 0, most, &case)?, "{most}");
+    }
     Ok(())
 }
 
 #[test]
 fn calls_of_a_thread_do_not_overlap(rt: HostRuntime) -> Result<(), Fail> {
-    let over = returned(0, Call::ReadCount, Reply::Count(0), (5, 4));
-    let overlapping = returned(0, Call::ReadCount, Reply::Count(0), (3, 6));
-    let far = returned(64, Call::ReadCount, Reply::Count(0), (4, 5));
-    let of_the_record = returned(1, Call::Get, Reply::Content(words(0)?), (4, 5));
-    for entry in [over, overlapping, far, of_the_record] {
-        assert!(rt; is_observed(&observed(&rt, 0, &[first_write(), entry])?) == false);
+    let zero = words(0)?;
+    let calls = [
+        (0, Call::ReadCount, 5, Some((4, Reply::Count(0)))),
+        (0, Call::ReadCount, 3, Some((6, Reply::Count(0)))),
+        (64, Call::ReadCount, 4, Some((5, Reply::Count(0)))),
+        (1, Call::Get, 4, Some((5, Reply::Content(zero)))),
+    ];
+    for call in calls {
+        let is_seen = match made(&rt, 0, &[WRITE, call, WRITE], 2)? {
+            Some(observed) => is_observed(&observed),
+            None => true,
+        };
+        assert!(rt; !is_seen);
     }
     Ok(())
 }
 
-/// The entries of the record that explains the history.
-fn explained(
+#[test]
+fn positions_are_below_2_to_the_58(rt: HostRuntime) -> Result<(), Fail> {
+    let table = [
+        (END_OF_POSITIONS - 1, END_OF_POSITIONS - 1, true),
+        (END_OF_POSITIONS - 1, END_OF_POSITIONS, false),
+        (END_OF_POSITIONS, END_OF_POSITIONS, false),
+    ];
+    for (first, last, fits) in table {
+        let call = (0, Call::ReadCount, first, Some((last, Reply::Count(0))));
+        assert!(rt; made(&rt, 0, &[call; 3], 1)?.is_some() == fits);
+    }
+    Ok(())
+}
+
+/// The one reply that was found, if any, or why none is known.
+type Found = Result<Option<Reply>, PossibleError>;
+
+/// What was found; memory, where it is more than one.
+fn only(replies: Result<Vec<Reply>, PossibleError>) -> Found {
+    let replies = replies?;
+    if replies.len() > 1 {
+        return Err(PossibleError::Memory);
+    }
+    Ok(replies.first().copied())
+}
+
+/// The entries of the record that explains the two calls are these.
+fn is_explained_by(
     rt: &impl AllocGlobal,
-    width: u64,
-    history: &[Observation],
-) -> Result<Vec<Entry>, Fail> {
-    let observed = observed(rt, width, history)?;
-    if !is_observed(&observed) {
-        return Err(Fail::from("not observed"));
-    }
-    let Ok(record) = explain(rt.alloc(), &observed, 100) else {
-        return Err(Fail::from("no record"));
+    calls: &[Short; 3],
+    entries: &[Entry; 2],
+) -> Result<bool, Fail> {
+    let Some(observed) = made(rt, 0, calls, 2)? else {
+        return Ok(false);
     };
-    let mut entries = Vec::new(rt.alloc());
-    for entry in record.entries() {
-        entries.push(*entry)?;
+    if !is_observed(&observed) {
+        return Ok(false);
     }
-    Ok(entries)
+    match explain(rt.alloc(), &observed, 100) {
+        Ok(record) => Ok(record.entries() == entries.as_slice()),
+        Err(_) => Ok(false),
+    }
 }
 
 fn entry(thread: u64, call: Call, reply: Reply, moments: (u64, u64, u64)) -> Entry {
@@ -192,76 +314,45 @@ fn entry(thread: u64, call: Call, reply: Reply, moments: (u64, u64, u64)) -> Ent
 
 #[test]
 fn calls_of_one_position_have_points_one_after_the_other(rt: HostRuntime) -> Result<(), Fail> {
-    let during = returned(1, Call::Optimistic, Reply::Stamp(256), (1, 2));
-    let entries = explained(&rt, 0, &[first_write(), during])?;
-    assert!(rt; entries.len() == 2);
-    assert!(rt;
-        entries.get(0).copied()
-            == Some(entry(1, Call::Optimistic, Reply::Stamp(256), (64, 64, 191)))
-    );
-    assert!(rt;
-        entries.get(1).copied() == Some(entry(0, Call::TryWrite, Reply::Stamp(384), (0, 65, 255)))
-    );
+    let during = (1, Call::Optimistic, 1, Some((2, Reply::Stamp(256))));
+    let entries = [
+        entry(1, Call::Optimistic, Reply::Stamp(256), (64, 64, 191)),
+        entry(0, Call::TryWrite, Reply::Stamp(384), (0, 65, 255)),
+    ];
+    assert!(rt; is_explained_by(&rt, &[WRITE, during, WRITE], &entries)?);
     Ok(())
 }
 
 #[test]
 fn a_call_under_way_that_took_effect_ends_with_the_history(rt: HostRuntime) -> Result<(), Fail> {
-    let begun = under_way(0, Call::WriteLock, 1);
-    let failed = returned(1, Call::TryWrite, Reply::Stamp(0), (2, 3));
-    let entries = explained(&rt, 0, &[begun, failed])?;
-    assert!(rt; entries.len() == 2);
-    assert!(rt;
-        entries.get(0).copied() == Some(entry(0, Call::WriteLock, Reply::Stamp(384), (64, 64, 255)))
-    );
-    assert!(rt;
-        entries.get(1).copied() == Some(entry(1, Call::TryWrite, Reply::Stamp(0), (128, 128, 255)))
-    );
-    Ok(())
-}
-
-#[test]
-fn positions_are_below_2_to_the_58(rt: HostRuntime) -> Result<(), Fail> {
-    let table = [
-        (END_OF_POSITIONS - 1, END_OF_POSITIONS - 1, true),
-        (END_OF_POSITIONS - 1, END_OF_POSITIONS, false),
-        (END_OF_POSITIONS, END_OF_POSITIONS, false),
+    let failed = (1, Call::TryWrite, 2, Some((3, Reply::Stamp(0))));
+    let entries = [
+        entry(0, Call::WriteLock, Reply::Stamp(384), (64, 64, 255)),
+        entry(1, Call::TryWrite, Reply::Stamp(0), (128, 128, 255)),
     ];
-    for (first, last, fits) in table {
-        let last_call = returned(0, Call::ReadCount, Reply::Count(0), (first, last));
-        assert!(rt; made(&rt, 0, &[last_call])?.is_some() == fits);
-    }
+    let calls = [(0, Call::WriteLock, 1, None), failed, WRITE];
+    assert!(rt; is_explained_by(&rt, &calls, &entries)?);
     Ok(())
 }
 
-/// Which of these replies the second call could have had.
-fn possible(
-    rt: &impl AllocGlobal,
-    entries: &[Observation],
-    replies: &[Reply],
-    most: u64,
-) -> Result<Result<Vec<Reply>, PossibleError>, Fail> {
-    let observed = observed(rt, 0, entries)?;
+/// Whether this is found of a read after the acquisition of a write, among three replies and among all.
+fn is_found(rt: &impl AllocGlobal, most: u64, found: Found) -> Result<bool, Fail> {
+    let read = (1, Call::TryRead, 4, Some((5, Reply::Stamp(257))));
+    let Some(observed) = made(rt, 0, &[WRITE, read, WRITE], 2)? else {
+        return Ok(false);
+    };
     if !is_observed(&observed) || !has_returned_at(&observed, 1) {
-        return Err(Fail::from("no return"));
+        return Ok(false);
     }
-    Ok(possible_among(rt.alloc(), &observed, 1, replies, most))
+    let tried = [Reply::Stamp(257), Reply::Stamp(0), Reply::Stamp(513)];
+    let among = only(possible_among(rt.alloc(), &observed, 1, &tried, most));
+    let all = only(possible_at(rt.alloc(), &observed, 1, most));
+    Ok(among == found && all == found)
 }
 
 #[test]
 fn a_read_after_a_write_acquisition_could_have_had_0_alone(rt: HostRuntime) -> Result<(), Fail> {
-    let entries = [
-        first_write(),
-        returned(1, Call::TryRead, Reply::Stamp(257), (4, 5)),
-    ];
-    let tried = [Reply::Stamp(257), Reply::Stamp(0), Reply::Stamp(513)];
-    let Ok(found) = possible(&rt, &entries, &tried, 100)? else {
-        return Err(Fail::from("undecided"));
-    };
-    assert!(rt; found.as_slice() == [Reply::Stamp(0)].as_slice());
-    let Err(error) = possible(&rt, &entries, &tried, 1)? else {
-        return Err(Fail::from("decided"));
-    };
-    assert!(rt; error == PossibleError::Undecided);
+    assert!(rt; is_found(&rt, 100, Ok(Some(Reply::Stamp(0))))?);
+    assert!(rt; is_found(&rt, 1, Err(PossibleError::Undecided))?);
     Ok(())
 }

@@ -11,7 +11,7 @@ use stamp_picture::PictureError;
 use std::alloc::{AllocError, Global};
 
 /// Why there is no picture.
-#[derive(Clone, Copy, Debug, PartialEq, Eq)]
+#[derive(Clone, Copy)]
 pub(crate) enum PictureFault {
     /// What `stamped check` refuses too.
     Serve(ServeFault),

@@ -10,7 +10,7 @@ use stamp_cli::CommandFault;
 use stamp_picture::Window;
 
 /// How a picture is drawn.
-#[derive(Clone, Copy, Debug, PartialEq, Eq)]
+#[derive(Clone, Copy)]
 pub(crate) enum Form {
     /// As SVG.
     Svg,
@@ -19,7 +19,7 @@ pub(crate) enum Form {
 }
 
 /// What is to be drawn.
-#[derive(Clone, Copy, Debug, PartialEq, Eq)]
+#[derive(Clone, Copy)]
 pub(crate) struct PictureOrder {
     /// How.
     pub(crate) form: Form,

@@ -1,5 +1,5 @@
-use Rattle.std.proofs.Common.{◌≡◌, take}
+use Rattle.std.proofs.Common.{◌≡◌}
 use Rattle.refused_memory.proofs.schedules.ends_alike.Given as goal
 
 abbrev pub invariant-loop-name : goal.invariant-loop-name
-invariant-loop-name l = l.run ≡ record { script = l.script; names = take l.name-index l.script.steps }
+invariant-loop-name l = l.run.script ≡ l.script

@@ -1,13 +1,25 @@
-use Rattle.std.proofs.Common.{◌≡◌, true, false, get_or, sym, ◌∙◌, ap}
+use Rattle.std.proofs.Common.{◌≡◌, ◌<◌, true, false, get_or, sym, ◌∙◌, ap}
 use Rattle.std.specs.Int.{bit_at}
 use Rattle.std.proofs.lemmas.Option.{same_Some}
 use Rattle.stamp_explain.specs.declared.observed.Observation.{Observation}
+use Rattle.stamp_explain.proofs.Expanding.{at_place}
 use Rattle.stamp_explain.proofs.Succeeding.{Awaits, awaits_of}
 use Rattle.stamp_explain.proofs.Beside.{past_leads, past_expands}
 use Rattle.stamp_explain.proofs.asking.passed.Goals as goal
 
 false_true : false ≡ true → ⊥
 false_true h = cc
+
+pub without_bit-requires : goal.without_bit-requires
+without_bit-requires c =
+    let is : Awaits c.args.asking.now.seen c.args.asking.now.plan c.args.node.now
+    (get_or c.entries.result.now c.index.result.now c.index-entries-index.result) =
+    awaits_of c.args.asking.now.seen c.args.asking.now.plan c.args.node.now c.index.result.now c.entries.result.now
+    c.index-entries-index.result c.requires.asking.observed c.requires.asking.plan c.requires.past c.index.ensures
+    c.entries.ensures.entries in
+    at_place (λ (o : Observation). o.thread < 64) c.args.asking.now.seen.entries _
+    (get_or c.entries.result.now c.index.result.now c.index-entries-index.result) c.requires.asking.observed.threads
+    is.at
 
 pub returns-then-has_bit-clause-leads : goal.returns-then-has_bit-clause-leads
 returns-then-has_bit-clause-leads c =

@@ -5,5 +5,5 @@ use Rattle.stamp_explain.proofs.plan.with_bit.Goals as goal
 pub returns : goal.returns
 returns c = record {
   here = bit_at_set_same w64 c.args.threads c.args.thread c.requires;
-  others = λ i within apart. bit_at_set_other w64 c.args.threads c.args.thread c.requires i apart;
+  others = bit_at_set_other w64 c.args.threads c.args.thread c.requires;
 }

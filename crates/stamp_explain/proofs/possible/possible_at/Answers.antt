@@ -4,7 +4,7 @@ use Rattle.std.specs.Option.{IfNone}
 use Rattle.std.proofs.lemmas.Result.{IfOk-weaker}
 use Rattle.stamp_core.specs.declared.reply.Reply.{Reply}
 use Rattle.stamp_explain.specs.Observed.{ObservedHistory}
-use Rattle.stamp_explain.specs.Node.{ReachesMany}
+use Rattle.stamp_explain.specs.Configuration.{ReachesMany}
 use Rattle.stamp_explain.specs.Possible.{ArePossible, AreAllPossible}
 use Rattle.stamp_explain.specs.Asking.{AreReplies}
 use Rattle.stamp_explain.proofs.Replying.{read_at}

@@ -12,27 +12,24 @@ entry_at : (es read : List Observation) (i : ℕ) (e : Observation) → i < leng
 entry_at es read i e lt is same = slice_get_read es (length es) i e refl lt (is ∙
     ap (λ (xs : List Observation). get_or xs i e) same)
 
-pub record_step-requires-clause-some : goal.record_step-requires-clause-some
-record_step-requires-clause-some c =
+pub record_step-requires : goal.record_step-requires
+record_step-requires c =
     let e = c.index-entries-i.result in
     suits_some c.args.observed.now.width e.call (sym c.is_lock_call.ensures ∙ c.if-is_lock_call.false)
     (c.requires.suits e (entry_at c.args.observed.now.entries _ c.args.i e c.requires.inside c.index-entries-i.is
     c.entries.ensures.entries))
-
-pub record_step-requires-clause-entry : goal.record_step-requires-clause-entry
-record_step-requires-clause-entry c = entry_at c.args.observed.now.entries _ c.args.i c.index-entries-i.result
-    c.requires.inside c.index-entries-i.is c.entries.ensures.entries
 
 pub returns-in-Some-record_step : goal.returns-in-Some-record_step
 returns-in-Some-record_step c e s is at =
     let f = c.index-entries-i.result in
     let same : f ≡ e = same_Some f e (sym (entry_at c.args.observed.now.entries _ c.args.i f c.requires.inside
     c.index-entries-i.is c.entries.ensures.entries) ∙ is) in
-    subst (λ (o : Observation). Goes c.args.observed.now o s
+    subst (λ (o : Observation). Goes c.args.observed.now c.args.i o c.args.writer s
     (record { bits = c.args.bits; writer = c.in-Some-record_step.next; reply = c.in-Some-record_step.reply }))
     same
-    (record_went c.args.observed.now f s c.args.bits c.args.writer c.in-Some-record_step.next
-    c.in-Some-record_step.reply (sym c.is_lock_call.ensures ∙ c.if-is_lock_call.false) at
+    (record_went c.args.observed.now c.args.i f s c.args.bits c.args.writer c.in-Some-record_step.next
+    c.in-Some-record_step.reply (entry_at c.args.observed.now.entries _ c.args.i f c.requires.inside
+    c.index-entries-i.is c.entries.ensures.entries) (sym c.is_lock_call.ensures ∙ c.if-is_lock_call.false) at
     c.in-Some-record_step.ensures)
 
 pub returns-in-None-record_step : goal.returns-in-None-record_step
@@ -40,6 +37,6 @@ returns-in-None-record_step c e s is at =
     let f = c.index-entries-i.result in
     let same : f ≡ e = same_Some f e (sym (entry_at c.args.observed.now.entries _ c.args.i f c.requires.inside
     c.index-entries-i.is c.entries.ensures.entries) ∙ is) in
-    subst (λ (o : Observation). HasGone c.args.observed.now o s None) same
-    (record_did_not c.args.observed.now f s c.args.bits c.args.writer (sym c.is_lock_call.ensures ∙
+    subst (λ (o : Observation). HasGone c.args.observed.now c.args.i o c.args.writer s None) same
+    (record_did_not c.args.observed.now c.args.i f s c.args.bits c.args.writer (sym c.is_lock_call.ensures ∙
     c.if-is_lock_call.false) at c.in-None-record_step.ensures)

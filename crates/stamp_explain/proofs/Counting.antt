@@ -1,0 +1,129 @@
+-- Different nodes that are reached stand for different configurations.
+use Rattle.std.proofs.Common.{◌≡◌, ◌≢◌, ℕ, ◌<◌, ◌≤◌, List, [], ◌∷◌, length, get_or, refl, sym, ◌∙◌, ap, subst, arith}
+use Rattle.std.proofs.Common.{Option, None, zero, suc}
+use Rattle.std.specs.Prelude.{take, drop}
+use Rattle.std.specs.List.{AllPairs, Contains}
+use Rattle.std.specs.Int.{bit_at}
+use Rattle.std.proofs.lemmas.Nat.Bits.{bit_at-lt, same_from_bits}
+use Rattle.std.proofs.lemmas.List.{length-drop}
+use Rattle.stamp_explain.specs.declared.node.Node.{Node}
+use Rattle.stamp_explain.specs.Observed.{ObservedHistory}
+use Rattle.stamp_explain.specs.Configuration.{Configuration, AreOne, AreReached}
+use Rattle.stamp_explain.specs.Node.{HasNext, IsReached}
+use Rattle.stamp_explain.proofs.Lists.{contains_first, contains_rest}
+use Rattle.stamp_explain.proofs.Standing.{taken_by_bit}
+
+-- the configuration that a node stands for
+abbrev configuration_of : (h : ObservedHistory) (returns : List ℕ) (v : Node) → IsReached h returns v →
+    Configuration h returns
+configuration_of h returns v reached = record {
+  to_come = drop v.past returns;
+  state = reached.state;
+  put = v.writer;
+  taken = reached.taken;
+  way = reached.way;
+}
+
+-- a thread whose bit is set has a call in effect; if that is in effect in the other configuration, its bit is set there
+bit_as_well : (h : ObservedHistory) (returns : List ℕ) (v w : Node) (one : IsReached h returns v)
+    (other : IsReached h returns w) → v.past ≡ w.past →
+    ((i : ℕ) → Contains one.taken i → Contains other.taken i) → (t : ℕ) → bit_at v.threads t ≡ 1 →
+    bit_at w.threads t ≡ 1
+bit_as_well h returns v w one other past has t bit =
+    let next : HasNext h.entries (take v.past returns) t = one.stands.in_effect.has_next t bit in
+    let in_effect : Contains one.taken next.index = one.stands.in_effect.each_next next.index next.entry next.is
+    (ap (λ (k : ℕ). bit_at v.threads k) next.same ∙ bit) in
+    let still : ¬ Contains (take w.past returns) next.index =
+    subst (λ (n : ℕ). ¬ Contains (take n returns) next.index) past next.is.still in
+    ap (λ (k : ℕ). bit_at w.threads k) (sym next.same) ∙ (taken_by_bit h.entries (take w.past returns) w.threads
+    other.taken next.index next.entry other.stands.in_effect next.is.is_entry still
+    (has next.index in_effect)).0
+
+one_bit : (a b : ℕ) → a < 2 → b < 2 → (a ≡ 1 → b ≡ 1) → (b ≡ 1 → a ≡ 1) → a ≡ b
+one_bit a b less also there back = grind arith
+
+abbrev node_of : ℕ → ℕ → Option ℕ → ℕ → Node
+node_of past bits writer threads = record { past = past; bits = bits; writer = writer; threads = threads }
+
+-- nodes whose configurations are one are one
+one_node : (h : ObservedHistory) (returns : List ℕ) (v w : Node) (is : IsReached h returns v)
+    (also : IsReached h returns w) →
+    AreOne h returns (configuration_of h returns v is) (configuration_of h returns w also) → v ≡ w
+one_node h returns v w is also one =
+    ap (λ (n : ℕ). node_of n v.bits v.writer v.threads) past ∙
+    ap (λ (n : ℕ). node_of w.past n v.writer v.threads) bits ∙
+    ap (λ (o : Option ℕ). node_of w.past w.bits o v.threads) one.put ∙
+    ap (λ (n : ℕ). node_of w.past w.bits w.writer n) threads
+  where
+    past : v.past ≡ w.past
+    past = omega (
+      arith,
+      is.inside,
+      also.inside,
+      length-drop v.past returns,
+      length-drop w.past returns,
+      ap (λ (xs : List ℕ). length xs) one.to_come,
+    )
+
+    bits : v.bits ≡ w.bits
+    bits = is.stands.at.word.spelled ∙ one.word ∙ sym also.stands.at.word.spelled
+
+    threads : v.threads ≡ w.threads
+    threads = same_from_bits v.threads w.threads (λ t. one_bit (bit_at v.threads t) (bit_at w.threads t)
+        (bit_at-lt v.threads t) (bit_at-lt w.threads t)
+        (bit_as_well h returns v w is also past (λ i. (one.in_effect i).0) t)
+        (bit_as_well h returns w v also is (sym past) (λ i. (one.in_effect i).1) t))
+
+-- the configurations of these nodes
+configurations_of : (h : ObservedHistory) (returns : List ℕ) (nodes : List Node) →
+    ((v : Node) → Contains nodes v → IsReached h returns v) → List (Configuration h returns)
+configurations_of h returns [] each = []
+configurations_of h returns (v ∷ nodes) each = configuration_of h returns v (each v (contains_first v nodes v refl)) ∷
+    configurations_of h returns nodes (λ w has. each w (contains_rest v nodes w has))
+
+as_many : (h : ObservedHistory) (returns : List ℕ) (nodes : List Node)
+    (each : (v : Node) → Contains nodes v → IsReached h returns v) →
+    length (configurations_of h returns nodes each) ≡ length nodes
+unfolding configurations_of
+as_many h returns [] each = refl
+as_many h returns (v ∷ nodes) each = ap suc (as_many h returns nodes (λ w has. each w (contains_rest v nodes w has)))
+
+-- at each place stands that of the node there
+record IsOf (h : ObservedHistory) (returns : List ℕ) (v : Node) (c : Configuration h returns) : Type 0 where
+  pub reached : IsReached h returns v
+  pub is : c ≡ configuration_of h returns v reached
+
+at_each : (h : ObservedHistory) (returns : List ℕ) (nodes : List Node)
+    (each : (v : Node) → Contains nodes v → IsReached h returns v) (k : ℕ) (d : Configuration h returns) (v : Node) →
+    k < length nodes → IsOf h returns (get_or nodes k v) (get_or (configurations_of h returns nodes each) k d)
+unfolding configurations_of
+at_each h returns [] each k d v lt = absurd (omega (arith, lt))
+at_each h returns (u ∷ nodes) each zero d v lt = record { reached = each u (contains_first u nodes u refl); is = refl }
+at_each h returns (u ∷ nodes) each (suc k) d v lt =
+    at_each h returns nodes (λ w has. each w (contains_rest u nodes w has)) k d v (omega (arith, lt))
+
+-- so many nodes, all different and reached, are so many configurations
+pub so_many : (h : ObservedHistory) (returns : List ℕ) (nodes : List Node) →
+    ((v : Node) → Contains nodes v → IsReached h returns v) → AllPairs (λ (v w : Node). v ≢ w) nodes → (most : ℕ) →
+    most ≤ length nodes → AreReached h returns most
+so_many h returns nodes each different most many = record {
+  configurations = configurations_of h returns nodes each;
+  different = λ i j d lt inside one. differ i j d lt (omega (arith, inside, as_many h returns nodes each)) one;
+  many = omega (arith, many, as_many h returns nodes each);
+}
+  where
+    none : Node
+    none = node_of 0 0 None 0
+
+    differ : (i j : ℕ) (d : Configuration h returns) → i < j → j < length nodes →
+        AreOne h returns (get_or (configurations_of h returns nodes each) i d)
+        (get_or (configurations_of h returns nodes each) j d) → ⊥
+    differ i j d lt inside one =
+        let v : IsOf h returns (get_or nodes i none) (get_or (configurations_of h returns nodes each) i d) =
+        at_each h returns nodes each i d none (omega (arith, lt, inside)) in
+        let w : IsOf h returns (get_or nodes j none) (get_or (configurations_of h returns nodes each) j d) =
+        at_each h returns nodes each j d none inside in
+        different i j none lt inside (one_node h returns (get_or nodes i none) (get_or nodes j none) v.reached w.reached
+        (subst (λ (c : Configuration h returns). AreOne h returns c
+        (configuration_of h returns (get_or nodes j none) w.reached)) v.is
+        (subst (AreOne h returns (get_or (configurations_of h returns nodes each) i d)) w.is one)))

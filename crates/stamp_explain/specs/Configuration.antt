@@ -1,0 +1,69 @@
+-- The configurations that a search for an order reaches.
+use Rattle.std.specs.Prelude.{ℕ, ◌≡◌, ◌≤◌, ◌⊎◌, ◌↔◌, List, [], ◌∷◌, length, slice_get, Option, Some, None, true}
+use Rattle.std.specs.List.{AllPairs, Contains}
+use Rattle.stamp_core.specs.LockEvent.{LockEvent, counts}
+use Rattle.stamp_core.specs.Limits.{Bounds, units}
+use Rattle.stamp_core.specs.Word.{word_number}
+use Rattle.stamp_core.specs.declared.call.Call.{Call}
+use Rattle.stamp_core.specs.declared.call.Call.TheVariants.{Put, PutIf}
+use Rattle.stamp_core.specs.declared.reply.Reply.{Reply}
+use Rattle.stamp_core.specs.declared.reply.Reply.TheVariants.{Yes}
+use Rattle.stamp_explain.specs.declared.observed.Observation.{Observation}
+use Rattle.stamp_explain.specs.Observed.{ObservedHistory, AreOfOneObject}
+use Rattle.stamp_explain.specs.Observer.{observes}
+use Rattle.stamp_explain.specs.Explained.{Effect}
+use Rattle.stamp_explain.specs.Search.{LockState, LockSteps, MayTake, AreReturns, opening}
+
+-- whose words the record holds after a call, which stands at this place of the history, and its reply
+abbrev pub put_after : Option ℕ → ℕ → Call → Reply → Option ℕ
+put_after put i (Put words) reply = Some i
+put_after put i (PutIf expected words) Yes = Some i
+put_after put i _ _ = put
+
+-- where the return of the one is awaited, the other is tried: it is of the same object, or tells that it changes
+-- nothing
+abbrev pub IsTried : Observation → Observation → Type 0
+IsTried awaited e = AreOfOneObject awaited e ⊎ (observes e ≡ true)
+
+-- a way through a search from the opening: a call in effect returns; where one that is not in effect is to
+-- return, an open call that is tried takes effect. It leads to the returns to come, what lock and record are in, the
+-- put whose words the record holds, if there was one, and the calls in effect
+pub data Reaches (h : ObservedHistory) (returns : List ℕ) : List ℕ → LockState → Option ℕ → List ℕ → Type 0 where
+  begins : Reaches h returns returns (opening h.width) None []
+  goes_past : {i : ℕ} {to_come : List ℕ} {s : LockState} {put : Option ℕ} {taken : List ℕ} →
+      Reaches h returns (i ∷ to_come) s put taken → Contains taken i → Reaches h returns to_come s put taken
+  goes_on_by : {i : ℕ} {to_come : List ℕ} {s : LockState} {put : Option ℕ} {taken : List ℕ} →
+      Reaches h returns (i ∷ to_come) s put taken → (awaited : Observation) (x : Effect) (t : LockState) →
+      slice_get h.entries i ≡ Some awaited → ¬ Contains taken i → IsTried awaited x.entry →
+      MayTake (LockSteps h.limits) h.entries awaited s taken x t →
+      Reaches h returns (i ∷ to_come) t (put_after put x.index x.entry.call x.reply) (x.index ∷ taken)
+
+-- where a way leads
+pub record Configuration (h : ObservedHistory) (returns : List ℕ) : Type 0 where
+  pub to_come : List ℕ
+  pub state : LockState
+  pub put : Option ℕ
+  pub taken : List ℕ
+  pub way : Reaches h returns to_come state put taken
+
+-- the number of the lock's word after these events
+abbrev pub number_after : Bounds → List LockEvent → ℕ
+number_after limits events = word_number (units limits) (counts events)
+
+-- a search takes them for one: the returns to come are the same, the lock's word, the put whose words the record
+-- holds, and the calls in effect
+pub record AreOne (h : ObservedHistory) (returns : List ℕ) (c d : Configuration h returns) : Type 0 where
+  pub to_come : c.to_come ≡ d.to_come
+  pub word : number_after h.limits c.state.0 ≡ number_after h.limits d.state.0
+  pub put : c.put ≡ d.put
+  pub in_effect : (i : ℕ) → Contains c.taken i ↔ Contains d.taken i
+
+-- so many configurations are reached, no two of which are one
+pub record AreReached (h : ObservedHistory) (returns : List ℕ) (most : ℕ) : Type 0 where
+  pub configurations : List (Configuration h returns)
+  pub different : AllPairs (λ (c d : Configuration h returns). ¬ AreOne h returns c d) configurations
+  pub many : most ≤ length configurations
+
+-- so a search for an order reaches so many
+abbrev pub ReachesMany : ObservedHistory → ℕ → Type 0
+ReachesMany h most = (returns : List ℕ) × (AreReturns h.entries returns × AreReached h returns most)
