@@ -3,8 +3,9 @@
 //     planted right|upgrade|version|validate THREADS CALLS SEED
 //
 // Each thread makes random calls, as the lock's documentation allows them, and keeps them on a tape of its
-// own, each with a ticket taken before it and one taken after it. The run goes to standard output, as
-// `stamped_explain` reads it. The bugs:
+// own, each with a ticket taken before it and one taken after it. Now and then a thread pauses until others
+// have made calls, so that the threads meet however the system schedules them. The run goes to standard
+// output, as `stamped_explain` reads it. The bugs:
 //
 //     upgrade     a read mode becomes write mode beside other readers
 //     version     a release of write mode doesn't count
@@ -14,7 +15,6 @@
 #include <sched.h>
 #include <stdatomic.h>
 #include <string.h>
-#include <time.h>
 
 enum { MOST_THREADS = 64, NAMES = READ_COUNT + 1 };
 
@@ -40,7 +40,9 @@ struct tape {
 static const struct limits limits = {127, (UINT64_C(1) << 55) - 2};
 static const char *bug;
 static uint64_t calls;
+static int threads;
 static _Atomic uint64_t word = VERSION, tickets;
+static _Atomic int idle; // threads that pause, wait for the lock or have ended
 static pthread_barrier_t start;
 
 static int has(const char *name) { return strcmp(bug, name) == 0; }
@@ -58,6 +60,13 @@ static struct decision decide_planted(uint64_t now, struct call call) {
     return right;
 }
 
+// Lets another thread run in place of this one.
+static void give_way(void) {
+    atomic_fetch_add(&idle, 1);
+    sched_yield();
+    atomic_fetch_sub(&idle, 1);
+}
+
 static struct reply call_lock(struct call call) {
     uint64_t now = atomic_load(&word);
     for (;;) {
@@ -65,7 +74,7 @@ static struct reply call_lock(struct call call) {
         if (made.effect == ANSWER) return made.reply;
         if (made.effect == CHANGE && atomic_compare_exchange_weak(&word, &now, made.word)) return made.reply;
         if (made.effect == WAIT) {
-            sched_yield();
+            give_way();
             now = atomic_load(&word);
         }
     }
@@ -113,10 +122,14 @@ static void call_held(struct tape *tape) {
     }
 }
 
-// Lets other threads run, though each would soon be done by itself.
+// One time in eight, stays where it is until the others have made some calls, or none of them can.
 static void pause_some(struct tape *tape) {
-    static const struct timespec moment = {0, 1000};
-    if (drawn(tape, 16) == 0) nanosleep(&moment, NULL);
+    uint64_t until = atomic_load(&tickets) + 16;
+    if (drawn(tape, 8)) return;
+    atomic_fetch_add(&idle, 1);
+    do sched_yield();
+    while (atomic_load(&tickets) < until && atomic_load(&idle) < threads);
+    atomic_fetch_sub(&idle, 1);
 }
 
 static void *work(void *given) {
@@ -128,6 +141,7 @@ static void *work(void *given) {
         pause_some(tape);
     }
     if (tape->held) record(tape, UNLOCK, tape->held);
+    atomic_fetch_add(&idle, 1);
     return NULL;
 }
 
@@ -147,7 +161,7 @@ int main(int count, char **words) {
     static struct tape tapes[MOST_THREADS];
     if (count != 5) return 2;
     bug = words[1];
-    int threads = atoi(words[2]);
+    threads = atoi(words[2]);
     if (threads < 1 || threads > MOST_THREADS) return 2;
     calls = strtoull(words[3], NULL, 10) / (uint64_t)threads - 1;
     if (pthread_barrier_init(&start, NULL, (unsigned)threads)) abort();
