@@ -30,17 +30,25 @@ fn is_at(book: &Book, word: u64, entries: usize) -> bool {
 }
 
 #[test]
-fn a_call_that_waits_is_told_so_by_a_full_book_too(rt: HostRuntime) -> Result<(), Fail> {
-    let mut book = opened(rt.alloc(), 1)?;
-    assert!(rt; acts(&mut book, 0, Call::TryWrite, Ok(Reply::Stamp(384))));
+fn a_book_is_that_of_a_new_lock_until_it_is_full(rt: HostRuntime) -> Result<(), Fail> {
+    let mut book = opened(rt.alloc(), 3)?;
+    assert!(rt; is_at(&book, 256, 0));
+    assert!(rt; book.most() == 3);
+    assert!(rt; book.limits() == Limits::new(127, 1_000_000)?);
+    assert!(rt; check(&book.record()?) == Ok(0));
+    assert!(rt; acts(&mut book, 63, Call::TryWrite, Ok(Reply::Stamp(384))));
+    assert!(rt; acts(&mut book, 5, Call::Unlock(384), Ok(Reply::Done)));
+    assert!(rt; acts(&mut book, 63, Call::WriteLock, Ok(Reply::Stamp(640))));
+    assert!(rt; is_at(&book, 640, 3));
     assert!(rt; acts(&mut book, 1, Call::ReadLock, Err(BookError::Waits)));
-    assert!(rt; is_at(&book, 384, 1));
-    assert!(rt; acts(&mut book, 1, Call::TryRead, Err(BookError::Full)));
-    assert!(rt; is_at(&book, 384, 1));
+    assert!(rt; acts(&mut book, 1, Call::Unlock(640), Err(BookError::Full)));
+    assert!(rt; is_at(&book, 640, 3));
     let record = book.record()?;
-    assert!(rt; check(&record) == Ok(1));
+    assert!(rt; check(&record) == Ok(3));
+    assert!(rt; record.limits() == book.limits());
+    assert!(rt; record.width() == 0);
     let entry = Entry {
-        thread: 0,
+        thread: 63,
         call: Call::TryWrite,
         reply: Reply::Stamp(384),
         first: 0,
@@ -48,35 +56,7 @@ fn a_call_that_waits_is_told_so_by_a_full_book_too(rt: HostRuntime) -> Result<()
         last: 0,
     };
     assert!(rt; record.entries().first() == Some(&entry));
-    Ok(())
-}
-
-#[test]
-fn a_book_is_that_of_a_new_lock(rt: HostRuntime) -> Result<(), Fail> {
-    let mut book = opened(rt.alloc(), 3)?;
-    assert!(rt; is_at(&book, 256, 0));
-    assert!(rt; book.most() == 3);
-    assert!(rt; book.limits() == Limits::new(127, 1_000_000)?);
-    assert!(rt; check(&book.record()?) == Ok(0));
-    assert!(rt; acts(&mut book, 63, Call::WriteLock, Ok(Reply::Stamp(384))));
-    assert!(rt; acts(&mut book, 5, Call::Unlock(384), Ok(Reply::Done)));
-    assert!(rt; acts(&mut book, 63, Call::Validate(256), Ok(Reply::No)));
-    assert!(rt; is_at(&book, 512, 3));
-    let record = book.record()?;
-    assert!(rt; check(&record) == Ok(3));
-    assert!(rt; record.limits() == book.limits());
-    assert!(rt; record.width() == 0);
-    Ok(())
-}
-
-#[test]
-fn a_book_of_64_000_calls_is_full(rt: HostRuntime) -> Result<(), Fail> {
-    let mut book = opened(rt.alloc(), 64_000)?;
-    for _ in 0..32_000u64 {
-        assert!(rt; acts(&mut book, 0, Call::TryRead, Ok(Reply::Stamp(257))));
-        assert!(rt; acts(&mut book, 0, Call::TryUnlockRead, Ok(Reply::Yes)));
-    }
-    assert!(rt; acts(&mut book, 0, Call::TryRead, Err(BookError::Full)));
-    assert!(rt; check(&book.record()?) == Ok(64_000));
+    let mut none = opened(rt.alloc(), 0)?;
+    assert!(rt; acts(&mut none, 7, Call::Optimistic, Err(BookError::Full)));
     Ok(())
 }

@@ -1,50 +1,13 @@
 //! Threads that share a record, and whose puts are counted.
-ghost use Rattle.std.specs.Prelude.{◌≡◌, ◌++◌, ◌∷◌, [], length, MatchBool};
-ghost use Rattle.stamp_threads.specs.RecordRule.{put_of};
+ghost use Rattle.std.specs.Prelude.{◌≡◌};
 
-use crate::record_tests::{gives, made_record, puts, words_of};
-use stamp_core::{Layout, Words};
+use crate::record_tests::{gives, made_record, pair, puts};
+use stamp_core::Layout;
 use stamp_threads::{PutFault, RecordPass, RunningRecord};
-use std::sync::Wait;
 use std::sync::atomic::{AtomicU64, Ordering};
 use std::test::Fail;
 use std::thread;
 use std::thread::{Threads, join};
-
-/// Puts the words, and tries again while others put; false where no version is left.
-fn put_until_made<R: Wait>(
-    rt: &R,
-    shared: &RunningRecord,
-    pass: &mut RecordPass,
-    words: &Words,
-) -> bool
-    requires table { pass.old.table ≡ shared.now.table }
-    requires width { length words.now ≡ shared.now.shape.width }
-    ensures table { pass.new.table ≡ shared.now.table }
-    ensures own { let own = pass.old.view.own in
-        MatchBool result (pass.new.view.own ≡ own ++ put_of words.now ∷ [])
-        (pass.new.view.own ≡ own) }
-{
-    for _ in rt.forever() {
-        match shared.put_once(pass, *words) {
-            Ok(()) => return true,
-            Err(PutFault::Busy(_) | PutFault::Lost { .. }) => thread::yield_now(),
-            Err(PutFault::Spent(_)) => return false,
-        }
-    }
-    unreachable!()
-}
-
-#[test]
-fn puts_are_made_until_no_version_is_left(rt: HostRuntime) -> Result<(), Fail> {
-    let (shared, mut pass) = made_record(rt.alloc(), Layout::One, 2, 2)?;
-    let last = words_of(&[3, 4])?;
-    assert!(rt; put_until_made(&rt, &shared, &mut pass, &words_of(&[1, 2])?));
-    assert!(rt; put_until_made(&rt, &shared, &mut pass, &last));
-    assert!(rt; !put_until_made(&rt, &shared, &mut pass, &words_of(&[5, 6])?));
-    assert!(rt; gives(&shared, &mut pass, last));
-    Ok(())
-}
 
 /// Returns once this many threads are here, or after a while.
 fn start_with_others(here: &AtomicU64, threads: u64) {
@@ -69,10 +32,7 @@ fn put_until_spent(
     start_with_others(here, 2);
     let mut made = 0u64;
     for i in 0..10_000_000u64 {
-        let Some(words) = Words::new(&[i, i]) else {
-            break;
-        };
-        match shared.put_once(&mut pass, words) {
+        match shared.put_once(&mut pass, pair(i)) {
             Ok(()) => made = made.wrapping_add(1),
             Err(PutFault::Busy(_) | PutFault::Lost { .. }) => {}
             Err(spent) => return (made, Some(spent)),
@@ -97,7 +57,7 @@ fn two_threads_share_the_versions(rt: HostRuntime) -> Result<(), Fail> {
     assert!(rt; first_end == Some(spent));
     assert!(rt; second_end == Some(spent));
     assert!(rt; a.wrapping_add(b) == 50);
-    assert!(rt; puts(&shared, &mut third, words_of(&[1, 2])?, Err(spent)));
+    assert!(rt; puts(&shared, &mut third, pair(1), Err(spent)));
     Ok(())
 }
 
@@ -109,10 +69,7 @@ fn put_in_turn(shared: &RunningRecord, mut pass: RecordPass, here: &AtomicU64) -
     start_with_others(here, 3);
     let mut made = 0u64;
     for i in 1..=1_000u64 {
-        let Some(words) = Words::new(&[i, i]) else {
-            break;
-        };
-        if shared.put_once(&mut pass, words).is_ok() {
+        if shared.put_once(&mut pass, pair(i)).is_ok() {
             made = made.wrapping_add(1);
         }
         thread::yield_now();
@@ -149,69 +106,42 @@ fn get_in_turn(
     (last, pass)
 }
 
-/// Two readers.
+/// Two readers, whose passes meet.
 fn two_get_in_turn<R: Threads + Sync>(
     rt: &R,
     shared: &RunningRecord,
-    first: RecordPass,
-    second: RecordPass,
+    pass: RecordPass,
     here: &AtomicU64,
-) -> ((Option<u64>, RecordPass), (Option<u64>, RecordPass))
-    requires { (first.table ≡ shared.now.table) × (second.table ≡ shared.now.table) }
-    ensures { (result.0.1.table ≡ shared.now.table) × (result.1.1.table ≡ shared.now.table) }
+) -> ((Option<u64>, Option<u64>), RecordPass)
+    requires { pass.table ≡ shared.now.table }
+    ensures { result.1.table ≡ shared.now.table }
 {
-    join(
+    let (first, second) = shared.split(pass);
+    let ((a, first), (b, second)) = join(
         rt,
         || get_in_turn(shared, first, here),
         || get_in_turn(shared, second, here),
-    )
-}
-
-/// One thread puts in turn, and two others read.
-fn put_beside_readers<R: Threads + Sync>(
-    rt: &R,
-    shared: &RunningRecord,
-    putting: RecordPass,
-    first: RecordPass,
-    second: RecordPass,
-) -> (
-    (u64, RecordPass),
-    ((Option<u64>, RecordPass), (Option<u64>, RecordPass)),
-)
-    requires putting { putting.table ≡ shared.now.table }
-    requires reading { (first.table ≡ shared.now.table) × (second.table ≡ shared.now.table) }
-    requires width { shared.now.shape.width ≡ 2 }
-    ensures putting { result.0.1.table ≡ shared.now.table }
-    ensures first { result.1.0.1.table ≡ shared.now.table }
-    ensures second { result.1.1.1.table ≡ shared.now.table }
-{
-    let here = AtomicU64::new(0);
-    join(
-        rt,
-        || put_in_turn(shared, putting, &here),
-        || -> ((Option<u64>, RecordPass), (Option<u64>, RecordPass))
-            requires { (first.table ≡ shared.now.table) × (second.table ≡ shared.now.table) }
-            ensures first { result.0.1.table ≡ shared.entry.now.table }
-            ensures second { result.1.1.table ≡ shared.entry.now.table }
-        { two_get_in_turn(rt, shared, first, second, &here) },
-    )
+    );
+    let (first, second) = shared.meet(first, second);
+    drop(second);
+    ((a, b), first)
 }
 
 #[test]
 fn two_threads_read_what_a_third_puts(rt: HostRuntime) -> Result<(), Fail> {
     let (shared, pass) = made_record(rt.alloc(), Layout::One, 1_000, 2)?;
-    let (putting, first) = shared.split(pass);
-    let (first, second) = shared.split(first);
-    let ((made, putting), ((a, first), (b, second))) = put_beside_readers(
-        &rt, &shared, putting, first, second,
+    let (putting, reading) = shared.split(pass);
+    let here = AtomicU64::new(0);
+    let ((made, putting), ((a, b), reading)) = join(
+        &rt,
+        || put_in_turn(&shared, putting, &here),
+        || two_get_in_turn(&rt, &shared, reading, &here),
     );
     assert!(rt; made == 1_000);
     assert!(rt; a.is_some() && b.is_some());
-    let (putting, mut first) = shared.meet(putting, first);
-    let (mut putting, mut second) = shared.meet(putting, second);
-    let last = words_of(&[1_000, 1_000])?;
+    let (mut putting, mut reading) = shared.meet(putting, reading);
+    let last = pair(1_000);
     assert!(rt; gives(&shared, &mut putting, last));
-    assert!(rt; gives(&shared, &mut first, last));
-    assert!(rt; gives(&shared, &mut second, last));
+    assert!(rt; gives(&shared, &mut reading, last));
     Ok(())
 }

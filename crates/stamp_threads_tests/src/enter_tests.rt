@@ -2,7 +2,7 @@
 ghost use Rattle.std.specs.Prelude.{◌≡◌, ◌<◌, IfOk, slice_index, true};
 
 use crate::lock_tests::answers;
-use crate::record_tests::{gives, puts, words_of};
+use crate::record_tests::{gives, pair, puts};
 use stamp_core::{Call, Limits, Reply, Words};
 use stamp_threads::{
     AnyContent, ContentRule, GetFault, Pass, PutFault, RecordPass, RuledRecord, RunningLock,
@@ -23,30 +23,17 @@ fn enterable_lock(alloc: Global) -> Result<(RunningLock, Pass), Fail>
 }
 
 #[test]
-fn a_pass_that_enters_finds_what_was_acquired(rt: HostRuntime) -> Result<(), Fail> {
-    let (lock, mut first) = enterable_lock(rt.alloc())?;
-    assert!(rt; answers(&lock, &mut first, Call::TryRead, Reply::Stamp(257)));
-    let mut second = lock.enter();
-    assert!(rt; answers(&lock, &mut second, Call::TryRead, Reply::Stamp(258)));
-    let mut third = lock.split_off(&mut second);
-    assert!(rt; answers(&lock, &mut third, Call::ReadCount, Reply::Count(2)));
-    let (first, second) = lock.meet(first, second);
-    let (first, third) = lock.meet(first, third);
-    drop(second);
-    drop(third);
-    assert!(rt; lock.close(first) == 258);
-    Ok(())
-}
-
-#[test]
-fn entering_releases_nothing(rt: HostRuntime) -> Result<(), Fail> {
+fn a_pass_that_enters_finds_what_is_held_and_releases_nothing(rt: HostRuntime) -> Result<(), Fail> {
     let (lock, mut first) = enterable_lock(rt.alloc())?;
     assert!(rt; answers(&lock, &mut first, Call::TryWrite, Reply::Stamp(384)));
     let mut second = lock.enter();
     assert!(rt; answers(&lock, &mut second, Call::IsWriteLocked, Reply::Yes));
     assert!(rt; answers(&lock, &mut first, Call::ToRead(384), Reply::Stamp(513)));
-    let third = lock.enter();
-    assert!(rt; lock.close(third) == 513);
+    assert!(rt; answers(&lock, &mut second, Call::TryRead, Reply::Stamp(514)));
+    let mut third = lock.split_off(&mut second);
+    assert!(rt; answers(&lock, &mut third, Call::ReadCount, Reply::Count(2)));
+    let (_, fourth) = lock.meet(first, lock.enter());
+    assert!(rt; lock.close(fourth) == 514);
     Ok(())
 }
 
@@ -64,31 +51,20 @@ fn threads_enter_by_a_shared_reference(rt: HostRuntime) -> Result<(), Fail> {
     Ok(())
 }
 
-/// Of the three puts that the limits allow the first content is one.
+/// Of the two puts that the limits allow the first content is one.
 #[test]
 fn entering_a_record_takes_no_version(rt: HostRuntime) -> Result<(), Fail> {
-    let limits = Limits::new(1, 3)?;
-    let first = words_of(&[1, 2])?;
-    let Ok((shared, mut pass)) = RuledRecord::<AnyContent>::enterable(rt.alloc(), limits, first)
+    let limits = Limits::new(1, 2)?;
+    let Ok((shared, mut pass)) = RuledRecord::<AnyContent>::enterable(rt.alloc(), limits, pair(1))
     else {
         return Err(Fail::from("no memory for the record"));
     };
     let mut second = shared.enter();
-    assert!(rt; gives(&shared, &mut second, first));
-    assert!(rt; puts(&shared, &mut pass, words_of(&[3, 4])?, Ok(())));
-    let mut third = shared.enter();
-    assert!(rt; gives(&shared, &mut third, words_of(&[3, 4])?));
-    let mut fourth = shared.split_off(&mut third);
-    assert!(rt; puts(&shared, &mut fourth, words_of(&[5, 6])?, Ok(())));
-    assert!(rt; gives(&shared, &mut shared.enter(), words_of(&[5, 6])?));
-    assert!(rt;
-        puts(
-            &shared,
-            &mut pass,
-            words_of(&[7, 8])?,
-            Err(PutFault::Spent(1_024))
-        )
-    );
+    assert!(rt; gives(&shared, &mut second, pair(1)));
+    let mut third = shared.split_off(&mut second);
+    assert!(rt; puts(&shared, &mut third, pair(2), Ok(())));
+    assert!(rt; gives(&shared, &mut shared.enter(), pair(2)));
+    assert!(rt; puts(&shared, &mut pass, pair(3), Err(PutFault::Spent(768))));
     Ok(())
 }
 

@@ -29,52 +29,52 @@ pub fn answers(lock: &RunningLock, pass: &mut Pass, call: Call, reply: Reply) ->
     lock.once(pass, call) == Ok(reply)
 }
 
+/// Whether a written stamp validates from its release until the next writer, in a lock of this layout
+/// whose stamps are these: the opening one, the writer's, a reader's, and the next writer's.
+fn validates_between_writers(
+    alloc: Global,
+    layout: Layout,
+    readers: u64,
+    stamps: [u64; 4],
+) -> Result<bool, Fail> {
+    let [opening, written, read, next] = stamps;
+    let (lock, mut pass) = made(alloc, layout, readers)?;
+    let are_answered = answers(&lock, &mut pass, Call::TryWrite, Reply::Stamp(written))
+        && answers(&lock, &mut pass, Call::Validate(opening), Reply::No)
+        && answers(&lock, &mut pass, Call::UnlockWrite(written), Reply::Done)
+        && answers(&lock, &mut pass, Call::Validate(written), Reply::Yes)
+        && answers(&lock, &mut pass, Call::ReadLock, Reply::Stamp(read))
+        && answers(&lock, &mut pass, Call::Unlock(read), Reply::Done)
+        && answers(&lock, &mut pass, Call::WriteLock, Reply::Stamp(next))
+        && answers(&lock, &mut pass, Call::Validate(written), Reply::No);
+    Ok(are_answered && lock.close(pass) == next)
+}
+
 #[test]
 fn a_released_write_stamp_validates_until_the_next_writer(rt: HostRuntime) -> Result<(), Fail> {
-    let (lock, mut pass) = made(rt.alloc(), Layout::One, 127)?;
-    assert!(rt; answers(&lock, &mut pass, Call::TryWrite, Reply::Stamp(384)));
-    assert!(rt; answers(&lock, &mut pass, Call::Validate(256), Reply::No));
-    assert!(rt; answers(&lock, &mut pass, Call::UnlockWrite(384), Reply::Done));
-    assert!(rt; answers(&lock, &mut pass, Call::Validate(384), Reply::Yes));
-    assert!(rt; answers(&lock, &mut pass, Call::ReadLock, Reply::Stamp(513)));
-    assert!(rt; answers(&lock, &mut pass, Call::Unlock(513), Reply::Done));
-    assert!(rt; answers(&lock, &mut pass, Call::WriteLock, Reply::Stamp(640)));
-    assert!(rt; answers(&lock, &mut pass, Call::Validate(384), Reply::No));
-    assert!(rt; lock.close(pass) == 640);
+    for (layout, readers, stamps) in [
+        (Layout::One, 127, [256, 384, 513, 640]),
+        (Layout::Two, 65_535, [131_072, 196_608, 262_145, 327_680]),
+    ] {
+        assert!(rt; validates_between_writers(rt.alloc(), layout, readers, stamps)?);
+    }
     Ok(())
 }
 
+/// There is room for one reader, so that the second gets 0.
 #[test]
-fn the_same_in_the_second_layout(rt: HostRuntime) -> Result<(), Fail> {
-    let (lock, mut pass) = made(rt.alloc(), Layout::Two, 65_535)?;
-    assert!(rt; answers(&lock, &mut pass, Call::TryWrite, Reply::Stamp(196_608)));
-    assert!(rt; answers(&lock, &mut pass, Call::Validate(131_072), Reply::No));
-    assert!(rt; answers(&lock, &mut pass, Call::UnlockWrite(196_608), Reply::Done));
-    assert!(rt; answers(&lock, &mut pass, Call::Validate(196_608), Reply::Yes));
-    assert!(rt; answers(&lock, &mut pass, Call::ReadLock, Reply::Stamp(262_145)));
-    assert!(rt; lock.close(pass) == 262_145);
-    Ok(())
-}
-
-#[test]
-fn a_reader_beyond_the_limit_gets_zero(rt: HostRuntime) -> Result<(), Fail> {
+fn each_other_call_and_those_that_get_zero(rt: HostRuntime) -> Result<(), Fail> {
     let (lock, mut pass) = made(rt.alloc(), Layout::One, 1)?;
-    assert!(rt; answers(&lock, &mut pass, Call::ReadLock, Reply::Stamp(257)));
-    assert!(rt; answers(&lock, &mut pass, Call::ReadLock, Reply::Stamp(0)));
-    assert!(rt; lock.close(pass) == 257);
-    Ok(())
-}
-
-#[test]
-fn each_other_call_once(rt: HostRuntime) -> Result<(), Fail> {
-    let (lock, mut pass) = made(rt.alloc(), Layout::One, 127)?;
     assert!(rt; answers(&lock, &mut pass, Call::Optimistic, Reply::Stamp(256)));
     assert!(rt; answers(&lock, &mut pass, Call::ToRead(256), Reply::Stamp(257)));
     assert!(rt; answers(&lock, &mut pass, Call::IsReadLocked, Reply::Yes));
     assert!(rt; answers(&lock, &mut pass, Call::ToWrite(257), Reply::Stamp(384)));
     assert!(rt; answers(&lock, &mut pass, Call::IsWriteLocked, Reply::Yes));
+    assert!(rt; answers(&lock, &mut pass, Call::WriteLock, Reply::Stamp(0)));
+    assert!(rt; answers(&lock, &mut pass, Call::Validate(0), Reply::No));
     assert!(rt; answers(&lock, &mut pass, Call::ToOptimistic(384), Reply::Stamp(512)));
     assert!(rt; answers(&lock, &mut pass, Call::TryRead, Reply::Stamp(513)));
+    assert!(rt; answers(&lock, &mut pass, Call::ReadLock, Reply::Stamp(0)));
     assert!(rt; answers(&lock, &mut pass, Call::ReadCount, Reply::Count(1)));
     assert!(rt; answers(&lock, &mut pass, Call::UnlockRead(513), Reply::Done));
     assert!(rt; answers(&lock, &mut pass, Call::TryUnlockRead, Reply::No));

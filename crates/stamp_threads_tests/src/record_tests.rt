@@ -27,13 +27,23 @@ pub fn made_record(
 }
 
 /// The words; the test fails where they are none or too many.
-pub fn words_of(words: &[u64]) -> Result<Words, Fail>
+fn words_of(words: &[u64]) -> Result<Words, Fail>
     ensures { IfOk result (λ made. made ≡ words.now) }
 {
     match Words::new(words) {
         Some(made) => Ok(made),
         None => Err(Fail::from("so many words are no record's")),
     }
+}
+
+/// Two words, both this number.
+pub fn pair(number: u64) -> Words
+    ensures { length result ≡ 2 }
+{
+    Words::of_row(
+        [number, number, 0, 0, 0, 0, 0, 0, 0, 0, 0, 0, 0, 0, 0, 0],
+        2,
+    )
 }
 
 /// Whether a put by this pass is answered so at once.
@@ -59,102 +69,81 @@ pub fn gives<P: ContentRule>(shared: &RuledRecord<P>, pass: &mut RecordPass, wor
     shared.get_once(pass) == Ok(words)
 }
 
-#[test]
-fn a_spent_record_still_gives_its_words(rt: HostRuntime) -> Result<(), Fail> {
-    let (record, mut pass) = made_record(rt.alloc(), Layout::One, 2, 2)?;
-    let last = words_of(&[3, 4])?;
-    assert!(rt; puts(&record, &mut pass, words_of(&[1, 2])?, Ok(())));
-    assert!(rt; puts(&record, &mut pass, last, Ok(())));
-    assert!(rt; gives(&record, &mut pass, last));
-    assert!(rt;
-        puts(
-            &record,
-            &mut pass,
-            words_of(&[5, 6])?,
-            Err(PutFault::Spent(768))
-        )
-    );
-    assert!(rt; gives(&record, &mut pass, last));
-    Ok(())
-}
-
-#[test]
-fn the_second_layout_has_other_lock_words(rt: HostRuntime) -> Result<(), Fail> {
-    let (record, mut pass) = made_record(rt.alloc(), Layout::Two, 1, 2)?;
-    let put = words_of(&[7, 9])?;
-    assert!(rt; puts(&record, &mut pass, put, Ok(())));
-    assert!(rt; gives(&record, &mut pass, put));
-    assert!(rt; puts(&record, &mut pass, put, Err(PutFault::Spent(262_144))));
-    Ok(())
-}
-
-#[test]
-fn a_record_with_no_version_takes_no_put(rt: HostRuntime) -> Result<(), Fail> {
-    let (record, mut pass) = made_record(rt.alloc(), Layout::One, 0, 2)?;
-    let put = words_of(&[7, 9])?;
-    assert!(rt; puts(&record, &mut pass, put, Err(PutFault::Spent(256))));
-    assert!(rt; gives(&record, &mut pass, words_of(&[0, 0])?));
-    let (record, mut pass) = made_record(rt.alloc(), Layout::Two, 0, 2)?;
-    assert!(rt; puts(&record, &mut pass, put, Err(PutFault::Spent(131_072))));
-    Ok(())
-}
-
-#[test]
-fn a_record_of_one_word(rt: HostRuntime) -> Result<(), Fail> {
-    let (record, mut pass) = made_record(rt.alloc(), Layout::One, 2, 1)?;
-    assert!(rt; gives(&record, &mut pass, words_of(&[0])?));
-    assert!(rt; puts(&record, &mut pass, words_of(&[u64::MAX])?, Ok(())));
-    assert!(rt; gives(&record, &mut pass, words_of(&[u64::MAX])?));
-    let mut row = [5];
-    assert!(rt; record.get_into(&mut pass, &mut row) == Ok(()));
-    assert!(rt; row[0] == u64::MAX);
-    Ok(())
-}
-
-/// Whether a record of this many words gives what was put, by both gets.
-fn gives_every_word(alloc: Global, width: usize) -> Result<bool, Fail>
-    requires { (1 ≤ width) × (width ≤ 16) }
+/// Whether so many puts, each of other words, are made and got.
+fn puts_each(shared: &RunningRecord, pass: &mut RecordPass, versions: u64) -> bool
+    requires { (pass.old.table ≡ shared.now.table) × (shared.now.shape.width ≡ 2) }
+    ensures { pass.new.table ≡ shared.now.table }
 {
-    let row = [1, 2, 3, 4, 5, 6, 7, 8, 9, 10, 11, 12, 13, 14, 15, 16];
-    let (record, mut pass) = made_record(alloc, Layout::One, 2, width)?;
-    let put = words_of(&row[..width])?;
-    if record.put_once(&mut pass, put).is_err() {
-        return Ok(false);
+    for i in 1..=versions {
+        if !puts(shared, pass, pair(i), Ok(())) || !gives(shared, pass, pair(i)) {
+            return false;
+        }
     }
-    let mut got = [0; 16];
-    let is_got = record.get_into(&mut pass, &mut got[..width]).is_ok();
-    Ok(is_got && got[..width] == row[..width] && record.get_once(&mut pass) == Ok(put))
+    true
+}
+
+/// The word of the refusal when each version was put; the record still gives the last words then.
+fn spent_word(alloc: Global, layout: Layout, versions: u64) -> Result<Option<u64>, Fail> {
+    let (shared, mut pass) = made_record(alloc, layout, versions, 2)?;
+    if !puts_each(&shared, &mut pass, versions) {
+        return Ok(None);
+    }
+    match shared.put_once(&mut pass, pair(9)) {
+        Err(PutFault::Spent(word)) if gives(&shared, &mut pass, pair(versions)) => Ok(Some(word)),
+        _ => Ok(None),
+    }
+}
+
+#[test]
+fn a_record_takes_a_put_for_each_version_and_still_gives_the_last(
+    rt: HostRuntime,
+) -> Result<(), Fail> {
+    for (layout, versions, word) in [
+        (Layout::One, 0, 256),
+        (Layout::One, 1, 512),
+        (Layout::One, 2, 768),
+        (Layout::Two, 0, 131_072),
+        (Layout::Two, 1, 262_144),
+    ] {
+        assert!(rt;
+            spent_word(rt.alloc(), layout, versions)? == Some(word),
+            "{versions}"
+        );
+    }
+    Ok(())
+}
+
+/// Whether a get into a place of the caller's gives these words.
+fn gives_into(shared: &RunningRecord, pass: &mut RecordPass, words: &Words) -> bool
+    requires table { pass.old.table ≡ shared.now.table }
+    requires width { length words.now ≡ shared.now.shape.width }
+    ensures { pass.new.table ≡ shared.now.table }
+{
+    let mut row = [17; 16];
+    let into = &mut row[..words.len()];
+    shared.get_into(pass, into) == Ok(()) && *into == *words.as_slice()
+}
+
+/// Whether a new record gives zeros, and then these words when they were put, by both gets.
+fn gives_every_word(alloc: Global, layout: Layout, words: &[u64]) -> Result<bool, Fail>
+    requires { (1 ≤ length words.now) × (length words.now ≤ 16) }
+{
+    let (record, mut pass) = made_record(alloc, layout, 2, words.len())?;
+    let put = words_of(words)?;
+    Ok(
+        gives(&record, &mut pass, Words::zeros(words.len()))
+            && puts(&record, &mut pass, put, Ok(()))
+            && gives(&record, &mut pass, put)
+            && gives_into(&record, &mut pass, &put),
+    )
 }
 
 #[test]
 fn a_record_of_any_width_gives_every_word(rt: HostRuntime) -> Result<(), Fail> {
+    let row = [u64::MAX, 2, 3, 4, 5, 6, 7, 8, 9, 10, 11, 12, 13, 14, 15, 16];
     for width in 1..=16usize {
-        assert!(rt; gives_every_word(rt.alloc(), width)?);
+        assert!(rt; gives_every_word(rt.alloc(), Layout::One, &row[..width])?);
     }
-    Ok(())
-}
-
-#[test]
-fn the_widest_record_gives_every_word(rt: HostRuntime) -> Result<(), Fail> {
-    let row = [1, 2, 3, 4, 5, 6, 7, 8, 9, 10, 11, 12, 13, 14, 15, 16];
-    let (record, mut pass) = made_record(rt.alloc(), Layout::Two, 2, 16)?;
-    let put = words_of(&row)?;
-    assert!(rt; puts(&record, &mut pass, put, Ok(())));
-    assert!(rt; gives(&record, &mut pass, put));
-    let mut got = [0; 16];
-    assert!(rt; record.get_into(&mut pass, &mut got) == Ok(()));
-    assert!(rt; got[..] == row[..]);
-    Ok(())
-}
-
-#[test]
-fn what_one_pass_put_the_other_gets(rt: HostRuntime) -> Result<(), Fail> {
-    let (record, pass) = made_record(rt.alloc(), Layout::One, 2, 2)?;
-    let (mut first, second) = record.split(pass);
-    let put = words_of(&[7, 9])?;
-    assert!(rt; puts(&record, &mut first, put, Ok(())));
-    let (mut first, mut second) = record.meet(first, second);
-    assert!(rt; gives(&record, &mut first, put));
-    assert!(rt; gives(&record, &mut second, put));
+    assert!(rt; gives_every_word(rt.alloc(), Layout::Two, &row)?);
     Ok(())
 }

@@ -1,13 +1,20 @@
 //! Threads that really share a record.
-ghost use Rattle.std.specs.Prelude.{◌≡◌};
+ghost use Rattle.std.specs.Prelude.{◌≡◌, length};
 
-use crate::record_tests::{made_record, words_of};
+use crate::record_tests::made_record;
 use stamp_core::{Layout, Words};
 use stamp_threads::{GetFault, PutFault, RecordPass, RunningRecord};
 use std::sync::atomic::{AtomicBool, Ordering};
 use std::test::Fail;
 use std::thread;
 use std::thread::{Threads, join};
+
+/// Sixteen times this number.
+fn sixteen(number: u64) -> Words
+    ensures { length result ≡ 16 }
+{
+    Words::of_row([number; 16], 16)
+}
 
 /// What a reader has found so far.
 #[derive(Clone, Copy)]
@@ -29,12 +36,12 @@ impl Found {
         }
     }
 
-    fn content(&mut self, words: &[u64]) {
-        let Some(first) = words.first() else {
+    fn content(&mut self, words: &Words) {
+        let Some(first) = words.as_slice().first() else {
             return;
         };
         let writer = (*first % 2) as usize;
-        let is_whole = words.iter().all(|word| *word == *first);
+        let is_whole = words.is_same(&sixteen(*first));
         self.is_right = self.is_right && is_whole && *first >= self.last[writer];
         self.last[writer] = *first;
     }
@@ -56,43 +63,38 @@ impl Found {
     }
 }
 
-/// Tries this many gets, and says whether what they found was right.
-fn gets(shared: &RunningRecord, mut pass: RecordPass, tries: u64) -> (bool, RecordPass)
+/// Gets 200,000 times, and says whether what was found was right.
+fn gets(shared: &RunningRecord, mut pass: RecordPass) -> (bool, RecordPass)
     requires { pass.table ≡ shared.now.table }
     ensures { result.1.table ≡ shared.now.table }
 {
     let mut found = Found::new();
-    for _ in 0..tries {
+    for _ in 0..200_000u64 {
         match shared.get_once(&mut pass) {
-            Ok(words) => found.content(words.as_slice()),
+            Ok(words) => found.content(&words),
             Err(fault) => found.fault(fault),
         }
     }
     (found.is_right, pass)
 }
 
-/// Two readers of this many tries each, whose passes meet.
+/// Two readers, whose passes meet.
 fn two_readers<R: Threads + Sync>(
     rt: &R,
     shared: &RunningRecord,
     pass: RecordPass,
-    tries: u64,
 ) -> (bool, RecordPass)
     requires { pass.table ≡ shared.now.table }
     ensures { result.1.table ≡ shared.now.table }
 {
     let (first, second) = shared.split(pass);
-    let ((a, first), (b, second)) = join(
-        rt,
-        || gets(shared, first, tries),
-        || gets(shared, second, tries),
-    );
+    let ((a, first), (b, second)) = join(rt, || gets(shared, first), || gets(shared, second));
     let (first, second) = shared.meet(first, second);
     drop(second);
     (a && b, first)
 }
 
-/// Tries this many puts, each of sixteen times the same number: twice the try, and 1 more of the
+/// Tries 200,000 puts, each of sixteen times the same number: twice the try, and 1 more of the
 /// second writer. Gives the last one that was made.
 fn puts(shared: &RunningRecord, mut pass: RecordPass, writer: u64) -> (u64, RecordPass)
     requires { (pass.table ≡ shared.now.table) × (shared.now.shape.width ≡ 16) }
@@ -101,90 +103,51 @@ fn puts(shared: &RunningRecord, mut pass: RecordPass, writer: u64) -> (u64, Reco
     let mut last = 0u64;
     for i in 1..=200_000u64 {
         let number = i.wrapping_mul(2).wrapping_add(writer);
-        let Some(words) = Words::new(&[number; 16]) else {
-            break;
-        };
-        if shared.put_once(&mut pass, words).is_ok() {
+        if shared.put_once(&mut pass, sixteen(number)).is_ok() {
             last = number;
         }
     }
     (last, pass)
 }
 
-/// Two writers, whose passes meet.
-fn two_writers<R: Threads + Sync>(
+/// A writer and two readers, whose passes meet: the last number put, and whether the gets were right.
+fn writer_and_readers<R: Threads + Sync>(
     rt: &R,
     shared: &RunningRecord,
     pass: RecordPass,
-) -> ((u64, u64), RecordPass)
+    writer: u64,
+) -> ((u64, bool), RecordPass)
     requires { (pass.table ≡ shared.now.table) × (shared.now.shape.width ≡ 16) }
     ensures { result.1.table ≡ shared.now.table }
 {
     let (first, second) = shared.split(pass);
-    let ((a, first), (b, second)) = join(rt, || puts(shared, first, 0), || puts(shared, second, 1));
-    let (first, second) = shared.meet(first, second);
-    drop(second);
-    ((a, b), first)
-}
-
-/// Three readers of this many tries each, whose passes meet.
-fn three_readers<R: Threads + Sync>(
-    rt: &R,
-    shared: &RunningRecord,
-    pass: RecordPass,
-    tries: u64,
-) -> (bool, RecordPass)
-    requires { pass.table ≡ shared.now.table }
-    ensures { result.1.table ≡ shared.now.table }
-{
-    let (first, second) = shared.split(pass);
-    let ((a, first), (b, second)) = join(
+    let ((last, first), (are_right, second)) = join(
         rt,
+        || puts(shared, first, writer),
         || -> (bool, RecordPass)
-            requires { first.table ≡ shared.now.table }
+            requires { second.table ≡ shared.now.table }
             ensures { result.1.table ≡ shared.entry.now.table }
-        { two_readers(rt, shared, first, tries) },
-        || gets(shared, second, tries),
+        { two_readers(rt, shared, second) },
     );
     let (first, second) = shared.meet(first, second);
     drop(second);
-    (a && b, first)
-}
-
-/// Two writers and three readers.
-fn two_beside_three<R: Threads + Sync>(
-    rt: &R,
-    shared: &RunningRecord,
-    putting: RecordPass,
-    reading: RecordPass,
-) -> (((u64, u64), RecordPass), (bool, RecordPass))
-    requires passes { (putting.table ≡ shared.now.table) × (reading.table ≡ shared.now.table) }
-    requires width { shared.now.shape.width ≡ 16 }
-    ensures { (result.0.1.table ≡ shared.now.table) × (result.1.1.table ≡ shared.now.table) }
-{
-    join(
-        rt,
-        || -> ((u64, u64), RecordPass)
-            requires { (putting.table ≡ shared.now.table) × (shared.now.shape.width ≡ 16) }
-            ensures { result.1.table ≡ shared.entry.now.table }
-        { two_writers(rt, shared, putting) },
-        || -> (bool, RecordPass)
-            requires { reading.table ≡ shared.now.table }
-            ensures { result.1.table ≡ shared.entry.now.table }
-        { three_readers(rt, shared, reading, 200_000) },
-    )
+    ((last, are_right), first)
 }
 
 #[test]
-fn three_read_what_two_put_and_all_meet(rt: HostRuntime) -> Result<(), Fail> {
+fn four_read_what_two_put_and_all_meet(rt: HostRuntime) -> Result<(), Fail> {
     let (shared, pass) = made_record(rt.alloc(), Layout::One, 1 << 40, 16)?;
-    let (putting, reading) = shared.split(pass);
-    let (((a, b), putting), (is_right, reading)) = two_beside_three(&rt, &shared, putting, reading);
-    assert!(rt; is_right);
-    let (mut putting, mut reading) = shared.meet(putting, reading);
-    let left = shared.get_once(&mut putting);
-    assert!(rt; left == Ok(words_of(&[a; 16])?) || left == Ok(words_of(&[b; 16])?));
-    assert!(rt; shared.get_once(&mut reading) == left);
+    let (first, second) = shared.split(pass);
+    let (((a, a_right), first), ((b, b_right), second)) = join(
+        &rt,
+        || writer_and_readers(&rt, &shared, first, 0),
+        || writer_and_readers(&rt, &shared, second, 1),
+    );
+    assert!(rt; a_right && b_right);
+    let (mut first, mut second) = shared.meet(first, second);
+    let left = shared.get_once(&mut first);
+    assert!(rt; left == Ok(sixteen(a)) || left == Ok(sixteen(b)));
+    assert!(rt; shared.get_once(&mut second) == left);
     Ok(())
 }
 
@@ -228,24 +191,22 @@ fn put_beside(shared: &RunningRecord, mut pass: RecordPass, is_over: &AtomicBool
     requires { (pass.table ≡ shared.now.table) × (shared.now.shape.width ≡ 16) }
 {
     for i in 0..u64::MAX {
-        let Some(words) = Words::new(&[i; 16]) else {
-            return;
-        };
         if is_over.load(Ordering::SeqCst) {
             return;
         }
-        let _ = shared.put_once(&mut pass, words);
+        let _ = shared.put_once(&mut pass, sixteen(i));
     }
 }
 
 /// Gets until it was refused both ways, or often enough; whether it was. A get that finds a writer
 /// yields to it, in case it was stopped in its put.
-fn get_until_refused(shared: &RunningRecord, mut pass: RecordPass, is_over: &AtomicBool) -> bool
-    requires { pass.table ≡ shared.now.table }
+fn get_until_refused(shared: &RunningRecord, pass: &mut RecordPass) -> bool
+    requires { pass.old.table ≡ shared.now.table }
+    ensures { pass.new.table ≡ shared.now.table }
 {
     let mut seen = Refusals::none();
     for _ in 0..1_000_000_000u64 {
-        if let Err(fault) = shared.get_once(&mut pass) {
+        if let Err(fault) = shared.get_once(pass) {
             seen.get(fault);
             thread::yield_now();
         }
@@ -253,20 +214,17 @@ fn get_until_refused(shared: &RunningRecord, mut pass: RecordPass, is_over: &Ato
             break;
         }
     }
-    is_over.store(true, Ordering::SeqCst);
     seen.are_both()
 }
 
 /// Puts until it was refused both ways, or this many times; whether it was.
-fn put_until_refused(shared: &RunningRecord, mut pass: RecordPass, is_over: &AtomicBool) -> bool
-    requires { (pass.table ≡ shared.now.table) × (shared.now.shape.width ≡ 16) }
+fn put_until_refused(shared: &RunningRecord, pass: &mut RecordPass) -> bool
+    requires { (pass.old.table ≡ shared.now.table) × (shared.now.shape.width ≡ 16) }
+    ensures { pass.new.table ≡ shared.now.table }
 {
     let mut seen = Refusals::none();
     for i in 0..100_000_000u64 {
-        let Some(words) = Words::new(&[i; 16]) else {
-            break;
-        };
-        if let Err(fault) = shared.put_once(&mut pass, words) {
+        if let Err(fault) = shared.put_once(pass, sixteen(i)) {
             seen.put(fault);
             thread::yield_now();
         }
@@ -274,34 +232,31 @@ fn put_until_refused(shared: &RunningRecord, mut pass: RecordPass, is_over: &Ato
             break;
         }
     }
-    is_over.store(true, Ordering::SeqCst);
     seen.are_both()
 }
 
-#[test]
-fn a_get_is_busy_and_is_lost_beside_a_writer(rt: HostRuntime) -> Result<(), Fail> {
-    let (shared, pass) = made_record(rt.alloc(), Layout::Two, 1 << 40, 16)?;
-    let (first, second) = shared.split(pass);
-    let is_over = AtomicBool::new(false);
-    let (_, was_refused) = join(
-        &rt,
-        || put_beside(&shared, first, &is_over),
-        || get_until_refused(&shared, second, &is_over),
-    );
-    assert!(rt; was_refused);
-    Ok(())
+/// Whether gets, and whether puts, were refused both ways; the other thread is told to end then.
+fn get_and_put(shared: &RunningRecord, mut pass: RecordPass, is_over: &AtomicBool) -> (bool, bool)
+    requires { (pass.table ≡ shared.now.table) × (shared.now.shape.width ≡ 16) }
+{
+    let gets = get_until_refused(shared, &mut pass);
+    let puts = put_until_refused(shared, &mut pass);
+    is_over.store(true, Ordering::SeqCst);
+    (gets, puts)
 }
 
 #[test]
-fn a_put_is_busy_and_is_lost_beside_a_writer(rt: HostRuntime) -> Result<(), Fail> {
-    let (shared, pass) = made_record(rt.alloc(), Layout::One, 1 << 40, 16)?;
-    let (first, second) = shared.split(pass);
-    let is_over = AtomicBool::new(false);
-    let (_, was_refused) = join(
-        &rt,
-        || put_beside(&shared, first, &is_over),
-        || put_until_refused(&shared, second, &is_over),
-    );
-    assert!(rt; was_refused);
+fn gets_and_puts_are_busy_and_are_lost_beside_a_writer(rt: HostRuntime) -> Result<(), Fail> {
+    for layout in [Layout::One, Layout::Two] {
+        let (shared, pass) = made_record(rt.alloc(), layout, 1 << 40, 16)?;
+        let (first, second) = shared.split(pass);
+        let is_over = AtomicBool::new(false);
+        let (_, are_refused) = join(
+            &rt,
+            || put_beside(&shared, first, &is_over),
+            || get_and_put(&shared, second, &is_over),
+        );
+        assert!(rt; are_refused == (true, true));
+    }
     Ok(())
 }

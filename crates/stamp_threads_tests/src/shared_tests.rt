@@ -77,56 +77,8 @@ fn is_kept(record: &Record, caller: &Caller) -> bool {
     kept.next().is_none()
 }
 
-/// Reads and gives back, a hundred times.
-fn read_100<R: Wait>(rt: &R, shared: &Shared, mut caller: Caller) -> Option<Caller> {
-    for _ in 0..100u64 {
-        caller.call(rt, shared, &Call::TryRead)?;
-        caller.call(rt, shared, &Call::TryUnlockRead)?;
-    }
-    Some(caller)
-}
-
 #[test]
-fn two_threads_read_and_their_calls_are_entered(rt: HostRuntime) -> Result<(), Fail> {
-    let shared = Shared::new(opened(rt.alloc(), 1000)?);
-    let (first, last) = (Caller::new(rt.alloc(), 0), Caller::new(rt.alloc(), 63));
-    let (first, last) = join(
-        &rt,
-        || read_100(&rt, &shared, first),
-        || read_100(&rt, &shared, last),
-    );
-    let record = shared.record(&rt)?;
-    assert!(rt; check(&record) == Ok(400));
-    assert!(rt; is_kept(&record, &first.ok_or("refused")?));
-    assert!(rt; is_kept(&record, &last.ok_or("refused")?));
-    assert!(rt; tells(&rt, &shared, 2, Call::ReadCount, Ok(Reply::Count(0))));
-    Ok(())
-}
-
-#[test]
-fn a_full_book_is_told_to_those_who_share_it(rt: HostRuntime) -> Result<(), Fail> {
-    let shared = Shared::new(opened(rt.alloc(), 1)?);
-    assert!(rt; tells(&rt, &shared, 7, Call::TryWrite, Ok(Reply::Stamp(384))));
-    assert!(rt;
-        tells(
-            &rt,
-            &shared,
-            7,
-            Call::UnlockWrite(384),
-            Err(BookError::Full)
-        )
-    );
-    let record = shared.record(&rt)?;
-    assert!(rt; record.entries().len() == 1);
-    assert!(rt; check(&record) == Ok(1));
-    let none = Shared::new(opened(rt.alloc(), 0)?);
-    assert!(rt; tells(&rt, &none, 7, Call::Optimistic, Err(BookError::Full)));
-    assert!(rt; none.record(&rt)?.entries().len() == 0);
-    Ok(())
-}
-
-#[test]
-fn a_shared_book_is_the_one_handed_in(rt: HostRuntime) -> Result<(), Fail> {
+fn a_shared_book_is_the_one_handed_in_and_as_full(rt: HostRuntime) -> Result<(), Fail> {
     let limits = Limits::in_layout(Layout::Two, 3, 5)?;
     let mut book = Book::new(rt.alloc(), limits, 2);
     assert!(rt; acts(&mut book, 3, Call::TryWrite, Ok(Reply::Stamp(196_608))));
@@ -210,7 +162,7 @@ fn two_mixed<R: Threads + Wait + Sync>(
     shared: &Shared,
     thread: u64,
 ) -> (Option<Caller>, Option<Caller>)
-    requires { thread ≤ 60 }
+    requires { thread ≤ 62 }
 {
     let (first, second) = (Caller::new(alloc, thread), Caller::new(alloc, thread + 1));
     join(
@@ -226,10 +178,11 @@ fn four_threads_of_50_000_calls(rt: HostRuntime) -> Result<(), Fail> {
     let ((zero, one), (two, three)) = join(
         &rt,
         || two_mixed(&rt, rt.alloc(), &shared, 0),
-        || two_mixed(&rt, rt.alloc(), &shared, 2),
+        || two_mixed(&rt, rt.alloc(), &shared, 62),
     );
     let record = shared.record(&rt)?;
     assert!(rt; check(&record) == Ok(200_000));
+    assert!(rt; tells(&rt, &shared, 2, Call::ReadCount, Ok(Reply::Count(0))));
     for caller in [zero, one, two, three] {
         assert!(rt; is_kept(&record, &caller.ok_or("refused")?));
     }

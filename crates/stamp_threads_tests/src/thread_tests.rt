@@ -40,45 +40,8 @@ fn two_threads_write_in_turns(rt: HostRuntime) -> Result<(), Fail> {
     Ok(())
 }
 
-/// Makes the call once, and returns the pass.
-fn once_by(lock: &RunningLock, mut pass: Pass, call: Call) -> (Result<Reply, Lost>, Pass)
-    requires call { IsTrue (is_lock_call call) }
-    requires lock { pass.table ≡ lock.now.table }
-    ensures { result.1.table ≡ lock.now.table }
-{
-    let answer = lock.once(&mut pass, call);
-    (answer, pass)
-}
-
-#[test]
-fn what_one_pass_acquired_the_other_meets(rt: HostRuntime) -> Result<(), Fail> {
-    let (lock, pass) = made(rt.alloc(), Layout::One, 127)?;
-    let (first, second) = lock.split(pass);
-    let ((written, first), (validated, second)) = join(
-        &rt,
-        || once_by(&lock, first, Call::TryWrite),
-        || once_by(&lock, second, Call::Validate(0)),
-    );
-    assert!(rt; written == Ok(Reply::Stamp(384)));
-    assert!(rt; validated == Ok(Reply::No));
-    let (first, mut second) = lock.meet(first, second);
-    drop(first);
-    assert!(rt; answers(&lock, &mut second, Call::IsWriteLocked, Reply::Yes));
-    assert!(rt; answers(&lock, &mut second, Call::WriteLock, Reply::Stamp(0)));
-    assert!(rt; lock.close(second) == 384);
-    Ok(())
-}
-
-/// How often each of these was answered.
-#[derive(Clone, Copy, Debug, PartialEq, Eq)]
-struct Tally {
-    /// Write acquisitions, by whatever call.
-    writes: u64,
-    lost: u64,
-}
-
 /// Makes the call again while its exchange loses, and gives the stamp, 0 for none.
-fn stamp_by(lock: &RunningLock, pass: &mut Pass, call: &Call, tally: &mut Tally) -> u64
+fn stamp_by(lock: &RunningLock, pass: &mut Pass, call: &Call) -> u64
     requires call { IsTrue (is_lock_call call.now) }
     requires lock { pass.old.table ≡ lock.now.table }
     ensures { pass.new.table ≡ lock.now.table }
@@ -87,44 +50,45 @@ fn stamp_by(lock: &RunningLock, pass: &mut Pass, call: &Call, tally: &mut Tally)
         match lock.once(pass, *call) {
             Ok(Reply::Stamp(stamp)) => return stamp,
             Ok(_) => return 0,
-            Err(Lost { .. }) => tally.lost = tally.lost.wrapping_add(1),
+            Err(Lost { .. }) => {}
         }
     }
     0
 }
 
-/// Reads optimistically, goes on to write if it may, and gives up what it holds.
-fn upgrade_once<R: Wait>(rt: &R, lock: &RunningLock, pass: &mut Pass, tally: &mut Tally)
+/// Reads optimistically, goes on to write if it may, and gives up what it holds; whether it wrote.
+fn upgrade_once<R: Wait>(rt: &R, lock: &RunningLock, pass: &mut Pass) -> bool
     requires { pass.old.table ≡ lock.now.table }
     ensures { pass.new.table ≡ lock.now.table }
 {
-    let seen = stamp_by(lock, pass, &Call::Optimistic, tally);
-    let written = stamp_by(lock, pass, &Call::ToWrite(seen), tally);
-    if written != 0 {
-        tally.writes = tally.writes.wrapping_add(1);
-        lock.call(rt, pass, Call::ToRead(written));
-        lock.call(rt, pass, Call::TryUnlockRead);
+    let seen = stamp_by(lock, pass, &Call::Optimistic);
+    let written = stamp_by(lock, pass, &Call::ToWrite(seen));
+    if written == 0 {
+        return false;
     }
+    lock.call(rt, pass, Call::ToRead(written));
+    lock.call(rt, pass, Call::TryUnlockRead);
+    true
 }
 
-/// Writes, reads, and reads optimistically, each call followed by its release.
-fn mixed_calls<R: Wait>(rt: &R, lock: &RunningLock, mut pass: Pass, rounds: u64) -> (Tally, Pass)
+/// Writes, reads, and reads optimistically, each call followed by its release: how often it wrote.
+fn mixed_calls<R: Wait>(rt: &R, lock: &RunningLock, mut pass: Pass, rounds: u64) -> (u64, Pass)
     requires { pass.table ≡ lock.now.table }
     ensures { result.1.table ≡ lock.now.table }
 {
-    let mut tally = Tally { writes: 0, lost: 0 };
+    let mut writes = 0u64;
     for _ in 0..rounds {
-        let written = stamp_by(lock, &mut pass, &Call::WriteLock, &mut tally);
+        let written = stamp_by(lock, &mut pass, &Call::WriteLock);
         if written != 0 {
-            tally.writes = tally.writes.wrapping_add(1);
+            writes = writes.wrapping_add(1);
             lock.call(rt, &mut pass, Call::UnlockWrite(written));
         }
         if let Reply::Stamp(read) = lock.call(rt, &mut pass, Call::ReadLock) {
             lock.call(rt, &mut pass, Call::UnlockRead(read));
         }
-        upgrade_once(rt, lock, &mut pass, &mut tally);
+        writes = writes.wrapping_add(u64::from(upgrade_once(rt, lock, &mut pass)));
     }
-    (tally, pass)
+    (writes, pass)
 }
 
 /// Two threads of mixed calls, whose passes meet afterwards.
@@ -145,7 +109,7 @@ fn two_mixed<R: Threads + Wait + Sync>(
     );
     let (first, second) = lock.meet(first, second);
     drop(second);
-    (a.writes.wrapping_add(b.writes), first)
+    (a.wrapping_add(b), first)
 }
 
 #[test]
@@ -274,45 +238,4 @@ fn a_reader_waits_for_the_writer(rt: HostRuntime) -> Result<(), Fail> {
     assert!(rt; read == Reply::Stamp(513));
     assert!(rt; lock.close(first) == 513);
     Ok(())
-}
-
-/// Acquires write mode once the other thread is there, and tells the stamp.
-fn tell_stamp<R: Wait>(rt: &R, lock: RunningLock, mut pass: Pass, both: &Barrier, told: &AtomicU64)
-    requires { pass.table ≡ lock.table }
-{
-    both.wait(rt);
-    if let Reply::Stamp(stamp) = lock.call(rt, &mut pass, Call::TryWrite) {
-        told.store(stamp, Ordering::SeqCst);
-    }
-}
-
-#[test]
-fn a_call_on_a_free_lock_returns(rt: HostRuntime) -> Result<(), Fail> {
-    let (lock, pass) = made(rt.alloc(), Layout::One, 127)?;
-    let Ok(both) = Arc::new(rt.alloc(), Barrier::new(2)) else {
-        return Err(Fail::from("memory"));
-    };
-    let Ok(answered) = Arc::new(rt.alloc(), AtomicU64::new(0)) else {
-        return Err(Fail::from("memory"));
-    };
-    let (Ok(theirs), Ok(told)) = (Arc::try_clone(&both), Arc::try_clone(&answered)) else {
-        return Err(Fail::from("memory"));
-    };
-    let spawned = thread::spawn(
-        &rt,
-        move ||
-            requires { pass.table ≡ lock.table }
-        { tell_stamp(&rt, lock, pass, &theirs, &told) },
-    );
-    let Ok(thread) = spawned else {
-        return Err(Fail::from("no thread"));
-    };
-    both.wait(&rt);
-    for _ in 0..100_000_000u64 {
-        if answered.load(Ordering::SeqCst) == 384 {
-            thread.join(&rt);
-            return Ok(());
-        }
-    }
-    Err(Fail::from("the call did not return"))
 }

@@ -101,6 +101,8 @@ fn a_writer_who_leaves_wakes_a_reader(rt: HostRuntime) -> Result<(), Fail> {
     assert!(rt; without_stamp == (Some(Reply::Yes), 513));
     let for_optimistic = leave_by(&rt, rt.alloc(), Call::ToOptimistic(384))?;
     assert!(rt; for_optimistic == (Some(Reply::Stamp(512)), 513));
+    let for_read = leave_by(&rt, rt.alloc(), Call::ToRead(384))?;
+    assert!(rt; for_read == (Some(Reply::Stamp(513)), 514));
     Ok(())
 }
 
@@ -117,28 +119,7 @@ fn a_waiting_writer_is_told_that_no_version_is_left(rt: HostRuntime) -> Result<(
 }
 
 #[test]
-fn a_downgrade_wakes_a_reader(rt: HostRuntime) -> Result<(), Fail> {
-    let shared = shared_book(rt.alloc())?;
-    assert!(rt; tells(&rt, &shared, 0, Call::WriteLock, Ok(Reply::Stamp(384))));
-    let reader = Waiter::start(&rt, rt.alloc(), &shared, 1, Call::ReadLock)?;
-    assert!(rt; tells(&rt, &shared, 0, Call::ToRead(384), Ok(Reply::Stamp(513))));
-    assert!(rt; reader.stamp(&rt) == 514);
-    Ok(())
-}
-
-#[test]
-fn a_reader_who_leaves_wakes_one_who_waits_for_room(rt: HostRuntime) -> Result<(), Fail> {
-    let shared = shared_book(rt.alloc())?;
-    assert!(rt; tells(&rt, &shared, 0, Call::ReadLock, Ok(Reply::Stamp(257))));
-    assert!(rt; tells(&rt, &shared, 0, Call::ReadLock, Ok(Reply::Stamp(258))));
-    let reader = Waiter::start(&rt, rt.alloc(), &shared, 1, Call::ReadLock)?;
-    assert!(rt; tells(&rt, &shared, 0, Call::UnlockRead(257), Ok(Reply::Done)));
-    assert!(rt; reader.stamp(&rt) == 258);
-    Ok(())
-}
-
-#[test]
-fn the_last_reader_wakes_a_writer(rt: HostRuntime) -> Result<(), Fail> {
+fn readers_who_leave_wake_a_writer_and_one_who_waits_for_room(rt: HostRuntime) -> Result<(), Fail> {
     let shared = shared_book(rt.alloc())?;
     assert!(rt; tells(&rt, &shared, 0, Call::ReadLock, Ok(Reply::Stamp(257))));
     assert!(rt; tells(&rt, &shared, 0, Call::ReadLock, Ok(Reply::Stamp(258))));
@@ -146,6 +127,11 @@ fn the_last_reader_wakes_a_writer(rt: HostRuntime) -> Result<(), Fail> {
     assert!(rt; tells(&rt, &shared, 0, Call::TryUnlockRead, Ok(Reply::Yes)));
     assert!(rt; tells(&rt, &shared, 0, Call::TryUnlockRead, Ok(Reply::Yes)));
     assert!(rt; writer.stamp(&rt) == 384);
+    assert!(rt; tells(&rt, &shared, 0, Call::ReadLock, Ok(Reply::Stamp(513))));
+    assert!(rt; tells(&rt, &shared, 0, Call::ReadLock, Ok(Reply::Stamp(514))));
+    let reader = Waiter::start(&rt, rt.alloc(), &shared, 1, Call::ReadLock)?;
+    assert!(rt; tells(&rt, &shared, 0, Call::UnlockRead(513), Ok(Reply::Done)));
+    assert!(rt; reader.stamp(&rt) == 514);
     Ok(())
 }
 
