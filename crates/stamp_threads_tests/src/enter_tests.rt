@@ -9,10 +9,9 @@ use stamp_threads::{
 };
 use std::alloc::Global;
 use std::test::Fail;
-use std::thread::join;
 
 /// A lock that threads may enter, and its first pass.
-fn enterable_lock(alloc: Global) -> Result<(RunningLock, Pass), Fail>
+pub fn enterable_lock(alloc: Global) -> Result<(RunningLock, Pass), Fail>
     ensures table { IfOk result (λ r. r.1.table ≡ r.0.table) }
     ensures enterable { IfOk result (λ r. r.0.enterable ≡ true) }
 {
@@ -34,20 +33,6 @@ fn a_pass_that_enters_finds_what_is_held_and_releases_nothing(rt: HostRuntime) -
     assert!(rt; answers(&lock, &mut third, Call::ReadCount, Reply::Count(2)));
     let (_, fourth) = lock.meet(first, lock.enter());
     assert!(rt; lock.close(fourth) == 514);
-    Ok(())
-}
-
-#[test]
-fn threads_enter_by_a_shared_reference(rt: HostRuntime) -> Result<(), Fail> {
-    let (lock, first) = enterable_lock(rt.alloc())?;
-    let (a, b) = join(
-        &rt,
-        || -> Reply { lock.call(&rt, &mut lock.enter(), Call::ReadLock) },
-        || -> Reply { lock.call(&rt, &mut lock.enter(), Call::ReadLock) },
-    );
-    let stamps = [Reply::Stamp(257), Reply::Stamp(258)];
-    assert!(rt; stamps == [a, b] || stamps == [b, a]);
-    assert!(rt; lock.close(first) == 258);
     Ok(())
 }
 

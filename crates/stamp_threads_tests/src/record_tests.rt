@@ -40,10 +40,10 @@ fn words_of(words: &[u64]) -> Result<Words, Fail>
 pub fn pair(number: u64) -> Words
     ensures { length result ≡ 2 }
 {
-    Words::of_row(
-        [number, number, 0, 0, 0, 0, 0, 0, 0, 0, 0, 0, 0, 0, 0, 0],
-        2,
-    )
+    match Words::new(&[number, number]) {
+        Some(words) => words,
+        None => unreachable!(),
+    }
 }
 
 /// Whether a put by this pass is answered so at once.

@@ -87,8 +87,24 @@ fn a_shared_book_is_the_one_handed_in_and_as_full(rt: HostRuntime) -> Result<(),
     let record = shared.record(&rt)?;
     assert!(rt; record.entries() == before.entries());
     assert!(rt; record.limits() == limits);
-    assert!(rt; tells(&rt, &shared, 4, Call::Unlock(196_608), Ok(Reply::Done)));
-    assert!(rt; tells(&rt, &shared, 4, Call::TryRead, Err(BookError::Full)));
+    assert!(rt;
+        tells(
+            &rt,
+            &shared,
+            4,
+            Call::ToRead(196_608),
+            Ok(Reply::Stamp(262_145))
+        )
+    );
+    assert!(rt;
+        tells(
+            &rt,
+            &shared,
+            4,
+            Call::UnlockRead(262_145),
+            Err(BookError::Full)
+        )
+    );
     let record = shared.record(&rt)?;
     assert!(rt; record.entries().first() == before.entries().first());
     assert!(rt; check(&record) == Ok(2));

@@ -1,14 +1,14 @@
 //! Threads that really share a lock.
-ghost use Rattle.std.specs.Prelude.{◌≡◌, IsTrue};
+ghost use Rattle.std.specs.Prelude.{◌≡◌, IsTrue, true};
 ghost use Rattle.stamp_core.specs.Call.{is_lock_call};
 
+use crate::enter_tests::enterable_lock;
 use crate::lock_tests::{answers, made};
 use stamp_core::{Call, Layout, Reply};
 use stamp_threads::{Lost, Pass, RunningLock};
-use std::sync::atomic::{AtomicBool, AtomicU64, Ordering};
-use std::sync::{Arc, Barrier, Wait};
+use std::sync::atomic::{AtomicBool, Ordering};
+use std::sync::{Barrier, Wait};
 use std::test::Fail;
-use std::thread;
 use std::thread::{Threads, join};
 
 /// Waits for the write lock, and gives it back.
@@ -199,43 +199,37 @@ fn an_exchange_is_lost_where_threads_meet(rt: HostRuntime) -> Result<(), Fail> {
     Ok(())
 }
 
-/// Acquires write mode, lets the other thread come, and releases.
-fn write_beside<R: Wait>(
-    rt: &R,
-    lock: &RunningLock,
-    mut pass: Pass,
-    both: &Barrier,
-) -> (Reply, Reply, Pass)
-    requires { pass.table ≡ lock.now.table }
-    ensures { result.2.table ≡ lock.now.table }
+/// Enters, acquires write mode, lets the other thread come, and releases.
+fn write_beside<R: Wait>(rt: &R, lock: &RunningLock, both: &Barrier) -> (Reply, Reply)
+    requires { lock.now.enterable ≡ true }
 {
+    let mut pass = lock.enter();
     let written = lock.call(rt, &mut pass, Call::WriteLock);
     both.wait(rt);
     let released = lock.call(rt, &mut pass, Call::UnlockWrite(384));
-    (written, released, pass)
+    (written, released)
 }
 
-/// Comes once the writer is there, and waits for read mode.
-fn read_beside<R: Wait>(rt: &R, lock: &RunningLock, mut pass: Pass, both: &Barrier) -> Reply
-    requires { pass.table ≡ lock.now.table }
+/// Enters once the writer is there, and waits for read mode.
+fn read_beside<R: Wait>(rt: &R, lock: &RunningLock, both: &Barrier) -> Reply
+    requires { lock.now.enterable ≡ true }
 {
     both.wait(rt);
-    lock.call(rt, &mut pass, Call::ReadLock)
+    lock.call(rt, &mut lock.enter(), Call::ReadLock)
 }
 
 #[test]
-fn a_reader_waits_for_the_writer(rt: HostRuntime) -> Result<(), Fail> {
-    let (lock, pass) = made(rt.alloc(), Layout::One, 127)?;
-    let (first, second) = lock.split(pass);
+fn threads_enter_and_a_reader_waits_for_the_writer(rt: HostRuntime) -> Result<(), Fail> {
+    let (lock, pass) = enterable_lock(rt.alloc())?;
     let both = Barrier::new(2);
-    let ((written, released, first), read) = join(
+    let ((written, released), read) = join(
         &rt,
-        || write_beside(&rt, &lock, first, &both),
-        || read_beside(&rt, &lock, second, &both),
+        || write_beside(&rt, &lock, &both),
+        || read_beside(&rt, &lock, &both),
     );
     assert!(rt; written == Reply::Stamp(384));
     assert!(rt; released == Reply::Done);
     assert!(rt; read == Reply::Stamp(513));
-    assert!(rt; lock.close(first) == 513);
+    assert!(rt; lock.close(pass) == 513);
     Ok(())
 }
