@@ -5,15 +5,17 @@
 Without --all, or an edit's own name, those of the folders `more` are left out: `./test` tries one for each public
 function and those of the faults that a lock, a judge or a picture must not have, and the others take as long again.
 
-An edit is a file tests/edits/CRATE/NAME.edit or tests/edits/CRATE/more/NAME.edit, in the form of the kit's must-fail edits: a line `file:`, then
-pairs of lines `old:` and `new:`. It changes the body of one function (one that changes more stands in the
-crate's own must-fail folder, which `rt ci` tries). A function is proved from the contracts of those that it
-calls, so edits of several functions are tried in one copy of the crate, and only these functions and those that
-they call are proved. Edits of one function are tried one after another. Where the prover says of a function only
-that it calls one which isn't proved, its edit is tried once more, without that one.
+An edit is a file tests/edits/CRATE/NAME.edit or tests/edits/CRATE/more/NAME.edit, in the form of the kit's must-fail
+edits: a line `file:`, then pairs of lines `old:` and `new:`. A function is proved from the contracts of those that it
+calls, so edits of several functions are tried in one copy of the crate, and the proofs of all other functions are
+taken out of it: the prover says of an edited function which of its own goals aren't proved. Edits of one function are
+tried one after another. Where it says only that a function calls one which isn't proved, the edit is tried once more
+with the proofs of all that the function calls. An edit that changes the bodies of several functions is tried alone,
+and so is one with a line `by: FUNCTION`, which names a function that must not be proved with it: what it changes is no
+body.
 
 An edit is refused if the prover doesn't prove the edited function for its own sake: it names the goal, or a fault
-in the function's proof by hand. It fails if the function is proved, or if the edit can't be applied or compiled. A
+in the function's proof by hand. One that is tried alone is refused if one of its functions isn't proved. It fails if the function is proved, or if the edit can't be applied or compiled. A
 crate fails if another function isn't proved for its own sake. Where a proof by hand only lacks names that an edit
 took away, the line says so, since that shows little of the contract: change a value and keep the names. The
 libraries must be built: `rt ci` leaves them in crates/*/out. What `rt check` kept is begun with, if there is any.
@@ -70,8 +72,34 @@ class Crate:
         self.words += [word for it in folders for word in ("-L", f"dependency={it}")]
         self.words += ["--antt-project", f"{kit}/rattle/logic/antt-project.json", "--logic-built", f"{kit}/logic_built"]
 
-    def check(self, room, kept, edits):
-        """What the prover says of the functions with the edits and of those that they call, over what was kept."""
+    def functions(self):
+        """The end of each function's path, and the folder of its proof below `proofs`."""
+        for at, _, names in os.walk(f"{self.folder}/src"):
+            for file in (os.path.relpath(f"{at}/{name}", self.folder) for name in names if name.endswith(".rt")):
+                with open(f"{self.folder}/{file}") as it:
+                    text = it.read()
+                module = file.removeprefix("src/").removesuffix(".rt")
+                for found in FUNCTION.finditer(text):
+                    function = function_at(file, text[: found.end()])
+                    place = function.replace("::", "/")
+                    is_whole = module in ("lib", "main") or place.startswith(f"{module}/")
+                    yield function, place if is_whole else f"{module}/{place}"
+
+    def take_proofs(self, copy, functions):
+        """Leaves these functions of the copy their proofs, and all others a file that proves nothing."""
+        for function, place in self.functions():
+            if function not in functions:
+                folder = f"{copy}/proofs/{place}"
+                os.makedirs(folder, exist_ok=True)
+                for name in os.listdir(folder):
+                    if name.endswith(".antt"):
+                        os.remove(f"{folder}/{name}")
+                with open(f"{folder}/Proof.antt", "w"):
+                    pass
+
+    def check(self, room, kept, edits, is_bare=False):
+        """What the prover says of the functions with the edits, over what was kept; if it is bare, without the proofs
+        of all others, and else with the proofs of those that they call."""
         with tempfile.TemporaryDirectory(dir=room) as copy:
             for part in PARTS:
                 if os.path.isdir(f"{self.folder}/{part}"):
@@ -81,7 +109,10 @@ class Crate:
                     text = it.read()
                 with open(f"{copy}/{file}", "w") as it:
                     it.write(text[:at] + new + text[at + len(old) :])
-            only = [word for edit in edits for word in ("--only", edit.function)]
+            functions = {function for edit in edits for function in edit.functions}
+            if is_bare:
+                self.take_proofs(copy, functions)
+            only = [word for function in sorted(functions) for word in ("--only", function)]
             ran = subprocess.run(
                 [*self.words, "--incremental", kept, *only], cwd=copy, stdin=subprocess.DEVNULL,
                 stdout=subprocess.PIPE, stderr=subprocess.STDOUT, text=True, errors="replace")
@@ -89,10 +120,10 @@ class Crate:
 
 
 class Edit:
-    """A wrong body: the places that it changes, and the function whose body it is, by the end of its path."""
+    """A wrong body: the places that it changes, and the functions that it is refused by, by the ends of their paths."""
 
     def __init__(self, crate, path):
-        self.name, self.pairs, functions, file = os.path.basename(path), [], set(), None
+        self.name, self.pairs, by, edited, file = os.path.basename(path), [], set(), set(), None
         with open(path) as it:
             lines = it.read().split("\n")
         for line in lines:
@@ -100,16 +131,17 @@ class Edit:
                 file = line.removeprefix("file: ").strip()
                 with open(f"{crate.folder}/{file}") as it:
                     text = it.read()
+            elif line.startswith("by: "):
+                by.add(line.removeprefix("by: ").strip())
             elif line.startswith("old: "):
                 old = line.removeprefix("old: ")
                 if text.count(old) != 1:
                     raise Failed(f"{self.name}: its text stands in {file} {text.count(old)} times: {old}")
             elif line.startswith("new:"):
                 self.pairs.append((file, text.index(old), old, line.removeprefix("new:").removeprefix(" ")))
-                functions.add(function_at(file, text[: text.index(old) + len(old)]))
-        if len(functions) != 1:
-            raise Failed(f"{self.name}: it changes {len(functions)} functions")
-        self.function = functions.pop()
+                edited.add(None if by else function_at(file, text[: text.index(old) + len(old)]))
+        self.functions = sorted(by or edited)
+        self.is_alone = bool(by) or len(edited) > 1
 
 
 def function_at(file, before):
@@ -146,11 +178,11 @@ def why_of(function, crate, said):
 
 def round_of(edits, calls):
     """An edit for each function, but for those that are known to call another of these functions."""
-    functions = {edit.function for edit in edits}
+    functions = {edit.functions[0] for edit in edits}
     taken = {}
     for edit in edits:
-        if not functions & calls.get(edit.function, set()):
-            taken.setdefault(edit.function, edit)
+        if not functions & calls.get(edit.functions[0], set()):
+            taken.setdefault(edit.functions[0], edit)
     return [*taken.values()]
 
 
@@ -162,16 +194,35 @@ def named(function, stated):
     return found[0]
 
 
-def judged(crate, edits, said, calls):
-    """What came of the edits of a round that were judged. The others' functions call some that aren't proved."""
+def stated_by(said):
+    """What the prover says of each function."""
     stated = dict(STATED.findall(said))
     if re.search(r"\berror\[[\w-]+\]", said) or not stated:
         raise Failed(f"an edit doesn't compile: {said[:600]}")
-    edited = {named(edit.function, stated): edit for edit in edits}
+    return stated
+
+
+def judged_alone(crate, edit, said):
+    """What came of an edit that was tried alone: what isn't proved then is so for its sake."""
+    stated = stated_by(said)
+    unproved = [it for it in (named(function, stated) for function in edit.functions)
+                if not stated[it].startswith("proved")]
+    if not unproved:
+        return {edit.name: f"NOT REFUSED: {', '.join(edit.functions)} proved with it"}
+    whys = [why for why in (why_of(it, crate, said) for it in unproved) if why and not why.startswith("it calls ")]
+    wrong = [line for line in said.split("\n") if re.match(r"(?:\./)?proofs/\S+: error", line)]
+    whys += [line for line in wrong if not NAMES.search(line)]
+    return {edit.name: f"refused: {whys[0][:160]}" if whys else f"refused: {LACKS_NAMES}"}
+
+
+def judged(crate, edits, said, calls, is_bare):
+    """What came of the edits of a round that were judged. The others' functions call some that aren't proved."""
+    stated = stated_by(said)
+    edited = {named(edit.functions[0], stated): edit for edit in edits}
     unproved = {function for function, word in stated.items() if not word.startswith("proved")}
     below = {it: unproved & {*re.findall(r"`([\w:+]+)`", stated[it])} - {it} for it in unproved}
     for function in unproved:
-        if owner_of(function) not in edited and ("did not prove" in stated[function] or not below[function]):
+        if not is_bare and owner_of(function) not in edited and ("did not prove" in stated[function] or not below[function]):
             raise Failed(f"{function} isn't edited, and it is: {stated[function]}")
     told = {}
     for function, edit in edited.items():
@@ -186,7 +237,7 @@ def judged(crate, edits, said, calls):
             told[edit.name] = f"refused: {LACKS_NAMES}"
         else:
             owners = {owner_of(other) for it in own for other in below[it]}
-            calls[edit.function] = {edited[it].function for it in owners & {*edited}} or {edit.function}
+            calls[edit.functions[0]] = {edited[it].functions[0] for it in owners & {*edited}} or {edit.functions[0]}
     return told
 
 
@@ -200,25 +251,35 @@ def edits_of(crate, more):
 def tried(crate, names):
     """Tries these edits of the crate, round by round, and gives the lines that tell of it."""
     begun = time.monotonic()
-    edits, calls = [Edit(crate, f"{FOLDER}/{crate.name}/{name}") for name in names], {}
-    lines, rounds = [], 0
+    edits = [Edit(crate, f"{FOLDER}/{crate.name}/{name}") for name in names]
+    several, alone = [it for it in edits if not it.is_alone], [it for it in edits if it.is_alone]
+    lines, rounds = {}, 0
     with tempfile.TemporaryDirectory() as room:
         begin = f"{crate.folder}/out/incremental"
         if os.path.isdir(begin):
             shutil.copytree(begin, f"{room}/kept")
         else:
             os.mkdir(f"{room}/kept")
-        while edits:
+        while several:
             rounds += 1
-            now = round_of(edits, calls)
-            told = judged(crate, now, crate.check(room, f"{room}/kept", now), calls) if now else {}
+            now = round_of(several, {})
+            lines |= judged(crate, now, crate.check(room, f"{room}/kept", now, is_bare=True), {}, is_bare=True)
+            several = [it for it in several if it not in now]
+        several, calls = [it for it in edits if not it.is_alone and it.name not in lines], {}
+        while several:
+            rounds += 1
+            now = round_of(several, calls)
+            told = judged(crate, now, crate.check(room, f"{room}/kept", now), calls, is_bare=False) if now else {}
             if not told:
-                raise Failed(f"none was judged of {', '.join(edit.name for edit in edits)}")
-            lines += [f"{crate.name}/{name}: {what}" for name, what in told.items()]
-            edits = [edit for edit in edits if edit.name not in told]
+                raise Failed(f"none was judged of {', '.join(edit.name for edit in several)}")
+            lines |= told
+            several = [it for it in several if it.name not in told]
+        for edit in alone:
+            rounds += 1
+            lines |= judged_alone(crate, edit, crate.check(room, f"{room}/kept", [edit]))
     seconds = round(time.monotonic() - begun)
     print(f"{crate.name}: {len(lines)} edits tried, in {rounds} rounds and {seconds} seconds", flush=True)
-    return lines
+    return [f"{crate.name}/{name}: {what}" for name, what in sorted(lines.items())]
 
 
 def lines_of(crate, done):

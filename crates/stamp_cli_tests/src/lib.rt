@@ -4,8 +4,4 @@
 #[cfg(test)]
 mod ends_tests;
 #[cfg(test)]
-mod history_tests;
-#[cfg(test)]
-mod run_tests;
-#[cfg(test)]
 mod serve_tests;

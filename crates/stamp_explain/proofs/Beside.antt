@@ -26,7 +26,7 @@ use Rattle.stamp_explain.specs.declared.asking.Asking.{Asking}
 use Rattle.stamp_explain.specs.Observed.{ObservedHistory, IsObserved, IsBefore, MayReply, AreOfOneObject}
 use Rattle.stamp_explain.specs.Observer.{observes_at, observes_in}
 use Rattle.stamp_explain.specs.Search.{LockState, LockSteps, IsReturnAt}
-use Rattle.stamp_explain.specs.Configuration.{ReachesMany}
+use Rattle.stamp_explain.specs.Configuration.{ReachesMore}
 use Rattle.stamp_explain.specs.Node.{IsReached, IsAt, StandsFor, HasGone, IsOpening}
 use Rattle.stamp_explain.specs.Store.{Keeps}
 use Rattle.stamp_explain.specs.Plan.{AreOpen, ClearsBit, IsAwaitedAt}
@@ -671,16 +671,17 @@ walks_end asking looked store waiting replies asks is none = record {
       (is.searches reply h answered misses) none;
 }
 
-pub walks_many : (asking : Asking) (most looked : ℕ) (store : Store) (waiting : List ℕ) (replies : List Reply) →
-    IsAsking asking → Walks asking looked store waiting replies → most ≤ looked → ReachesMany asking.seen most
-walks_many asking most looked store waiting replies asks is all = (
-  asking.plan.returns.items,
-  (
-    asks.plan.are,
-    so_many asking.seen asking.plan.returns.items store.nodes.items (λ v has. (is.reached v has).reached)
-        is.keeps.different most (omega (arith, is.count, all)),
-  ),
-)
+-- where one waits, more than so many configurations are reached
+pub walks_on : (asking : Asking) (most looked : ℕ) (store : Store) (waiting : List ℕ) (replies : List Reply) →
+    IsAsking asking → Walks asking looked store waiting replies → most ≤ looked → 1 ≤ length waiting →
+    ReachesMore asking.seen most
+walks_on asking most looked store waiting replies asks is all waits = record {
+  returns = asking.plan.returns.items;
+  are = asks.plan.are;
+  once = asks.plan.once;
+  reached = so_many asking.seen asking.plan.returns.items store.nodes.items (λ v has. (is.reached v has).reached)
+      is.keeps.different (most + 1) (omega (arith, is.count, all, waits));
+}
 
 -- the place that is popped, and the node there
 pub walked_inside : (asking : Asking) (looked : ℕ) (store : Store) (before popped : List ℕ) (replies : List Reply)

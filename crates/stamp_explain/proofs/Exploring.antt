@@ -1,11 +1,12 @@
 -- The search as a whole.
 use Rattle.std.proofs.Common.{◌≡◌, ◌⊎◌, ℕ, ◌+◌, ◌-◌, ◌<◌, ◌≤◌, List, [], ◌∷◌, ◌++◌, length, get_or}
-use Rattle.std.proofs.Common.{refl, sym, ◌∙◌, ap, subst, inl, inr, arith, Option, None, Some}
-use Rattle.std.specs.Prelude.{take, drop, slice_get}
+use Rattle.std.proofs.Common.{refl, sym, ◌∙◌, ap, subst, inl, inr, arith, Option, None, Some, true, false}
+use Rattle.std.specs.Prelude.{take, drop, slice_get, ◌==◌}
 use Rattle.std.specs.Option.{option_map}
 use Rattle.std.specs.List.{All, Contains}
 use Rattle.std.specs.Int.{bit_at}
 use Rattle.std.proofs.lemmas.Nat.Bits.{bit_at-zero}
+use Rattle.std.proofs.lemmas.Bool.Decides.{nat_tests}
 use Rattle.std.proofs.lemmas.List.{length-append, length-map}
 use Rattle.std.proofs.lemmas.List.Elements.{All-append, All-weaker, All-contains, All-contains_itself}
 use Rattle.std.proofs.lemmas.List.Elements.{Contains-append_left, Contains-append_right, Contains-append_cases}
@@ -397,11 +398,18 @@ found_nothing h returns looked store waiting are is none explained =
       steps = refl;
     })
 
--- so many configurations were looked at
-pub found_many : (h : ObservedHistory) (returns : List ℕ) (most looked : ℕ) (store : Store) (waiting : List ℕ) →
-    Searches h returns looked store waiting → most ≤ looked → AreReached h returns most
-found_many h returns most looked store waiting is all =
-    so_many h returns store.nodes.items is.reached is.keeps.different most (omega (arith, is.count, all))
+-- so many configurations were looked at, and another waits
+pub found_more : (h : ObservedHistory) (returns : List ℕ) (most looked : ℕ) (store : Store) (waiting : List ℕ) →
+    Searches h returns looked store waiting → most ≤ looked → 1 ≤ length waiting → AreReached h returns (most + 1)
+found_more h returns most looked store waiting is all waits =
+    so_many h returns store.nodes.items is.reached is.keeps.different (most + 1) (omega (arith, is.count, all, waits))
+
+-- the test that none waits
+pub is_zero : (n : ℕ) → true ≡ (n == 0) → n ≡ 0
+is_zero n is = grind (arith, nat_tests)
+
+pub is_more : (n : ℕ) → false ≡ (n == 0) → 1 ≤ n
+is_more n is = grind (arith, nat_tests)
 
 pub popped_inside : (h : ObservedHistory) (returns : List ℕ) (looked : ℕ) (store : Store) (before popped : List ℕ)
     (place : ℕ) → Searches h returns looked store before → before ≡ popped ++ place ∷ [] →

@@ -14,7 +14,7 @@ use Rattle.stamp_explain.specs.Observed.{ObservedHistory, IsObserved, HasReturne
 use Rattle.stamp_explain.specs.Explained.{IsEffectOf, AreApart, RespectsBefore, IsExplained, IsExplainedBy}
 use Rattle.stamp_explain.specs.Cut.{known_of, known_from, returned_by, cut, seen_at, IsStuck}
 use Rattle.stamp_explain.specs.Planning.{IsSooner, AreEnds, EndsAt}
-use Rattle.stamp_explain.specs.Configuration.{ReachesMany}
+use Rattle.stamp_explain.specs.Configuration.{ReachesMore}
 use Rattle.stamp_explain.specs.Order.{IsOrderOf}
 use Rattle.stamp_explain.specs.Expand.{IsFound}
 use Rattle.stamp_explain.specs.Verdict.{IsUndecided, IsUndecidedAt, IsNotFound}
@@ -367,13 +367,13 @@ between_below h most ends low high middle stuck p observed is le less at none = 
 
 pub between_undecided : (h : ObservedHistory) (most : ℕ) (ends : List (ℕ × ℕ)) (low high middle : ℕ) (stuck : Bool)
     (p : ℕ × ℕ) → IsBetween h most ends low high stuck → low ≤ middle → middle < high →
-    slice_get ends middle ≡ Some p → ReachesMany (seen_at p.0 (p.1 + 1) h) most →
+    slice_get ends middle ≡ Some p → ReachesMore (seen_at p.0 (p.1 + 1) h) most →
     IsBetween h most ends low middle false
 between_undecided h most ends low high middle stuck p is le less at many = record {
   order = le;
   inside = omega (arith, less, is.inside);
   below = is.below;
-  above = λ q here. inr (subst (λ (x : ℕ × ℕ). ReachesMany (seen_at x.0 (x.1 + 1) h) most) (same p q (sym at ∙ here))
+  above = λ q here. inr (subst (λ (x : ℕ × ℕ). ReachesMore (seen_at x.0 (x.1 + 1) h) most) (same p q (sym at ∙ here))
       many);
 }
   where

@@ -1,5 +1,5 @@
 -- The configurations that a search for an order reaches.
-use Rattle.std.specs.Prelude.{ℕ, ◌≡◌, ◌≤◌, ◌⊎◌, ◌↔◌, List, [], ◌∷◌, length, slice_get, Option, Some, None, true}
+use Rattle.std.specs.Prelude.{ℕ, ◌≡◌, ◌≢◌, ◌≤◌, ◌+◌, ◌⊎◌, ◌↔◌, List, [], ◌∷◌, length, slice_get, Option, Some, None, true}
 use Rattle.std.specs.List.{AllPairs, Contains}
 use Rattle.stamp_core.specs.LockEvent.{LockEvent, counts}
 use Rattle.stamp_core.specs.Limits.{Bounds, units}
@@ -64,6 +64,9 @@ pub record AreReached (h : ObservedHistory) (returns : List ℕ) (most : ℕ) : 
   pub different : AllPairs (λ (c d : Configuration h returns). ¬ AreOne h returns c d) configurations
   pub many : most ≤ length configurations
 
--- so a search for an order reaches so many
-abbrev pub ReachesMany : ObservedHistory → ℕ → Type 0
-ReachesMany h most = (returns : List ℕ) × (AreReturns h.entries returns × AreReached h returns most)
+-- a search for an order reaches more than so many: the returns come in their order, each once
+pub record ReachesMore (h : ObservedHistory) (most : ℕ) : Type 0 where
+  pub returns : List ℕ
+  pub are : AreReturns h.entries returns
+  pub once : AllPairs (λ (i j : ℕ). i ≢ j) returns
+  pub reached : AreReached h returns (most + 1)

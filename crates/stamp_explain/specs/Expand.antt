@@ -14,7 +14,7 @@ use Rattle.stamp_explain.specs.declared.plan.Plan.{Plan}
 use Rattle.stamp_explain.specs.Observed.{ObservedHistory, IsObserved, AreOfOneObject}
 use Rattle.stamp_explain.specs.Explained.{Effect, IsEffectOf, IsExplained}
 use Rattle.stamp_explain.specs.Search.{LockState, LockSteps, MayTake, IsCompletedBy}
-use Rattle.stamp_explain.specs.Configuration.{IsTried, ReachesMany, put_after}
+use Rattle.stamp_explain.specs.Configuration.{IsTried, ReachesMore, put_after}
 use Rattle.stamp_explain.specs.Node.{IsAt, StandsFor, IsReached, IsOpening}
 use Rattle.stamp_explain.specs.Plan.{IsPlan, IsAwaitedAt}
 use Rattle.stamp_explain.specs.Store.{Keeps}
@@ -142,7 +142,7 @@ pub record Tried (h : ObservedHistory) (returns : List ℕ) (node : Node) (a : O
 abbrev pub IsFound : ObservedHistory → ℕ → Found → Type 0
 IsFound h most (Order order) = IsOrderOf h order.items
 IsFound h most Nothing = ¬ IsExplained h
-IsFound h most Undecided = ReachesMany h most
+IsFound h most Undecided = ReachesMore h most
 
 abbrev pub nodes_of : List Next → List Node
 nodes_of nexts = map (λ (w : Next). w.node) nexts

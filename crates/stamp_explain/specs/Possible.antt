@@ -9,7 +9,7 @@ use Rattle.stamp_explain.specs.declared.possible.PossibleError.TheVariants.{Unde
 use Rattle.stamp_explain.specs.Observed.{ObservedHistory}
 use Rattle.stamp_explain.specs.Explained.{IsExplained}
 use Rattle.stamp_explain.specs.Cut.{cut_after, seen_at}
-use Rattle.stamp_explain.specs.Configuration.{ReachesMany}
+use Rattle.stamp_explain.specs.Configuration.{ReachesMore}
 
 -- the call, returned at the same position with this reply
 abbrev pub answering : Observation → Returned → Reply → Observation
@@ -42,7 +42,7 @@ pub record IsUndecidedAtReply (h : ObservedHistory) (i most : ℕ) (reply : Repl
   pub return : Returned
   pub is_entry : slice_get h.entries i ≡ Some entry
   pub returned : entry.returned ≡ Some return
-  pub many : ReachesMany (seen_at return.last (i + 1) (with_reply i entry return reply h)) most
+  pub many : ReachesMore (seen_at return.last (i + 1) (with_reply i entry return reply h)) most
 
 abbrev pub IsUndecidedAtSome : ObservedHistory → ℕ → ℕ → List Reply → Type 0
 IsUndecidedAtSome h i most tried = (reply : Reply) × (Contains tried reply × IsUndecidedAtReply h i most reply)
@@ -60,7 +60,7 @@ pub record IsUndecidedAtOwn (h : ObservedHistory) (i most : ℕ) : Type 0 where
   pub return : Returned
   pub is_entry : slice_get h.entries i ≡ Some entry
   pub returned : entry.returned ≡ Some return
-  pub many : ReachesMany (seen_at return.last (i + 1) h) most
+  pub many : ReachesMore (seen_at return.last (i + 1) h) most
 
 abbrev pub IsUndecidedAtAny : ObservedHistory → ℕ → ℕ → Type 0
 IsUndecidedAtAny h i most = IsUndecidedAtOwn h i most ⊎ ((reply : Reply) × IsUndecidedAtReply h i most reply)

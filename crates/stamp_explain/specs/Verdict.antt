@@ -10,13 +10,13 @@ use Rattle.stamp_explain.specs.Observed.{ObservedHistory}
 use Rattle.stamp_explain.specs.Explained.{IsExplained}
 use Rattle.stamp_explain.specs.Cut.{IsStuck, cut, cut_before, seen_at}
 use Rattle.stamp_explain.specs.Points.{HasPoints}
-use Rattle.stamp_explain.specs.Configuration.{ReachesMany}
+use Rattle.stamp_explain.specs.Configuration.{ReachesMore}
 
 -- a search of what is seen then reaches so many configurations, all of them different; or one of the whole does,
 -- and all of its returns are known then
 abbrev pub IsUndecidedAt : ObservedHistory → ℕ → ℕ → ℕ → Type 0
 IsUndecidedAt h most last bound =
-    ((cut last bound h ≡ h) × ReachesMany h most) ⊎ ReachesMany (seen_at last bound h) most
+    ((cut last bound h ≡ h) × ReachesMore h most) ⊎ ReachesMore (seen_at last bound h) most
 
 -- it is explained until this entry returns, and undecided then
 pub record IsUndecided (h : ObservedHistory) (most i : ℕ) : Type 0 where
@@ -30,7 +30,7 @@ pub record IsUndecided (h : ObservedHistory) (most i : ℕ) : Type 0 where
 -- no order was found: since none explains it, or since the search was stopped
 abbrev pub IsNotFound : ObservedHistory → ℕ → Bool → Type 0
 IsNotFound h most true = ¬ IsExplained h
-IsNotFound h most false = ReachesMany h most
+IsNotFound h most false = ReachesMore h most
 
 -- the entry at whose return the history is stuck, or undecided
 abbrev pub IsFault : ObservedHistory → ℕ → ExplainError → Type 0

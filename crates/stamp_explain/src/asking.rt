@@ -6,7 +6,7 @@ ghost use Rattle.stamp_core.specs.declared.reply.Reply.{Reply};
 ghost use Rattle.stamp_explain.specs.declared.observed.Observation.{Observation};
 ghost use Rattle.stamp_explain.specs.declared.observed.Returned.{Returned};
 ghost use Rattle.stamp_explain.specs.Observed.{ObservedHistory, IsObserved, IsBefore};
-ghost use Rattle.stamp_explain.specs.Configuration.{ReachesMany};
+ghost use Rattle.stamp_explain.specs.Configuration.{ReachesMore};
 ghost use Rattle.stamp_explain.specs.Node.{IsReached};
 ghost use Rattle.stamp_explain.specs.Expand.{Expands, Took, IsNotInEffect};
 ghost use Rattle.stamp_explain.specs.Possible.{without_return};
@@ -245,7 +245,7 @@ pub(crate) fn replies_of(
 ) -> Result<Option<Vec<Reply>>, AllocError>
     requires { IsAsking asking.now }
     ensures some { IfOk result (λ found. IfSome found (λ replies. AreReplies asking.now replies.items)) }
-    ensures none { IfOk result (λ found. IfNone found (ReachesMany asking.now.seen most)) }
+    ensures none { IfOk result (λ found. IfNone found (ReachesMore asking.now.seen most)) }
 {
     let mut store = Store::new(alloc);
     let mut waiting = Vec::new(alloc);
@@ -263,6 +263,9 @@ pub(crate) fn replies_of(
         let node = store.nodes[place];
         go_on(asking, &node, &mut nexts, &mut replies)?;
         enter(&mut store, &mut waiting, place, nexts.as_slice())?;
+    }
+    if waiting.is_empty() {
+        return Ok(Some(replies));
     }
     Ok(None)
 }

@@ -26,7 +26,7 @@ pub(crate) enum Found {
     Order(Vec<Taken>),
     /// None does.
     Nothing,
-    /// So many configurations were looked at, and the search had not ended.
+    /// So many configurations were looked at, and others wait.
     Undecided,
 }
 
@@ -185,6 +185,9 @@ pub(crate) fn search(
         }
         successors(observed, plan, &node, &mut nexts)?;
         enter(&mut store, &mut waiting, place, nexts.as_slice())?;
+    }
+    if waiting.is_empty() {
+        return Ok(Found::Nothing);
     }
     Ok(Found::Undecided)
 }

@@ -30,31 +30,6 @@ fn record(
     Ok(made)
 }
 
-/// The lists that calls without words are written as.
-const CALLS: [(Call, &str); 18] = [
-    (Call::TryWrite, r#"["try_write"]"#),
-    (Call::TryRead, r#"["try_read"]"#),
-    (Call::WriteLock, r#"["write_lock"]"#),
-    (Call::ReadLock, r#"["read_lock"]"#),
-    (Call::Optimistic, r#"["optimistic"]"#),
-    (Call::Validate(0), r#"["validate",0]"#),
-    (Call::UnlockWrite(384), r#"["unlock_write",384]"#),
-    (Call::UnlockRead(257), r#"["unlock_read",257]"#),
-    (Call::Unlock(256), r#"["unlock",256]"#),
-    (
-        Call::ToWrite(u64::MAX),
-        r#"["to_write",18446744073709551615]"#,
-    ),
-    (Call::ToRead(1), r#"["to_read",1]"#),
-    (Call::ToOptimistic(2), r#"["to_optimistic",2]"#),
-    (Call::TryUnlockWrite, r#"["try_unlock_write"]"#),
-    (Call::TryUnlockRead, r#"["try_unlock_read"]"#),
-    (Call::IsWriteLocked, r#"["is_write_locked"]"#),
-    (Call::IsReadLocked, r#"["is_read_locked"]"#),
-    (Call::ReadCount, r#"["read_count"]"#),
-    (Call::Get, r#"["get"]"#),
-];
-
 /// What an entry at those positions is written as.
 fn entry_text(alloc: Global, call: &str, reply: &str, thread: u64) -> Result<String, Fail> {
     let positions = "\"first\":10,\"last\":12,\"point\":11";
@@ -71,18 +46,6 @@ fn text_of(alloc: Global, width: u64, entries: &str) -> Result<String, Fail> {
         "{{\"entries\":[{entries}],\"format\":1,{limits},\"width\":{width}}}"
     )?;
     Ok(text)
-}
-
-#[test]
-fn each_call_is_written_by_its_name(rt: HostRuntime) -> Result<(), Fail> {
-    for (call, list) in CALLS {
-        let entries = [entry(5, call, Reply::Yes)];
-        let made = record(rt.alloc(), Layout::One, 1, &entries, &[])?;
-        let text = write_history(rt.alloc(), &made)?;
-        let wanted = text_of(rt.alloc(), 1, &entry_text(rt.alloc(), list, "\"yes\"", 5)?)?;
-        assert!(rt; text.as_slice() == wanted.as_bytes(), "{list}");
-    }
-    Ok(())
 }
 
 #[test]

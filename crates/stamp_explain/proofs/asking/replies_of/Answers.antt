@@ -2,8 +2,8 @@ use Rattle.std.proofs.Common.{◌<◌, ◌∷◌, [], ℕ, List, sym, ◌∙◌,
 use Rattle.stamp_core.specs.declared.reply.Reply.{Reply}
 use Rattle.stamp_explain.specs.declared.node.Next.{Next}
 use Rattle.stamp_explain.specs.Expand.{Enters}
-use Rattle.stamp_explain.proofs.Exploring.{nil_of_length}
-use Rattle.stamp_explain.proofs.Beside.{Walks, walks_first, walks_more, walks_end, walks_many, walked_inside, walked_node}
+use Rattle.stamp_explain.proofs.Exploring.{is_zero, is_more, nil_of_length}
+use Rattle.stamp_explain.proofs.Beside.{Walks, walks_first, walks_more, walks_end, walks_on, walked_inside, walked_node}
 use Rattle.stamp_explain.proofs.Beside.{walked_reached, beside_inside}
 use Rattle.stamp_explain.proofs.asking.replies_of.Goals as goal
 
@@ -49,7 +49,14 @@ loop-preserved c =
     (subst (λ (ns : List Next). Enters c.loop.store c.enter-in-loop.new.store c.in-Some.place c.pop.new.self.items
     c.enter-in-loop.new.waiting.items ns) c.as_slice.ensures.value c.in_ok-enter-2.ensures)
 
+pub returns-then-is_empty-clause-some : goal.returns-then-is_empty-clause-some
+returns-then-is_empty-clause-some c =
+    walks_end c.args.asking.now c.loop.counter c.loop.store c.loop.waiting.items c.loop.replies.items c.requires
+    c.loop.invariant
+    (nil_of_length c.loop.waiting.items (sym c.loop.waiting.ok.0 ∙ is_zero c.loop.waiting.len c.if-is_empty.ensures))
+
 pub returns-clause-none : goal.returns-clause-none
 returns-clause-none c =
-    walks_many c.args.asking.now c.args.most c.loop.counter c.loop.store c.loop.waiting.items c.loop.replies.items
+    walks_on c.args.asking.now c.args.most c.loop.counter c.loop.store c.loop.waiting.items c.loop.replies.items
     c.requires c.loop.invariant (omega (arith, c.loop-test.false))
+    (omega (arith, c.loop.waiting.ok.0, is_more c.loop.waiting.len c.if-is_empty.ensures))

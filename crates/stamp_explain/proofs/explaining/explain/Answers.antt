@@ -1,8 +1,7 @@
-use Rattle.std.proofs.Common.{◌≡◌, ℕ, List, ◌∙◌, true, sym, subst, arith}
-use Rattle.std.specs.Prelude.{◌==◌}
-use Rattle.std.proofs.lemmas.Bool.Decides.{nat_tests}
+use Rattle.std.proofs.Common.{List, ◌∙◌, sym, subst}
 use Rattle.stamp_explain.specs.declared.observed.Observation.{Observation}
 use Rattle.stamp_explain.specs.Planning.{AreEnds}
+use Rattle.stamp_explain.proofs.Exploring.{is_zero}
 use Rattle.stamp_explain.proofs.Faulting.{order_of_none}
 use Rattle.stamp_explain.proofs.explaining.explain.Goals as goal
 
@@ -11,6 +10,3 @@ record_of-requires-clause-order c = order_of_none c.args.observed.now c.in_ok-en
     (subst (λ (es : List Observation). AreEnds es c.in_ok-ends.ends.items) c.entries.ensures.entries
     c.in_ok-ends.ensures)
     (sym c.in_ok-ends.ends.ok.0 ∙ is_zero c.in_ok-ends.ends.len c.if-is_empty.ensures)
-  where
-    is_zero : (n : ℕ) → true ≡ (n == 0) → n ≡ 0
-    is_zero n is = grind (arith, nat_tests)

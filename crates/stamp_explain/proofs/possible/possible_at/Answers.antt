@@ -4,7 +4,7 @@ use Rattle.std.specs.Option.{IfNone}
 use Rattle.std.proofs.lemmas.Result.{IfOk-weaker}
 use Rattle.stamp_core.specs.declared.reply.Reply.{Reply}
 use Rattle.stamp_explain.specs.Observed.{ObservedHistory}
-use Rattle.stamp_explain.specs.Configuration.{ReachesMany}
+use Rattle.stamp_explain.specs.Configuration.{ReachesMore}
 use Rattle.stamp_explain.specs.Possible.{ArePossible, AreAllPossible}
 use Rattle.stamp_explain.specs.Asking.{AreReplies}
 use Rattle.stamp_explain.proofs.Replying.{read_at}
@@ -18,8 +18,8 @@ returns-in_default-2-clause-undecided c = λ _. inl (record {
   is_entry = read_at c.args.observed.now c.args.entry c.index-entries-entry.result c.entries.result.now
       c.requires.returned c.index-entries-entry.is c.entries.ensures.entries;
   returned = c.in-Some.is;
-  many = subst (λ (g : ObservedHistory). ReachesMany g c.args.most) c.in_ok-asking.ensures.seen
-      (subst (λ (o : Option (Vec Reply Global)). IfNone o (ReachesMany c.in_ok-asking.asking.seen c.args.most))
+  many = subst (λ (g : ObservedHistory). ReachesMore g c.args.most) c.in_ok-asking.ensures.seen
+      (subst (λ (o : Option (Vec Reply Global)). IfNone o (ReachesMore c.in_ok-asking.asking.seen c.args.most))
       c.in_default-2.is c.in_ok-replies.ensures.none);
 })
 

@@ -1,8 +1,8 @@
 use Rattle.std.proofs.Common.{◌<◌, ◌∷◌, [], ℕ, List, length, sym, ◌∙◌, ap, subst, arith, None}
 use Rattle.stamp_explain.specs.declared.node.Next.{Next}
 use Rattle.stamp_explain.specs.Expand.{Enters}
-use Rattle.stamp_explain.proofs.Exploring.{nil_of_length, popped_inside, popped_node, popped_reached}
-use Rattle.stamp_explain.proofs.Exploring.{searches_first, searches_more, found_nothing, found_many}
+use Rattle.stamp_explain.proofs.Exploring.{is_zero, is_more, nil_of_length, popped_inside, popped_node, popped_reached}
+use Rattle.stamp_explain.proofs.Exploring.{searches_first, searches_more, found_nothing, found_more}
 use Rattle.stamp_explain.proofs.search.search.Goals as goal
 
 pub loop-init : goal.loop-init
@@ -65,12 +65,18 @@ loop-preserved c =
     (subst (λ (ns : List Next). Enters c.loop.store c.enter-in-loop.new.store c.in-Some.place c.pop.new.self.items
     c.enter-in-loop.new.waiting.items ns) c.as_slice.ensures.value c.in_ok-enter-2.ensures)
 
+pub returns-then-is_empty : goal.returns-then-is_empty
+returns-then-is_empty c =
+    found_nothing c.args.observed.now c.args.plan.now.returns.items c.loop.counter c.loop.store c.loop.waiting.items
+    c.requires.plan.are c.loop.invariant
+    (nil_of_length c.loop.waiting.items (sym c.loop.waiting.ok.0 ∙ is_zero c.loop.waiting.len c.if-is_empty.ensures))
+
 pub returns : goal.returns
-returns c = (
-  c.args.plan.now.returns.items,
-  (
-    c.requires.plan.are,
-    found_many c.args.observed.now c.args.plan.now.returns.items c.args.most c.loop.counter c.loop.store
-        c.loop.waiting.items c.loop.invariant (omega (arith, c.loop-test.false)),
-  ),
-)
+returns c = record {
+  returns = c.args.plan.now.returns.items;
+  are = c.requires.plan.are;
+  once = c.requires.plan.once;
+  reached = found_more c.args.observed.now c.args.plan.now.returns.items c.args.most c.loop.counter c.loop.store
+      c.loop.waiting.items c.loop.invariant (omega (arith, c.loop-test.false))
+      (omega (arith, c.loop.waiting.ok.0, is_more c.loop.waiting.len c.if-is_empty.ensures));
+}
