@@ -36,7 +36,8 @@ pub record ArePossible (h : ObservedHistory) (i : ℕ) (tried found : List Reply
   pub each : (reply : Reply) → Contains found reply ↔ (Contains tried reply × IsPossible h i reply)
   pub once : AllPairs (λ (a b : Reply). a ≢ b) tried → AllPairs (λ (a b : Reply). a ≢ b) found
 
--- with this reply a search of what is seen when the call at this place has returned reaches so many configurations
+-- with this reply a search of what is seen when the call at this place has returned reaches more than so many
+-- configurations
 pub record IsUndecidedAtReply (h : ObservedHistory) (i most : ℕ) (reply : Reply) : Type 0 where
   pub entry : Observation
   pub return : Returned
@@ -53,8 +54,8 @@ pub record AreAllPossible (h : ObservedHistory) (i : ℕ) (found : List Reply) :
   pub whole : (reply : Reply) → ¬ Contains found reply → ¬ IsPossible h i reply
   pub once : AllPairs (λ (a b : Reply). a ≢ b) found
 
--- a search of what is seen when the call at this place has returned reaches so many configurations, with its own
--- reply or with some other
+-- a search of what is seen when the call at this place has returned reaches more than so many configurations, with
+-- its own reply
 pub record IsUndecidedAtOwn (h : ObservedHistory) (i most : ℕ) : Type 0 where
   pub entry : Observation
   pub return : Returned
@@ -62,6 +63,7 @@ pub record IsUndecidedAtOwn (h : ObservedHistory) (i most : ℕ) : Type 0 where
   pub returned : entry.returned ≡ Some return
   pub many : ReachesMore (seen_at return.last (i + 1) h) most
 
+-- or with some other
 abbrev pub IsUndecidedAtAny : ObservedHistory → ℕ → ℕ → Type 0
 IsUndecidedAtAny h i most = IsUndecidedAtOwn h i most ⊎ ((reply : Reply) × IsUndecidedAtReply h i most reply)
 

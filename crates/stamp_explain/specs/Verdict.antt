@@ -12,8 +12,8 @@ use Rattle.stamp_explain.specs.Cut.{IsStuck, cut, cut_before, seen_at}
 use Rattle.stamp_explain.specs.Points.{HasPoints}
 use Rattle.stamp_explain.specs.Configuration.{ReachesMore}
 
--- a search of what is seen then reaches so many configurations, all of them different; or one of the whole does,
--- and all of its returns are known then
+-- a search of what is seen then reaches more than so many configurations; or one of the whole does, and all of its
+-- returns are known then
 abbrev pub IsUndecidedAt : ObservedHistory → ℕ → ℕ → ℕ → Type 0
 IsUndecidedAt h most last bound =
     ((cut last bound h ≡ h) × ReachesMore h most) ⊎ ReachesMore (seen_at last bound h) most

@@ -236,8 +236,8 @@ fn go_on(
     choices_beside(asking, node, nexts)
 }
 
-/// The replies that the call gets, whatever the others do before it: each once. None where so many
-/// configurations were looked at, and the search had not ended.
+/// The replies that the call gets, whatever the others do before it: each once. None where more than so
+/// many configurations are reached.
 pub(crate) fn replies_of(
     alloc: Global,
     asking: &Asking,

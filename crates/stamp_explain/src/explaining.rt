@@ -18,8 +18,8 @@ use std::fmt;
 pub enum ExplainError {
     /// 1: it is explained until this entry returns, and no longer: no order explains it.
     Stuck(usize),
-    /// 2: it is explained until this entry returns, and a search looked at the most configurations
-    /// before it ended, so that the rest isn't known.
+    /// 2: it is explained until this entry returns, and then more than the most configurations are
+    /// reached, so that the rest isn't known.
     Undecided(usize),
     /// 3: an allocation was refused.
     Memory,

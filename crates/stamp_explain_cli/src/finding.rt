@@ -19,7 +19,7 @@ pub(crate) enum Finding {
     Explained(Record),
     /// It is explained until this entry returns, and no longer.
     Stuck(usize),
-    /// It is explained until this entry returns, and so many configurations were looked at.
+    /// It is explained until this entry returns, and then more than so many configurations are reached.
     Undecided(usize),
 }
 
