@@ -171,7 +171,7 @@ def why_of(function, crate, said):
         return stated.partition("; ")[2] or stated
     # a proof by hand: what is wrong in its own files
     folder = "proofs/" + function.removeprefix(f"{crate.name}::").replace("::", "/") + "/"
-    wrong = [line for line in said.split("\n") if re.match(rf"(?:note: )?(?:\./)?{re.escape(folder)}\S+: ", line)]
+    wrong = [line for line in said.split("\n") if re.match(rf"(?:\./)?{re.escape(folder)}\S+: error", line)]
     wrong = [line for line in wrong if not NAMES.search(line)]
     return wrong[0] if wrong else None
 
