@@ -7,10 +7,10 @@ function and those of the faults that a lock, a judge or a picture must not have
 
 An edit is a file tests/edits/CRATE/NAME.edit or tests/edits/CRATE/more/NAME.edit, in the form of the kit's must-fail
 edits: a line `file:`, then pairs of lines `old:` and `new:`. A function is proved from the contracts of those that it
-calls, so edits of several functions are tried in one copy of the crate, and the proofs of all other functions are
-taken out of it: the prover says of an edited function which of its own goals aren't proved. Edits of one function are
-tried one after another. Where it says only that a function calls one which isn't proved, the edit is tried once more
-with the proofs of all that the function calls. An edit that changes the bodies of several functions is tried alone,
+calls, so edits of several functions are tried in one copy of the crate, and of all other functions no more is left
+in it than their contracts: the prover says of an edited function which of its own goals aren't proved. Edits of one
+function are tried one after another. Where it says only that a function calls one which isn't proved, the edit is
+tried once more with the bodies and proofs of all that the function calls. An edit that changes the bodies of several functions is tried alone,
 and so is one with a line `by: FUNCTION`, which names a function that must not be proved with it: what it changes is no
 body.
 
@@ -72,34 +72,35 @@ class Crate:
         self.words += [word for it in folders for word in ("-L", f"dependency={it}")]
         self.words += ["--antt-project", f"{kit}/rattle/logic/antt-project.json", "--logic-built", f"{kit}/logic_built"]
 
-    def functions(self):
-        """The end of each function's path, and the folder of its proof below `proofs`."""
+    def sources(self):
+        """The files of its code, by their path below the crate."""
         for at, _, names in os.walk(f"{self.folder}/src"):
-            for file in (os.path.relpath(f"{at}/{name}", self.folder) for name in names if name.endswith(".rt")):
-                with open(f"{self.folder}/{file}") as it:
-                    text = it.read()
-                module = file.removeprefix("src/").removesuffix(".rt")
-                for found in FUNCTION.finditer(text):
-                    function = function_at(file, text[: found.end()])
-                    place = function.replace("::", "/")
-                    is_whole = module in ("lib", "main") or place.startswith(f"{module}/")
-                    yield function, place if is_whole else f"{module}/{place}"
+            yield from (os.path.relpath(f"{at}/{name}", self.folder) for name in names if name.endswith(".rt"))
 
-    def take_proofs(self, copy, functions):
-        """Leaves these functions of the copy their proofs, and all others a file that proves nothing."""
-        for function, place in self.functions():
-            if function not in functions:
-                folder = f"{copy}/proofs/{place}"
+    def take_others(self, copy, functions):
+        """Leaves these functions of the copy their bodies and proofs, and all others no more than their contracts: a
+        body that calls nothing, and a file that proves nothing."""
+        for file in self.sources():
+            with open(f"{copy}/{file}") as it:
+                text = it.read()
+            ends = [found.end() for found in FUNCTION.finditer(text)]
+            others = [at for at in ends if function_at(file, text[:at]) not in functions]
+            for at in others:
+                folder = f"{copy}/proofs/{place_of(file, function_at(file, text[:at]))}"
                 os.makedirs(folder, exist_ok=True)
                 for name in os.listdir(folder):
                     if name.endswith(".antt"):
                         os.remove(f"{folder}/{name}")
                 with open(f"{folder}/Proof.antt", "w"):
                     pass
+            for at in reversed(others):
+                text = without_body(text, at)
+            with open(f"{copy}/{file}", "w") as it:
+                it.write(text)
 
     def check(self, room, kept, edits, is_bare=False):
-        """What the prover says of the functions with the edits, over what was kept; if it is bare, without the proofs
-        of all others, and else with the proofs of those that they call."""
+        """What the prover says of the functions with the edits, over what was kept; if it is bare, with the contracts
+        of all others alone, and else with the bodies and proofs of those that they call."""
         with tempfile.TemporaryDirectory(dir=room) as copy:
             for part in PARTS:
                 if os.path.isdir(f"{self.folder}/{part}"):
@@ -111,7 +112,7 @@ class Crate:
                     it.write(text[:at] + new + text[at + len(old) :])
             functions = {function for edit in edits for function in edit.functions}
             if is_bare:
-                self.take_proofs(copy, functions)
+                self.take_others(copy, functions)
             only = [word for function in sorted(functions) for word in ("--only", function)]
             ran = subprocess.run(
                 [*self.words, "--incremental", kept, *only], cwd=copy, stdin=subprocess.DEVNULL,
@@ -155,6 +156,25 @@ def function_at(file, before):
         trait, of_trait, type_name = impl[-1].groups(default="")
         return f"{type_name}{trait.split('::')[-1]}{of_trait}::{name}"
     return name if module in ("lib", "main") else f"{module}::{name}"
+
+
+def place_of(file, function):
+    """The folder of a function's proof, below `proofs`."""
+    module, place = file.removeprefix("src/").removesuffix(".rt"), function.replace("::", "/")
+    is_whole = module in ("lib", "main") or place.startswith(f"{module}/")
+    return place if is_whole else f"{module}/{place}"
+
+
+def without_body(text, at):
+    """The text, where the function whose name ends there has a body that calls nothing, if its body has lines of its
+    own: they stand between two braces at the ends of lines that are indented as the function is."""
+    begin = text.rfind("\n", 0, at) + 1
+    indent = re.match(" *", text[begin:])[0]
+    opened = re.compile(rf"^{indent}(?:\S.*)?[{{;}}]$", re.M).search(text, begin)
+    if not opened or not opened[0].endswith("{"):
+        return text
+    closed = re.compile(rf"^{indent}}}$", re.M).search(text, opened.end())
+    return f"{text[: opened.end()]}\n{indent}    loop {{}}\n{text[closed.start() :]}"
 
 
 def owner_of(function):
@@ -302,8 +322,10 @@ def main():
     refused = failed = named = 0
     with concurrent.futures.ThreadPoolExecutor(len(os.sched_getaffinity(0))) as pool:
         crates = {name: Crate(name, uses) for name in wanted}
-        for crate, done in [(crate, pool.submit(tried, crate, wanted[name])) for name, crate in crates.items()]:
-            lines = lines_of(crate, done)
+        most_first = sorted(wanted, key=lambda name: -len(wanted[name]))
+        tries = {name: pool.submit(tried, crates[name], wanted[name]) for name in most_first}
+        for name in wanted:
+            lines = lines_of(crates[name], tries[name])
             print("\n".join(lines), flush=True)
             good = sum(": refused: " in line for line in lines)
             refused, failed = refused + good, failed + len(lines) - good
