@@ -10,10 +10,13 @@ ghost use Rattle.std.specs.Prelude.{◌≡◌, ◌≤◌, IfOk, IfSome};
 mod check;
 mod cycle;
 mod decide;
+mod line;
 mod lock;
 mod record;
 mod steps;
+mod threads;
 mod waits;
+mod words;
 
 use std::process::ExitCode;
 use std::rt::Env;
@@ -42,31 +45,18 @@ enum What {
     Waits(Mode),
 }
 
-/// All of it, in the order of the libraries.
-const ALL: [What; 7] = [
-    What::Decide,
-    What::Steps,
-    What::Check,
-    What::Lock,
-    What::Record,
-    What::Waits(Mode::Write),
-    What::Waits(Mode::Read),
+/// All of it by its words, in the order of the libraries.
+const ALL: [(&str, What); 7] = [
+    ("decide", What::Decide),
+    ("steps", What::Steps),
+    ("check", What::Check),
+    ("lock", What::Lock),
+    ("record", What::Record),
+    ("write_waits", What::Waits(Mode::Write)),
+    ("read_waits", What::Waits(Mode::Read)),
 ];
 
 impl What {
-    fn named(word: &str) -> Option<What> {
-        match word {
-            "decide" => Some(What::Decide),
-            "steps" => Some(What::Steps),
-            "check" => Some(What::Check),
-            "lock" => Some(What::Lock),
-            "record" => Some(What::Record),
-            "write_waits" => Some(What::Waits(Mode::Write)),
-            "read_waits" => Some(What::Waits(Mode::Read)),
-            _ => None,
-        }
-    }
-
     fn time<R: AllocGlobal + Clock + Eprint + Threads + Wait + Sync>(
         self,
         rt: &R,
@@ -83,25 +73,33 @@ impl What {
     }
 }
 
+/// A word as a number, if it is there and is one.
+fn number_of(word: Option<String>) -> Option<u64> {
+    word?.parse().ok()
+}
+
 fn main(rt: HostRuntime) -> io::Result<ExitCode> {
     let mut words = env::args(&rt)?.skip(1);
-    let word = words.next();
-    let mut number = || words.next().and_then(|word| word.parse().ok());
+    let wanted = words.next();
     let numbers = Numbers {
-        first: number(),
-        second: number(),
-        third: number(),
+        first: number_of(words.next()),
+        second: number_of(words.next()),
+        third: number_of(words.next()),
     };
-    let Some(word) = word else {
-        for what in ALL {
+    let mut is_known = false;
+    for (word, what) in ALL {
+        let is_wanted = match &wanted {
+            Some(wanted) => wanted.as_str() == word,
+            None => true,
+        };
+        if is_wanted {
             what.time(&rt, numbers)?;
+            is_known = true;
         }
+    }
+    if is_known {
         return Ok(ExitCode::SUCCESS);
-    };
-    let Some(what) = What::named(word.as_str()) else {
-        eprintln!(&rt; "timings: no such thing to time")?;
-        return Ok(ExitCode::from(2));
-    };
-    what.time(&rt, numbers)?;
-    Ok(ExitCode::SUCCESS)
+    }
+    eprintln!(&rt; "timings: no such thing to time")?;
+    Ok(ExitCode::from(2))
 }

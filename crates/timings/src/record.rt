@@ -5,24 +5,28 @@
 //! `record [CALLS [ROUNDS]]` writes a line for each kind of call and round: its name, how many
 //! threads, how many calls each made, the nanoseconds from the first to the last, and how many calls
 //! succeeded.
-ghost use Rattle.std.specs.Prelude.{◌≡◌, ◌≤◌, IfOk, IfSome};
+ghost use Rattle.std.specs.Prelude.{◌≡◌, ◌≤◌, IfSome, true};
 
+mod alike;
 mod calls;
 mod cells;
 mod handles;
 mod side_by_side;
 
 use crate::Numbers;
+use crate::line::tell;
+use crate::threads::sum_of;
 use calls::{gets, gets_handed, gets_into, puts};
 use cells::{loads, stores};
 use crossbeam_utils::atomic::SeqCell;
-use side_by_side::{beside_writer, read_by};
+use side_by_side::{put_until_over, read_beside};
 use stamp_core::{Limits, Words};
-use stamp_threads::{RecordPass, RunningRecord};
+use stamp_threads::RunningRecord;
 use stamped_lock::{AnyContent, StampedRecord};
 use std::alloc::Global;
 use std::io;
 use std::sync::Wait;
+use std::sync::atomic::AtomicU64;
 use std::thread::Threads;
 use std::time::{Clock, Instant};
 
@@ -32,190 +36,152 @@ const FEW: u64 = 1_000;
 /// How many times as many calls each of several threads makes, since starting them takes time too.
 const MORE: u64 = 32;
 
-/// A record and its first pass, if there is memory for it.
-fn made(alloc: Global, width: usize) -> Option<(RunningRecord, RecordPass)>
-    requires { (1 ≤ width) × (width ≤ 16) }
-    ensures table { IfSome result (λ r. r.1.table ≡ r.0.table) }
-    ensures width { IfSome result (λ r. r.0.shape.width ≡ width) }
-{
-    let limits = Limits::new(127, 1 << 50).ok()?;
-    RunningRecord::new(alloc, limits, width).ok()
-}
-
-/// Tells the time of calls that began at the start.
-fn tell<R: Eprint + Clock>(
-    rt: &R,
-    name: &str,
-    threads: u64,
-    calls: u64,
-    start: &Instant,
-    good: u64,
-) -> io::Result<()> {
-    let nanoseconds = start.elapsed(rt)?.as_nanos();
-    eprintln!(rt; "{name} {threads} {calls} {nanoseconds} {good}")?;
-    Ok(())
-}
-
-/// Gets and puts of a record of two words by one thread, one after the other.
-fn two_words<R: Eprint + Clock>(
-    rt: &R,
-    shared: &RunningRecord,
-    pass: &mut RecordPass,
-    calls: u64,
-) -> io::Result<()>
-    requires { (pass.old.table ≡ shared.now.table) × (shared.now.shape.width ≡ 2) }
-    ensures { pass.new.table ≡ shared.now.table }
-{
-    let start = Instant::now(rt)?;
-    let good = gets(shared, pass, calls);
-    tell(rt, "get2", 1, calls, &start, good)?;
-    let start = Instant::now(rt)?;
-    let good = gets_handed(shared, pass, calls);
-    tell(rt, "hand2", 1, calls, &start, good)?;
-    let mut row = [0u64; 2];
-    let start = Instant::now(rt)?;
-    let good = gets_into(shared, pass, &mut row, calls);
-    tell(rt, "into2", 1, calls, &start, good)?;
-    if let Some(words) = Words::new(&row) {
-        let start = Instant::now(rt)?;
-        let good = puts(shared, pass, &words, calls);
-        tell(rt, "put2", 1, calls, &start, good)?;
-    }
-    Ok(())
-}
+/// What the lines call that of a record of two words which one thread makes, in its order.
+const OF_TWO: [&str; 8] = [
+    "get2",
+    "hand2",
+    "into2",
+    "put2",
+    "handle2",
+    "handle_hand2",
+    "load2",
+    "store2",
+];
 
 /// And of one of sixteen words.
-fn sixteen_words<R: Eprint + Clock>(
+const OF_SIXTEEN: [&str; 8] = [
+    "get16",
+    "hand16",
+    "into16",
+    "put16",
+    "handle16",
+    "handle_hand16",
+    "load16",
+    "store16",
+];
+
+/// A record of words, and what is timed beside it: one of `stamped_lock`, and a cell.
+#[derive(Drop)]
+struct Timed<const N: usize> {
+    running: RunningRecord,
+    handled: StampedRecord<N, AnyContent>,
+    cell: SeqCell<[u64; N], N>,
+}
+
+impl<const N: usize> Timed<N> {
+    /// Zeros in each, if there is memory for them.
+    fn new(alloc: Global) -> Option<Timed<N>>
+        requires { (1 ≤ N) × (N ≤ 16) }
+        ensures enterable { IfSome result (λ timed. timed.running.enterable ≡ true) }
+        ensures width { IfSome result (λ timed. timed.running.shape.width ≡ N) }
+    {
+        let limits = Limits::new(127, 1 << 50).ok()?;
+        let words = Words::new(&[0; N])?;
+        let (running, _) = RunningRecord::enterable(alloc, limits, words).ok()?;
+        Some(Timed {
+            running,
+            handled: StampedRecord::new(alloc, [0; N]).ok()?,
+            cell: SeqCell::new(alloc, [0; N]).ok()?,
+        })
+    }
+
+    /// Gets and puts of the running record by one thread, one after the other.
+    fn tell_running<R: Eprint + Clock>(
+        &self,
+        rt: &R,
+        names: &[&str; 8],
+        calls: u64,
+    ) -> io::Result<()>
+        requires { (self.now.running.enterable ≡ true) × (self.now.running.shape.width ≡ N) }
+    {
+        let mut row = [0; N];
+        let Some(words) = Words::new(&row) else {
+            return Ok(());
+        };
+        let start = Instant::now(rt)?;
+        let good = gets(&self.running, calls);
+        let start = tell(rt, names[0], 1, calls, start, good)?;
+        let good = gets_handed(&self.running, calls);
+        let start = tell(rt, names[1], 1, calls, start, good)?;
+        let good = gets_into(&self.running, &mut row, calls);
+        let start = tell(rt, names[2], 1, calls, start, good)?;
+        let good = puts(&self.running, &words, calls);
+        tell(rt, names[3], 1, calls, start, good)?;
+        Ok(())
+    }
+
+    /// Gets by handles.
+    fn tell_handles<R: Eprint + Clock>(
+        &self,
+        rt: &R,
+        names: &[&str; 8],
+        calls: u64,
+    ) -> io::Result<()>
+        requires { N ≤ 16 }
+    {
+        let start = Instant::now(rt)?;
+        let good = handles::gets(self.handled.enter(), calls);
+        let start = tell(rt, names[4], 1, calls, start, good)?;
+        let good = handles::gets_handed(self.handled.enter(), calls);
+        tell(rt, names[5], 1, calls, start, good)?;
+        Ok(())
+    }
+
+    /// Loads and stores of the cell.
+    fn tell_cell<R: Eprint + Clock + Wait>(
+        &self,
+        rt: &R,
+        names: &[&str; 8],
+        calls: u64,
+    ) -> io::Result<()>
+        requires { 1 ≤ N }
+    {
+        let start = Instant::now(rt)?;
+        let good = loads(rt, &self.cell, calls);
+        let start = tell(rt, names[6], 1, calls, start, good)?;
+        let good = stores(rt, &self.cell, calls);
+        tell(rt, names[7], 1, calls, start, good)?;
+        Ok(())
+    }
+}
+
+/// Threads that read two words, beside this many that put them.
+fn read_by<R: AllocGlobal + Clock + Threads + Sync>(
     rt: &R,
     shared: &RunningRecord,
-    pass: &mut RecordPass,
+    readers: usize,
+    writers: usize,
     calls: u64,
-) -> io::Result<()>
-    requires { (pass.old.table ≡ shared.now.table) × (shared.now.shape.width ≡ 16) }
-    ensures { pass.new.table ≡ shared.now.table }
+) -> u64
+    requires shared { (shared.now.enterable ≡ true) × (shared.now.shape.width ≡ 2) }
+    requires few { (readers ≤ 4) × (writers ≤ 1) }
 {
-    let start = Instant::now(rt)?;
-    let good = gets(shared, pass, calls);
-    tell(rt, "get16", 1, calls, &start, good)?;
-    let start = Instant::now(rt)?;
-    let good = gets_handed(shared, pass, calls);
-    tell(rt, "hand16", 1, calls, &start, good)?;
-    let mut row = [0u64; 16];
-    let start = Instant::now(rt)?;
-    let good = gets_into(shared, pass, &mut row, calls);
-    tell(rt, "into16", 1, calls, &start, good)?;
-    if let Some(words) = Words::new(&row) {
-        let start = Instant::now(rt)?;
-        let good = puts(shared, pass, &words, calls);
-        tell(rt, "put16", 1, calls, &start, good)?;
-    }
-    Ok(())
-}
-
-/// Gets by handles of a record, under the name that is given, and the same passed to a function.
-fn by_handle<const N: usize, R: Eprint + Clock>(
-    rt: &R,
-    names: (&str, &str),
-    record: &StampedRecord<N, AnyContent>,
-    calls: u64,
-) -> io::Result<()>
-    requires { N ≤ 16 }
-{
-    let start = Instant::now(rt)?;
-    let good = handles::gets(record.enter(), calls);
-    tell(rt, names.0, 1, calls, &start, good)?;
-    let start = Instant::now(rt)?;
-    let good = handles::gets_handed(record.enter(), calls);
-    tell(rt, names.1, 1, calls, &start, good)
-}
-
-/// Gets by a handle of a record of two words, and of one of sixteen.
-fn both_handles<R: Eprint + Clock>(rt: &R, peers: &Peers, calls: u64) -> io::Result<()> {
-    let names = ("handle2", "handle_hand2");
-    by_handle(rt, names, &peers.two_shared, calls)?;
-    let names = ("handle16", "handle_hand16");
-    by_handle(rt, names, &peers.sixteen_shared, calls)
-}
-
-/// Loads and stores of a cell of two words, and of one of sixteen.
-fn both_cells<R: Eprint + Clock + Wait>(rt: &R, cells: &Peers, calls: u64) -> io::Result<()> {
-    let start = Instant::now(rt)?;
-    let good = loads(rt, &cells.two, calls);
-    tell(rt, "load2", 1, calls, &start, good)?;
-    let start = Instant::now(rt)?;
-    let good = stores(rt, &cells.two, calls);
-    tell(rt, "store2", 1, calls, &start, good)?;
-    let start = Instant::now(rt)?;
-    let good = loads(rt, &cells.sixteen, calls);
-    tell(rt, "load16", 1, calls, &start, good)?;
-    let start = Instant::now(rt)?;
-    let good = stores(rt, &cells.sixteen, calls);
-    tell(rt, "store16", 1, calls, &start, good)
+    let reading = AtomicU64::new(readers as u64);
+    let part = |i: usize| {
+        if i < readers {
+            read_beside(shared, calls, &reading)
+        } else {
+            put_until_over(rt, shared, &reading);
+            0
+        }
+    };
+    sum_of(rt, readers + writers, &part)
 }
 
 /// One to four threads that read two words, without a writer and beside one.
-fn together<R: Eprint + Clock + Threads + Sync>(
+fn together<R: AllocGlobal + Eprint + Clock + Threads + Sync>(
     rt: &R,
     shared: &RunningRecord,
-    mut pass: RecordPass,
     calls: u64,
-) -> io::Result<RecordPass>
-    requires { (pass.table ≡ shared.now.table) × (shared.now.shape.width ≡ 2) }
-    ensures { IfOk result (λ back. back.table ≡ shared.now.table) }
-{
-    for threads in 1..=4u64 {
-        let start = Instant::now(rt)?;
-        let (good, back) = read_by(rt, shared, pass, threads, calls);
-        tell(rt, "readers", threads, calls, &start, good)?;
-        let start = Instant::now(rt)?;
-        let (good, back) = beside_writer(rt, shared, back, threads, calls);
-        tell(rt, "beside", threads, calls, &start, good)?;
-        pass = back;
-    }
-    Ok(pass)
-}
-
-/// What is timed beside the running records: cells, and records of `stamped_lock`.
-#[derive(Drop)]
-struct Peers {
-    two: SeqCell<[u64; 2], 2>,
-    sixteen: SeqCell<[u64; 16], 16>,
-    two_shared: StampedRecord<2, AnyContent>,
-    sixteen_shared: StampedRecord<16, AnyContent>,
-}
-
-impl Peers {
-    /// All of them, if there is memory for them.
-    fn new(alloc: Global) -> Option<Peers> {
-        Some(Peers {
-            two: SeqCell::new(alloc, [0; 2]).ok()?,
-            sixteen: SeqCell::new(alloc, [0; 16]).ok()?,
-            two_shared: StampedRecord::new(alloc, [0; 2]).ok()?,
-            sixteen_shared: StampedRecord::new(alloc, [0; 16]).ok()?,
-        })
-    }
-}
-
-/// One round after the other, of a record of two words and one of sixteen.
-fn all_rounds<R: Eprint + Clock + Threads + Wait + Sync>(
-    rt: &R,
-    peers: &Peers,
-    two: &RunningRecord,
-    mut pass: RecordPass,
-    sixteen: &RunningRecord,
-    mut other: RecordPass,
-    numbers: Numbers,
 ) -> io::Result<()>
-    requires two { (pass.table ≡ two.now.table) × (two.now.shape.width ≡ 2) }
-    requires sixteen { (other.table ≡ sixteen.now.table) × (sixteen.now.shape.width ≡ 16) }
+    requires { (shared.now.enterable ≡ true) × (shared.now.shape.width ≡ 2) }
 {
-    let calls = numbers.first.unwrap_or(FEW);
-    for _ in 0..numbers.second.unwrap_or(1) {
-        two_words(rt, two, &mut pass, calls)?;
-        sixteen_words(rt, sixteen, &mut other, calls)?;
-        both_handles(rt, peers, calls)?;
-        both_cells(rt, peers, calls)?;
-        pass = together(rt, two, pass, calls.wrapping_mul(MORE))?;
+    for threads in 1..5usize {
+        let start = Instant::now(rt)?;
+        let good = read_by(rt, shared, threads, 0, calls);
+        let start = tell(rt, "readers", threads as u64, calls, start, good)?;
+        let good = read_by(rt, shared, threads, 1, calls);
+        tell(rt, "beside", threads as u64, calls, start, good)?;
     }
     Ok(())
 }
@@ -225,12 +191,19 @@ pub fn time<R: AllocGlobal + Clock + Eprint + Threads + Wait + Sync>(
     rt: &R,
     numbers: Numbers,
 ) -> io::Result<()> {
-    let (Some((narrow, pass)), Some((wide, other))) = (made(rt.alloc(), 2), made(rt.alloc(), 16))
+    let (Some(two), Some(sixteen)) = (Timed::<2>::new(rt.alloc()), Timed::<16>::new(rt.alloc()))
     else {
         return Ok(());
     };
-    let Some(peers) = Peers::new(rt.alloc()) else {
-        return Ok(());
-    };
-    all_rounds(rt, &peers, &narrow, pass, &wide, other, numbers)
+    let calls = numbers.first.unwrap_or(FEW);
+    for _ in 0..numbers.second.unwrap_or(1) {
+        two.tell_running(rt, &OF_TWO, calls)?;
+        sixteen.tell_running(rt, &OF_SIXTEEN, calls)?;
+        two.tell_handles(rt, &OF_TWO, calls)?;
+        sixteen.tell_handles(rt, &OF_SIXTEEN, calls)?;
+        two.tell_cell(rt, &OF_TWO, calls)?;
+        sixteen.tell_cell(rt, &OF_SIXTEEN, calls)?;
+        together(rt, &two.running, calls.wrapping_mul(MORE))?;
+    }
+    Ok(())
 }

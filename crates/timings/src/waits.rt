@@ -8,11 +8,13 @@
 mod waiters;
 
 use crate::Numbers;
+use crate::line::tell;
+use crate::threads::sum_of;
 use stamped_lock::StampedLock;
 use std::io;
 use std::sync::Wait;
 use std::sync::atomic::AtomicU64;
-use std::thread::{Threads, map_indices};
+use std::thread::Threads;
 use std::time::{Clock, Instant};
 pub use waiters::Mode;
 use waiters::{acquire_often, hold_until_over};
@@ -23,14 +25,13 @@ const FEW: u64 = 10;
 /// How many threads wait, beside the one that holds.
 const WAITERS: u64 = 7;
 
-/// Runs the eight threads, the first of which holds; how many acquisitions the others made. None for
-/// want of memory.
+/// Runs the eight threads, the first of which holds; how many acquisitions the others made.
 fn waited<R: AllocGlobal + Clock + Threads + Wait + Sync>(
     rt: &R,
     lock: &StampedLock,
     mode: Mode,
     each: u64,
-) -> Option<u64> {
+) -> u64 {
     let waiting = AtomicU64::new(WAITERS);
     let part = |i: usize| {
         if i == 0 {
@@ -40,12 +41,7 @@ fn waited<R: AllocGlobal + Clock + Threads + Wait + Sync>(
             acquire_often(rt, lock, mode, each, &waiting)
         }
     };
-    let made = map_indices(rt, rt.alloc(), 8, &part).ok()?;
-    let mut sum = 0u64;
-    for &count in &made {
-        sum = sum.wrapping_add(count);
-    }
-    Some(sum)
+    sum_of(rt, 8, &part)
 }
 
 /// Writes one line; none for want of memory.
@@ -59,8 +55,7 @@ pub fn time<R: AllocGlobal + Clock + Eprint + Threads + Wait + Sync>(
         return Ok(());
     };
     let start = Instant::now(rt)?;
-    let made = waited(rt, &lock, mode, each).unwrap_or(0);
-    let nanoseconds = start.elapsed(rt)?.as_nanos();
-    let (name, wanted) = (mode.name(), each.wrapping_mul(WAITERS));
-    eprintln!(rt; "{name} 8 {wanted} {nanoseconds} {made}")
+    let made = waited(rt, &lock, mode, each);
+    tell(rt, mode.name(), 8, each.wrapping_mul(WAITERS), start, made)?;
+    Ok(())
 }

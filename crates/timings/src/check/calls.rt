@@ -1,19 +1,11 @@
 //! The calls that a record is made of: the lock's cycle, and after it calls of the record.
 
 use crate::cycle::{self, TURNS};
-use stamp_core::{Call, Words};
+use crate::words::all_of;
+use stamp_core::Call;
 
 /// How many calls there are before they come again, where there is a record.
 pub const ALL_TURNS: u64 = TURNS + 4;
-
-/// This many words with this number in each; `None` for a width of 0, or over 16.
-pub fn all_of(width: u64, number: u64) -> Option<Words> {
-    if width > 16 {
-        return None;
-    }
-    let words = [number; 16];
-    Words::new(&words[..width as usize])
-}
 
 /// A put, a get, a put_if that is answered yes, and one that is answered no.
 fn record_call(turn: u64, width: u64, number: u64) -> Option<Call> {

@@ -1,7 +1,8 @@
 //! A record whose entries are linearized.
 
-use crate::check::calls::{ALL_TURNS, all_of, call_at};
+use crate::check::calls::{ALL_TURNS, call_at};
 use crate::cycle::TURNS;
+use crate::words::all_of;
 use stamp_core::{Call, Entry, Limits, Record, Reply, Word, step};
 use std::alloc::{AllocError, Global};
 

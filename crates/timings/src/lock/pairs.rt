@@ -1,18 +1,22 @@
-//! Pairs of calls, one after the other. Each function gives how many pairs succeeded.
-ghost use Rattle.std.specs.Prelude.{◌≡◌};
+//! Pairs of calls, one after the other, by a pass of the function's own. Each function gives how
+//! many pairs succeeded.
+ghost use Rattle.std.specs.Prelude.{◌≡◌, true};
 
 use stamp_core::{Call, Reply};
-use stamp_threads::{Pass, RunningLock};
+use stamp_threads::RunningLock;
+
+/// How many pairs a thread validates before it acquires read mode once.
+const BETWEEN: u64 = 1_024;
 
 /// Asks for an optimistic stamp, and validates it.
-pub fn optimistic_pairs(lock: &RunningLock, pass: &mut Pass, pairs: u64) -> u64
-    requires { pass.old.table ≡ lock.now.table }
-    ensures { pass.new.table ≡ lock.now.table }
+pub fn optimistic_pairs(lock: &RunningLock, pairs: u64) -> u64
+    requires { lock.now.enterable ≡ true }
 {
+    let mut pass = lock.enter();
     let mut good = 0u64;
     for _ in 0..pairs {
-        if let Ok(Reply::Stamp(stamp)) = lock.once(pass, Call::Optimistic) {
-            if let Ok(Reply::Yes) = lock.once(pass, Call::Validate(stamp)) {
+        if let Ok(Reply::Stamp(stamp)) = lock.once(&mut pass, Call::Optimistic) {
+            if let Ok(Reply::Yes) = lock.once(&mut pass, Call::Validate(stamp)) {
                 good = good.wrapping_add(1);
             }
         }
@@ -21,14 +25,14 @@ pub fn optimistic_pairs(lock: &RunningLock, pass: &mut Pass, pairs: u64) -> u64
 }
 
 /// Acquires read mode, and releases it.
-pub fn read_pairs(lock: &RunningLock, pass: &mut Pass, pairs: u64) -> u64
-    requires { pass.old.table ≡ lock.now.table }
-    ensures { pass.new.table ≡ lock.now.table }
+pub fn read_pairs(lock: &RunningLock, pairs: u64) -> u64
+    requires { lock.now.enterable ≡ true }
 {
+    let mut pass = lock.enter();
     let mut good = 0u64;
     for _ in 0..pairs {
-        if let Ok(Reply::Stamp(stamp)) = lock.once(pass, Call::TryRead) {
-            if let Ok(Reply::Done) = lock.once(pass, Call::UnlockRead(stamp)) {
+        if let Ok(Reply::Stamp(stamp)) = lock.once(&mut pass, Call::TryRead) {
+            if let Ok(Reply::Done) = lock.once(&mut pass, Call::UnlockRead(stamp)) {
                 good = good.wrapping_add(1);
             }
         }
@@ -37,14 +41,14 @@ pub fn read_pairs(lock: &RunningLock, pass: &mut Pass, pairs: u64) -> u64
 }
 
 /// Acquires write mode, and releases it.
-pub fn write_pairs(lock: &RunningLock, pass: &mut Pass, pairs: u64) -> u64
-    requires { pass.old.table ≡ lock.now.table }
-    ensures { pass.new.table ≡ lock.now.table }
+pub fn write_pairs(lock: &RunningLock, pairs: u64) -> u64
+    requires { lock.now.enterable ≡ true }
 {
+    let mut pass = lock.enter();
     let mut good = 0u64;
     for _ in 0..pairs {
-        if let Ok(Reply::Stamp(stamp)) = lock.once(pass, Call::TryWrite) {
-            if let Ok(Reply::Done) = lock.once(pass, Call::UnlockWrite(stamp)) {
+        if let Ok(Reply::Stamp(stamp)) = lock.once(&mut pass, Call::TryWrite) {
+            if let Ok(Reply::Done) = lock.once(&mut pass, Call::UnlockWrite(stamp)) {
                 good = good.wrapping_add(1);
             }
         }
@@ -53,16 +57,28 @@ pub fn write_pairs(lock: &RunningLock, pass: &mut Pass, pairs: u64) -> u64
 }
 
 /// Acquires read mode if it can, and releases it. A release whose exchange loses is made again.
-pub fn read_once(lock: &RunningLock, pass: &mut Pass)
-    requires { pass.old.table ≡ lock.now.table }
-    ensures { pass.new.table ≡ lock.now.table }
+fn read_once(lock: &RunningLock)
+    requires { lock.now.enterable ≡ true }
 {
-    let Ok(Reply::Stamp(stamp)) = lock.once(pass, Call::TryRead) else {
+    let mut pass = lock.enter();
+    let Ok(Reply::Stamp(stamp)) = lock.once(&mut pass, Call::TryRead) else {
         return;
     };
     for _ in 0..u64::MAX {
-        if lock.once(pass, Call::UnlockRead(stamp)).is_ok() {
+        if lock.once(&mut pass, Call::UnlockRead(stamp)).is_ok() {
             return;
         }
     }
+}
+
+/// Validates this many pairs, with a read lock after each 1,024 of them.
+pub fn mostly_optimistic(lock: &RunningLock, pairs: u64) -> u64
+    requires { lock.now.enterable ≡ true }
+{
+    let mut good = 0u64;
+    for _ in 0..pairs / BETWEEN {
+        good = good.wrapping_add(optimistic_pairs(lock, BETWEEN));
+        read_once(lock);
+    }
+    good
 }

@@ -1,34 +1,21 @@
-//! Calls of a record, one after the other. Each function gives how many calls succeeded; of gets
-//! that are `get_once`, how many gave words that are alike, so that the words are used.
-ghost use Rattle.std.specs.Prelude.{◌≡◌, length};
+//! Calls of a record, one after the other, by a pass of the function's own. Each function gives how
+//! many calls succeeded; of gets that are `get_once`, how many gave words that are alike, so that the
+//! words are used.
+ghost use Rattle.std.specs.Prelude.{◌≡◌, length, true};
 
+use crate::record::alike::{begins_alike, ends_alike};
 use stamp_core::Words;
-use stamp_threads::{RecordPass, RunningRecord};
-
-/// Whether the first two words are alike, or there is one.
-#[inline(always)]
-fn begins_alike(words: &Words) -> bool {
-    let row = words.as_slice();
-    row.get(1).is_none() || row.first() == row.get(1)
-}
-
-/// Whether the first word is the last one; a function that is called, so the words have to stand in
-/// memory.
-#[inline(never)]
-fn ends_alike(words: &Words) -> bool {
-    let row = words.as_slice();
-    row.first() == row.last()
-}
+use stamp_threads::RunningRecord;
 
 /// Gets the words, and hands them to a function.
-pub fn gets_handed(shared: &RunningRecord, pass: &mut RecordPass, calls: u64) -> u64
-    requires { pass.old.table ≡ shared.now.table }
-    ensures { pass.new.table ≡ shared.now.table }
+pub fn gets_handed(shared: &RunningRecord, calls: u64) -> u64
+    requires { shared.now.enterable ≡ true }
 {
+    let mut pass = shared.enter();
     let mut good = 0u64;
     for _ in 0..calls {
-        if let Ok(words) = shared.get_once(pass) {
-            if ends_alike(&words) {
+        if let Ok(words) = shared.get_once(&mut pass) {
+            if ends_alike(words.as_slice()) {
                 good = good.wrapping_add(1);
             }
         }
@@ -37,14 +24,14 @@ pub fn gets_handed(shared: &RunningRecord, pass: &mut RecordPass, calls: u64) ->
 }
 
 /// Gets the words, and uses the first two.
-pub fn gets(shared: &RunningRecord, pass: &mut RecordPass, calls: u64) -> u64
-    requires { pass.old.table ≡ shared.now.table }
-    ensures { pass.new.table ≡ shared.now.table }
+pub fn gets(shared: &RunningRecord, calls: u64) -> u64
+    requires { shared.now.enterable ≡ true }
 {
+    let mut pass = shared.enter();
     let mut good = 0u64;
     for _ in 0..calls {
-        if let Ok(words) = shared.get_once(pass) {
-            if begins_alike(&words) {
+        if let Ok(words) = shared.get_once(&mut pass) {
+            if begins_alike(words.as_slice()) {
                 good = good.wrapping_add(1);
             }
         }
@@ -53,14 +40,14 @@ pub fn gets(shared: &RunningRecord, pass: &mut RecordPass, calls: u64) -> u64
 }
 
 /// Gets the words into the same place.
-pub fn gets_into(shared: &RunningRecord, pass: &mut RecordPass, into: &mut [u64], calls: u64) -> u64
-    requires table { pass.old.table ≡ shared.now.table }
+pub fn gets_into(shared: &RunningRecord, into: &mut [u64], calls: u64) -> u64
+    requires enterable { shared.now.enterable ≡ true }
     requires width { length into.old ≡ shared.now.shape.width }
-    ensures { pass.new.table ≡ shared.now.table }
 {
+    let mut pass = shared.enter();
     let mut good = 0u64;
     for _ in 0..calls {
-        if shared.get_into(pass, into).is_ok() {
+        if shared.get_into(&mut pass, into).is_ok() {
             good = good.wrapping_add(1);
         }
     }
@@ -68,14 +55,14 @@ pub fn gets_into(shared: &RunningRecord, pass: &mut RecordPass, into: &mut [u64]
 }
 
 /// Puts the words.
-pub fn puts(shared: &RunningRecord, pass: &mut RecordPass, words: &Words, calls: u64) -> u64
-    requires table { pass.old.table ≡ shared.now.table }
+pub fn puts(shared: &RunningRecord, words: &Words, calls: u64) -> u64
+    requires enterable { shared.now.enterable ≡ true }
     requires width { length words.now ≡ shared.now.shape.width }
-    ensures { pass.new.table ≡ shared.now.table }
 {
+    let mut pass = shared.enter();
     let mut good = 0u64;
     for _ in 0..calls {
-        if shared.put_once(pass, *words).is_ok() {
+        if shared.put_once(&mut pass, *words).is_ok() {
             good = good.wrapping_add(1);
         }
     }

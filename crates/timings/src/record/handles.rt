@@ -2,24 +2,12 @@
 //! that are alike, so that the words are used.
 ghost use Rattle.std.specs.Prelude.{◌≤◌};
 
+use crate::record::alike::{begins_alike, ends_alike};
 use stamped_lock::{AnyContent, RecordHandle};
 
-/// Whether the first two words are alike, or there is one.
-#[inline(always)]
-fn begins_alike(row: &[u64]) -> bool {
-    row.get(1).is_none() || row.first() == row.get(1)
-}
-
-/// Whether the first word is the last one; a function that is called, so the words have to stand in
-/// memory.
+/// Gets whose first two words are used.
 #[inline(never)]
-fn ends_alike(row: &[u64]) -> bool {
-    row.first() == row.last()
-}
-
-/// Gets the words, and uses the first two.
-#[inline(always)]
-fn used<const N: usize>(handle: &mut RecordHandle<'_, N, AnyContent>, calls: u64) -> u64
+pub fn gets<const N: usize>(mut handle: RecordHandle<'_, N, AnyContent>, calls: u64) -> u64
     requires { N ≤ 16 }
 {
     let mut good = 0u64;
@@ -33,9 +21,9 @@ fn used<const N: usize>(handle: &mut RecordHandle<'_, N, AnyContent>, calls: u64
     good
 }
 
-/// Gets the words, and hands them to a function.
-#[inline(always)]
-fn handed<const N: usize>(handle: &mut RecordHandle<'_, N, AnyContent>, calls: u64) -> u64
+/// Gets whose words are passed to a function.
+#[inline(never)]
+pub fn gets_handed<const N: usize>(mut handle: RecordHandle<'_, N, AnyContent>, calls: u64) -> u64
     requires { N ≤ 16 }
 {
     let mut good = 0u64;
@@ -47,20 +35,4 @@ fn handed<const N: usize>(handle: &mut RecordHandle<'_, N, AnyContent>, calls: u
         }
     }
     good
-}
-
-/// Gets whose first two words are used.
-#[inline(never)]
-pub fn gets<const N: usize>(mut handle: RecordHandle<'_, N, AnyContent>, calls: u64) -> u64
-    requires { N ≤ 16 }
-{
-    used(&mut handle, calls)
-}
-
-/// Gets whose words are passed to a function.
-#[inline(never)]
-pub fn gets_handed<const N: usize>(mut handle: RecordHandle<'_, N, AnyContent>, calls: u64) -> u64
-    requires { N ≤ 16 }
-{
-    handed(&mut handle, calls)
 }

@@ -1,6 +1,7 @@
 //! The script that is timed.
 ghost use Rattle.std.specs.Prelude.{◌≡◌, ◌<◌, ◌≤◌};
 
+use crate::words::all_of;
 use stamp_core::{Layout, Limits, ScriptError, Words};
 use stamp_machines::{Arg, Script, ScriptCall};
 use std::alloc::{AllocError, Global};
@@ -88,17 +89,9 @@ fn turn_of(width: u64) -> u64
     if width > 0 { 100 } else { 1 }
 }
 
-/// The words that a thread puts: none where there is no record.
-fn words_of(thread: u64, width: u64) -> Option<Words>
-    requires { width ≤ 16 }
-{
-    Words::new(&[thread; 16][..width as usize])
-}
-
-fn calls_of(alloc: Global, thread: u64, width: u64) -> Result<Vec<ScriptCall>, AllocError>
-    requires { width ≤ 16 }
-{
-    let words = words_of(thread, width);
+/// The calls of a thread. Those of a record put the thread's own number.
+fn calls_of(alloc: Global, thread: u64, width: u64) -> Result<Vec<ScriptCall>, AllocError> {
+    let words = all_of(width, thread);
     let mut calls = Vec::with_capacity(alloc, CALLS as usize)?;
     for index in 0..CALLS {
         calls.push(call_at(thread, index, &words))?;
@@ -106,9 +99,7 @@ fn calls_of(alloc: Global, thread: u64, width: u64) -> Result<Vec<ScriptCall>, A
     Ok(calls)
 }
 
-fn threads_of(alloc: Global, width: u64) -> Result<Vec<Vec<ScriptCall>>, AllocError>
-    requires { width ≤ 16 }
-{
+fn threads_of(alloc: Global, width: u64) -> Result<Vec<Vec<ScriptCall>>, AllocError> {
     let mut threads = Vec::new(alloc);
     for thread in 0..THREADS {
         threads.push(calls_of(alloc, thread, width)?)?;
