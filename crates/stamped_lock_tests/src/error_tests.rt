@@ -1,45 +1,35 @@
 //! What the errors say.
-use stamped_lock::{Lost, Mismatch, UnlockError, WriteError};
+use stamped_lock::{Lost, Mismatch, Spent, UnlockError, WriteError};
 use std::error::Error;
 use std::test::Fail;
 
-/// Takes any error, as `?` does.
-fn is_an_error<E: Error>(_error: &E) -> bool {
+/// Takes any errors, as `?` does.
+fn are_errors<A: Error, B: Error, C: Error, D: Error>(_: &A, _: &B, _: &C, _: &D) -> bool {
     true
 }
 
 #[test]
 fn each_error_says_what_happened(rt: HostRuntime) -> Result<(), Fail> {
-    let lost = Lost {
+    let lost = UnlockError::Lost(Lost {
         loaded: 256,
         found: 384,
-    };
-    let rows = [
-        (
-            format!(in rt.alloc(); "{}", Mismatch)?,
-            "the stamp matches no held mode that the call releases",
-        ),
-        (
-            format!(in rt.alloc(); "{}", UnlockError::Mismatch)?,
-            "the stamp matches no held mode that the call releases",
-        ),
-        (
-            format!(in rt.alloc(); "{}", UnlockError::Lost(lost))?,
-            "another thread changed the lock: try again",
-        ),
-        (
-            format!(in rt.alloc(); "{}", WriteError::Spent)?,
-            "the lock has no version left to write",
-        ),
-        (
-            format!(in rt.alloc(); "{}", WriteError::Mismatch)?,
-            "the lock was released before its section ended",
-        ),
-    ];
-    for (text, want) in &rows {
-        assert!(rt; text.as_str() == *want);
-    }
-    assert!(rt; is_an_error(&Mismatch) && is_an_error(&UnlockError::Mismatch));
-    assert!(rt; is_an_error(&WriteError::Spent));
+    });
+    let said = format!(in rt.alloc();
+        "{}\n{}\n{}\n{}\n{}\n{}",
+        Mismatch,
+        UnlockError::Mismatch,
+        lost,
+        WriteError::Spent,
+        WriteError::Mismatch,
+        Spent
+    )?;
+    let want = "the stamp matches no held mode that the call releases\n\
+        the stamp matches no held mode that the call releases\n\
+        another thread changed the lock: try again\n\
+        the lock has no version left to write\n\
+        the lock was released before its section ended\n\
+        no version is left to put words";
+    assert!(rt; said.as_str() == want);
+    assert!(rt; are_errors(&Mismatch, &lost, &WriteError::Spent, &Spent));
     Ok(())
 }

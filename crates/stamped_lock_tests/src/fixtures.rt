@@ -1,4 +1,4 @@
-//! A lock, and calls by one handle as a table.
+//! A lock, and calls by its handles as a table.
 use stamped_lock::{Layout, Limits, LockHandle, Stamp, StampedLock, UnlockError};
 use std::alloc::Global;
 use std::sync::Wait;
@@ -12,13 +12,11 @@ pub fn made(alloc: Global) -> Result<StampedLock, Fail> {
     }
 }
 
-/// A lock of these limits.
-pub fn made_with(
-    alloc: Global,
-    layout: Layout,
-    readers: u64,
-    versions: u64,
-) -> Result<StampedLock, Fail> {
+/// A lock's layout, readers and versions.
+pub type Shape = (Layout, u64, u64);
+
+/// A lock of this shape.
+pub fn made_with(alloc: Global, (layout, readers, versions): Shape) -> Result<StampedLock, Fail> {
     let Ok(limits) = Limits::in_layout(layout, readers, versions) else {
         return Err(Fail::from("limits"));
     };
@@ -118,17 +116,17 @@ pub fn answer<R: Wait>(
     Some(answered)
 }
 
-/// Makes the calls of a table in turn, up to the first that answers otherwise: its row, from 0, and what it answered.
-pub fn first_wrong<R: Wait>(
-    rt: &R,
-    lock: &mut LockHandle<'_>,
-    rows: &[Row],
-) -> Option<(usize, Option<u64>)> {
+/// Makes the calls of a table in turn, up to the first that answers otherwise: how many answered so. They are made by
+/// one handle, or each by a handle that enters for it.
+pub fn right_rows<R: Wait>(rt: &R, lock: &StampedLock, rows: &[Row], enters_anew: bool) -> usize {
+    let mut handle = lock.enter();
     for (at, (ask, taken, want)) in rows.iter().enumerate() {
-        let got = answer(rt, lock, *ask, Stamp::new(*taken));
-        if got != Some(*want) {
-            return Some((at, got));
+        if enters_anew {
+            handle = lock.enter();
+        }
+        if answer(rt, &mut handle, *ask, Stamp::new(*taken)) != Some(*want) {
+            return at;
         }
     }
-    None
+    rows.len()
 }

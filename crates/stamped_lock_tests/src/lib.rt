@@ -2,15 +2,11 @@
 #![tactic(auto)]
 
 #[cfg(test)]
-mod conversion_tests;
-#[cfg(test)]
 mod error_tests;
 #[cfg(test)]
 mod fixtures;
 #[cfg(test)]
 mod lock_tests;
-#[cfg(test)]
-mod once_tests;
 #[cfg(test)]
 mod record_tests;
 #[cfg(test)]

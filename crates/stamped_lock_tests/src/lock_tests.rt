@@ -1,7 +1,28 @@
 //! Calls of one thread, by worked rows.
-use crate::fixtures::{Ask, Row, first_wrong, made, made_with};
-use stamped_lock::{Layout, Mismatch};
+use crate::fixtures::{Ask, Row, Shape, made_with, right_rows};
+use stamped_lock::Layout;
+use std::alloc::Global;
+use std::process::Abort;
+use std::sync::Wait;
 use std::test::Fail;
+
+/// Makes the calls of a table on a new lock of this shape: all by one handle, and then each by a handle that enters
+/// for it.
+fn assert_answered(
+    rt: &(impl Abort + Wait),
+    alloc: Global,
+    shape: Shape,
+    rows: &[Row],
+) -> Result<(), Fail> {
+    for enters_anew in [false, true] {
+        let lock = made_with(alloc, shape)?;
+        let right = right_rows(rt, &lock, rows, enters_anew);
+        assert!(rt; right == rows.len(), "row {right}");
+    }
+    Ok(())
+}
+
+const WIDE: Shape = (Layout::One, 127, 1_000_000);
 
 const WRITTEN: [Row; 15] = [
     (Ask::Optimistic, 0, 256),
@@ -23,9 +44,7 @@ const WRITTEN: [Row; 15] = [
 
 #[test]
 fn a_released_write_stamp_validates_until_the_next_writer(rt: HostRuntime) -> Result<(), Fail> {
-    let lock = made(rt.alloc())?;
-    assert!(rt; first_wrong(&rt, &mut lock.enter(), &WRITTEN) == None);
-    Ok(())
+    assert_answered(&rt, rt.alloc(), WIDE, &WRITTEN)
 }
 
 const READ: [Row; 10] = [
@@ -43,13 +62,12 @@ const READ: [Row; 10] = [
 
 #[test]
 fn readers_are_counted_and_keep_a_writer_out(rt: HostRuntime) -> Result<(), Fail> {
-    let lock = made(rt.alloc())?;
-    assert!(rt; first_wrong(&rt, &mut lock.enter(), &READ) == None);
-    Ok(())
+    assert_answered(&rt, rt.alloc(), WIDE, &READ)
 }
 
-const MISMATCHED: [Row; 7] = [
+const MISMATCHED: [Row; 8] = [
     (Ask::Write, 0, 384),
+    (Ask::TryRead, 0, 0),
     (Ask::UnlockWrite, 640, 0),
     (Ask::UnlockRead, 384, 0),
     (Ask::Unlock, 256, 0),
@@ -60,9 +78,7 @@ const MISMATCHED: [Row; 7] = [
 
 #[test]
 fn a_release_by_another_stamp_is_a_mismatch(rt: HostRuntime) -> Result<(), Fail> {
-    let lock = made(rt.alloc())?;
-    assert!(rt; first_wrong(&rt, &mut lock.enter(), &MISMATCHED) == None);
-    Ok(())
+    assert_answered(&rt, rt.alloc(), WIDE, &MISMATCHED)
 }
 
 const WITHOUT_A_STAMP: [Row; 9] = [
@@ -79,9 +95,7 @@ const WITHOUT_A_STAMP: [Row; 9] = [
 
 #[test]
 fn a_release_without_a_stamp_says_whether_there_was_a_hold(rt: HostRuntime) -> Result<(), Fail> {
-    let lock = made(rt.alloc())?;
-    assert!(rt; first_wrong(&rt, &mut lock.enter(), &WITHOUT_A_STAMP) == None);
-    Ok(())
+    assert_answered(&rt, rt.alloc(), WIDE, &WITHOUT_A_STAMP)
 }
 
 const AT_ITS_LIMITS: [Row; 7] = [
@@ -96,9 +110,7 @@ const AT_ITS_LIMITS: [Row; 7] = [
 
 #[test]
 fn beyond_its_limits_a_lock_answers_none(rt: HostRuntime) -> Result<(), Fail> {
-    let lock = made_with(rt.alloc(), Layout::One, 1, 1)?;
-    assert!(rt; first_wrong(&rt, &mut lock.enter(), &AT_ITS_LIMITS) == None);
-    Ok(())
+    assert_answered(&rt, rt.alloc(), (Layout::One, 1, 1), &AT_ITS_LIMITS)
 }
 
 const IN_LAYOUT_TWO: [Row; 4] = [
@@ -110,54 +122,100 @@ const IN_LAYOUT_TWO: [Row; 4] = [
 
 #[test]
 fn the_second_layout_has_stamps_of_its_own(rt: HostRuntime) -> Result<(), Fail> {
-    let lock = made_with(rt.alloc(), Layout::Two, 65_535, 1_000_000)?;
-    assert!(rt; first_wrong(&rt, &mut lock.enter(), &IN_LAYOUT_TWO) == None);
-    Ok(())
+    assert_answered(
+        &rt,
+        rt.alloc(),
+        (Layout::Two, 65_535, 1_000_000),
+        &IN_LAYOUT_TWO,
+    )
 }
 
-const CONVERTED: [Row; 6] = [
-    (Ask::Write, 0, 384),
-    (Ask::ToRead, 384, 513),
+const CONVERTED: [Row; 42] = [
+    // Nobody holds the lock.
+    (Ask::ToWrite, 257, 0),
+    (Ask::ToRead, 257, 0),
+    (Ask::ToOptimistic, 257, 0),
+    (Ask::ToOptimistic, 256, 256),
+    (Ask::ToRead, 256, 257),
+    // There is one reader.
+    (Ask::ReadCount, 0, 1),
+    (Ask::ToWrite, 256, 0),
+    (Ask::ToOptimistic, 256, 256),
+    (Ask::ToRead, 257, 257),
+    (Ask::ToRead, 256, 258),
+    // There are two.
+    (Ask::ReadCount, 0, 2),
+    (Ask::ToWrite, 258, 0),
+    (Ask::ToRead, 258, 258),
+    (Ask::ToOptimistic, 258, 256),
+    (Ask::ReadCount, 0, 1),
+    (Ask::ToOptimistic, 257, 256),
+    (Ask::IsReadLocked, 0, 0),
+    (Ask::ToWrite, 256, 384),
+    // There is a writer.
+    (Ask::IsWriteLocked, 0, 1),
+    (Ask::ToWrite, 256, 0),
+    (Ask::ToRead, 256, 0),
+    (Ask::ToOptimistic, 256, 0),
+    (Ask::ToWrite, 384, 384),
+    (Ask::ToOptimistic, 384, 512),
+    // It has left.
+    (Ask::IsWriteLocked, 0, 0),
+    (Ask::ToWrite, 256, 0),
+    (Ask::ToRead, 256, 0),
+    (Ask::ToOptimistic, 256, 0),
+    (Ask::ToWrite, 384, 0),
+    (Ask::ToRead, 384, 0),
+    (Ask::ToOptimistic, 384, 0),
+    (Ask::ToOptimistic, 512, 512),
+    (Ask::ToRead, 512, 513),
+    (Ask::ToWrite, 513, 640),
+    // The reader went on as the next writer.
+    (Ask::ReadCount, 0, 0),
+    (Ask::IsWriteLocked, 0, 1),
+    (Ask::ToRead, 640, 769),
     (Ask::IsWriteLocked, 0, 0),
     (Ask::ReadCount, 0, 1),
-    (Ask::ToOptimistic, 513, 512),
+    (Ask::ToOptimistic, 769, 768),
     (Ask::ReadCount, 0, 0),
+    (Ask::ToWrite, 768, 896),
 ];
 
 #[test]
-fn a_conversion_releases_what_was_held(rt: HostRuntime) -> Result<(), Fail> {
-    let lock = made(rt.alloc())?;
-    assert!(rt; first_wrong(&rt, &mut lock.enter(), &CONVERTED) == None);
-    Ok(())
+fn each_mode_is_converted_to_each_and_what_was_held_is_released(
+    rt: HostRuntime,
+) -> Result<(), Fail> {
+    assert_answered(&rt, rt.alloc(), WIDE, &CONVERTED)
 }
 
-#[test]
-fn what_one_handle_acquired_the_other_meets(rt: HostRuntime) -> Result<(), Fail> {
-    let lock = made(rt.alloc())?;
-    let (mut first, mut second) = (lock.enter(), lock.enter());
-    let written = first.write(&rt).ok_or("not acquired")?;
-    let met = (second.is_write_locked(), second.try_read(&rt));
-    assert!(rt; met == (true, None));
-    let released = (second.unlock_write(written), first.is_write_locked());
-    assert!(rt; released == (Ok::<(), Mismatch>(()), false));
-    Ok(())
-}
+const TRIED_ONCE: [Row; 24] = [
+    (Ask::TryUnlockWriteOnce, 0, 0),
+    (Ask::TryUnlockReadOnce, 0, 0),
+    (Ask::TryWriteOnce, 0, 384),
+    (Ask::TryWriteOnce, 0, 0),
+    (Ask::TryReadOnce, 0, 0),
+    (Ask::UnlockReadOnce, 384, 0),
+    (Ask::UnlockOnce, 640, 0),
+    (Ask::UnlockOnce, 384, 1),
+    (Ask::TryReadOnce, 0, 513),
+    (Ask::TryReadOnce, 0, 514),
+    (Ask::UnlockReadOnce, 513, 1),
+    (Ask::UnlockOnce, 513, 1),
+    (Ask::UnlockReadOnce, 513, 0),
+    (Ask::UnlockOnce, 513, 0),
+    (Ask::ToReadOnce, 512, 513),
+    (Ask::ToWriteOnce, 513, 640),
+    (Ask::ToOptimisticOnce, 640, 768),
+    (Ask::ToWriteOnce, 512, 0),
+    (Ask::ToReadOnce, 512, 0),
+    (Ask::ToOptimisticOnce, 512, 0),
+    (Ask::TryWriteOnce, 0, 896),
+    (Ask::TryUnlockWriteOnce, 0, 1),
+    (Ask::TryReadOnce, 0, 1025),
+    (Ask::TryUnlockReadOnce, 0, 1),
+];
 
 #[test]
-fn entering_changes_nothing(rt: HostRuntime) -> Result<(), Fail> {
-    let lock = made(rt.alloc())?;
-    let mut first = lock.enter();
-    let written = first.try_write(&rt).ok_or("not acquired")?;
-    let mut second = lock.enter();
-    let met = (
-        second.is_write_locked(),
-        first.unlock_write(written).is_ok(),
-    );
-    let read = second.try_read(&rt).ok_or("not acquired")?;
-    let mut third = lock.enter();
-    let read_by = third.read_count();
-    let released = third.unlock_read(&rt, read).is_ok();
-    let numbers = (written.number(), read.number(), read_by);
-    assert!(rt; (met, numbers, released) == ((true, true), (384, 513, 1), true));
-    Ok(())
+fn alone_a_call_that_is_tried_once_is_made(rt: HostRuntime) -> Result<(), Fail> {
+    assert_answered(&rt, rt.alloc(), WIDE, &TRIED_ONCE)
 }

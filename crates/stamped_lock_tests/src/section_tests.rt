@@ -1,50 +1,57 @@
 //! Sections of one thread.
-use crate::fixtures::{made, made_with};
-use stamped_lock::{Layout, Mismatch, Stamp, WriteError};
+use crate::fixtures::{Ask, answer, made, made_with, number};
+use stamped_lock::{Layout, Mismatch, StampedLock, WriteError};
+use std::sync::Wait;
 use std::sync::atomic::{AtomicU64, Ordering};
 use std::test::Fail;
 
-#[test]
-fn a_section_answers_its_closure_and_is_released(rt: HostRuntime) -> Result<(), Fail> {
-    let lock = made(rt.alloc())?;
-    let (mut lock, mut other) = (lock.enter(), lock.enter());
-    assert!(rt; lock.write_with(&rt, |_| other.is_write_locked()) == Ok(true));
-    assert!(rt; lock.try_optimistic_read() == Stamp::new(512));
-    assert!(rt; lock.read_with(&rt, |_| other.read_count()) == Ok(1));
-    assert!(rt; lock.read_count() == 0);
-    Ok(())
+/// Writes by one handle, and makes this call by another in the section. The runs of the closure are counted.
+fn write_around<R: Wait>(
+    rt: &R,
+    lock: &StampedLock,
+    ask: Ask,
+    runs: &AtomicU64,
+) -> Result<Option<u64>, WriteError> {
+    lock.enter().write_with(rt, |_| {
+        runs.fetch_add(1, Ordering::SeqCst);
+        answer(rt, &mut lock.enter(), ask, None)
+    })
 }
 
+/// There are two versions, so that the third section is refused.
 #[test]
-fn an_optimistic_read_that_validates_runs_once(rt: HostRuntime) -> Result<(), Fail> {
-    let lock = made(rt.alloc())?;
-    let mut lock = lock.enter();
+fn a_write_section_answers_its_closure_if_it_was_made_and_nobody_released_it(
+    rt: HostRuntime,
+) -> Result<(), Fail> {
+    let lock = made_with(rt.alloc(), (Layout::One, 127, 2))?;
     let runs = AtomicU64::new(0);
-    let answer = lock.read_optimistically(&rt, |_| runs.fetch_add(1, Ordering::SeqCst));
-    assert!(rt; answer == Ok(0));
-    assert!(rt; runs.load(Ordering::SeqCst) == 1);
+    for (ask, want, ran, next) in [
+        (Ask::IsWriteLocked, Ok(Some(1)), 1, 512),
+        (Ask::TryUnlockWrite, Err(WriteError::Mismatch), 2, 768),
+        (Ask::IsWriteLocked, Err(WriteError::Spent), 2, 768),
+    ] {
+        assert!(rt; write_around(&rt, &lock, ask, &runs) == want);
+        let left = number(lock.enter().try_optimistic_read());
+        assert!(rt; (runs.load(Ordering::SeqCst), left) == (ran, next));
+    }
     Ok(())
 }
 
+/// Reads by one handle, and makes this call by another in the section.
+fn read_around<R: Wait>(rt: &R, lock: &StampedLock, ask: Ask) -> Result<Option<u64>, Mismatch> {
+    lock.enter()
+        .read_with(rt, |_| answer(rt, &mut lock.enter(), ask, None))
+}
+
 #[test]
-fn a_section_that_was_released_by_others_is_a_mismatch(rt: HostRuntime) -> Result<(), Fail> {
+fn a_read_section_answers_its_closure_if_nobody_released_it(rt: HostRuntime) -> Result<(), Fail> {
     let lock = made(rt.alloc())?;
-    let (mut lock, mut other) = (lock.enter(), lock.enter());
-    assert!(rt; lock.write_with(&rt, |_| other.try_unlock_write(&rt)) == Err(WriteError::Mismatch));
-    assert!(rt; lock.read_with(&rt, |_| other.try_unlock_read(&rt)) == Err(Mismatch));
-    assert!(rt; lock.try_optimistic_read() == Stamp::new(512));
-    Ok(())
-}
-
-#[test]
-fn with_no_version_left_a_closure_does_not_run(rt: HostRuntime) -> Result<(), Fail> {
-    let lock = made_with(rt.alloc(), Layout::One, 127, 1)?;
-    let mut lock = lock.enter();
-    let runs = AtomicU64::new(0);
-    let first = lock.write_with(&rt, |_| runs.fetch_add(1, Ordering::SeqCst));
-    assert!(rt; first == Ok(0));
-    let second = lock.write_with(&rt, |_| runs.fetch_add(1, Ordering::SeqCst));
-    assert!(rt; second == Err(WriteError::Spent));
-    assert!(rt; runs.load(Ordering::SeqCst) == 1);
+    for (ask, want) in [
+        (Ask::ReadCount, Ok(Some(1))),
+        (Ask::TryUnlockRead, Err(Mismatch)),
+    ] {
+        assert!(rt; read_around(&rt, &lock, ask) == want);
+        assert!(rt; lock.enter().read_count() == 0);
+    }
     Ok(())
 }

@@ -1,6 +1,6 @@
 //! Threads that really share a lock, each by a handle.
-use crate::fixtures::made;
-use stamped_lock::{LockHandle, Lost, Mismatch, Stamp};
+use crate::fixtures::{Ask, Row, made, number, right_rows};
+use stamped_lock::{Mismatch, StampedLock};
 use std::sync::atomic::{AtomicBool, AtomicU64, Ordering};
 use std::sync::{Barrier, Wait};
 use std::test::Fail;
@@ -9,43 +9,68 @@ use std::thread::join;
 use std::time::{Clock, Duration};
 
 /// Adds one this many times, each time by a load and a store that no other writer may come between.
-fn add_often<R: Wait>(rt: &R, mut lock: LockHandle<'_>, sum: &AtomicU64) {
+fn add_often<R: Wait>(rt: &R, lock: &StampedLock, sum: &AtomicU64) {
+    let mut handle = lock.enter();
     for _ in 0..10_000 {
-        let _ = lock.write_with(rt, |_| {
+        let _ = handle.write_with(rt, |_| {
             let old = sum.load(Ordering::SeqCst);
             sum.store(old.wrapping_add(1), Ordering::SeqCst);
         });
     }
 }
 
+/// Reads and releases until an exchange is lost, here or by the other thread. Answers whether it was here, by a change.
+fn loses_one(lock: &StampedLock, is_over: &AtomicBool) -> bool {
+    let mut handle = lock.enter();
+    for _ in 0..20_000_000u64 {
+        if is_over.load(Ordering::SeqCst) {
+            break;
+        }
+        if let Err(lost) = handle.try_read_once() {
+            is_over.store(true, Ordering::SeqCst);
+            return lost.loaded != lost.found;
+        }
+        let _ = handle.try_unlock_read_once();
+    }
+    false
+}
+
+/// Adds, and then reads. Answers whether it lost an exchange to the other thread.
+fn add_and_lose<R: Wait>(
+    rt: &R,
+    lock: &StampedLock,
+    sum: &AtomicU64,
+    is_over: &AtomicBool,
+) -> bool {
+    add_often(rt, lock, sum);
+    loses_one(lock, is_over)
+}
+
 #[test]
-fn sections_of_two_writers_come_one_after_the_other(rt: HostRuntime) -> Result<(), Fail> {
+fn threads_write_one_after_the_other_and_lose_exchanges_where_they_meet(
+    rt: HostRuntime,
+) -> Result<(), Fail> {
     let lock = made(rt.alloc())?;
-    let (mut first, second) = (lock.enter(), lock.enter());
-    let third = first.split();
-    let sum = AtomicU64::new(0);
-    join(
+    let (sum, is_over) = (AtomicU64::new(0), AtomicBool::new(false));
+    let (a, b) = join(
         &rt,
-        || add_often(&rt, first, &sum),
-        || add_often(&rt, second, &sum),
+        || add_and_lose(&rt, &lock, &sum, &is_over),
+        || add_and_lose(&rt, &lock, &sum, &is_over),
     );
-    let mut lock = third;
-    assert!(rt; sum.load(Ordering::SeqCst) == 20_000);
-    assert!(rt; lock.try_optimistic_read() == Stamp::new(256 * 20_001));
+    let next = number(lock.enter().split().try_optimistic_read());
+    assert!(rt; (sum.load(Ordering::SeqCst), next) == (20_000, 256 * 20_001));
+    assert!(rt; a || b);
     Ok(())
 }
 
-/// Acquires write mode while the reader is in its closure.
-fn write_between<R: Wait>(rt: &R, mut lock: LockHandle<'_>, turn: &Barrier) {
-    turn.wait(rt);
-    let _ = lock.write_with(rt, |_| {});
-    turn.wait(rt);
-}
-
-/// Reads, and lets the writer come in its first run. Answers which run it was.
-fn read_beside<R: Wait>(rt: &R, mut lock: LockHandle<'_>, turn: &Barrier) -> Result<u64, Mismatch> {
-    let runs = AtomicU64::new(0);
-    lock.read_optimistically(rt, |_| {
+/// Reads, and lets the other thread come in its first run. Answers which run it was, from 0.
+fn read_beside<R: Wait>(
+    rt: &R,
+    lock: &StampedLock,
+    runs: &AtomicU64,
+    turn: &Barrier,
+) -> Result<u64, Mismatch> {
+    lock.enter().read_optimistically(rt, |_| {
         let run = runs.fetch_add(1, Ordering::SeqCst);
         if run == 0 {
             turn.wait(rt);
@@ -55,86 +80,54 @@ fn read_beside<R: Wait>(rt: &R, mut lock: LockHandle<'_>, turn: &Barrier) -> Res
     })
 }
 
+/// Makes these calls while the reader is in its closure. Answers how many were answered as they should.
+fn come_between<R: Wait>(rt: &R, lock: &StampedLock, rows: &[Row], turn: &Barrier) -> usize {
+    turn.wait(rt);
+    let right = right_rows(rt, lock, rows, false);
+    turn.wait(rt);
+    right
+}
+
+const READER: [Row; 2] = [(Ask::Read, 0, 257), (Ask::UnlockRead, 257, 1)];
+
+const WRITER: [Row; 2] = [(Ask::Write, 0, 384), (Ask::UnlockWrite, 384, 1)];
+
 #[test]
 fn an_optimistic_read_that_a_writer_came_into_runs_again(rt: HostRuntime) -> Result<(), Fail> {
-    let lock = made(rt.alloc())?;
-    let (writer, reader) = (lock.enter(), lock.enter());
-    let turn = Barrier::new(2);
-    let ((), run) = join(
-        &rt,
-        || write_between(&rt, writer, &turn),
-        || read_beside(&rt, reader, &turn),
-    );
-    assert!(rt; run == Ok(1));
-    Ok(())
-}
-
-/// Reads and releases until an exchange is lost, here or by the other thread.
-fn read_until_lost(mut lock: LockHandle<'_>, is_over: &AtomicBool) -> Option<Lost> {
-    for _ in 0..20_000_000u64 {
-        if is_over.load(Ordering::SeqCst) {
-            break;
-        }
-        if let Err(lost) = lock.try_read_once() {
-            is_over.store(true, Ordering::SeqCst);
-            return Some(lost);
-        }
-        let _ = lock.try_unlock_read_once();
+    for (rows, last) in [(&READER, 0), (&WRITER, 1)] {
+        let lock = made(rt.alloc())?;
+        let (runs, turn) = (AtomicU64::new(0), Barrier::new(2));
+        let (run, right) = join(
+            &rt,
+            || read_beside(&rt, &lock, &runs, &turn),
+            || come_between(&rt, &lock, rows, &turn),
+        );
+        assert!(rt; run == Ok(last));
+        assert!(rt; (runs.load(Ordering::SeqCst), right) == (last + 1, 2));
     }
-    None
-}
-
-#[test]
-fn an_exchange_is_lost_where_threads_meet(rt: HostRuntime) -> Result<(), Fail> {
-    let lock = made(rt.alloc())?;
-    let (first, second) = (lock.enter(), lock.enter());
-    let is_over = AtomicBool::new(false);
-    let (a, b) = join(
-        &rt,
-        || read_until_lost(first, &is_over),
-        || read_until_lost(second, &is_over),
-    );
-    let Some(lost) = a.or(b) else {
-        return Err(Fail::from("no exchange was lost"));
-    };
-    assert!(rt; lost.loaded != lost.found);
     Ok(())
 }
 
 /// Releases after a while; answers how often the reader had run by then.
-fn release_late<R: Wait + Clock>(
-    rt: &R,
-    mut lock: LockHandle<'_>,
-    stamp: Stamp,
-    runs: &AtomicU64,
-) -> u64 {
+fn release_late<R: Wait + Clock>(rt: &R, lock: &StampedLock, runs: &AtomicU64) -> u64 {
     thread::sleep(rt, Duration::from_millis(20));
     let before = runs.load(Ordering::SeqCst);
-    let _ = lock.unlock_write(stamp);
+    lock.enter().try_unlock_write(rt);
     before
 }
 
-fn count_runs<R: Wait>(
-    rt: &R,
-    mut lock: LockHandle<'_>,
-    runs: &AtomicU64,
-) -> Result<u64, Mismatch> {
-    lock.read_optimistically(rt, |_| runs.fetch_add(1, Ordering::SeqCst))
-}
-
+/// The barrier is one that a thread alone passes.
 #[test]
 fn a_read_that_gets_no_stamp_waits_and_runs_once(rt: HostRuntime) -> Result<(), Fail> {
     let lock = made(rt.alloc())?;
-    let (mut writer, reader) = (lock.enter(), lock.enter());
-    let stamp = writer.try_write(&rt).ok_or("not acquired")?;
-    let runs = AtomicU64::new(0);
-    let (read, before) = join(
+    lock.enter().try_write(&rt);
+    let (runs, open) = (AtomicU64::new(0), Barrier::new(1));
+    let (run, before) = join(
         &rt,
-        || count_runs(&rt, reader, &runs),
-        || release_late(&rt, writer, stamp, &runs),
+        || read_beside(&rt, &lock, &runs, &open),
+        || release_late(&rt, &lock, &runs),
     );
-    assert!(rt; read == Ok(0));
-    assert!(rt; before == 0);
-    assert!(rt; runs.load(Ordering::SeqCst) == 1);
+    assert!(rt; run == Ok(0));
+    assert!(rt; (before, runs.load(Ordering::SeqCst)) == (0, 1));
     Ok(())
 }
