@@ -8,14 +8,16 @@ use Rattle.std.proofs.lemmas.Option.{none-some, same_Some}
 use Rattle.stamp_core.specs.declared.reply.Reply.{Reply}
 use Rattle.stamp_explain.specs.declared.observed.Observation.{Observation}
 use Rattle.stamp_explain.specs.declared.observed.Returned.{Returned}
-use Rattle.stamp_explain.specs.declared.plan.Plan.{Plan}
+use Rattle.stamp_explain.specs.declared.timeline.Timeline.{Timeline}
 use Rattle.stamp_explain.specs.declared.asking.Asking.{Asking}
 use Rattle.stamp_explain.specs.Observed.{ObservedHistory, IsObserved, IsInterval}
 use Rattle.stamp_explain.specs.Explained.{IsExplained}
-use Rattle.stamp_explain.specs.Cut.{returned_by, known_of, known_from, begun_by, seen_at}
-use Rattle.stamp_explain.specs.Possible.{ArePossible, AreAllPossible, answering, with_reply, without_return}
-use Rattle.stamp_explain.specs.Plan.{IsPlan}
-use Rattle.stamp_explain.specs.Asking.{AreReplies, IsAskingAt, place_of}
+use Rattle.stamp_explain.specs.Cut.{returned_by, known_of, known_from, begun_by, seen_at, place_of}
+use Rattle.stamp_core.specs.declared.call.Call.{Call}
+use Rattle.stamp_explain.specs.Possible.{ArePossible, AreAllPossible, GetsBeside, IsUndecidedAtGotten, IsUndecidedAtReply}
+use Rattle.stamp_explain.specs.Possible.{IsUndecidedAtSome, answering, with_reply, without_return}
+use Rattle.stamp_explain.specs.Timeline.{IsTimeline}
+use Rattle.stamp_explain.specs.Asking.{AreReplies, Gets, IsAskingAt}
 use Rattle.stamp_explain.proofs.Replying.{possible_is_seen}
 use Rattle.stamp_explain.proofs.Expanding.{at_place}
 use Rattle.stamp_explain.proofs.Seeing.{seen_explains_as_much}
@@ -143,17 +145,17 @@ asked_as_seen h seen i place e r read observed at returned same is_place is_seen
     (is_place ∙ ap (λ (es : List Observation). place_of r.last i es) same) ∙
     asked_there h i e r at returned (ended h i e r observed at returned)
 
-pub asked_at : (h seen before : ObservedHistory) (plan : Plan) (i place : ℕ) (e : Observation) (r : Returned)
+pub asked_at : (h seen before : ObservedHistory) (timeline : Timeline) (i place : ℕ) (e : Observation) (r : Returned)
     (read : List Observation) → IsObserved h → slice_get h.entries i ≡ Some e → e.returned ≡ Some r →
     read ≡ h.entries → place ≡ place_of r.last i read → seen ≡ seen_at r.last (i + 1) h →
-    before ≡ without_return place e seen → IsPlan seen plan →
-    IsAskingAt h i e r (record { seen = seen; before = before; plan = plan; place = place })
-asked_at h seen before plan i place e r read observed at returned same is_place is_seen is_before plans = record {
+    before ≡ without_return place e seen → IsTimeline seen timeline →
+    IsAskingAt h i e r (record { seen = seen; before = before; timeline = timeline; place = place })
+asked_at h seen before timeline i place e r read observed at returned same is_place is_seen is_before timelines = record {
   is = record {
     entry = e;
     return = r;
     observed = subst IsObserved (sym is_seen) (seen_explains_as_much h r.last (i + 1) observed).0;
-    plan = plans;
+    timeline = timelines;
     is_entry = asked_as_seen h seen i place e r read observed at returned same is_place is_seen;
     returned = returned;
     before = is_before;
@@ -179,3 +181,28 @@ all_possible h i e r asking tried found at returned le observed is replies possi
       (possible_is_seen h i e r reply at returned observed may));
   once = possible.once replies.once;
 }
+
+-- a search gives up with a reply that the call gets beside what the others do
+pub undecided_by : (h : ObservedHistory) (i most : ℕ) (e : Observation) (r : Returned) (asking : Asking)
+    (replies : List Reply) → slice_get h.entries i ≡ Some e → e.returned ≡ Some r → IsAskingAt h i e r asking →
+    AreReplies asking replies → IsUndecidedAtSome h i most replies → IsUndecidedAtGotten h i most
+undecided_by h i most e r asking replies at returned asks are some =
+    let one : IsUndecidedAtReply h i most some.0 = some.1.1 in
+    let gets : Gets asking some.0 = are.gets some.0 some.1.0 in
+    let is_entry : e ≡ one.entry = same_Some e one.entry (sym at ∙ one.is_entry) in
+    let is_return : r ≡ one.return = same_Some r one.return (sym returned ∙
+    ap (λ (o : Observation). o.returned) is_entry ∙ one.returned) in
+    let call : gets.entry.call ≡ e.call = ap (λ (o : Observation). o.call)
+    (same_Some gets.entry e (sym gets.is_entry ∙ asks.is_entry)) in
+    let seen : GetsBeside (seen_at r.last (i + 1) h) (place_of r.last i h.entries) e.call some.0 =
+    subst (λ (c : Call). GetsBeside (seen_at r.last (i + 1) h) (place_of r.last i h.entries) c some.0) call
+    (subst (λ (k : ℕ). GetsBeside (seen_at r.last (i + 1) h) k gets.entry.call some.0) asks.place
+    (subst (λ (g : ObservedHistory). GetsBeside g asking.place gets.entry.call some.0) asks.seen gets.gets)) in
+    record {
+      reply = some.0;
+      undecided = one;
+      gets = subst (λ (o : Observation). GetsBeside (seen_at one.return.last (i + 1) h)
+          (place_of one.return.last i h.entries) o.call some.0) is_entry
+          (subst (λ (q : Returned). GetsBeside (seen_at q.last (i + 1) h) (place_of q.last i h.entries) e.call some.0)
+          is_return seen);
+    }

@@ -17,12 +17,12 @@ use Rattle.stamp_explain.specs.declared.observed.Observation.{Observation}
 use Rattle.stamp_explain.specs.declared.observed.Returned.{Returned}
 use Rattle.stamp_explain.specs.declared.node.Node.{Node}
 use Rattle.stamp_explain.specs.declared.node.Next.{Next}
-use Rattle.stamp_explain.specs.declared.plan.Plan.{Plan}
+use Rattle.stamp_explain.specs.declared.timeline.Timeline.{Timeline}
 use Rattle.stamp_explain.specs.Observed.{ObservedHistory, HasReturned}
 use Rattle.stamp_explain.specs.Explained.{Effect}
 use Rattle.stamp_explain.specs.Search.{LockState, LockSteps, MayTake, IsReturnAt, AreReturns, ReturnsNoLater}
 use Rattle.stamp_explain.specs.Node.{IsNext, HasNext, AreTaken, IsAt, StandsFor, words_put, words_put_at, content_by, IsOpening}
-use Rattle.stamp_explain.specs.Plan.{IsPlan, IsOpenAt, AreOpen}
+use Rattle.stamp_explain.specs.Timeline.{IsTimeline, IsOpenAt, AreOpen}
 use Rattle.stamp_explain.specs.Expand.{Took, Takes}
 use Rattle.stamp_explain.specs.Possible.{with_reply, without_return, answering}
 use Rattle.stamp_explain.proofs.Replying.{IsAlike, IsAlikeBy, alike_self, alike_answering, alike_before, place}
@@ -290,16 +290,16 @@ returns_alike h g i returns is are = record {
       (are.in_order p q d lt within x.0 y.0 x.1.0 y.1.0);
 }
 
-pub plan_alike : (h g : ObservedHistory) (i : ℕ) (plan : Plan) → AreAlike h g i → IsPlan h plan → IsPlan g plan
-plan_alike h g i plan is plans = record {
-  are = returns_alike h g i plan.returns.items is plans.are;
-  once = plans.once;
-  many = plans.many;
+pub timeline_alike : (h g : ObservedHistory) (i : ℕ) (timeline : Timeline) → AreAlike h g i → IsTimeline h timeline → IsTimeline g timeline
+timeline_alike h g i timeline is timelines = record {
+  are = returns_alike h g i timeline.returns.items is timelines.are;
+  once = timelines.once;
+  many = timelines.many;
   opens = λ k calls at.
-      let o : AreOpen h plan.returns.items k calls.items = plans.opens k calls at in
+      let o : AreOpen h timeline.returns.items k calls.items = timelines.opens k calls at in
       record {
-        each = λ j has. open_alike h g i plan.returns.items k j is (o.each j has);
-        whole = λ j it. o.whole j (open_alike g h i plan.returns.items k j (turned h g i is) it);
+        each = λ j has. open_alike h g i timeline.returns.items k j is (o.each j has);
+        whole = λ j it. o.whole j (open_alike g h i timeline.returns.items k j (turned h g i is) it);
       };
 }
 

@@ -20,26 +20,28 @@ use Rattle.stamp_explain.specs.declared.observed.Observation.{Observation}
 use Rattle.stamp_explain.specs.declared.node.Node.{Node}
 use Rattle.stamp_explain.specs.declared.node.Next.{Next}
 use Rattle.stamp_explain.specs.declared.node.Step.{Step}
-use Rattle.stamp_explain.specs.declared.plan.Plan.{Plan}
+use Rattle.stamp_explain.specs.declared.timeline.Timeline.{Timeline}
 use Rattle.stamp_explain.specs.declared.store.Store.{Store}
 use Rattle.stamp_explain.specs.declared.asking.Asking.{Asking}
 use Rattle.stamp_explain.specs.Observed.{ObservedHistory, IsObserved, IsBefore, MayReply, AreOfOneObject}
 use Rattle.stamp_explain.specs.Observer.{observes_at, observes_in}
-use Rattle.stamp_explain.specs.Search.{LockState, LockSteps, IsReturnAt}
-use Rattle.stamp_explain.specs.Configuration.{ReachesMore}
+use Rattle.stamp_explain.specs.Search.{LockState, LockSteps, IsReturnAt, after_call}
+use Rattle.stamp_explain.specs.Configuration.{Configuration, ReachesMoreBeside}
 use Rattle.stamp_explain.specs.Node.{IsReached, IsAt, StandsFor, HasGone, IsOpening}
 use Rattle.stamp_explain.specs.Store.{Keeps}
-use Rattle.stamp_explain.specs.Plan.{AreOpen, ClearsBit, IsAwaitedAt}
+use Rattle.stamp_explain.specs.Timeline.{AreOpen, IsAwaitedAt}
+use Rattle.stamp_explain.specs.Node.{ClearsBit}
 use Rattle.stamp_explain.specs.Expand.{Expands, Leads, LeadsBy, Took, IsNotInEffect, IsTakenTo, Enters, nodes_of}
 use Rattle.stamp_explain.specs.Possible.{without_return, answering}
-use Rattle.stamp_explain.specs.Asking.{Adds, AreAsked, AreLed, AreMore, AreReplies, ExpandUnless, IsAnswered, IsAsking, LeadsBeside}
+use Rattle.stamp_explain.specs.Asking.{Adds, AreAsked, AreLed, AreMore, AreReplies, ExpandUnless, Gets, GetsMore}
+use Rattle.stamp_explain.specs.Asking.{IsAnswered, IsAsking, IsReachedBeside, LeadsBeside}
 use Rattle.stamp_explain.proofs.Lists.{none_in_empty, contains_cases, contains_first, pairs_none}
 use Rattle.stamp_explain.proofs.Replying.{IsAlike, alike_before, replied_is_observed}
-use Rattle.stamp_explain.proofs.Answering.{AreAlike, alike_with_reply, plan_alike, there, other_there, took_alike, turned}
+use Rattle.stamp_explain.proofs.Answering.{AreAlike, alike_with_reply, timeline_alike, there, other_there, took_alike, turned}
 use Rattle.stamp_explain.proofs.Answering.{same_calls_before, at_same, at_alike, opening_alike}
 use Rattle.stamp_explain.proofs.Expanding.{one_reply, at_place}
 use Rattle.stamp_explain.proofs.Leading.{way_past, way_by}
-use Rattle.stamp_explain.proofs.Counting.{so_many}
+use Rattle.stamp_explain.proofs.Counting.{all_differ, as_many, configuration_of, configurations_of, each_has}
 use Rattle.stamp_explain.proofs.Exploring.{Searches, searches_first, searches_more, found_nothing, opening_reached}
 use Rattle.stamp_explain.proofs.Exploring.{named, contains_at}
 use Rattle.stamp_explain.proofs.Succeeding.{Awaits, Tries, awaited_at, expands_past, expands_at_once, expands_open}
@@ -53,7 +55,7 @@ pub no_more : (xs : List Reply) → AreMore xs xs
 no_more xs = record { kept = λ r has. has; once = λ once. once }
 
 pub adds_none : (xs : List Reply) (reply : Reply) → Contains xs reply → Adds xs reply xs
-adds_none xs reply has = record { more = no_more xs; added = has }
+adds_none xs reply has = record { more = no_more xs; added = has; only = λ other has. inl has }
 
 pub adds_one : (xs : List Reply) (reply : Reply) → ¬ Contains xs reply → Adds xs reply (xs ++ reply ∷ [])
 adds_one xs reply misses = record {
@@ -63,6 +65,7 @@ adds_one xs reply misses = record {
         (λ k d lt same. misses (subst (Contains xs) same (Contains-get_or xs k d lt)));
   };
   added = Contains-push xs reply;
+  only = λ other has. Contains-push_cases xs reply other has;
 }
 
 -- of the first k calls so many had begun
@@ -114,21 +117,21 @@ observed_of asking reply h asks is = subst IsObserved (sym is.is)
 -- a node awaits the same return there
 pub record AwaitsToo (asking : Asking) (h : ObservedHistory) (node : Node) (a : Observation) : Type 0 where
   pub entry : Observation
-  pub awaits : Awaits h asking.plan node entry
+  pub awaits : Awaits h asking.timeline node entry
   pub thread : entry.thread ≡ a.thread
 
 pub awaits_too : (asking : Asking) (reply : Reply) (h : ObservedHistory) (node : Node) (a : Observation) →
-    IsAsking asking → IsAnswered asking reply h → Awaits asking.seen asking.plan node a → AwaitsToo asking h node a
+    IsAsking asking → IsAnswered asking reply h → Awaits asking.seen asking.timeline node a → AwaitsToo asking h node a
 awaits_too asking reply h node a asks is awaits =
     let alike : AreAlike asking.seen h asking.place = alike_of asking reply h is in
-    let b : (b : Observation) × ((slice_get h.entries (get_or asking.plan.returns.items node.past 0) ≡ Some b) ×
+    let b : (b : Observation) × ((slice_get h.entries (get_or asking.timeline.returns.items node.past 0) ≡ Some b) ×
     IsAlike a b) =
-    there asking.seen h asking.place (get_or asking.plan.returns.items node.past 0) a alike awaits.at in
+    there asking.seen h asking.place (get_or asking.timeline.returns.items node.past 0) a alike awaits.at in
     record {
       entry = b.0;
       awaits = record {
         observed = observed_of asking reply h asks is;
-        plan_is = plan_alike asking.seen h asking.place asking.plan alike awaits.plan_is;
+        timeline_is = timeline_alike asking.seen h asking.place asking.timeline alike awaits.timeline_is;
         inside = awaits.inside;
         at = b.1.0;
       };
@@ -147,96 +150,105 @@ past_of node threads = record {
 }
 
 pub past_leads : (asking : Asking) (node : Node) (a : Observation) (threads : ℕ) →
-    Awaits asking.seen asking.plan node a → bit_at node.threads a.thread ≡ 1 → ClearsBit node.threads threads a.thread →
+    Awaits asking.seen asking.timeline node a → bit_at node.threads a.thread ≡ 1 → ClearsBit node.threads threads a.thread →
     LeadsBeside asking node (past_of node threads)
 past_leads asking node a threads awaits bit clears = record {
-  leads = (expands_past asking.seen asking.plan node a threads awaits bit clears).each (past_of node threads)
+  leads = (expands_past asking.seen asking.timeline node a threads awaits bit clears).each (past_of node threads)
       (in_one (past_of node threads));
   other = λ e. none-some asking.place e;
 }
 
 pub past_expands : (asking : Asking) (node : Node) (a : Observation) (threads : ℕ) (reply : Reply)
-    (h : ObservedHistory) → IsAsking asking → Awaits asking.seen asking.plan node a →
+    (h : ObservedHistory) → IsAsking asking → Awaits asking.seen asking.timeline node a →
     bit_at node.threads a.thread ≡ 1 → ClearsBit node.threads threads a.thread → IsAnswered asking reply h →
-    Expands h asking.plan.returns.items node (past_of node threads ∷ [])
+    Expands h asking.timeline.returns.items node (past_of node threads ∷ [])
 past_expands asking node a threads reply h asks awaits bit clears is =
     let too : AwaitsToo asking h node a = awaits_too asking reply h node a asks is awaits in
-    expands_past h asking.plan node too.entry threads too.awaits
+    expands_past h asking.timeline node too.entry threads too.awaits
     (ap (λ (t : ℕ). bit_at node.threads t) too.thread ∙ bit)
     (subst (λ (t : ℕ). ClearsBit node.threads threads t) (sym too.thread) clears)
 
 -- another call than the one asked takes effect
 pub took_other : (asking : Asking) (node : Node) (i : ℕ) (w : Next) (a : Observation) →
-    Awaits asking.seen asking.plan node a → IsReached asking.seen asking.plan.returns.items node →
-    Took asking.seen asking.plan.returns.items node i (Some w) → i ≢ asking.place → w.took ≢ Some asking.place
+    Awaits asking.seen asking.timeline node a → IsReached asking.seen asking.timeline.returns.items node →
+    Took asking.seen asking.timeline.returns.items node i (Some w) → i ≢ asking.place → w.took ≢ Some asking.place
 took_other asking node i w a awaits reached took other same =
-    let to : IsTakenTo asking.seen asking.plan.returns.items node a i reached.state reached.taken w =
-    took.takes a reached.state reached.taken (awaited_at asking.seen asking.plan node a awaits) reached.stands in
+    let to : IsTakenTo asking.seen asking.timeline.returns.items node a i reached.state reached.taken w =
+    took.takes a reached.state reached.taken (awaited_at asking.seen asking.timeline node a awaits) reached.stands in
     other (sym to.index ∙ same_Some to.effect.index asking.place (sym to.took ∙ same))
 
 pub at_once_leads : (asking : Asking) (node : Node) (a : Observation) (i : ℕ) (w : Next) →
-    Awaits asking.seen asking.plan node a → IsReached asking.seen asking.plan.returns.items node →
+    Awaits asking.seen asking.timeline node a → IsReached asking.seen asking.timeline.returns.items node →
     bit_at node.threads a.thread ≢ 1 → observes_at asking.seen.entries i ≡ true →
-    Took asking.seen asking.plan.returns.items node i (Some w) → i ≢ asking.place → LeadsBeside asking node w
+    Took asking.seen asking.timeline.returns.items node i (Some w) → i ≢ asking.place → LeadsBeside asking node w
 at_once_leads asking node a i w awaits reached bit observes took other = record {
-  leads = (expands_at_once asking.seen asking.plan node a i w awaits bit observes took).each w (in_one w);
+  leads = (expands_at_once asking.seen asking.timeline node a i w awaits bit observes took).each w (in_one w);
   other = took_other asking node i w a awaits reached took other;
 }
 
 pub at_once_expands : (asking : Asking) (node : Node) (a : Observation) (i : ℕ) (w : Next) (reply : Reply)
-    (h : ObservedHistory) → IsAsking asking → Awaits asking.seen asking.plan node a →
+    (h : ObservedHistory) → IsAsking asking → Awaits asking.seen asking.timeline node a →
     bit_at node.threads a.thread ≢ 1 → (e : Observation) → slice_get asking.seen.entries i ≡ Some e →
-    observes_at asking.seen.entries i ≡ true → Took asking.seen asking.plan.returns.items node i (Some w) →
-    i ≢ asking.place → IsAnswered asking reply h → Expands h asking.plan.returns.items node (w ∷ [])
+    observes_at asking.seen.entries i ≡ true → Took asking.seen asking.timeline.returns.items node i (Some w) →
+    i ≢ asking.place → IsAnswered asking reply h → Expands h asking.timeline.returns.items node (w ∷ [])
 at_once_expands asking node a i w reply h asks awaits bit e at observes took other is =
     let alike : AreAlike asking.seen h asking.place = alike_of asking reply h is in
     let too : AwaitsToo asking h node a = awaits_too asking reply h node a asks is awaits in
-    expands_at_once h asking.plan node too.entry i w too.awaits
+    expands_at_once h asking.timeline node too.entry i w too.awaits
     (λ b. bit (sym (ap (λ (t : ℕ). bit_at node.threads t) too.thread) ∙ b))
     (ap observes_in (other_there asking.seen h asking.place i e alike other at) ∙ sym (ap observes_in at) ∙ observes)
-    (took_alike asking.seen h asking.place asking.plan.returns.items node i (Some w) alike other took)
+    (took_alike asking.seen h asking.place asking.timeline.returns.items node i (Some w) alike other took)
 
-took_leads : (h : ObservedHistory) (plan : Plan) (node : Node) (a : Observation) (i : ℕ) (w : Next) →
-    Awaits h plan node a → bit_at node.threads a.thread ≢ 1 → Took h plan.returns.items node i (Some w) →
-    ((e : Observation) → slice_get h.entries i ≡ Some e → AreOfOneObject a e) → Leads h plan.returns.items node w
-took_leads h plan node a i w is bit took alike = record {
+took_leads : (h : ObservedHistory) (timeline : Timeline) (node : Node) (a : Observation) (i : ℕ) (w : Next) →
+    Awaits h timeline node a → bit_at node.threads a.thread ≢ 1 → Took h timeline.returns.items node i (Some w) →
+    ((e : Observation) → slice_get h.entries i ≡ Some e → AreOfOneObject a e) → Leads h timeline.returns.items node w
+took_leads h timeline node a i w is bit took alike = record {
   inside = is.inside;
-  leads = λ s taken stands. to s taken stands (took.takes a s taken (awaited_at h plan node a is) stands);
+  leads = λ s taken stands. to s taken stands (took.takes a s taken (awaited_at h timeline node a is) stands);
 }
   where
-    to : (s : LockState) (taken : List ℕ) → StandsFor h plan.returns.items node s taken →
-        IsTakenTo h plan.returns.items node a i s taken w → LeadsBy h plan.returns.items node w.node s taken w.took
-    to s taken stands it = leads_by_call h plan node a i s taken w is bit stands it (inl (alike it.effect.entry
+    to : (s : LockState) (taken : List ℕ) → StandsFor h timeline.returns.items node s taken →
+        IsTakenTo h timeline.returns.items node a i s taken w → LeadsBy h timeline.returns.items node w.node s taken w.took
+    to s taken stands it = leads_by_call h timeline node a i s taken w is bit stands it (inl (alike it.effect.entry
         (ap (λ (j : ℕ). slice_get h.entries j) (sym it.index) ∙ it.may.effect.is_entry)))
 
 -- the awaited call, which is not in effect
 pub record AwaitsThere (asking : Asking) (node : Node) : Type 0 where
   pub entry : Observation
-  pub awaits : Awaits asking.seen asking.plan node entry
+  pub awaits : Awaits asking.seen asking.timeline node entry
   pub bit : bit_at node.threads entry.thread ≢ 1
 
-pub awaits_there : (asking : Asking) (node : Node) → IsAsking asking → node.past < length asking.plan.returns.items →
-    IsNotInEffect asking.seen asking.plan.returns.items node → AwaitsThere asking node
+pub awaits_there : (asking : Asking) (node : Node) → IsAsking asking → node.past < length asking.timeline.returns.items →
+    IsNotInEffect asking.seen asking.timeline.returns.items node → AwaitsThere asking node
 awaits_there asking node asks inside awaited =
-    let there : IsReturnAt asking.seen.entries (get_or asking.plan.returns.items node.past 0) =
-    asks.plan.are.each node.past 0 inside in
+    let there : IsReturnAt asking.seen.entries (get_or asking.timeline.returns.items node.past 0) =
+    asks.timeline.are.each node.past 0 inside in
     record {
       entry = there.entry;
-      awaits = record { observed = asks.observed; plan_is = asks.plan; inside = inside; at = there.is_entry };
+      awaits = record { observed = asks.observed; timeline_is = asks.timeline; inside = inside; at = there.is_entry };
       bit = awaited.awaited there.entry (record { inside = inside; is_entry = there.is_entry });
     }
+
+pub awaited_inside : (asking : Asking) (node : Node) (i : ℕ) → IsAsking asking →
+    node.past < length asking.timeline.returns.items → i ≡ get_or asking.timeline.returns.items node.past i →
+    i < length asking.seen.entries
+awaited_inside asking node i asks inside read =
+    let there : IsReturnAt asking.seen.entries (get_or asking.timeline.returns.items node.past i) =
+    asks.timeline.are.each node.past i inside in
+    subst (λ (k : ℕ). k < length asking.seen.entries) (sym read)
+    (slice_get_within asking.seen.entries (get_or asking.timeline.returns.items node.past i) there.entry there.is_entry)
 
 -- of the last k of these calls, those beside the one asked were tried
 pub record TriesBeside (asking : Asking) (node : Node) (calls : List ℕ) (k : ℕ) (nexts : List Next) : Type 0 where
   pub led : AreLed asking node nexts
   pub tries : (reply : Reply) (h : ObservedHistory) → IsAnswered asking reply h →
-      Took h asking.plan.returns.items node asking.place None →
-      Tries h asking.plan.returns.items node calls k nexts
+      Took h asking.timeline.returns.items node asking.place None →
+      Tries h asking.timeline.returns.items node calls k nexts
 
 pub beside_first : (asking : Asking) (node : Node) (calls : List ℕ) → TriesBeside asking node calls 0 []
 beside_first asking node calls = record {
   led = record { each = λ w has. absurd (none_in_empty w has) };
-  tries = λ reply h is none. none_tried h asking.plan.returns.items node calls;
+  tries = λ reply h is none. none_tried h asking.timeline.returns.items node calls;
 }
 
 pub beside_asked : (asking : Asking) (node : Node) (calls : List ℕ) (k : ℕ) (nexts : List Next) →
@@ -244,21 +256,21 @@ pub beside_asked : (asking : Asking) (node : Node) (calls : List ℕ) (k : ℕ) 
     get_or calls (length calls - 1 - k) 0 ≡ asking.place → TriesBeside asking node calls (k + 1) nexts
 beside_asked asking node calls k nexts is more here = record {
   led = is.led;
-  tries = λ reply h answered none. tried_none h asking.plan.returns.items node calls k nexts
+  tries = λ reply h answered none. tried_none h asking.timeline.returns.items node calls k nexts
       (is.tries reply h answered none) more
-      (subst (λ (i : ℕ). Took h asking.plan.returns.items node i None) (sym here) none);
+      (subst (λ (i : ℕ). Took h asking.timeline.returns.items node i None) (sym here) none);
 }
 
 pub beside_none : (asking : Asking) (node : Node) (calls : List ℕ) (k : ℕ) (nexts : List Next) →
     TriesBeside asking node calls k nexts → k < length calls →
     get_or calls (length calls - 1 - k) 0 ≢ asking.place →
-    Took asking.seen asking.plan.returns.items node (get_or calls (length calls - 1 - k) 0) None →
+    Took asking.seen asking.timeline.returns.items node (get_or calls (length calls - 1 - k) 0) None →
     TriesBeside asking node calls (k + 1) nexts
 beside_none asking node calls k nexts is more other took = record {
   led = is.led;
-  tries = λ reply h answered none. tried_none h asking.plan.returns.items node calls k nexts
+  tries = λ reply h answered none. tried_none h asking.timeline.returns.items node calls k nexts
       (is.tries reply h answered none) more
-      (took_alike asking.seen h asking.place asking.plan.returns.items node (get_or calls (length calls - 1 - k) 0)
+      (took_alike asking.seen h asking.place asking.timeline.returns.items node (get_or calls (length calls - 1 - k) 0)
       None (alike_of asking reply h answered) other took);
 }
 
@@ -266,18 +278,18 @@ beside_none asking node calls k nexts is more other took = record {
 record SeenToo (asking : Asking) (node : Node) (i : ℕ) (a e : Observation) : Type 0 where
   pub awaited : Observation
   pub entry : Observation
-  pub is_awaited : IsAwaitedAt asking.seen asking.plan.returns.items node.past awaited
+  pub is_awaited : IsAwaitedAt asking.seen asking.timeline.returns.items node.past awaited
   pub is_entry : slice_get asking.seen.entries i ≡ Some entry
   pub objects : AreOfOneObject awaited entry ↔ AreOfOneObject a e
 
 seen_too : (asking : Asking) (reply : Reply) (h : ObservedHistory) (node : Node) (i : ℕ) (a e : Observation) →
-    IsAnswered asking reply h → IsAwaitedAt h asking.plan.returns.items node.past a →
+    IsAnswered asking reply h → IsAwaitedAt h asking.timeline.returns.items node.past a →
     slice_get h.entries i ≡ Some e → SeenToo asking node i a e
 seen_too asking reply h node i a e is awaited at =
     let alike : AreAlike h asking.seen asking.place = turned asking.seen h asking.place (alike_of asking reply h is) in
     let b : (b : Observation) ×
-    ((slice_get asking.seen.entries (slice_index asking.plan.returns.items node.past) ≡ Some b) × IsAlike a b) =
-    there h asking.seen asking.place (slice_index asking.plan.returns.items node.past) a alike awaited.is_entry in
+    ((slice_get asking.seen.entries (slice_index asking.timeline.returns.items node.past) ≡ Some b) × IsAlike a b) =
+    there h asking.seen asking.place (slice_index asking.timeline.returns.items node.past) a alike awaited.is_entry in
     let f : (f : Observation) × ((slice_get asking.seen.entries i ≡ Some f) × IsAlike e f) =
     there h asking.seen asking.place i e alike at in
     record {
@@ -293,12 +305,12 @@ seen_too asking reply h node i a e is awaited at =
 
 pub beside_other : (asking : Asking) (node : Node) (calls : List ℕ) (k : ℕ) (nexts : List Next) →
     TriesBeside asking node calls k nexts → k < length calls →
-    ((a e : Observation) → IsAwaitedAt asking.seen asking.plan.returns.items node.past a →
+    ((a e : Observation) → IsAwaitedAt asking.seen asking.timeline.returns.items node.past a →
     slice_get asking.seen.entries (get_or calls (length calls - 1 - k) 0) ≡ Some e → ¬ AreOfOneObject a e) →
     TriesBeside asking node calls (k + 1) nexts
 beside_other asking node calls k nexts is more other = record {
   led = is.led;
-  tries = λ reply h answered none. tried_other h asking.plan.returns.items node calls k nexts
+  tries = λ reply h answered none. tried_other h asking.timeline.returns.items node calls k nexts
       (is.tries reply h answered none) more (λ a e awaited at alike.
       let it : SeenToo asking node (get_or calls (length calls - 1 - k) 0) a e =
       seen_too asking reply h node (get_or calls (length calls - 1 - k) 0) a e answered awaited at in
@@ -306,18 +318,18 @@ beside_other asking node calls k nexts is more other = record {
 }
 
 pub beside_some : (asking : Asking) (node : Node) (a : Observation) (calls : List ℕ) (k : ℕ) (nexts : List Next)
-    (w : Next) → Awaits asking.seen asking.plan node a → IsReached asking.seen asking.plan.returns.items node →
+    (w : Next) → Awaits asking.seen asking.timeline node a → IsReached asking.seen asking.timeline.returns.items node →
     bit_at node.threads a.thread ≢ 1 → TriesBeside asking node calls k nexts → k < length calls →
     get_or calls (length calls - 1 - k) 0 ≢ asking.place →
-    Took asking.seen asking.plan.returns.items node (get_or calls (length calls - 1 - k) 0) (Some w) →
-    ((b e : Observation) → IsAwaitedAt asking.seen asking.plan.returns.items node.past b →
+    Took asking.seen asking.timeline.returns.items node (get_or calls (length calls - 1 - k) 0) (Some w) →
+    ((b e : Observation) → IsAwaitedAt asking.seen asking.timeline.returns.items node.past b →
     slice_get asking.seen.entries (get_or calls (length calls - 1 - k) 0) ≡ Some e → AreOfOneObject b e) →
     TriesBeside asking node calls (k + 1) (nexts ++ w ∷ [])
 beside_some asking node a calls k nexts w awaits reached bit is more other took alike = record {
   led = record { each = λ v has. by v (Contains-push_cases nexts w v has) };
-  tries = λ reply h answered none. tried_some h asking.plan.returns.items node calls k nexts w
+  tries = λ reply h answered none. tried_some h asking.timeline.returns.items node calls k nexts w
       (is.tries reply h answered none) more
-      (took_alike asking.seen h asking.place asking.plan.returns.items node (get_or calls (length calls - 1 - k) 0)
+      (took_alike asking.seen h asking.place asking.timeline.returns.items node (get_or calls (length calls - 1 - k) 0)
       (Some w) (alike_of asking reply h answered) other took) (λ b e awaited at.
       let it : SeenToo asking node (get_or calls (length calls - 1 - k) 0) b e =
       seen_too asking reply h node (get_or calls (length calls - 1 - k) 0) b e answered awaited at in
@@ -327,25 +339,25 @@ beside_some asking node a calls k nexts w awaits reached bit is more other took 
     by : (v : Next) → Contains nexts v ⊎ (w ≡ v) → LeadsBeside asking node v
     by v (inl has) = is.led.each v has
     by v (inr same) = subst (LeadsBeside asking node) same (record {
-      leads = took_leads asking.seen asking.plan node a (get_or calls (length calls - 1 - k) 0) w awaits bit took
-          (λ e at. alike a e (awaited_at asking.seen asking.plan node a awaits) at);
+      leads = took_leads asking.seen asking.timeline node a (get_or calls (length calls - 1 - k) 0) w awaits bit took
+          (λ e at. alike a e (awaited_at asking.seen asking.timeline node a awaits) at);
       other = took_other asking node (get_or calls (length calls - 1 - k) 0) w a awaits reached took other;
     })
 
 pub expands_beside : (asking : Asking) (node : Node) (calls : List ℕ) (k : ℕ) (nexts : List Next) (reply : Reply)
-    (h : ObservedHistory) → IsAsking asking → node.past < length asking.plan.returns.items →
-    IsNotInEffect asking.seen asking.plan.returns.items node →
-    AreOpen h asking.plan.returns.items node.past calls → length calls ≤ k → IsAnswered asking reply h →
-    Tries h asking.plan.returns.items node calls k nexts → Expands h asking.plan.returns.items node nexts
+    (h : ObservedHistory) → IsAsking asking → node.past < length asking.timeline.returns.items →
+    IsNotInEffect asking.seen asking.timeline.returns.items node →
+    AreOpen h asking.timeline.returns.items node.past calls → length calls ≤ k → IsAnswered asking reply h →
+    Tries h asking.timeline.returns.items node calls k nexts → Expands h asking.timeline.returns.items node nexts
 expands_beside asking node calls k nexts reply h asks inside awaited are all is tries =
     let alike : AreAlike asking.seen h asking.place = alike_of asking reply h is in
-    expands_open h asking.plan node calls k nexts (observed_of asking reply h asks is)
-    (plan_alike asking.seen h asking.place asking.plan alike asks.plan) inside
+    expands_open h asking.timeline node calls k nexts (observed_of asking reply h asks is)
+    (timeline_alike asking.seen h asking.place asking.timeline alike asks.timeline) inside
     (record {
       awaited = λ b it bit.
           let a : (a : Observation) ×
-          ((slice_get asking.seen.entries (slice_index asking.plan.returns.items node.past) ≡ Some a) × IsAlike b a) =
-          there h asking.seen asking.place (slice_index asking.plan.returns.items node.past) b
+          ((slice_get asking.seen.entries (slice_index asking.timeline.returns.items node.past) ≡ Some a) × IsAlike b a) =
+          there h asking.seen asking.place (slice_index asking.timeline.returns.items node.past) b
           (turned asking.seen h asking.place alike) it.is_entry in
           awaited.awaited a.0 (record { inside = inside; is_entry = a.1.0 })
           (ap (λ (t : ℕ). bit_at node.threads t) a.1.1.thread ∙ bit);
@@ -369,15 +381,15 @@ asked_entry asking reply h f is at = same_Some f y (sym at ∙
 
 -- where the awaited call had returned before it began, it isn't open
 pub not_begun : (asking : Asking) (node : Node) (a e : Observation) (reply : Reply) (h : ObservedHistory) →
-    IsAsking asking → IsAnswered asking reply h → Awaits asking.seen asking.plan node a →
+    IsAsking asking → IsAnswered asking reply h → Awaits asking.seen asking.timeline node a →
     slice_get asking.seen.entries asking.place ≡ Some e → IsBefore a e →
-    Took h asking.plan.returns.items node asking.place None
+    Took h asking.timeline.returns.items node asking.place None
 not_begun asking node a e reply h asks is awaits at before = record {
   takes = λ b s taken awaited stands x u may same.
       let alike : AreAlike asking.seen h asking.place = alike_of asking reply h is in
-      let c : (c : Observation) × ((slice_get h.entries (get_or asking.plan.returns.items node.past 0) ≡ Some c) ×
+      let c : (c : Observation) × ((slice_get h.entries (get_or asking.timeline.returns.items node.past 0) ≡ Some c) ×
       IsAlike a c) =
-      there asking.seen h asking.place (get_or asking.plan.returns.items node.past 0) a alike awaits.at in
+      there asking.seen h asking.place (get_or asking.timeline.returns.items node.past 0) a alike awaits.at in
       let f : (f : Observation) × ((slice_get h.entries asking.place ≡ Some f) × IsAlike e f) =
       there asking.seen h asking.place asking.place e alike at in
       let is_b : c.0 ≡ b = same_Some c.0 b (sym c.1.0 ∙ awaited.is_entry) in
@@ -396,7 +408,7 @@ WentBefore asking node found = (e : Observation) (s : LockState) →
 -- it gets no other reply
 pub asked_takes : (asking : Asking) (node : Node) (found : Option Step) (reply : Reply) (h : ObservedHistory) →
     IsAsking asking → IsAnswered asking reply h → WentBefore asking node found →
-    ((step : Step) → found ≡ Some step → step.reply ≢ reply) → Took h asking.plan.returns.items node asking.place None
+    ((step : Step) → found ≡ Some step → step.reply ≢ reply) → Took h asking.timeline.returns.items node asking.place None
 asked_takes asking node found reply h asks is went others = record {
   takes = λ b s taken awaited stands x u may same.
       let alike : AreAlike asking.seen h asking.place = alike_of asking reply h is in
@@ -444,10 +456,11 @@ asked_takes asking node found reply h asks is went others = record {
         sym replied)
 
 pub asked_not_begun : (asking : Asking) (node : Node) (a e : Observation) (replies : List Reply) → IsAsking asking →
-    Awaits asking.seen asking.plan node a → slice_get asking.seen.entries asking.place ≡ Some e → IsBefore a e →
+    Awaits asking.seen asking.timeline node a → slice_get asking.seen.entries asking.place ≡ Some e → IsBefore a e →
     AreAsked asking node replies replies
 asked_not_begun asking node a e replies asks awaits at before = record {
   more = no_more replies;
+  gets = λ reply has. inl has;
   asked = λ reply h is misses. not_begun asking node a e reply h asks is awaits at before;
 }
 
@@ -455,17 +468,56 @@ pub asked_waits : (asking : Asking) (node : Node) (replies : List Reply) → IsA
     WentBefore asking node None → AreAsked asking node replies replies
 asked_waits asking node replies asks went = record {
   more = no_more replies;
+  gets = λ reply has. inl has;
   asked = λ reply h is misses. asked_takes asking node None reply h asks is went
       (λ step at. absurd (none-some step at));
 }
 
+-- the reply that it gets at a node
+asked_gets : (asking : Asking) (node : Node) (step : Step) → IsAsking asking → IsReachedBeside asking node →
+    WentBefore asking node (Some step) → Gets asking step.reply
+asked_gets asking node step asks is went = record {
+  entry = asks.entry;
+  is_entry = asks.is_entry;
+  gets = record {
+    returns = asking.timeline.returns.items;
+    are = asks.timeline.are;
+    reached = configuration_of asking.seen asking.timeline.returns.items node is.reached;
+    still = is.still;
+    next = after_call asking.seen.limits is.reached.state (asks.entry.call, step.reply);
+    steps = (subst (λ (g : ObservedHistory). HasGone g asking.place y node.writer is.reached.state (Some step)) asks.before
+        (went y is.reached.state here (subst (λ (g : ObservedHistory). IsAt g node.bits node.writer is.reached.state)
+        (sym asks.before) (at_same asking.seen (without_return asking.place asks.entry asking.seen) node.bits
+        node.writer is.reached.state (same_calls_before asking.seen asking.place asks.entry asks.is_entry)
+        is.reached.stands.at)))).steps;
+  };
+}
+  where
+    y : Observation
+    y = record asks.entry { returned = None }
+
+    within : asking.place < length asking.seen.entries
+    within = slice_get_within asking.seen.entries asking.place asks.entry asks.is_entry
+
+    here : slice_get asking.before.entries asking.place ≡ Some y
+    here = ap (λ (g : ObservedHistory). slice_get g.entries asking.place) asks.before ∙
+        slice_get-get_or (set asking.seen.entries asking.place y) asking.place y
+        (omega (arith, within, length-set asking.seen.entries asking.place y)) ∙
+        ap (λ (o : Observation). Some o) (get_or-set_same asking.seen.entries asking.place y y within)
+
 pub asked_replies : (asking : Asking) (node : Node) (step : Step) (old new : List Reply) → IsAsking asking →
-    WentBefore asking node (Some step) → Adds old step.reply new → AreAsked asking node old new
-asked_replies asking node step old new asks went adds = record {
+    IsReachedBeside asking node → WentBefore asking node (Some step) → Adds old step.reply new →
+    AreAsked asking node old new
+asked_replies asking node step old new asks is went adds = record {
   more = adds.more;
+  gets = λ reply has. new_one reply (adds.only reply has);
   asked = λ reply h is misses. asked_takes asking node (Some step) reply h asks is went (λ other at same.
       misses (subst (Contains new) (ap (λ (t : Step). t.reply) (same_Some step other at) ∙ same) adds.added));
 }
+  where
+    new_one : (reply : Reply) → Contains old reply ⊎ (step.reply ≡ reply) → Contains old reply ⊎ Gets asking reply
+    new_one reply (inl has) = inl has
+    new_one reply (inr same) = inr (subst (Gets asking) same (asked_gets asking node step asks is went))
 
 -- the entry that is asked, as it is read, and with its call under way
 pub asked_read : (asking : Asking) (read : List Observation) (d : Observation) → IsAsking asking →
@@ -502,14 +554,10 @@ asked_suits asking asks e at = subst (λ (g : ObservedHistory). IsTrue (call_sui
         ap (λ (o : Observation). Some o) (get_or-set_same asking.seen.entries asking.place y y within)) ∙
         ap (λ (g : ObservedHistory). slice_get g.entries asking.place) (sym asks.before) ∙ at)
 
--- a node that is reached without the call in effect
-pub record IsReachedBeside (asking : Asking) (node : Node) : Type 0 where
-  pub reached : IsReached asking.seen asking.plan.returns.items node
-  pub still : ¬ Contains reached.taken asking.place
-
+-- a search without the call begins at the opening
 opening_beside : (asking : Asking) (node : Node) → IsOpening asking.seen node → IsReachedBeside asking node
 opening_beside asking node is = record {
-  reached = opening_reached asking.seen asking.plan.returns.items node is;
+  reached = opening_reached asking.seen asking.timeline.returns.items node is;
   still = none_in_empty asking.place;
 }
 
@@ -521,7 +569,7 @@ leads_beside asking node next is leads = by next.took refl (leads.leads.leads s 
     h = asking.seen
 
     returns : List ℕ
-    returns = asking.plan.returns.items
+    returns = asking.timeline.returns.items
 
     s : LockState
     s = is.reached.state
@@ -557,18 +605,18 @@ leads_beside asking node next is leads = by next.took refl (leads.leads.leads s 
 
 -- so a return is awaited there
 pub beside_inside : (asking : Asking) (node : Node) → IsAsking asking → IsReachedBeside asking node →
-    node.past < length asking.plan.returns.items
-beside_inside asking node asks is = which (cases node.past (length asking.plan.returns.items))
+    node.past < length asking.timeline.returns.items
+beside_inside asking node asks is = which (cases node.past (length asking.timeline.returns.items))
   where
     cases : (k n : ℕ) → (k < n) ⊎ (n ≤ k)
     cases k n = grind arith
 
-    which : (node.past < length asking.plan.returns.items) ⊎ (length asking.plan.returns.items ≤ node.past) →
-        node.past < length asking.plan.returns.items
+    which : (node.past < length asking.timeline.returns.items) ⊎ (length asking.timeline.returns.items ≤ node.past) →
+        node.past < length asking.timeline.returns.items
     which (inl lt) = lt
     which (inr le) = absurd (is.still (is.reached.stands.in_effect.all_past asking.place
-        (subst (λ (xs : List ℕ). Contains xs asking.place) (sym (take_all node.past asking.plan.returns.items le))
-        (asks.plan.are.whole asking.place asks.entry asks.is_entry (asks.return, asks.returned)))))
+        (subst (λ (xs : List ℕ). Contains xs asking.place) (sym (take_all node.past asking.timeline.returns.items le))
+        (asks.timeline.are.whole asking.place asks.entry asks.is_entry (asks.return, asks.returned)))))
 
 -- what the search keeps
 pub record Walks (asking : Asking) (looked : ℕ) (store : Store) (waiting : List ℕ) (replies : List Reply) :
@@ -578,8 +626,9 @@ pub record Walks (asking : Asking) (looked : ℕ) (store : Store) (waiting : Lis
   pub inside : All (λ (p : ℕ). p < length store.nodes.items) waiting
   pub count : looked + length waiting ≡ length store.nodes.items
   pub once : AllPairs (λ (a b : Reply). a ≢ b) replies
+  pub gets : (reply : Reply) → Contains replies reply → Gets asking reply
   pub searches : (reply : Reply) (h : ObservedHistory) → IsAnswered asking reply h → ¬ Contains replies reply →
-      Searches h asking.plan.returns.items looked store waiting
+      Searches h asking.timeline.returns.items looked store waiting
 
 pub walks_first : (asking : Asking) (old new : Store) (waiting : List ℕ) (next : Next) → old.nodes.items ≡ [] →
     IsOpening asking.seen next.node → Enters old new 0 [] waiting (next ∷ []) → Walks asking 0 new waiting []
@@ -595,7 +644,8 @@ walks_first asking old new waiting next empty is enters = record {
     ap (λ (ps : List ℕ). length ps) enters.to_do,
   );
   once = pairs_none (λ (a b : Reply). a ≢ b);
-  searches = λ reply h answered misses. searches_first h asking.plan.returns.items old new waiting next empty
+  gets = λ reply has. absurd (none_in_empty reply has);
+  searches = λ reply h answered misses. searches_first h asking.timeline.returns.items old new waiting next empty
       (opening_alike asking.seen h asking.place next.node (alike_of asking reply h answered) is) enters;
 }
   where
@@ -615,9 +665,10 @@ walks_first asking old new waiting next empty is enters = record {
 pub walks_more : (asking : Asking) (looked : ℕ) (old new : Store) (before popped after : List ℕ) (nexts : List Next)
     (replies more : List Reply) (place : ℕ) (v : Node) → Walks asking looked old before replies →
     before ≡ popped ++ place ∷ [] → slice_get old.nodes.items place ≡ Some v → AreLed asking v nexts →
-    AreMore replies more → ExpandUnless asking v nexts more → Enters old new place popped after nexts →
-    Walks asking (looked + 1) new after more
-walks_more asking looked old new before popped after nexts replies more place v is split at led grows expands enters =
+    AreMore replies more → GetsMore asking replies more → ExpandUnless asking v nexts more →
+    Enters old new place popped after nexts → Walks asking (looked + 1) new after more
+walks_more asking looked old new before popped after nexts replies more place v is split at led grows gets expands
+    enters =
     record {
       keeps = enters.keeps;
       reached = λ w has. by w (Contains-append_cases old.nodes.items (nodes_of enters.added) w
@@ -637,11 +688,16 @@ walks_more asking looked old new before popped after nexts replies more place v 
         length-append popped (place ∷ []),
       );
       once = grows.once is.once;
-      searches = λ reply h answered misses. searches_more h asking.plan.returns.items looked old new before popped after
+      gets = λ reply has. gotten reply (gets reply has);
+      searches = λ reply h answered misses. searches_more h asking.timeline.returns.items looked old new before popped after
           nexts place v (is.searches reply h answered (λ has. misses (grows.kept reply has))) split at
           (expands.expands reply h answered misses) enters;
     }
   where
+    gotten : (reply : Reply) → Contains replies reply ⊎ Gets asking reply → Gets asking reply
+    gotten reply (inl has) = is.gets reply has
+    gotten reply (inr new) = new
+
     longer : length new.nodes.items ≡ length old.nodes.items + length enters.added
     longer = omega (
       arith,
@@ -665,22 +721,37 @@ walks_more asking looked old new before popped after nexts replies more place v 
 pub walks_end : (asking : Asking) (looked : ℕ) (store : Store) (waiting : List ℕ) (replies : List Reply) →
     IsAsking asking → Walks asking looked store waiting replies → waiting ≡ [] → AreReplies asking replies
 walks_end asking looked store waiting replies asks is none = record {
+  gets = is.gets;
   once = is.once;
-  whole = λ reply h answered misses. found_nothing h asking.plan.returns.items looked store waiting
-      (plan_alike asking.seen h asking.place asking.plan (alike_of asking reply h answered) asks.plan).are
+  whole = λ reply h answered misses. found_nothing h asking.timeline.returns.items looked store waiting
+      (timeline_alike asking.seen h asking.place asking.timeline (alike_of asking reply h answered) asks.timeline).are
       (is.searches reply h answered misses) none;
 }
 
 -- where one waits, more than so many configurations are reached
 pub walks_on : (asking : Asking) (most looked : ℕ) (store : Store) (waiting : List ℕ) (replies : List Reply) →
     IsAsking asking → Walks asking looked store waiting replies → most ≤ looked → 1 ≤ length waiting →
-    ReachesMore asking.seen most
+    ReachesMoreBeside asking.seen asking.place most
 walks_on asking most looked store waiting replies asks is all waits = record {
-  returns = asking.plan.returns.items;
-  are = asks.plan.are;
-  once = asks.plan.once;
-  reached = so_many asking.seen asking.plan.returns.items store.nodes.items (λ v has. (is.reached v has).reached)
-      is.keeps.different (most + 1) (omega (arith, is.count, all, waits));
+  returns = asking.timeline.returns.items;
+  are = asks.timeline.are;
+  once = asks.timeline.once;
+  reached = record {
+    configurations = configurations_of asking.seen asking.timeline.returns.items store.nodes.items
+        (λ v has. (is.reached v has).reached);
+    different = all_differ asking.seen asking.timeline.returns.items store.nodes.items
+        (λ v has. (is.reached v has).reached) is.keeps.different;
+    many = omega (
+      arith,
+      is.count,
+      all,
+      waits,
+      as_many asking.seen asking.timeline.returns.items store.nodes.items (λ v has. (is.reached v has).reached),
+    );
+  };
+  beside = each_has asking.seen asking.timeline.returns.items store.nodes.items (λ v has. (is.reached v has).reached)
+      (λ (c : Configuration asking.seen asking.timeline.returns.items). ¬ Contains c.taken asking.place)
+      (λ v has. (is.reached v has).still);
 }
 
 -- the place that is popped, and the node there

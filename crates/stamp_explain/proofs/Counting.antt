@@ -2,19 +2,20 @@
 use Rattle.std.proofs.Common.{◌≡◌, ◌≢◌, ℕ, ◌<◌, ◌≤◌, List, [], ◌∷◌, length, get_or, refl, sym, ◌∙◌, ap, subst, arith}
 use Rattle.std.proofs.Common.{Option, None, zero, suc}
 use Rattle.std.specs.Prelude.{take, drop}
-use Rattle.std.specs.List.{AllPairs, Contains}
+use Rattle.std.specs.List.{All, AllPairs, Contains}
+use Rattle.std.proofs.lemmas.List.Elements.{All-nil, All-cons}
 use Rattle.std.specs.Int.{bit_at}
 use Rattle.std.proofs.lemmas.Nat.Bits.{bit_at-lt, same_from_bits}
 use Rattle.std.proofs.lemmas.List.{length-drop}
 use Rattle.stamp_explain.specs.declared.node.Node.{Node}
 use Rattle.stamp_explain.specs.Observed.{ObservedHistory}
-use Rattle.stamp_explain.specs.Configuration.{Configuration, AreOne, AreReached}
-use Rattle.stamp_explain.specs.Node.{HasNext, IsReached}
+use Rattle.stamp_explain.specs.Configuration.{Configuration, AreOne}
+use Rattle.stamp_explain.specs.Node.{HasNext, StandsFor, IsReached}
 use Rattle.stamp_explain.proofs.Lists.{contains_first, contains_rest}
 use Rattle.stamp_explain.proofs.Standing.{taken_by_bit}
 
 -- the configuration that a node stands for
-abbrev configuration_of : (h : ObservedHistory) (returns : List ℕ) (v : Node) → IsReached h returns v →
+abbrev pub configuration_of : (h : ObservedHistory) (returns : List ℕ) (v : Node) → IsReached h returns v →
     Configuration h returns
 configuration_of h returns v reached = record {
   to_come = drop v.past returns;
@@ -24,19 +25,35 @@ configuration_of h returns v reached = record {
   way = reached.way;
 }
 
+-- the node stands for this configuration
+pub record IsFor (h : ObservedHistory) (returns : List ℕ) (v : Node) (c : Configuration h returns) : Type 0 where
+  pub inside : v.past ≤ length returns
+  pub to_come : c.to_come ≡ drop v.past returns
+  pub put : c.put ≡ v.writer
+  pub stands : StandsFor h returns v c.state c.taken
+
+pub is_for_its : (h : ObservedHistory) (returns : List ℕ) (v : Node) (reached : IsReached h returns v) →
+    IsFor h returns v (configuration_of h returns v reached)
+is_for_its h returns v reached = record {
+  inside = reached.inside;
+  to_come = refl;
+  put = refl;
+  stands = reached.stands;
+}
+
 -- a thread whose bit is set has a call in effect; if that is in effect in the other configuration, its bit is set there
-bit_as_well : (h : ObservedHistory) (returns : List ℕ) (v w : Node) (one : IsReached h returns v)
-    (other : IsReached h returns w) → v.past ≡ w.past →
-    ((i : ℕ) → Contains one.taken i → Contains other.taken i) → (t : ℕ) → bit_at v.threads t ≡ 1 →
+bit_as_well : (h : ObservedHistory) (returns : List ℕ) (v w : Node) (c d : Configuration h returns) →
+    IsFor h returns v c → IsFor h returns w d → v.past ≡ w.past →
+    ((i : ℕ) → Contains c.taken i → Contains d.taken i) → (t : ℕ) → bit_at v.threads t ≡ 1 →
     bit_at w.threads t ≡ 1
-bit_as_well h returns v w one other past has t bit =
+bit_as_well h returns v w c d one other past has t bit =
     let next : HasNext h.entries (take v.past returns) t = one.stands.in_effect.has_next t bit in
-    let in_effect : Contains one.taken next.index = one.stands.in_effect.each_next next.index next.entry next.is
+    let in_effect : Contains c.taken next.index = one.stands.in_effect.each_next next.index next.entry next.is
     (ap (λ (k : ℕ). bit_at v.threads k) next.same ∙ bit) in
     let still : ¬ Contains (take w.past returns) next.index =
     subst (λ (n : ℕ). ¬ Contains (take n returns) next.index) past next.is.still in
     ap (λ (k : ℕ). bit_at w.threads k) (sym next.same) ∙ (taken_by_bit h.entries (take w.past returns) w.threads
-    other.taken next.index next.entry other.stands.in_effect next.is.is_entry still
+    d.taken next.index next.entry other.stands.in_effect next.is.is_entry still
     (has next.index in_effect)).0
 
 one_bit : (a b : ℕ) → a < 2 → b < 2 → (a ≡ 1 → b ≡ 1) → (b ≡ 1 → a ≡ 1) → a ≡ b
@@ -46,13 +63,12 @@ abbrev node_of : ℕ → ℕ → Option ℕ → ℕ → Node
 node_of past bits writer threads = record { past = past; bits = bits; writer = writer; threads = threads }
 
 -- nodes whose configurations are one are one
-one_node : (h : ObservedHistory) (returns : List ℕ) (v w : Node) (is : IsReached h returns v)
-    (also : IsReached h returns w) →
-    AreOne h returns (configuration_of h returns v is) (configuration_of h returns w also) → v ≡ w
-one_node h returns v w is also one =
+pub one_node : (h : ObservedHistory) (returns : List ℕ) (v w : Node) (c d : Configuration h returns) →
+    IsFor h returns v c → IsFor h returns w d → AreOne h returns c d → v ≡ w
+one_node h returns v w c d is also one =
     ap (λ (n : ℕ). node_of n v.bits v.writer v.threads) past ∙
     ap (λ (n : ℕ). node_of w.past n v.writer v.threads) bits ∙
-    ap (λ (o : Option ℕ). node_of w.past w.bits o v.threads) one.put ∙
+    ap (λ (o : Option ℕ). node_of w.past w.bits o v.threads) (sym is.put ∙ one.put ∙ also.put) ∙
     ap (λ (n : ℕ). node_of w.past w.bits w.writer n) threads
   where
     past : v.past ≡ w.past
@@ -62,7 +78,7 @@ one_node h returns v w is also one =
       also.inside,
       length-drop v.past returns,
       length-drop w.past returns,
-      ap (λ (xs : List ℕ). length xs) one.to_come,
+      ap (λ (xs : List ℕ). length xs) (sym is.to_come ∙ one.to_come ∙ also.to_come),
     )
 
     bits : v.bits ≡ w.bits
@@ -71,17 +87,17 @@ one_node h returns v w is also one =
     threads : v.threads ≡ w.threads
     threads = same_from_bits v.threads w.threads (λ t. one_bit (bit_at v.threads t) (bit_at w.threads t)
         (bit_at-lt v.threads t) (bit_at-lt w.threads t)
-        (bit_as_well h returns v w is also past (λ i. (one.in_effect i).0) t)
-        (bit_as_well h returns w v also is (sym past) (λ i. (one.in_effect i).1) t))
+        (bit_as_well h returns v w c d is also past (λ i. (one.in_effect i).0) t)
+        (bit_as_well h returns w v d c also is (sym past) (λ i. (one.in_effect i).1) t))
 
 -- the configurations of these nodes
-configurations_of : (h : ObservedHistory) (returns : List ℕ) (nodes : List Node) →
+pub configurations_of : (h : ObservedHistory) (returns : List ℕ) (nodes : List Node) →
     ((v : Node) → Contains nodes v → IsReached h returns v) → List (Configuration h returns)
 configurations_of h returns [] each = []
 configurations_of h returns (v ∷ nodes) each = configuration_of h returns v (each v (contains_first v nodes v refl)) ∷
     configurations_of h returns nodes (λ w has. each w (contains_rest v nodes w has))
 
-as_many : (h : ObservedHistory) (returns : List ℕ) (nodes : List Node)
+pub as_many : (h : ObservedHistory) (returns : List ℕ) (nodes : List Node)
     (each : (v : Node) → Contains nodes v → IsReached h returns v) →
     length (configurations_of h returns nodes each) ≡ length nodes
 unfolding configurations_of
@@ -102,15 +118,25 @@ at_each h returns (u ∷ nodes) each zero d v lt = record { reached = each u (co
 at_each h returns (u ∷ nodes) each (suc k) d v lt =
     at_each h returns nodes (λ w has. each w (contains_rest u nodes w has)) k d v (omega (arith, lt))
 
--- so many nodes, all different and reached, are so many configurations
-pub so_many : (h : ObservedHistory) (returns : List ℕ) (nodes : List Node) →
-    ((v : Node) → Contains nodes v → IsReached h returns v) → AllPairs (λ (v w : Node). v ≢ w) nodes → (most : ℕ) →
-    most ≤ length nodes → AreReached h returns most
-so_many h returns nodes each different most many = record {
-  configurations = configurations_of h returns nodes each;
-  different = λ i j d lt inside one. differ i j d lt (omega (arith, inside, as_many h returns nodes each)) one;
-  many = omega (arith, many, as_many h returns nodes each);
-}
+-- what holds of the configuration of each node holds of all
+pub each_has : (h : ObservedHistory) (returns : List ℕ) (nodes : List Node)
+    (each : (v : Node) → Contains nodes v → IsReached h returns v) (P : Configuration h returns → Type 0) →
+    ((v : Node) (has : Contains nodes v) → P (configuration_of h returns v (each v has))) →
+    All P (configurations_of h returns nodes each)
+unfolding configurations_of
+each_has h returns [] each P holds = All-nil P
+each_has h returns (v ∷ nodes) each P holds = All-cons P (configuration_of h returns v (each v (contains_first v nodes v
+    refl))) (configurations_of h returns nodes (λ w has. each w (contains_rest v nodes w has)))
+    (holds v (contains_first v nodes v refl))
+    (each_has h returns nodes (λ w has. each w (contains_rest v nodes w has)) P
+    (λ w has. holds w (contains_rest v nodes w has)))
+
+-- nodes that are reached and are all different are different configurations
+pub all_differ : (h : ObservedHistory) (returns : List ℕ) (nodes : List Node)
+    (each : (v : Node) → Contains nodes v → IsReached h returns v) → AllPairs (λ (v w : Node). v ≢ w) nodes →
+    AllPairs (λ (c d : Configuration h returns). ¬ AreOne h returns c d) (configurations_of h returns nodes each)
+all_differ h returns nodes each different i j d lt inside one =
+    differ i j d lt (omega (arith, inside, as_many h returns nodes each)) one
   where
     none : Node
     none = node_of 0 0 None 0
@@ -123,7 +149,10 @@ so_many h returns nodes each different most many = record {
         at_each h returns nodes each i d none (omega (arith, lt, inside)) in
         let w : IsOf h returns (get_or nodes j none) (get_or (configurations_of h returns nodes each) j d) =
         at_each h returns nodes each j d none inside in
-        different i j none lt inside (one_node h returns (get_or nodes i none) (get_or nodes j none) v.reached w.reached
+        different i j none lt inside (one_node h returns (get_or nodes i none) (get_or nodes j none)
+        (configuration_of h returns (get_or nodes i none) v.reached)
+        (configuration_of h returns (get_or nodes j none) w.reached)
+        (is_for_its h returns (get_or nodes i none) v.reached) (is_for_its h returns (get_or nodes j none) w.reached)
         (subst (λ (c : Configuration h returns). AreOne h returns c
         (configuration_of h returns (get_or nodes j none) w.reached)) v.is
         (subst (AreOne h returns (get_or (configurations_of h returns nodes each) i d)) w.is one)))

@@ -10,7 +10,7 @@ use Rattle.stamp_explain.specs.declared.observed.Observation.{Observation}
 use Rattle.stamp_explain.specs.Observed.{ObservedHistory}
 use Rattle.stamp_explain.specs.Explained.{Effect}
 use Rattle.stamp_explain.specs.Search.{LockState, LockSteps, MayTake, after_call, opening}
-use Rattle.stamp_explain.specs.Configuration.{Configuration, Reaches, put_after}
+use Rattle.stamp_explain.specs.Configuration.{Reaches, put_after}
 use Rattle.stamp_explain.specs.Configuration.Reaches.{begins, goes_past, goes_on_by}
 use Rattle.stamp_explain.specs.ExplainLaws.{TheOrderDecides}
 use Rattle.stamp_explain.proofs.Expanding.{one_reply, same_read}

@@ -13,7 +13,7 @@ use Rattle.std.proofs.lemmas.List.{length-map}
 use Rattle.std.proofs.lemmas.List.Elements.{All-nil, All-cons, All-weaker}
 use Rattle.std.proofs.lemmas.List.Sorted.{Contains-permutation, IsPermutation-sym}
 use Rattle.stamp_explain.specs.declared.observed.Observation.{Observation}
-use Rattle.stamp_explain.specs.Planning.{AreKeys, AreEnds, IsSooner, EndsAt, places_of}
+use Rattle.stamp_explain.specs.TimelineKeys.{AreKeys, AreEnds, IsSooner, EndsAt, places_of}
 use Rattle.stamp_explain.proofs.Lists.{pairs_none, pairs_cons}
 use Rattle.stamp_explain.proofs.Keyed.{permuted_once}
 

@@ -25,7 +25,8 @@ use Rattle.stamp_explain.specs.Observed.{ObservedHistory, IsObserved, IsBefore, 
 use Rattle.stamp_explain.specs.Explained.{Effect}
 use Rattle.stamp_explain.specs.Search.{LockState, LockSteps, MayTake, AreReturns, after_call}
 use Rattle.stamp_explain.specs.Node.{IsNext, AreTaken, StandsFor, Goes, HasGone}
-use Rattle.stamp_explain.specs.Plan.{IsOpenAt, SetsBit}
+use Rattle.stamp_explain.specs.Timeline.{IsOpenAt}
+use Rattle.stamp_explain.specs.Node.{SetsBit}
 use Rattle.stamp_explain.specs.Expand.{Takes}
 use Rattle.stamp_explain.proofs.Finding.{no_later, has_returned, not_before_itself}
 use Rattle.stamp_explain.proofs.Standing.{AreOrderly, taken_by_bit, taken_more}

@@ -1,4 +1,4 @@
--- The search as a whole.
+-- A search that goes through all that is reached, and what an order of the whole is to a search.
 use Rattle.std.proofs.Common.{◌≡◌, ◌⊎◌, ℕ, ◌+◌, ◌-◌, ◌<◌, ◌≤◌, List, [], ◌∷◌, ◌++◌, length, get_or}
 use Rattle.std.proofs.Common.{refl, sym, ◌∙◌, ap, subst, inl, inr, arith, Option, None, Some, true, false}
 use Rattle.std.specs.Prelude.{take, drop, slice_get, ◌==◌}
@@ -22,7 +22,7 @@ use Rattle.stamp_explain.specs.Observed.{ObservedHistory}
 use Rattle.stamp_explain.specs.Explained.{Effect, IsExplained, IsExplainedBy, history_of, indices_of}
 use Rattle.stamp_explain.specs.Search.{LockSteps, IsCompletedBy, AreReturns, IsReturnAt}
 use Rattle.stamp_explain.specs.Search.{opening}
-use Rattle.stamp_explain.specs.Configuration.{AreReached, Reaches}
+use Rattle.stamp_explain.specs.Configuration.{Reaches}
 use Rattle.stamp_explain.specs.Configuration.Reaches.{begins}
 use Rattle.stamp_explain.specs.Node.{AreTaken, IsOpening, StandsFor, IsReached}
 use Rattle.stamp_explain.specs.Store.{Keeps}
@@ -33,7 +33,6 @@ use Rattle.stamp_explain.proofs.Finding.{runs_legal, legal_runs}
 use Rattle.stamp_explain.proofs.Searching.{Waits, Follows, LosesNothing, node_kept, none_left}
 use Rattle.stamp_explain.proofs.Entering.{read_left, read_right}
 use Rattle.stamp_explain.proofs.Leading.{leads_reached}
-use Rattle.stamp_explain.proofs.Counting.{so_many}
 
 -- what an order of the whole history is to a search
 pub completed_from : (h : ObservedHistory) (returns : List ℕ) (rest : List Effect) → AreReturns h.entries returns →
@@ -51,7 +50,7 @@ completed_from h returns rest are by = record {
     right {i} (inl has) = absurd (none_in_empty i has)
     right (inr has) = has
 
-explained_by : (h : ObservedHistory) (returns : List ℕ) → AreReturns h.entries returns →
+pub explained_by : (h : ObservedHistory) (returns : List ℕ) → AreReturns h.entries returns →
     (explained : IsExplained h) → IsCompletedBy (LockSteps h.limits) h.entries returns (opening h.width) []
     explained.order
 explained_by h returns are explained =
@@ -94,15 +93,20 @@ opening_stands h returns node is = record {
     no_bit : (t : ℕ) → bit_at 0 t ≡ 1 → ⊥
     no_bit t bit = absurd (omega (arith, bit_at-zero t, bit))
 
+pub opening_way : (h : ObservedHistory) (returns : List ℕ) (node : Node) → IsOpening h node →
+    Reaches h returns (drop node.past returns) (opening h.width) node.writer []
+opening_way h returns node is =
+    subst (λ (put : Option ℕ). Reaches h returns (drop node.past returns) (opening h.width) put [])
+    (sym is.writer) (subst (λ (n : ℕ). Reaches h returns (drop n returns) (opening h.width) None []) (sym is.past)
+    begins)
+
 abbrev pub opening_reached : (h : ObservedHistory) (returns : List ℕ) (node : Node) → IsOpening h node → IsReached h returns node
 opening_reached h returns node is = record {
   state = opening h.width;
   taken = [];
   inside = omega (arith, is.past);
   stands = opening_stands h returns node is;
-  way = subst (λ (put : Option ℕ). Reaches h returns (drop node.past returns) (opening h.width) put [])
-      (sym is.writer) (subst (λ (n : ℕ). Reaches h returns (drop n returns) (opening h.width) None []) (sym is.past)
-      begins);
+  way = opening_way h returns node is;
 }
 
 pub contains_at : {X : Type 0} (xs : List X) (k : ℕ) (x : X) → slice_get xs k ≡ Some x → Contains xs x
@@ -398,12 +402,6 @@ found_nothing h returns looked store waiting are is none explained =
       steps = refl;
     })
 
--- so many configurations were looked at, and another waits
-pub found_more : (h : ObservedHistory) (returns : List ℕ) (most looked : ℕ) (store : Store) (waiting : List ℕ) →
-    Searches h returns looked store waiting → most ≤ looked → 1 ≤ length waiting → AreReached h returns (most + 1)
-found_more h returns most looked store waiting is all waits =
-    so_many h returns store.nodes.items is.reached is.keeps.different (most + 1) (omega (arith, is.count, all, waits))
-
 -- the test that none waits
 pub is_zero : (n : ℕ) → true ≡ (n == 0) → n ≡ 0
 is_zero n is = grind (arith, nat_tests)
@@ -425,13 +423,6 @@ pub popped_node : (h : ObservedHistory) (returns : List ℕ) (looked : ℕ) (sto
 popped_node h returns looked store before popped place v is split read =
     slice_get_read store.nodes.items (length store.nodes.items) place v refl
     (popped_inside h returns looked store before popped place is split) read
-
-pub popped_reached : (h : ObservedHistory) (returns : List ℕ) (looked : ℕ) (store : Store)
-    (before popped : List ℕ) (place : ℕ) (v : Node) → Searches h returns looked store before →
-    before ≡ popped ++ place ∷ [] → v ≡ get_or store.nodes.items place v → IsReached h returns v
-popped_reached h returns looked store before popped place v is split read =
-    is.reached v (contains_at store.nodes.items place v
-    (popped_node h returns looked store before popped place v is split read))
 
 pub nil_of_length : (xs : List ℕ) → length xs ≡ 0 → xs ≡ []
 nil_of_length [] h = refl

@@ -8,16 +8,16 @@ use Rattle.std.proofs.lemmas.Bool.Decides.{nat_tests}
 use Rattle.std.proofs.lemmas.Option.{none-some, slice_get_within, get_or_from_slice_get, slice_get-get_or}
 use Rattle.stamp_explain.specs.declared.observed.Observation.{Observation}
 use Rattle.stamp_explain.specs.declared.observed.Returned.{Returned}
-use Rattle.stamp_explain.specs.declared.search.Found.{Found}
-use Rattle.stamp_explain.specs.declared.search.Found.TheVariants.{Order, Nothing, Undecided}
+use Rattle.stamp_explain.specs.declared.found.Found.{Found}
+use Rattle.stamp_explain.specs.declared.found.Found.TheVariants.{Order, Nothing, Undecided}
 use Rattle.stamp_explain.specs.Observed.{ObservedHistory, IsObserved, HasReturned}
 use Rattle.stamp_explain.specs.Explained.{IsEffectOf, AreApart, RespectsBefore, IsExplained, IsExplainedBy}
 use Rattle.stamp_explain.specs.Cut.{known_of, known_from, returned_by, cut, seen_at, IsStuck}
-use Rattle.stamp_explain.specs.Planning.{IsSooner, AreEnds, EndsAt}
-use Rattle.stamp_explain.specs.Configuration.{ReachesMore}
+use Rattle.stamp_explain.specs.TimelineKeys.{IsSooner, AreEnds, EndsAt}
+use Rattle.stamp_explain.specs.Configuration.{IsGivenUp}
 use Rattle.stamp_explain.specs.Order.{IsOrderOf}
 use Rattle.stamp_explain.specs.Expand.{IsFound}
-use Rattle.stamp_explain.specs.Verdict.{IsUndecided, IsUndecidedAt, IsNotFound}
+use Rattle.stamp_explain.specs.Verdict.{IsUndecided, IsUndecidedAt, IsNotFound, IsWithoutOrder}
 use Rattle.stamp_explain.proofs.Lists.{pairs_none, none_in_empty}
 use Rattle.stamp_explain.proofs.Cutting.{IsLessKnown, less_known, back}
 use Rattle.stamp_explain.proofs.Seeing.{seen_explains_as_much}
@@ -323,6 +323,7 @@ pub record IsBetween (h : ObservedHistory) (most : ℕ) (ends : List (ℕ × ℕ
     pub inside : high < length ends
     pub below : (p : ℕ × ℕ) → slice_get ends low ≡ Some p → IsExplained (cut p.0 p.1 h)
     pub above : (p : ℕ × ℕ) → slice_get ends high ≡ Some p → IsAbove h most p stuck
+    pub whole : IsWithoutOrder h most
 
 pub between_at_first : (h : ObservedHistory) (most : ℕ) (ends : List (ℕ × ℕ)) (high : ℕ) (stuck : Bool) →
     AreEnds h.entries ends → IsNotFound h most stuck → high + 1 ≡ length ends → IsBetween h most ends 0 high stuck
@@ -331,8 +332,13 @@ between_at_first h most ends high stuck are not_found last = record {
   inside = omega (arith, last);
   below = λ p at. explained_at_first h ends p are at;
   above = λ p at. by p at stuck not_found;
+  whole = without stuck not_found;
 }
   where
+    without : (b : Bool) → IsNotFound h most b → IsWithoutOrder h most
+    without true unexplained = inr unexplained
+    without false given_up = inl given_up
+
     by : (p : ℕ × ℕ) → slice_get ends high ≡ Some p → (b : Bool) → IsNotFound h most b → IsAbove h most p b
     by p at true none = λ explained. none (subst IsExplained (known_at_last h ends high p are at (omega (arith, last)))
         explained)
@@ -348,6 +354,7 @@ between_above h most ends low high middle stuck p observed are is less at explai
   below = λ q next. explained_at_next h ends middle p q are at next
       ((seen_explains_as_much h p.0 (p.1 + 1) observed).1.1 explained);
   above = is.above;
+  whole = is.whole;
 }
 
 pub between_below : (h : ObservedHistory) (most : ℕ) (ends : List (ℕ × ℕ)) (low high middle : ℕ) (stuck : Bool)
@@ -360,6 +367,7 @@ between_below h most ends low high middle stuck p observed is le less at none = 
   below = is.below;
   above = λ q here explained. none ((seen_explains_as_much h p.0 (p.1 + 1) observed).1.0
       (subst (λ (x : ℕ × ℕ). IsExplained (cut x.0 (x.1 + 1) h)) (same q p (sym here ∙ at)) explained));
+  whole = is.whole;
 }
   where
     same : (x y : ℕ × ℕ) → Some x ≡ Some y → x ≡ y
@@ -367,14 +375,18 @@ between_below h most ends low high middle stuck p observed is le less at none = 
 
 pub between_undecided : (h : ObservedHistory) (most : ℕ) (ends : List (ℕ × ℕ)) (low high middle : ℕ) (stuck : Bool)
     (p : ℕ × ℕ) → IsBetween h most ends low high stuck → low ≤ middle → middle < high →
-    slice_get ends middle ≡ Some p → ReachesMore (seen_at p.0 (p.1 + 1) h) most →
+    slice_get ends middle ≡ Some p → IsGivenUp (seen_at p.0 (p.1 + 1) h) most →
     IsBetween h most ends low middle false
-between_undecided h most ends low high middle stuck p is le less at many = record {
+between_undecided h most ends low high middle stuck p is le less at given_up = record {
   order = le;
   inside = omega (arith, less, is.inside);
   below = is.below;
-  above = λ q here. inr (subst (λ (x : ℕ × ℕ). ReachesMore (seen_at x.0 (x.1 + 1) h) most) (same p q (sym at ∙ here))
-      many);
+  above = λ q here. inr (
+    is.whole,
+    subst (λ (x : ℕ × ℕ). IsGivenUp (seen_at x.0 (x.1 + 1) h) most)
+        (same p q (sym at ∙ here)) given_up,
+  );
+  whole = is.whole;
 }
   where
     same : (x y : ℕ × ℕ) → Some x ≡ Some y → x ≡ y
@@ -412,7 +424,7 @@ undecided_between h most ends low high p are is le at =
       is_entry = found.1.0;
       returned = found.1.1.1.0;
       explained = subst (λ (n : ℕ). IsExplained (cut n p.1 h)) (sym last) (is.below p at);
-      many = subst (λ (n : ℕ). IsUndecidedAt h most n (p.1 + 1)) (sym last)
+      undecided = subst (λ (n : ℕ). IsUndecidedAt h most n (p.1 + 1)) (sym last)
           (is.above p (subst (λ (n : ℕ). slice_get ends n ≡ Some p) same at));
     }
 

@@ -92,7 +92,7 @@ abbrev pub IsSound : Effect → Type 0
 IsSound x = IsInterval x.entry
 
 -- none of a list that begins no sooner had returned when this one began
-respects_all : (x y : Effect) (ys : List Effect) → x.entry.first ≤ y.entry.first → IsSound y →
+pub respects_all : (x y : Effect) (ys : List Effect) → x.entry.first ≤ y.entry.first → IsSound y →
     All (RespectsBefore y) ys → All (RespectsBefore x) (y ∷ ys)
 respects_all x y ys le sound all = All-cons (RespectsBefore x) y ys (not_yet y.entry sound le)
     (All-weaker (RespectsBefore y) (RespectsBefore x) (λ z respects before. respects (sooner z.entry le before)) ys

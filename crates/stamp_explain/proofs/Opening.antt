@@ -1,4 +1,4 @@
--- The plan of a search: the returns in order, and the calls that are open before each.
+-- The timeline of a search: the returns in order, and the calls that are open before each.
 use Rattle.std.proofs.Common.{◌≡◌, ◌≢◌, ◌⊎◌, ℕ, ◌+◌, ◌<◌, ◌≤◌, suc, Bool, true, false, List, [], ◌∷◌}
 use Rattle.std.proofs.Common.{◌++◌, length, get_or, refl, sym, ◌∙◌, ap, subst, inl, inr, arith, Option, Some}
 use Rattle.std.proofs.Common.{zero, None, Vec, Global, cond}
@@ -12,12 +12,12 @@ use Rattle.std.proofs.lemmas.Bool.Decides.{nat_tests}
 use Rattle.std.proofs.lemmas.Option.{same_Some, slice_get-get_or, get_or_from_slice_get, slice_get_within, none-some}
 use Rattle.stamp_explain.specs.declared.observed.Observation.{Observation}
 use Rattle.stamp_explain.specs.declared.observed.Returned.{Returned}
-use Rattle.stamp_explain.specs.declared.plan.Plan.{Plan}
+use Rattle.stamp_explain.specs.declared.timeline.Timeline.{Timeline}
 use Rattle.stamp_explain.specs.Observed.{ObservedHistory, IsBefore}
 use Rattle.stamp_explain.specs.Search.{AreReturns, AreInOrder, ReturnsNoLater, IsReturnAt}
-use Rattle.stamp_explain.specs.Plan.{IsOpenAt, AreOpen, IsPlan}
-use Rattle.stamp_explain.specs.Planning.{AreKeys, AreRising, AreRanked, AreRanks, ArePlanned, AreOpens, IsKept, AreKept}
-use Rattle.stamp_explain.specs.Planning.{IsBegun, BeginsMore, EndsAt, BeginsAt, places_of}
+use Rattle.stamp_explain.specs.Timeline.{IsOpenAt, AreOpen, IsTimeline}
+use Rattle.stamp_explain.specs.TimelineKeys.{AreKeys, AreRising, AreRanked, AreRanks, AreTimelineKeys, AreOpens, IsKept, AreKept}
+use Rattle.stamp_explain.specs.TimelineKeys.{IsBegun, BeginsMore, EndsAt, BeginsAt, places_of}
 use Rattle.stamp_explain.proofs.Lists.{none_in_empty, contains_cases, contains_first, contains_rest}
 use Rattle.stamp_explain.proofs.Entering.{read_last}
 use Rattle.stamp_explain.proofs.Keyed.{placed_once, rising_has, rising_from, placed_pairs, key_of_place, place_of_key}
@@ -88,7 +88,7 @@ none_kept entries ends begins ranks = record {
 
 -- what the awaited return is, by its key
 last_is : (h : ObservedHistory) (ends begins : List (ℕ × ℕ)) (ranks : List ℕ) (k : ℕ) (d : ℕ × ℕ)
-    (a : Observation) → ArePlanned h ends begins ranks → k < length ends →
+    (a : Observation) → AreTimelineKeys h ends begins ranks → k < length ends →
     slice_get h.entries (get_or ends k d).1 ≡ Some a → (r : Returned) × ((a.returned ≡ Some r) ×
     (r.last ≡ (get_or ends k d).0))
 last_is h ends begins ranks k d a is lt at =
@@ -228,7 +228,7 @@ pub record OpensAt (h : ObservedHistory) (ends begins : List (ℕ × ℕ)) (rank
   pub calls : AreOpen h (places_of ends) k (places_of sorted)
 
 pub opens_at : (h : ObservedHistory) (ends begins : List (ℕ × ℕ)) (ranks : List ℕ) (k from to : ℕ) (c : ℕ × ℕ)
-    (old more sorted : List (ℕ × ℕ)) → ArePlanned h ends begins ranks → k < length ends →
+    (old more sorted : List (ℕ × ℕ)) → AreTimelineKeys h ends begins ranks → k < length ends →
     AreKept h.entries ends begins ranks k from old → BeginsMore begins ranks (get_or ends k c).0 from to old more →
     IsPermutation (filter (is_left k) more) sorted → OpensAt h ends begins ranks k to sorted
 opens_at h ends begins ranks k from to c old more sorted is lt kept begins_more moved = record {
@@ -416,11 +416,11 @@ opens_more h returns opens v k are many calls = record {
         same_vec x y h = cc
 
 -- what the lists are made of
-pub all_planned : (h : ObservedHistory) (es : List Observation) (end_keys ends begin_keys begins : List (ℕ × ℕ))
+pub all_keys_are : (h : ObservedHistory) (es : List Observation) (end_keys ends begin_keys begins : List (ℕ × ℕ))
     (ranks : List ℕ) → es ≡ h.entries → AreKeys EndsAt es (length es) end_keys → AreRising end_keys ends →
     AreKeys BeginsAt es (length es) begin_keys → AreRising begin_keys begins →
-    AreRanked (length es) (places_of ends) (length (places_of ends)) ranks → ArePlanned h ends begins ranks
-all_planned h es end_keys ends begin_keys begins ranks same ends_are ends_rise begins_are begins_rise ranked = record {
+    AreRanked (length es) (places_of ends) (length (places_of ends)) ranks → AreTimelineKeys h ends begins ranks
+all_keys_are h es end_keys ends begin_keys begins ranks same ends_are ends_rise begins_are begins_rise ranked = record {
   end_keys = end_keys;
   ends_are = subst (λ (xs : List Observation). AreKeys EndsAt xs (length xs) end_keys) same ends_are;
   ends_rise = ends_rise;
@@ -433,12 +433,12 @@ all_planned h es end_keys ends begin_keys begins ranks same ends_are ends_rise b
   });
 }
 
--- and all of it is a plan
-pub planned : (h : ObservedHistory) (plan : Plan) (keys ends : List (ℕ × ℕ)) (es : List Observation) →
+-- and all of it is a timeline
+pub timeline_is_made : (h : ObservedHistory) (timeline : Timeline) (keys ends : List (ℕ × ℕ)) (es : List Observation) →
     es ≡ h.entries → AreKeys EndsAt es (length es) keys → AreRising keys ends →
-    plan.returns.items ≡ places_of ends → length plan.opens.items ≡ length ends →
-    AreOpens h (places_of ends) plan.opens.items → IsPlan h plan
-planned h plan keys ends es same are rises returns many opens = record {
+    timeline.returns.items ≡ places_of ends → length timeline.opens.items ≡ length ends →
+    AreOpens h (places_of ends) timeline.opens.items → IsTimeline h timeline
+timeline_is_made h timeline keys ends es same are rises returns many opens = record {
   are = subst (AreReturns h.entries) (sym returns) (returns_in_order h keys ends
       (subst (λ (xs : List Observation). AreKeys EndsAt xs (length xs) keys) same are) rises);
   once = subst (AllPairs (λ (i j : ℕ). i ≢ j)) (sym returns) (placed_once keys ends rises are.once);
@@ -448,7 +448,7 @@ planned h plan keys ends es same are rises returns many opens = record {
 
 -- a rank is known of each call that begins
 pub begins_inside : (h : ObservedHistory) (ends begins : List (ℕ × ℕ)) (ranks : List ℕ) →
-    ArePlanned h ends begins ranks → All (λ (p : ℕ × ℕ). p.1 < length ranks) begins
+    AreTimelineKeys h ends begins ranks → All (λ (p : ℕ × ℕ). p.1 < length ranks) begins
 begins_inside h ends begins ranks is k d lt = omega (
   arith,
   is.ranked.each,

@@ -17,7 +17,7 @@ use Rattle.stamp_explain.specs.declared.observed.Observation.{Observation}
 use Rattle.stamp_explain.specs.Observed.{ObservedHistory, IsObserved, IsInterval, DoNotOverlap, HasReturned}
 use Rattle.stamp_explain.specs.Observed.{is_of_lock, is_of_record, of_lock, of_record}
 use Rattle.stamp_explain.specs.Explained.{Effect, IsEffectOf, history_of, indices_of, AreApart, RespectsBefore}
-use Rattle.stamp_explain.specs.Explained.{IsExplained}
+use Rattle.stamp_explain.specs.Explained.{IsExplained, IsExplainedBy}
 use Rattle.stamp_explain.specs.Search.{Runs, LockAlone, RecordAlone}
 use Rattle.stamp_explain.specs.ExplainLaws.{JudgedApart}
 use Rattle.stamp_explain.proofs.Merging.{IsMerge, merge_all, left_all, flipped, left_pairs, merge_apart, left_index}
@@ -26,7 +26,7 @@ use Rattle.stamp_explain.proofs.Merging.{all_records, left_only, other_kind, sou
 use Rattle.stamp_explain.proofs.Seeing.{parted, Restored, restored}
 
 -- it may be observed
-part_observed : (h : ObservedHistory) (p : Observation → Bool) → IsObserved h →
+pub part_observed : (h : ObservedHistory) (p : Observation → Bool) → IsObserved h →
     IsObserved (record h { entries = filter p h.entries })
 part_observed h p is = record {
   intervals = All-filter p IsInterval h.entries is.intervals;
@@ -130,21 +130,34 @@ parts h explained = (
     record_kinds = all_records (zeros h.width) s.records s.record_runs
 
 -- and the other way round they are merged
-together : (h : ObservedHistory) → IsObserved h → IsExplained (of_lock h) → IsExplained (of_record h) → IsExplained h
-together h observed locks_are records_are = record {
-  order = m.order;
-  by = record {
-    effects = merge_all (IsEffectOf h.entries) m.merge locks.by.effects records.by.effects;
-    once = merge_apart m.merge locks.by.once records.by.once
-        (λ k d lt j c less. other_kind h.entries _ _ (locks.by.effects k d lt) (records.by.effects j c less)
-        (locks.passes k d lt) (record_kinds j c less));
-    returned = λ i e at has. which i e at has (cases_Bool (is_lock_call e.call));
-    ordered = m.ordered;
-    legal = merge_legal h.limits [] (zeros h.width) m.merge
-        (legal_locks h.limits [] (zeros h.width) locks.order locks.passes locks.by.legal)
-        (legal_records h.limits [] (zeros h.width) records.order record_kinds records.by.legal);
-  };
+pub merged_explains : (h : ObservedHistory) → IsObserved h → (locks : Restored h is_of_lock)
+    (records : Restored h is_of_record) (m : Merges locks.order records.order) → IsExplainedBy h m.order
+merged_explains h observed locks records m = record {
+  effects = merge_all (IsEffectOf h.entries) m.merge locks.by.effects records.by.effects;
+  once = merge_apart m.merge locks.by.once records.by.once
+      (λ k d lt j c less. other_kind h.entries _ _ (locks.by.effects k d lt) (records.by.effects j c less)
+      (locks.passes k d lt) (record_kinds j c less));
+  returned = λ i e at has. which i e at has (cases_Bool (is_lock_call e.call));
+  ordered = m.ordered;
+  legal = merge_legal h.limits [] (zeros h.width) m.merge
+      (legal_locks h.limits [] (zeros h.width) locks.order locks.passes locks.by.legal)
+      (legal_records h.limits [] (zeros h.width) records.order record_kinds records.by.legal);
 }
+  where
+    record_kinds : All (λ (x : Effect). is_lock_call x.entry.call ≡ false) records.order
+    record_kinds = All-weaker (λ (x : Effect). is_of_record x.entry ≡ true)
+        (λ (x : Effect). is_lock_call x.entry.call ≡ false) (λ x guarded. not_is (is_lock_call x.entry.call) guarded)
+        records.order records.passes
+
+    which : (i : ℕ) (e : Observation) → slice_get h.entries i ≡ Some e → HasReturned e →
+        (is_lock_call e.call ≡ true) ⊎ (is_lock_call e.call ≡ false) → Contains (indices_of m.order) i
+    which i e at has (inl lock) = left_index i m.merge (locks.returned i e at has lock)
+    which i e at has (inr guarded) =
+        left_index i (flipped m.merge) (records.returned i e at has (is_not (is_lock_call e.call) guarded))
+
+together : (h : ObservedHistory) → IsObserved h → IsExplained (of_lock h) → IsExplained (of_record h) → IsExplained h
+together h observed locks_are records_are =
+    record { order = m.order; by = merged_explains h observed locks records m }
   where
     locks : Restored h is_of_lock
     locks = restored h is_of_lock locks_are
@@ -152,21 +165,10 @@ together h observed locks_are records_are = record {
     records : Restored h is_of_record
     records = restored h is_of_record records_are
 
-    record_kinds : All (λ (x : Effect). is_lock_call x.entry.call ≡ false) records.order
-    record_kinds = All-weaker (λ (x : Effect). is_of_record x.entry ≡ true)
-        (λ (x : Effect). is_lock_call x.entry.call ≡ false) (λ x guarded. not_is (is_lock_call x.entry.call) guarded)
-        records.order records.passes
-
     m : Merges locks.order records.order
     m = merges (length locks.order + length records.order) locks.order records.order (omega arith)
         (sound_of h locks.order observed locks.by.effects) (sound_of h records.order observed records.by.effects)
         locks.by.ordered records.by.ordered
-
-    which : (i : ℕ) (e : Observation) → slice_get h.entries i ≡ Some e → HasReturned e →
-        (is_lock_call e.call ≡ true) ⊎ (is_lock_call e.call ≡ false) → Contains (indices_of m.order) i
-    which i e at has (inl lock) = left_index i m.merge (locks.returned i e at has lock)
-    which i e at has (inr guarded) =
-        left_index i (flipped m.merge) (records.returned i e at has (is_not (is_lock_call e.call) guarded))
 
 pub judged_apart : JudgedApart
 judged_apart h observed = (

@@ -8,7 +8,7 @@ use Rattle.std.specs.List.{AllPairs, Contains}
 use Rattle.std.proofs.Math.Seq.{take-suc}
 use Rattle.std.proofs.lemmas.List.{get_or-take}
 use Rattle.std.proofs.lemmas.List.Elements.{Contains-push, Contains-push_cases, Contains-append_left}
-use Rattle.stamp_explain.specs.Planning.{AreRanked}
+use Rattle.stamp_explain.specs.TimelineKeys.{AreRanked}
 use Rattle.stamp_explain.proofs.Lists.{none_in_empty}
 
 pub none_ranked : (calls : ℕ) (returns ranks : List ℕ) → length ranks ≡ calls →

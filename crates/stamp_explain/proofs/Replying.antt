@@ -13,10 +13,10 @@ use Rattle.stamp_explain.specs.declared.observed.Returned.{Returned}
 use Rattle.stamp_explain.specs.Observed.{ObservedHistory, IsObserved, IsInterval, IsBefore, DoNotOverlap}
 use Rattle.stamp_explain.specs.Explained.{IsExplained}
 use Rattle.stamp_explain.specs.Cut.{cut_after, seen_at}
-use Rattle.stamp_explain.specs.declared.search.Found.{Found}
-use Rattle.stamp_explain.specs.declared.search.Found.TheVariants.{Order, Nothing, Undecided}
+use Rattle.stamp_explain.specs.declared.found.Found.{Found}
+use Rattle.stamp_explain.specs.declared.found.Found.TheVariants.{Order, Nothing, Undecided}
 use Rattle.stamp_explain.specs.Search.{IsReturnAt}
-use Rattle.stamp_explain.specs.Configuration.{ReachesMore}
+use Rattle.stamp_explain.specs.Configuration.{IsGivenUp}
 use Rattle.stamp_explain.specs.Expand.{IsFound}
 use Rattle.stamp_explain.specs.Possible.{IsPossible, IsUndecidedAtReply, answering, with_reply}
 use Rattle.stamp_explain.proofs.Seeing.{seen_explains_as_much}
@@ -180,7 +180,7 @@ found_tells h seen i most e r reply at returned is Undecided same found = record
   return = r;
   is_entry = at;
   returned = returned;
-  many = subst (λ (o : ObservedHistory). ReachesMore o most) same found;
+  gives_up = subst (λ (o : ObservedHistory). IsGivenUp o most) same found;
 }
 
 -- whether a call that has returned is read

@@ -2,14 +2,14 @@
 use Rattle.std.proofs.Common.{◌≡◌, ◌⊎◌, ℕ, ◌+◌, ◌<◌, ◌≤◌, zero, suc, Bool, true, false, List, [], ◌∷◌, ◌++◌}
 use Rattle.std.proofs.Common.{length, get_or, refl, sym, ◌∙◌, ap, subst, inl, inr, arith, Option, None, Some}
 use Rattle.std.specs.Prelude.{slice_get, map, MatchOption, if◌then◌else◌, nat_lt, filter, not, cond, ◌==◌, ◌&&◌, ◌||◌}
-use Rattle.std.specs.Prelude.{IsTrue, drop}
+use Rattle.std.specs.Prelude.{IsTrue, drop, option_map}
 use Rattle.std.specs.List.{All, AllPairs, AllZip, Contains}
 use Rattle.std.proofs.lemmas.List.Elements.{All-nil, All-cons, All-head, All-tail, All-map, All-filter, filter_passes}
 use Rattle.std.proofs.lemmas.List.Elements.{length_all_zip}
-use Rattle.std.proofs.lemmas.List.{append-nil, length-drop}
+use Rattle.std.proofs.lemmas.List.{append-nil, length-drop, length-map}
 use Rattle.std.proofs.lemmas.List.Kept.{AllPairs-filter}
 use Rattle.std.proofs.lemmas.Bool.Decides.{nat_tests}
-use Rattle.std.proofs.lemmas.Option.{none-some}
+use Rattle.std.proofs.lemmas.Option.{none-some, slice_get-map}
 use Rattle.stamp_core.specs.History.{History, IsLegal, IsLegalFrom, appended_by}
 use Rattle.stamp_core.specs.Call.{call_suits}
 use Rattle.stamp_core.specs.Content.{content_next, zeros}
@@ -27,6 +27,7 @@ use Rattle.stamp_explain.proofs.Lists.{pairs_none, pairs_cons, pairs_head, pairs
 use Rattle.stamp_explain.proofs.Lists.{contains_first, contains_rest}
 use Rattle.stamp_explain.proofs.Completing.{later_of, same_entry}
 use Rattle.stamp_explain.specs.Cut.{known_of, known_from, cut, begun_by, seen_at, returned_by}
+use Rattle.stamp_explain.specs.Apart.{places_where}
 use Rattle.stamp_explain.specs.ExplainLaws.{SeenExplainsAsMuch}
 use Rattle.stamp_explain.proofs.Cutting.{pairs_map}
 use Rattle.stamp_explain.proofs.Expanding.{at_place}
@@ -35,10 +36,10 @@ abbrev is_early : ℕ → Observation → Bool
 is_early last e = not (nat_lt last e.first)
 
 -- where the k-th entry that is kept stands, and how many are kept before one
-pub place_of : (Observation → Bool) → List Observation → ℕ → ℕ
-place_of p [] k = 0
-place_of p (e ∷ es) zero = cond (p e) 0 (suc (place_of p es zero))
-place_of p (e ∷ es) (suc k) = cond (p e) (suc (place_of p es k)) (suc (place_of p es (suc k)))
+pub place_in_whole : (Observation → Bool) → List Observation → ℕ → ℕ
+place_in_whole p [] k = 0
+place_in_whole p (e ∷ es) zero = cond (p e) 0 (suc (place_in_whole p es zero))
+place_in_whole p (e ∷ es) (suc k) = cond (p e) (suc (place_in_whole p es k)) (suc (place_in_whole p es (suc k)))
 
 pub rank_of : (Observation → Bool) → List Observation → ℕ → ℕ
 rank_of p [] i = 0
@@ -53,29 +54,29 @@ pub record IsKeptAt (p : Observation → Bool) (es : List Observation) (k i : �
   pub is_entry : slice_get es i ≡ Some e
   pub is_kept : slice_get (kept p es) k ≡ Some e
   pub passes : p e ≡ true
-  pub place : place_of p es k ≡ i
+  pub place : place_in_whole p es k ≡ i
   pub rank : rank_of p es i ≡ k
 
 kept_here : (p : Observation → Bool) (x : Observation) (es : List Observation) → p x ≡ true →
     IsKeptAt p (x ∷ es) 0 0 x
-unfolding place_of rank_of
+unfolding place_in_whole rank_of
 kept_here p x es early = record {
   is_entry = refl;
   is_kept = ap (λ (b : Bool). slice_get (cond b (x ∷ filter p es) (filter p es)) 0) early;
   passes = early;
-  place = ap (λ (b : Bool). cond b 0 (suc (place_of p es zero))) early;
+  place = ap (λ (b : Bool). cond b 0 (suc (place_in_whole p es zero))) early;
   rank = refl;
 }
 
 kept_after_kept : (p : Observation → Bool) (x : Observation) (es : List Observation) (k i : ℕ) (e : Observation) →
     p x ≡ true → IsKeptAt p es k i e → IsKeptAt p (x ∷ es) (suc k) (suc i) e
-unfolding place_of rank_of
+unfolding place_in_whole rank_of
 kept_after_kept p x es k i e early is = record {
   is_entry = is.is_entry;
   is_kept = ap (λ (b : Bool). slice_get (cond b (x ∷ filter p es) (filter p es)) (suc k))
       early ∙ is.is_kept;
   passes = is.passes;
-  place = ap (λ (b : Bool). cond b (suc (place_of p es k)) (suc (place_of p es (suc k)))) early ∙
+  place = ap (λ (b : Bool). cond b (suc (place_in_whole p es k)) (suc (place_in_whole p es (suc k)))) early ∙
       ap (λ (n : ℕ). suc n) is.place;
   rank = ap (λ (b : Bool). cond b (suc (rank_of p es i)) (rank_of p es i)) early ∙
       ap (λ (n : ℕ). suc n) is.rank;
@@ -83,7 +84,7 @@ kept_after_kept p x es k i e early is = record {
 
 kept_after_late : (p : Observation → Bool) (x : Observation) (es : List Observation) (k i : ℕ) (e : Observation) →
     p x ≡ false → IsKeptAt p es k i e → IsKeptAt p (x ∷ es) k (suc i) e
-unfolding place_of rank_of
+unfolding place_in_whole rank_of
 kept_after_late p x es k i e late is = record {
   is_entry = is.is_entry;
   is_kept = ap (λ (b : Bool). slice_get (cond b (x ∷ filter p es) (filter p es)) k) late ∙
@@ -93,9 +94,9 @@ kept_after_late p x es k i e late is = record {
   rank = ap (λ (b : Bool). cond b (suc (rank_of p es i)) (rank_of p es i)) late ∙ is.rank;
 }
   where
-    by : (m : ℕ) → place_of p es m ≡ i → place_of p (x ∷ es) m ≡ suc i
-    by zero at = ap (λ (b : Bool). cond b 0 (suc (place_of p es zero))) late ∙ ap (λ (n : ℕ). suc n) at
-    by (suc m) at = ap (λ (b : Bool). cond b (suc (place_of p es m)) (suc (place_of p es (suc m)))) late ∙
+    by : (m : ℕ) → place_in_whole p es m ≡ i → place_in_whole p (x ∷ es) m ≡ suc i
+    by zero at = ap (λ (b : Bool). cond b 0 (suc (place_in_whole p es zero))) late ∙ ap (λ (n : ℕ). suc n) at
+    by (suc m) at = ap (λ (b : Bool). cond b (suc (place_in_whole p es m)) (suc (place_in_whole p es (suc m)))) late ∙
         ap (λ (n : ℕ). suc n) at
 
 some_inj : {X : Type 0} (x y : X) → Some x ≡ Some y → x ≡ y
@@ -238,17 +239,17 @@ HasReturnsOf h p order = (i : ℕ) (e : Observation) → slice_get h.entries i �
 pub parted : (h : ObservedHistory) (p : Observation → Bool) (order : List Effect) → IsPartOf h order →
     AllPass p order → HasReturnsOf h p order → IsExplained (record h { entries = kept p h.entries })
 unfolding WasReturned
-parted h p order by passes returned = reindexed h (kept p h.entries) (rank_of p h.entries) (place_of p h.entries) order
+parted h p order by passes returned = reindexed h (kept p h.entries) (rank_of p h.entries) (place_in_whole p h.entries) order
     by (λ k d lt. moves (get_or order k d) (by.effects k d lt) (passes k d lt)) was
   where
     moves : (x : Effect) → IsEffectOf h.entries x → p x.entry ≡ true →
-        IsMovedTo (kept p h.entries) (rank_of p h.entries) (place_of p h.entries) x
+        IsMovedTo (kept p h.entries) (rank_of p h.entries) (place_in_whole p h.entries) x
     moves x is pass =
         let found : (k : ℕ) × IsKeptAt p h.entries k x.index x.entry =
         rank_gives p h.entries x.index x.entry is.is_entry pass in
         record {
           there = ap (λ (k : ℕ). slice_get (kept p h.entries) k) found.1.rank ∙ found.1.is_kept;
-          inverse = ap (place_of p h.entries) found.1.rank ∙ found.1.place;
+          inverse = ap (place_in_whole p h.entries) found.1.rank ∙ found.1.place;
         }
 
     was : WasReturned (kept p h.entries) (rank_of p h.entries) order
@@ -278,7 +279,7 @@ restored h p explained = record {
 }
   where
     f : ℕ → ℕ
-    f = place_of p h.entries
+    f = place_in_whole p h.entries
 
     moves : (x : Effect) → IsEffectOf (kept p h.entries) x → IsMovedTo h.entries f (rank_of p h.entries) x
     moves x is =
@@ -291,6 +292,49 @@ restored h p explained = record {
 
     pass : (x : Effect) → IsEffectOf (kept p h.entries) x → p x.entry ≡ true
     pass x is = (place_gives p h.entries x.index x.entry is.is_entry).1.passes
+
+-- its effects are those of the order of these entries alone, which stand at other places
+pub restored_at : (h : ObservedHistory) (p : Observation → Bool)
+    (explained : IsExplained (record h { entries = kept p h.entries })) (k : ℕ) (x : Effect) →
+    slice_get explained.order k ≡ Some x → slice_get (restored h p explained).order k ≡
+    Some (record { index = place_in_whole p h.entries x.index; entry = x.entry; reply = x.reply })
+unfolding restored moved
+restored_at h p explained k x at = slice_get-map (moved (place_in_whole p h.entries)) explained.order k ∙
+    ap (λ (o : Option Effect). option_map (moved (place_in_whole p h.entries)) o) at
+
+pub restored_many : (h : ObservedHistory) (p : Observation → Bool)
+    (explained : IsExplained (record h { entries = kept p h.entries })) →
+    length (restored h p explained).order ≡ length explained.order
+unfolding restored
+restored_many h p explained = length-map explained.order (moved (place_in_whole p h.entries))
+
+-- the list of the places has each of them
+pub places_at : (p : Observation → Bool) (n : ℕ) (es : List Observation) (k : ℕ) (e : Observation) →
+    slice_get (kept p es) k ≡ Some e → slice_get (places_where p n es) k ≡ Some (n + place_in_whole p es k)
+unfolding place_in_whole
+places_at p n [] k e at = absurd (none-some e at)
+places_at p n (x ∷ es) k e at = by (p x) refl k at (λ m here. places_at p (n + 1) es m e here)
+  where
+    by : (b : Bool) → p x ≡ b → (m : ℕ) → slice_get (cond b (x ∷ filter p es) (filter p es)) m ≡ Some e →
+        ((j : ℕ) → slice_get (kept p es) j ≡ Some e →
+        slice_get (places_where p (n + 1) es) j ≡ Some ((n + 1) + place_in_whole p es j)) →
+        slice_get (cond b (n ∷ places_where p (n + 1) es) (places_where p (n + 1) es)) m ≡
+        Some (n + place_in_whole p (x ∷ es) m)
+    by true is zero here later =
+        let first : place_in_whole p (x ∷ es) zero ≡ 0 = ap (λ (b : Bool). cond b 0 (suc (place_in_whole p es zero))) is in
+        ap (λ (i : ℕ). Some i) (omega (arith, first))
+    by true is (suc m) here later =
+        let next : place_in_whole p (x ∷ es) (suc m) ≡ suc (place_in_whole p es m) =
+        ap (λ (b : Bool). cond b (suc (place_in_whole p es m)) (suc (place_in_whole p es (suc m)))) is in
+        later m here ∙ ap (λ (i : ℕ). Some i) (omega (arith, next))
+    by false is zero here later =
+        let next : place_in_whole p (x ∷ es) zero ≡ suc (place_in_whole p es zero) =
+        ap (λ (b : Bool). cond b 0 (suc (place_in_whole p es zero))) is in
+        later zero here ∙ ap (λ (i : ℕ). Some i) (omega (arith, next))
+    by false is (suc m) here later =
+        let next : place_in_whole p (x ∷ es) (suc m) ≡ suc (place_in_whole p es (suc m)) =
+        ap (λ (b : Bool). cond b (suc (place_in_whole p es m)) (suc (place_in_whole p es (suc m)))) is in
+        later (suc m) here ∙ ap (λ (i : ℕ). Some i) (omega (arith, next))
 
 -- an order up to the first call that begins later
 until : ℕ → List Effect → List Effect
@@ -579,7 +623,7 @@ seen_explains_as_much h last bound is = (
         (λ e k seen interval. until_then last e k seen interval) (all_seen_as last bound 0 h.entries) is.intervals
 
 -- it is no larger
-filter_no_longer : (p : Observation → Bool) (xs : List Observation) → length (filter p xs) ≤ length xs
+pub filter_no_longer : (p : Observation → Bool) (xs : List Observation) → length (filter p xs) ≤ length xs
 filter_no_longer p [] = omega arith
 filter_no_longer p (x ∷ xs) = by (p x) (filter_no_longer p xs)
   where

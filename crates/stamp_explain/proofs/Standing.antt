@@ -10,7 +10,7 @@ use Rattle.stamp_explain.specs.declared.observed.Observation.{Observation}
 use Rattle.stamp_explain.specs.declared.observed.Returned.{Returned}
 use Rattle.stamp_explain.specs.Observed.{IsBefore, IsInterval}
 use Rattle.stamp_explain.specs.Node.{IsNext, HasNext, AreTaken}
-use Rattle.stamp_explain.specs.Plan.{SetsBit, ClearsBit}
+use Rattle.stamp_explain.specs.Node.{SetsBit, ClearsBit}
 use Rattle.stamp_explain.proofs.Lists.{contains_cases, contains_first, contains_rest}
 
 -- what a run's calls are to each other

@@ -13,7 +13,7 @@ use Rattle.stamp_explain.specs.declared.observed.Observation.{Observation}
 use Rattle.stamp_explain.specs.declared.observed.Returned.{Returned}
 use Rattle.stamp_explain.specs.declared.node.Node.{Node}
 use Rattle.stamp_explain.specs.declared.node.Next.{Next}
-use Rattle.stamp_explain.specs.declared.plan.Plan.{Plan}
+use Rattle.stamp_explain.specs.declared.timeline.Timeline.{Timeline}
 use Rattle.stamp_core.specs.declared.reply.Reply.{Reply}
 use Rattle.stamp_explain.specs.Observed.{ObservedHistory, IsObserved, HasReturned, MayReply, AreOfOneObject}
 use Rattle.stamp_explain.specs.Explained.{Effect, IsEffectOf}
@@ -21,7 +21,8 @@ use Rattle.stamp_explain.specs.Observer.{changes_nothing, observes_by, observes,
 use Rattle.stamp_explain.specs.Search.{LockState, LockSteps, MayTake, IsReturnAt}
 use Rattle.stamp_explain.specs.Configuration.{IsTried}
 use Rattle.stamp_explain.specs.Node.{IsNext, AreTaken, StandsFor}
-use Rattle.stamp_explain.specs.Plan.{IsPlan, IsAwaitedAt, IsOpenAt, AreOpen, ClearsBit}
+use Rattle.stamp_explain.specs.Timeline.{IsTimeline, IsAwaitedAt, IsOpenAt, AreOpen}
+use Rattle.stamp_explain.specs.Node.{ClearsBit}
 use Rattle.stamp_explain.specs.Expand.{Hope, GoesOn, Expands, Leads, LeadsBy, IsTakenTo, Took, Tried}
 use Rattle.stamp_explain.specs.Expand.{IsNotInEffect, IsTakenAlike}
 use Rattle.stamp_explain.proofs.Finding.{not_before_itself}
@@ -136,61 +137,61 @@ tried_some h returns node calls k nexts w tries more took alike = record {
         kept x u found = (found.0, (Contains-append_left nexts (w ∷ []) found.0 found.1.0, found.1.1))
 
 -- what is known of a node whose return is awaited
-pub record Awaits (h : ObservedHistory) (plan : Plan) (node : Node) (a : Observation) : Type 0 where
+pub record Awaits (h : ObservedHistory) (timeline : Timeline) (node : Node) (a : Observation) : Type 0 where
   pub observed : IsObserved h
-  pub plan_is : IsPlan h plan
-  pub inside : node.past < length plan.returns.items
-  pub at : slice_get h.entries (get_or plan.returns.items node.past 0) ≡ Some a
+  pub timeline_is : IsTimeline h timeline
+  pub inside : node.past < length timeline.returns.items
+  pub at : slice_get h.entries (get_or timeline.returns.items node.past 0) ≡ Some a
 
-pub awaited_at : (h : ObservedHistory) (plan : Plan) (node : Node) (a : Observation) → Awaits h plan node a →
-    IsAwaitedAt h plan.returns.items node.past a
-awaited_at h plan node a is = record { inside = is.inside; is_entry = is.at }
+pub awaited_at : (h : ObservedHistory) (timeline : Timeline) (node : Node) (a : Observation) → Awaits h timeline node a →
+    IsAwaitedAt h timeline.returns.items node.past a
+awaited_at h timeline node a is = record { inside = is.inside; is_entry = is.at }
 
-pub the_next : (h : ObservedHistory) (plan : Plan) (node : Node) (a : Observation) → Awaits h plan node a →
-    IsNext h.entries (take node.past plan.returns.items) (get_or plan.returns.items node.past 0) a
-the_next h plan node a is = next_awaited h plan.returns.items node.past a is.observed is.plan_is.are is.plan_is.once
+pub the_next : (h : ObservedHistory) (timeline : Timeline) (node : Node) (a : Observation) → Awaits h timeline node a →
+    IsNext h.entries (take node.past timeline.returns.items) (get_or timeline.returns.items node.past 0) a
+the_next h timeline node a is = next_awaited h timeline.returns.items node.past a is.observed is.timeline_is.are is.timeline_is.once
     is.inside is.at
 
-left_of : (h : ObservedHistory) (plan : Plan) (node : Node) (a : Observation) → Awaits h plan node a →
-    drop node.past plan.returns.items ≡ get_or plan.returns.items node.past 0 ∷ drop (suc node.past)
-    plan.returns.items
-left_of h plan node a is = drop-cons plan.returns.items node.past 0 is.inside
+left_of : (h : ObservedHistory) (timeline : Timeline) (node : Node) (a : Observation) → Awaits h timeline node a →
+    drop node.past timeline.returns.items ≡ get_or timeline.returns.items node.past 0 ∷ drop (suc node.past)
+    timeline.returns.items
+left_of h timeline node a is = drop-cons timeline.returns.items node.past 0 is.inside
 
 -- a hope at an awaited return, as the search's steps have it
-steps_of : (h : ObservedHistory) (plan : Plan) (node : Node) (a : Observation) (n : ℕ) →
-    (is : Awaits h plan node a) → (hope : Hope h plan.returns.items node n) →
-    CompletesIn (LockSteps h.limits) h.entries (get_or plan.returns.items node.past 0 ∷ drop (suc node.past)
-    plan.returns.items) hope.state hope.taken n
-steps_of h plan node a n is hope =
+steps_of : (h : ObservedHistory) (timeline : Timeline) (node : Node) (a : Observation) (n : ℕ) →
+    (is : Awaits h timeline node a) → (hope : Hope h timeline.returns.items node n) →
+    CompletesIn (LockSteps h.limits) h.entries (get_or timeline.returns.items node.past 0 ∷ drop (suc node.past)
+    timeline.returns.items) hope.state hope.taken n
+steps_of h timeline node a n is hope =
     let P : List ℕ → Type 0 = λ (to_come : List ℕ). CompletesIn (LockSteps h.limits) h.entries to_come hope.state
     hope.taken n in
-    subst P (left_of h plan node a is) (record { rest = hope.rest; by = hope.by; steps = hope.steps })
+    subst P (left_of h timeline node a is) (record { rest = hope.rest; by = hope.by; steps = hope.steps })
 
-the_awaited : (h : ObservedHistory) (plan : Plan) (node : Node) (a : Observation) → Awaits h plan node a →
-    IsAwaited h.entries (get_or plan.returns.items node.past 0) a
-the_awaited h plan node a is = record {
+the_awaited : (h : ObservedHistory) (timeline : Timeline) (node : Node) (a : Observation) → Awaits h timeline node a →
+    IsAwaited h.entries (get_or timeline.returns.items node.past 0) a
+the_awaited h timeline node a is = record {
   is_entry = is.at;
-  begun = not_before_itself a ((orderly h is.observed).interval (get_or plan.returns.items node.past 0) a is.at);
+  begun = not_before_itself a ((orderly h is.observed).interval (get_or timeline.returns.items node.past 0) a is.at);
 }
 
-not_yet : (h : ObservedHistory) (plan : Plan) (node : Node) (a : Observation) (s : LockState) (taken : List ℕ) →
-    Awaits h plan node a → bit_at node.threads a.thread ≢ 1 → StandsFor h plan.returns.items node s taken →
-    ¬ Contains taken (get_or plan.returns.items node.past 0)
-not_yet h plan node a s taken is bit stands has =
-    bit (taken_by_bit h.entries (take node.past plan.returns.items) node.threads taken
-    (get_or plan.returns.items node.past 0) a stands.in_effect is.at (the_next h plan node a is).still has).0
+not_yet : (h : ObservedHistory) (timeline : Timeline) (node : Node) (a : Observation) (s : LockState) (taken : List ℕ) →
+    Awaits h timeline node a → bit_at node.threads a.thread ≢ 1 → StandsFor h timeline.returns.items node s taken →
+    ¬ Contains taken (get_or timeline.returns.items node.past 0)
+not_yet h timeline node a s taken is bit stands has =
+    bit (taken_by_bit h.entries (take node.past timeline.returns.items) node.threads taken
+    (get_or timeline.returns.items node.past 0) a stands.in_effect is.at (the_next h timeline node a is).still has).0
 
 -- a node comes next where a call that is tried takes effect
-pub leads_by_call : (h : ObservedHistory) (plan : Plan) (node : Node) (a : Observation) (i : ℕ) (s : LockState)
-    (taken : List ℕ) (w : Next) → Awaits h plan node a → bit_at node.threads a.thread ≢ 1 →
-    StandsFor h plan.returns.items node s taken → (to : IsTakenTo h plan.returns.items node a i s taken w) →
-    IsTried a to.effect.entry → LeadsBy h plan.returns.items node w.node s taken w.took
-leads_by_call h plan node a i s taken w is bit stands to tried =
-    subst (λ (o : Option ℕ). LeadsBy h plan.returns.items node w.node s taken o) (sym to.took) (record {
+pub leads_by_call : (h : ObservedHistory) (timeline : Timeline) (node : Node) (a : Observation) (i : ℕ) (s : LockState)
+    (taken : List ℕ) (w : Next) → Awaits h timeline node a → bit_at node.threads a.thread ≢ 1 →
+    StandsFor h timeline.returns.items node s taken → (to : IsTakenTo h timeline.returns.items node a i s taken w) →
+    IsTried a to.effect.entry → LeadsBy h timeline.returns.items node w.node s taken w.took
+leads_by_call h timeline node a i s taken w is bit stands to tried =
+    subst (λ (o : Option ℕ). LeadsBy h timeline.returns.items node w.node s taken o) (sym to.took) (record {
       past = to.past;
       awaited = a;
       is_awaited = is.at;
-      not_yet = not_yet h plan node a s taken is bit stands;
+      not_yet = not_yet h timeline node a s taken is bit stands;
       effect = to.effect;
       index = refl;
       tried = tried;
@@ -230,20 +231,20 @@ only_one w v has = by (contains_cases w [] v has)
     by (inr none) = absurd (none_in_empty v none)
 
 -- where the call is in effect, its return is past
-pub expands_past : (h : ObservedHistory) (plan : Plan) (node : Node) (a : Observation) (threads : ℕ) →
-    Awaits h plan node a → bit_at node.threads a.thread ≡ 1 → ClearsBit node.threads threads a.thread →
-    Expands h plan.returns.items node (record {
+pub expands_past : (h : ObservedHistory) (timeline : Timeline) (node : Node) (a : Observation) (threads : ℕ) →
+    Awaits h timeline node a → bit_at node.threads a.thread ≡ 1 → ClearsBit node.threads threads a.thread →
+    Expands h timeline.returns.items node (record {
       node = record { past = node.past + 1; bits = node.bits; writer = node.writer; threads = threads };
       took = None;
     } ∷ [])
-expands_past h plan node a threads is bit clears = record {
-  each = λ w has. subst (λ (v : Next). Leads h plan.returns.items node v) (only_one next w has) leads;
-  whole = λ n hope. goes n hope (goes_on h.limits h.entries i a (drop (suc node.past) plan.returns.items)
-      hope.state hope.taken n (the_awaited h plan node a is) (steps_of h plan node a n is hope));
+expands_past h timeline node a threads is bit clears = record {
+  each = λ w has. subst (λ (v : Next). Leads h timeline.returns.items node v) (only_one next w has) leads;
+  whole = λ n hope. goes n hope (goes_on h.limits h.entries i a (drop (suc node.past) timeline.returns.items)
+      hope.state hope.taken n (the_awaited h timeline node a is) (steps_of h timeline node a n is hope));
 }
   where
     i : ℕ
-    i = get_or plan.returns.items node.past 0
+    i = get_or timeline.returns.items node.past 0
 
     it : Node
     it = record { past = node.past + 1; bits = node.bits; writer = node.writer; threads = threads }
@@ -254,25 +255,25 @@ expands_past h plan node a threads is bit clears = record {
     one_more : suc node.past ≡ node.past + 1
     one_more = omega arith
 
-    next_left : drop (suc node.past) plan.returns.items ≡ drop it.past plan.returns.items
-    next_left = ap (λ (n : ℕ). drop n plan.returns.items) one_more
+    next_left : drop (suc node.past) timeline.returns.items ≡ drop it.past timeline.returns.items
+    next_left = ap (λ (n : ℕ). drop n timeline.returns.items) one_more
 
-    in_effect : (s : LockState) (taken : List ℕ) → StandsFor h plan.returns.items node s taken → Contains taken i
-    in_effect s taken stands = stands.in_effect.each_next i a (the_next h plan node a is) bit
+    in_effect : (s : LockState) (taken : List ℕ) → StandsFor h timeline.returns.items node s taken → Contains taken i
+    in_effect s taken stands = stands.in_effect.each_next i a (the_next h timeline node a is) bit
 
-    stands : (s : LockState) (taken : List ℕ) → StandsFor h plan.returns.items node s taken →
-        StandsFor h plan.returns.items it s taken
+    stands : (s : LockState) (taken : List ℕ) → StandsFor h timeline.returns.items node s taken →
+        StandsFor h timeline.returns.items it s taken
     stands s taken stands_for = record {
       at = stands_for.at;
       in_effect = subst (λ (past : List ℕ). AreTaken h.entries past threads taken)
-          (sym (take-suc plan.returns.items node.past 0 is.inside) ∙
-          ap (λ (n : ℕ). take n plan.returns.items) one_more)
-          (taken_past h.entries (take node.past plan.returns.items) node.threads threads taken i a
-          (orderly h is.observed) stands_for.in_effect (the_next h plan node a is)
+          (sym (take-suc timeline.returns.items node.past 0 is.inside) ∙
+          ap (λ (n : ℕ). take n timeline.returns.items) one_more)
+          (taken_past h.entries (take node.past timeline.returns.items) node.threads threads taken i a
+          (orderly h is.observed) stands_for.in_effect (the_next h timeline node a is)
           (in_effect s taken stands_for) clears);
     }
 
-    leads : Leads h plan.returns.items node next
+    leads : Leads h timeline.returns.items node next
     leads = record {
       inside = is.inside;
       leads = λ s taken stands_for. record {
@@ -283,60 +284,60 @@ expands_past h plan node a threads is bit clears = record {
       };
     }
 
-    goes : (n : ℕ) (hope : Hope h plan.returns.items node n) →
-        GoesPast (LockSteps h.limits) h.entries i (drop (suc node.past) plan.returns.items) hope.state hope.taken n
-        ⊎ GoesOnBy h.limits h.entries i a (drop (suc node.past) plan.returns.items) hope.state hope.taken n →
-        GoesOn h plan.returns.items (next ∷ []) n
+    goes : (n : ℕ) (hope : Hope h timeline.returns.items node n) →
+        GoesPast (LockSteps h.limits) h.entries i (drop (suc node.past) timeline.returns.items) hope.state hope.taken n
+        ⊎ GoesOnBy h.limits h.entries i a (drop (suc node.past) timeline.returns.items) hope.state hope.taken n →
+        GoesOn h timeline.returns.items (next ∷ []) n
     goes n hope (inl past) =
         let P : List ℕ → Type 0 = λ (to_come : List ℕ). CompletesIn (LockSteps h.limits) h.entries to_come
         hope.state hope.taken past.left in
-        goes_on_to h plan.returns.items (next ∷ []) next hope.state hope.taken past.left n (alone next)
+        goes_on_to h timeline.returns.items (next ∷ []) next hope.state hope.taken past.left n (alone next)
         (omega (arith, past.fewer)) (stands hope.state hope.taken hope.stands) (subst P next_left past.completes)
     goes n hope (inr on) = absurd (on.awaited (in_effect hope.state hope.taken hope.stands))
 
 -- else an open call of the same object takes effect
-pub expands_taken : (h : ObservedHistory) (plan : Plan) (node : Node) (a : Observation) (calls : List ℕ) (k : ℕ)
-    (nexts : List Next) → Awaits h plan node a → bit_at node.threads a.thread ≢ 1 →
-    AreOpen h plan.returns.items node.past calls → length calls ≤ k →
-    Tries h plan.returns.items node calls k nexts → Expands h plan.returns.items node nexts
-expands_taken h plan node a calls k nexts is bit are all tries = record {
+pub expands_taken : (h : ObservedHistory) (timeline : Timeline) (node : Node) (a : Observation) (calls : List ℕ) (k : ℕ)
+    (nexts : List Next) → Awaits h timeline node a → bit_at node.threads a.thread ≢ 1 →
+    AreOpen h timeline.returns.items node.past calls → length calls ≤ k →
+    Tries h timeline.returns.items node calls k nexts → Expands h timeline.returns.items node nexts
+expands_taken h timeline node a calls k nexts is bit are all tries = record {
   each = λ w has. record {
     inside = is.inside;
     leads = λ s taken stands. to w s taken stands
-        ((tries.tried a s taken (awaited_at h plan node a is) stands).each w has);
+        ((tries.tried a s taken (awaited_at h timeline node a is) stands).each w has);
   };
-  whole = λ n hope. goes n hope (goes_on h.limits h.entries i a (drop (suc node.past) plan.returns.items)
-      hope.state hope.taken n (the_awaited h plan node a is) (steps_of h plan node a n is hope));
+  whole = λ n hope. goes n hope (goes_on h.limits h.entries i a (drop (suc node.past) timeline.returns.items)
+      hope.state hope.taken n (the_awaited h timeline node a is) (steps_of h timeline node a n is hope));
 }
   where
     i : ℕ
-    i = get_or plan.returns.items node.past 0
+    i = get_or timeline.returns.items node.past 0
 
-    same_left : (w : Node) → w.past ≡ node.past → i ∷ drop (suc node.past) plan.returns.items ≡ drop w.past
-        plan.returns.items
-    same_left w same = sym (left_of h plan node a is) ∙ ap (λ (n : ℕ). drop n plan.returns.items) (sym same)
+    same_left : (w : Node) → w.past ≡ node.past → i ∷ drop (suc node.past) timeline.returns.items ≡ drop w.past
+        timeline.returns.items
+    same_left w same = sym (left_of h timeline node a is) ∙ ap (λ (n : ℕ). drop n timeline.returns.items) (sym same)
 
-    to : (w : Next) (s : LockState) (taken : List ℕ) → StandsFor h plan.returns.items node s taken →
-        (j : ℕ) × IsTakenAlike h plan.returns.items node a j s taken w →
-        LeadsBy h plan.returns.items node w.node s taken w.took
+    to : (w : Next) (s : LockState) (taken : List ℕ) → StandsFor h timeline.returns.items node s taken →
+        (j : ℕ) × IsTakenAlike h timeline.returns.items node a j s taken w →
+        LeadsBy h timeline.returns.items node w.node s taken w.took
     to w s taken stands (j, took) =
-        leads_by_call h plan node a j s taken w is bit stands took.0 (inl took.1)
+        leads_by_call h timeline node a j s taken w is bit stands took.0 (inl took.1)
 
-    goes : (n : ℕ) (hope : Hope h plan.returns.items node n) →
-        GoesPast (LockSteps h.limits) h.entries i (drop (suc node.past) plan.returns.items) hope.state hope.taken n
-        ⊎ GoesOnBy h.limits h.entries i a (drop (suc node.past) plan.returns.items) hope.state hope.taken n →
-        GoesOn h plan.returns.items nexts n
+    goes : (n : ℕ) (hope : Hope h timeline.returns.items node n) →
+        GoesPast (LockSteps h.limits) h.entries i (drop (suc node.past) timeline.returns.items) hope.state hope.taken n
+        ⊎ GoesOnBy h.limits h.entries i a (drop (suc node.past) timeline.returns.items) hope.state hope.taken n →
+        GoesOn h timeline.returns.items nexts n
     goes n hope (inl past) =
-        absurd (not_yet h plan node a hope.state hope.taken is bit hope.stands past.in_effect)
+        absurd (not_yet h timeline node a hope.state hope.taken is bit hope.stands past.in_effect)
     goes n hope (inr on) =
-        let it : Contains calls on.effect.index = are.whole on.effect.index (open_may h plan.returns.items node.past
+        let it : Contains calls on.effect.index = are.whole on.effect.index (open_may h timeline.returns.items node.past
         node.threads a hope.state on.state hope.taken on.effect is.at hope.stands.in_effect on.may) in
-        let found : Makes h plan.returns.items node on.state (on.effect.index ∷ hope.taken) nexts =
-        (tries.tried a hope.state hope.taken (awaited_at h plan node a is) hope.stands).whole on.effect on.state
+        let found : Makes h timeline.returns.items node on.state (on.effect.index ∷ hope.taken) nexts =
+        (tries.tried a hope.state hope.taken (awaited_at h timeline node a is) hope.stands).whole on.effect on.state
         on.may on.alike it.0 it.1 (omega (arith, all)) (same_read calls it.0 0 on.effect.index it.1 ∙ it.2) in
         let P : List ℕ → Type 0 = λ (to_come : List ℕ). CompletesIn (LockSteps h.limits) h.entries to_come on.state
         (on.effect.index ∷ hope.taken) on.left in
-        goes_on_to h plan.returns.items nexts found.0 on.state (on.effect.index ∷ hope.taken) on.left n found.1.0
+        goes_on_to h timeline.returns.items nexts found.0 on.state (on.effect.index ∷ hope.taken) on.left n found.1.0
         (omega (arith, on.fewer)) found.1.1.1 (subst P (same_left found.0.node found.1.1.0) on.completes)
 
 -- what is behind so many of a list is in the rest
@@ -347,10 +348,10 @@ in_drop xs n k j le lt is =
     (k - n, inside, get_or-drop n xs (k - n) j ∙ ap (λ (m : ℕ). get_or xs m j) back ∙ is)
 
 -- a call that returned and is not in effect is yet to return
-due : (h : ObservedHistory) (plan : Plan) (node : Node) (s : LockState) (taken : List ℕ) (x : Effect) →
-    IsPlan h plan → StandsFor h plan.returns.items node s taken → IsEffectOf h.entries x → HasReturned x.entry →
-    ¬ Contains taken x.index → Contains (drop node.past plan.returns.items) x.index
-due h plan node s taken x is stands effect returned misses =
+due : (h : ObservedHistory) (timeline : Timeline) (node : Node) (s : LockState) (taken : List ℕ) (x : Effect) →
+    IsTimeline h timeline → StandsFor h timeline.returns.items node s taken → IsEffectOf h.entries x → HasReturned x.entry →
+    ¬ Contains taken x.index → Contains (drop node.past timeline.returns.items) x.index
+due h timeline node s taken x is stands effect returned misses =
     by (is.are.whole x.index x.entry effect.is_entry returned)
   where
     which : (k n : ℕ) → (k < n) ⊎ (n ≤ k)
@@ -359,19 +360,19 @@ due h plan node s taken x is stands effect returned misses =
     few : (n m : ℕ) → (n ≤ m) ⊎ (m < n)
     few n m = grind arith
 
-    by : Contains plan.returns.items x.index → Contains (drop node.past plan.returns.items) x.index
+    by : Contains timeline.returns.items x.index → Contains (drop node.past timeline.returns.items) x.index
     by (k, lt, at) = side (which k node.past)
       where
-        side : (k < node.past) ⊎ (node.past ≤ k) → Contains (drop node.past plan.returns.items) x.index
+        side : (k < node.past) ⊎ (node.past ≤ k) → Contains (drop node.past timeline.returns.items) x.index
         side (inl less) = absurd (misses (stands.in_effect.all_past x.index (past (few node.past
-            (length plan.returns.items)))))
+            (length timeline.returns.items)))))
           where
-            past : (node.past ≤ length plan.returns.items) ⊎ (length plan.returns.items < node.past) →
-                Contains (take node.past plan.returns.items) x.index
-            past (inl le) = in_take plan.returns.items node.past k x.index less le at
+            past : (node.past ≤ length timeline.returns.items) ⊎ (length timeline.returns.items < node.past) →
+                Contains (take node.past timeline.returns.items) x.index
+            past (inl le) = in_take timeline.returns.items node.past k x.index less le at
             past (inr over) = subst (λ (xs : List ℕ). Contains xs x.index)
-                (sym (take_all node.past plan.returns.items (omega (arith, over)))) (k, lt, at)
-        side (inr le) = in_drop plan.returns.items node.past k x.index le lt at
+                (sym (take_all node.past timeline.returns.items (omega (arith, over)))) (k, lt, at)
+        side (inr le) = in_drop timeline.returns.items node.past k x.index le lt at
 
 -- an observation tells that it changed nothing
 observes_so : (e : Observation) (reply : Reply) → observes e ≡ true → MayReply e reply →
@@ -388,46 +389,46 @@ observes_so e reply is may = by e.returned refl is may
     by (Some r) at is may = ((r, at), ap (changes_nothing e.call) (sym may) ∙ is)
 
 -- a call that changes nothing takes effect at once
-pub expands_at_once : (h : ObservedHistory) (plan : Plan) (node : Node) (a : Observation) (i : ℕ) (w : Next) →
-    Awaits h plan node a → bit_at node.threads a.thread ≢ 1 → observes_at h.entries i ≡ true →
-    Took h plan.returns.items node i (Some w) → Expands h plan.returns.items node (w ∷ [])
-expands_at_once h plan node a i w is bit observer takes = record {
-  each = λ v has. subst (λ (n : Next). Leads h plan.returns.items node n) (only_one w v has) (record {
+pub expands_at_once : (h : ObservedHistory) (timeline : Timeline) (node : Node) (a : Observation) (i : ℕ) (w : Next) →
+    Awaits h timeline node a → bit_at node.threads a.thread ≢ 1 → observes_at h.entries i ≡ true →
+    Took h timeline.returns.items node i (Some w) → Expands h timeline.returns.items node (w ∷ [])
+expands_at_once h timeline node a i w is bit observer takes = record {
+  each = λ v has. subst (λ (n : Next). Leads h timeline.returns.items node n) (only_one w v has) (record {
     inside = is.inside;
-    leads = λ s taken stands. leads_by_call h plan node a i s taken w is bit stands (took s taken stands)
+    leads = λ s taken stands. leads_by_call h timeline node a i s taken w is bit stands (took s taken stands)
         (inr (observing s taken (took s taken stands)));
   });
   whole = λ n hope. goes n hope (took hope.state hope.taken hope.stands);
 }
   where
-    took : (s : LockState) (taken : List ℕ) → StandsFor h plan.returns.items node s taken →
-        IsTakenTo h plan.returns.items node a i s taken w
-    took s taken stands = takes.takes a s taken (awaited_at h plan node a is) stands
+    took : (s : LockState) (taken : List ℕ) → StandsFor h timeline.returns.items node s taken →
+        IsTakenTo h timeline.returns.items node a i s taken w
+    took s taken stands = takes.takes a s taken (awaited_at h timeline node a is) stands
 
-    observing : (s : LockState) (taken : List ℕ) → (to : IsTakenTo h plan.returns.items node a i s taken w) →
+    observing : (s : LockState) (taken : List ℕ) → (to : IsTakenTo h timeline.returns.items node a i s taken w) →
         observes to.effect.entry ≡ true
     observing s taken to = ap observes_in (sym to.may.effect.is_entry) ∙ ap (observes_at h.entries) to.index ∙ observer
 
-    goes : (n : ℕ) (hope : Hope h plan.returns.items node n) →
-        IsTakenTo h plan.returns.items node a i hope.state hope.taken w → GoesOn h plan.returns.items (w ∷ []) n
+    goes : (n : ℕ) (hope : Hope h timeline.returns.items node n) →
+        IsTakenTo h timeline.returns.items node a i hope.state hope.taken w → GoesOn h timeline.returns.items (w ∷ []) n
     goes n hope took =
         let x : Effect = took.effect in
         let tells : HasReturned x.entry × (changes_nothing x.entry.call x.reply ≡ true) =
         observes_so x.entry x.reply (observing hope.state hope.taken took) took.may.effect.replies in
-        let once : TakesAtOnce (LockSteps h.limits) h.entries (drop node.past plan.returns.items) hope.state
+        let once : TakesAtOnce (LockSteps h.limits) h.entries (drop node.past timeline.returns.items) hope.state
         (x.index ∷ hope.taken) n =
-        takes_at_once (LockSteps h.limits) h.entries (drop node.past plan.returns.items) hope.state hope.taken x n
+        takes_at_once (LockSteps h.limits) h.entries (drop node.past timeline.returns.items) hope.state hope.taken x n
         took.may.effect tells.0
         (λ s t steps. observers_change_nothing h.limits x.entry.call x.reply s t tells.1 steps) took.may.fresh
-        (due h plan node hope.state hope.taken x is.plan_is hope.stands took.may.effect tells.0 took.may.fresh)
+        (due h timeline node hope.state hope.taken x is.timeline_is hope.stands took.may.effect tells.0 took.may.fresh)
         (record { rest = hope.rest; by = hope.by; steps = hope.steps }) in
         let same : took.state ≡ hope.state = observers_change_nothing h.limits x.entry.call x.reply hope.state
         took.state tells.1 took.may.steps in
         let P : List ℕ → Type 0 = λ (to_come : List ℕ). CompletesIn (LockSteps h.limits) h.entries to_come hope.state
         (x.index ∷ hope.taken) once.left in
-        goes_on_to h plan.returns.items (w ∷ []) w hope.state (x.index ∷ hope.taken) once.left n (alone w) once.fewer
-        (subst (λ (t : LockState). StandsFor h plan.returns.items w.node t (x.index ∷ hope.taken)) same took.stands)
-        (subst P (ap (λ (m : ℕ). drop m plan.returns.items) (sym took.past)) once.completes)
+        goes_on_to h timeline.returns.items (w ∷ []) w hope.state (x.index ∷ hope.taken) once.left n (alone w) once.fewer
+        (subst (λ (t : LockState). StandsFor h timeline.returns.items w.node t (x.index ∷ hope.taken)) same took.stands)
+        (subst P (ap (λ (m : ℕ). drop m timeline.returns.items) (sym took.past)) once.completes)
 
 -- the awaited call is read
 index_read : (returns : List ℕ) (past i : ℕ) → past < length returns → i ≡ get_or returns past i →
@@ -442,61 +443,61 @@ awaited_read h returns past i a awaited read =
     ap (λ (k : ℕ). slice_get h.entries k) (sym (index_read returns past i awaited.inside read)) ∙ awaited.is_entry
 
 -- and its entry
-pub awaits_of : (h : ObservedHistory) (plan : Plan) (node : Node) (i : ℕ) (read : List Observation)
-    (d : Observation) → IsObserved h → IsPlan h plan → node.past < length plan.returns.items →
-    i ≡ get_or plan.returns.items node.past i → read ≡ h.entries → Awaits h plan node (get_or read i d)
-awaits_of h plan node i read d observed is inside index same = record {
+pub awaits_of : (h : ObservedHistory) (timeline : Timeline) (node : Node) (i : ℕ) (read : List Observation)
+    (d : Observation) → IsObserved h → IsTimeline h timeline → node.past < length timeline.returns.items →
+    i ≡ get_or timeline.returns.items node.past i → read ≡ h.entries → Awaits h timeline node (get_or read i d)
+awaits_of h timeline node i read d observed is inside index same = record {
   observed = observed;
-  plan_is = is;
+  timeline_is = is;
   inside = inside;
   at = ap (λ (k : ℕ). slice_get h.entries k) here ∙ slice_get-get_or h.entries i d within ∙
       ap (λ (es : List Observation). Some (get_or es i d)) (sym same);
 }
   where
-    there : IsReturnAt h.entries (get_or plan.returns.items node.past 0)
+    there : IsReturnAt h.entries (get_or timeline.returns.items node.past 0)
     there = is.are.each node.past 0 inside
 
-    here : get_or plan.returns.items node.past 0 ≡ i
-    here = index_read plan.returns.items node.past i inside index
+    here : get_or timeline.returns.items node.past 0 ≡ i
+    here = index_read timeline.returns.items node.past i inside index
 
     within : i < length h.entries
     within = subst (λ (k : ℕ). k < length h.entries) here (slice_get_within h.entries
-        (get_or plan.returns.items node.past 0) there.entry there.is_entry)
+        (get_or timeline.returns.items node.past 0) there.entry there.is_entry)
 
 -- the calls that are open are read
-pub opens_read : (h : ObservedHistory) (plan : Plan) (past : ℕ) (v : Vec ℕ Global) (slice : List ℕ) → IsPlan h plan →
-    past < length plan.returns.items → v ≡ get_or plan.opens.items past v → slice ≡ v.items →
-    AreOpen h plan.returns.items past slice
-opens_read h plan past v slice is lt read same = subst (AreOpen h plan.returns.items past) (sym same)
-    (is.opens past v (slice_get_read plan.opens.items (length plan.opens.items) past v refl
+pub opens_read : (h : ObservedHistory) (timeline : Timeline) (past : ℕ) (v : Vec ℕ Global) (slice : List ℕ) → IsTimeline h timeline →
+    past < length timeline.returns.items → v ≡ get_or timeline.opens.items past v → slice ≡ v.items →
+    AreOpen h timeline.returns.items past slice
+opens_read h timeline past v slice is lt read same = subst (AreOpen h timeline.returns.items past) (sym same)
+    (is.opens past v (slice_get_read timeline.opens.items (length timeline.opens.items) past v refl
     (omega (arith, lt, is.many)) read))
 
-pub open_read : (h : ObservedHistory) (plan : Plan) (past : ℕ) (v : Vec ℕ Global) (slice : List ℕ) (k : ℕ) →
-    IsPlan h plan → past < length plan.returns.items → v ≡ get_or plan.opens.items past v → slice ≡ v.items →
-    k < length slice → IsOpenAt h plan.returns.items past (get_or slice k 0)
-open_read h plan past v slice k is lt read same within =
-    (opens_read h plan past v slice is lt read same).each (get_or slice k 0) (Contains-get_or slice k 0 within)
+pub open_read : (h : ObservedHistory) (timeline : Timeline) (past : ℕ) (v : Vec ℕ Global) (slice : List ℕ) (k : ℕ) →
+    IsTimeline h timeline → past < length timeline.returns.items → v ≡ get_or timeline.opens.items past v → slice ≡ v.items →
+    k < length slice → IsOpenAt h timeline.returns.items past (get_or slice k 0)
+open_read h timeline past v slice k is lt read same within =
+    (opens_read h timeline past v slice is lt read same).each (get_or slice k 0) (Contains-get_or slice k 0 within)
 
-pub open_within : (h : ObservedHistory) (plan : Plan) (past : ℕ) (v : Vec ℕ Global) (slice : List ℕ) (k : ℕ) →
-    IsPlan h plan → past < length plan.returns.items → v ≡ get_or plan.opens.items past v → slice ≡ v.items →
+pub open_within : (h : ObservedHistory) (timeline : Timeline) (past : ℕ) (v : Vec ℕ Global) (slice : List ℕ) (k : ℕ) →
+    IsTimeline h timeline → past < length timeline.returns.items → v ≡ get_or timeline.opens.items past v → slice ≡ v.items →
     k < length slice → get_or slice k 0 < length h.entries
-open_within h plan past v slice k is lt read same within =
-    let it : IsOpenAt h plan.returns.items past (get_or slice k 0) =
-    open_read h plan past v slice k is lt read same within in
+open_within h timeline past v slice k is lt read same within =
+    let it : IsOpenAt h timeline.returns.items past (get_or slice k 0) =
+    open_read h timeline past v slice k is lt read same within in
     slice_get_within h.entries (get_or slice k 0) it.entry it.is_entry
 
 -- where the awaited call is not in effect an open call takes effect
-pub expands_open : (h : ObservedHistory) (plan : Plan) (node : Node) (calls : List ℕ) (k : ℕ) (nexts : List Next) →
-    IsObserved h → IsPlan h plan → node.past < length plan.returns.items →
-    IsNotInEffect h plan.returns.items node → AreOpen h plan.returns.items node.past calls → length calls ≤ k →
-    Tries h plan.returns.items node calls k nexts → Expands h plan.returns.items node nexts
-expands_open h plan node calls k nexts observed is inside awaited are all tries =
-    let there : IsReturnAt h.entries (get_or plan.returns.items node.past 0) = is.are.each node.past 0 inside in
-    let awaits : Awaits h plan node there.entry = record {
+pub expands_open : (h : ObservedHistory) (timeline : Timeline) (node : Node) (calls : List ℕ) (k : ℕ) (nexts : List Next) →
+    IsObserved h → IsTimeline h timeline → node.past < length timeline.returns.items →
+    IsNotInEffect h timeline.returns.items node → AreOpen h timeline.returns.items node.past calls → length calls ≤ k →
+    Tries h timeline.returns.items node calls k nexts → Expands h timeline.returns.items node nexts
+expands_open h timeline node calls k nexts observed is inside awaited are all tries =
+    let there : IsReturnAt h.entries (get_or timeline.returns.items node.past 0) = is.are.each node.past 0 inside in
+    let awaits : Awaits h timeline node there.entry = record {
       observed = observed;
-      plan_is = is;
+      timeline_is = is;
       inside = inside;
       at = there.is_entry;
     } in
-    expands_taken h plan node there.entry calls k nexts awaits
-    (awaited.awaited there.entry (awaited_at h plan node there.entry awaits)) are all tries
+    expands_taken h timeline node there.entry calls k nexts awaits
+    (awaited.awaited there.entry (awaited_at h timeline node there.entry awaits)) are all tries

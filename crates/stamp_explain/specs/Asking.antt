@@ -1,5 +1,5 @@
 -- A search for the replies that one call could get, which goes through all that the others may do before it.
-use Rattle.std.specs.Prelude.{ℕ, ◌≡◌, ◌≢◌, ◌+◌, List, length, take, slice_get, Some, None}
+use Rattle.std.specs.Prelude.{ℕ, ◌≡◌, ◌≢◌, ◌+◌, ◌<◌, ◌⊎◌, List, length, slice_get, Some, None}
 use Rattle.std.specs.List.{AllPairs, Contains}
 use Rattle.stamp_core.specs.declared.reply.Reply.{Reply}
 use Rattle.stamp_explain.specs.declared.observed.Observation.{Observation}
@@ -9,24 +9,32 @@ use Rattle.stamp_explain.specs.declared.node.Next.{Next}
 use Rattle.stamp_explain.specs.declared.asking.Asking.{Asking}
 use Rattle.stamp_explain.specs.Observed.{ObservedHistory, IsObserved}
 use Rattle.stamp_explain.specs.Explained.{IsExplained}
-use Rattle.stamp_explain.specs.Cut.{begun_by, seen_at}
-use Rattle.stamp_explain.specs.Plan.{IsPlan}
+use Rattle.stamp_explain.specs.Cut.{place_of, seen_at}
+use Rattle.stamp_explain.specs.Node.{IsReached}
+use Rattle.stamp_explain.specs.Timeline.{IsTimeline}
 use Rattle.stamp_explain.specs.Expand.{Expands, Leads, Took}
-use Rattle.stamp_explain.specs.Possible.{with_reply, without_return}
+use Rattle.stamp_explain.specs.Possible.{GetsBeside, with_reply, without_return}
 
--- how many of the calls that are listed before this one had begun by this position: where it stands then
-abbrev pub place_of : ℕ → ℕ → List Observation → ℕ
-place_of last i es = length (begun_by last (take i es))
-
--- a search for the replies of a returned call: what is seen then, with its plan, and the same without the return
+-- a search for the replies of a returned call: what is seen then, with its timeline, and the same without the return
 pub record IsAsking (asking : Asking) : Type 0 where
   pub entry : Observation
   pub return : Returned
   pub observed : IsObserved asking.seen
-  pub plan : IsPlan asking.seen asking.plan
+  pub timeline : IsTimeline asking.seen asking.timeline
   pub is_entry : slice_get asking.seen.entries asking.place ≡ Some entry
   pub returned : entry.returned ≡ Some return
   pub before : asking.before ≡ without_return asking.place entry asking.seen
+
+-- a node that it reached, where the call that is asked takes no effect
+pub record IsReachedBeside (asking : Asking) (node : Node) : Type 0 where
+  pub reached : IsReached asking.seen asking.timeline.returns.items node
+  pub still : ¬ Contains reached.taken asking.place
+
+-- such a node with a return to come
+pub record MayGoOnBeside (asking : Asking) (node : Node) : Type 0 where
+  pub asks : IsAsking asking
+  pub reached : IsReachedBeside asking node
+  pub past : node.past < length asking.timeline.returns.items
 
 -- it is one for the call at this place of the history
 pub record IsAskingAt (h : ObservedHistory) (i : ℕ) (e : Observation) (r : Returned) (asking : Asking) : Type 0 where
@@ -45,7 +53,7 @@ pub record IsAnswered (asking : Asking) (reply : Reply) (h : ObservedHistory) : 
 
 -- this node comes next, and the call that was asked takes no effect there
 pub record LeadsBeside (asking : Asking) (node : Node) (next : Next) : Type 0 where
-  pub leads : Leads asking.seen asking.plan.returns.items node next
+  pub leads : Leads asking.seen asking.timeline.returns.items node next
   pub other : next.took ≢ Some asking.place
 
 pub record AreLed (asking : Asking) (node : Node) (nexts : List Next) : Type 0 where
@@ -59,20 +67,33 @@ pub record AreMore (old new : List Reply) : Type 0 where
 pub record Adds (old : List Reply) (reply : Reply) (new : List Reply) : Type 0 where
   pub more : AreMore old new
   pub added : Contains new reply
+  pub only : (other : Reply) → Contains new other → Contains old other ⊎ (reply ≡ other)
+
+-- the call that is asked gets this reply on a way of the search
+pub record Gets (asking : Asking) (reply : Reply) : Type 0 where
+  pub entry : Observation
+  pub is_entry : slice_get asking.seen.entries asking.place ≡ Some entry
+  pub gets : GetsBeside asking.seen asking.place entry.call reply
+
+-- each new reply is one that it gets
+abbrev pub GetsMore : Asking → List Reply → List Reply → Type 0
+GetsMore asking old new = (reply : Reply) → Contains new reply → Contains old reply ⊎ Gets asking reply
 
 -- with a reply that isn't among the new ones, the call can't take effect here
 pub record AreAsked (asking : Asking) (node : Node) (old new : List Reply) : Type 0 where
   pub more : AreMore old new
+  pub gets : GetsMore asking old new
   pub asked : (reply : Reply) (h : ObservedHistory) → IsAnswered asking reply h → ¬ Contains new reply →
-      Took h asking.plan.returns.items node asking.place None
+      Took h asking.timeline.returns.items node asking.place None
 
 -- with another reply than these, nothing is lost if the search goes on by these nodes
 pub record ExpandUnless (asking : Asking) (node : Node) (nexts : List Next) (replies : List Reply) : Type 0 where
   pub expands : (reply : Reply) (h : ObservedHistory) → IsAnswered asking reply h → ¬ Contains replies reply →
-      Expands h asking.plan.returns.items node nexts
+      Expands h asking.timeline.returns.items node nexts
 
--- all different, and with no other reply an order explains what is seen
+-- all different, each is one that the call gets, and with no other reply an order explains what is seen
 pub record AreReplies (asking : Asking) (replies : List Reply) : Type 0 where
+  pub gets : (reply : Reply) → Contains replies reply → Gets asking reply
   pub once : AllPairs (λ (a b : Reply). a ≢ b) replies
   pub whole : (reply : Reply) (h : ObservedHistory) → IsAnswered asking reply h → ¬ Contains replies reply →
       ¬ IsExplained h

@@ -1,6 +1,7 @@
--- The configurations that a search for an order reaches.
-use Rattle.std.specs.Prelude.{ℕ, ◌≡◌, ◌≢◌, ◌≤◌, ◌+◌, ◌⊎◌, ◌↔◌, List, [], ◌∷◌, length, slice_get, Option, Some, None, true}
-use Rattle.std.specs.List.{AllPairs, Contains}
+-- The configurations that a search for an order reaches, and what one has looked at that gives up.
+use Rattle.std.specs.Prelude.{ℕ, ◌≡◌, ◌≢◌, ◌≤◌, ◌+◌, ◌++◌, ◌⊎◌, ◌↔◌, List, [], ◌∷◌, length, slice_get, true}
+use Rattle.std.specs.Prelude.{Option, Some, None}
+use Rattle.std.specs.List.{All, AllPairs, Contains}
 use Rattle.stamp_core.specs.LockEvent.{LockEvent, counts}
 use Rattle.stamp_core.specs.Limits.{Bounds, units}
 use Rattle.stamp_core.specs.Word.{word_number}
@@ -9,10 +10,10 @@ use Rattle.stamp_core.specs.declared.call.Call.TheVariants.{Put, PutIf}
 use Rattle.stamp_core.specs.declared.reply.Reply.{Reply}
 use Rattle.stamp_core.specs.declared.reply.Reply.TheVariants.{Yes}
 use Rattle.stamp_explain.specs.declared.observed.Observation.{Observation}
-use Rattle.stamp_explain.specs.Observed.{ObservedHistory, AreOfOneObject}
+use Rattle.stamp_explain.specs.Observed.{ObservedHistory, AreOfOneObject, of_lock, of_record}
 use Rattle.stamp_explain.specs.Observer.{observes}
 use Rattle.stamp_explain.specs.Explained.{Effect}
-use Rattle.stamp_explain.specs.Search.{LockState, LockSteps, MayTake, AreReturns, opening}
+use Rattle.stamp_explain.specs.Search.{LockState, LockSteps, CanComplete, MayTake, AreReturns, opening}
 
 -- whose words the record holds after a call, which stands at this place of the history, and its reply
 abbrev pub put_after : Option ℕ → ℕ → Call → Reply → Option ℕ
@@ -64,9 +65,44 @@ pub record AreReached (h : ObservedHistory) (returns : List ℕ) (most : ℕ) : 
   pub different : AllPairs (λ (c d : Configuration h returns). ¬ AreOne h returns c d) configurations
   pub many : most ≤ length configurations
 
--- a search for an order reaches more than so many: the returns come in their order, each once
-pub record ReachesMore (h : ObservedHistory) (most : ℕ) : Type 0 where
+-- a search on whose ways the call at this place takes no effect reaches more than so many: the returns come in their
+-- order, each once
+pub record ReachesMoreBeside (h : ObservedHistory) (i most : ℕ) : Type 0 where
   pub returns : List ℕ
   pub are : AreReturns h.entries returns
   pub once : AllPairs (λ (i j : ℕ). i ≢ j) returns
   pub reached : AreReached h returns (most + 1)
+  pub beside : All (λ (c : Configuration h returns). ¬ Contains c.taken i) reached.configurations
+
+-- an order goes on from here to the end
+abbrev pub IsAlive : (h : ObservedHistory) (returns : List ℕ) → Configuration h returns → Type 0
+IsAlive h returns c = CanComplete (LockSteps h.limits) h.entries c.to_come c.state c.taken
+
+-- the second goes on from the first: its calls took effect as they did there, and then more; returns that were to
+-- come there are past
+pub record GoesOnFrom (h : ObservedHistory) (returns : List ℕ) (c d : Configuration h returns) : Type 0 where
+  pub later : List ℕ
+  pub taken : d.taken ≡ later ++ c.taken
+  pub passed : List ℕ
+  pub to_come : c.to_come ≡ passed ++ d.to_come
+
+-- a search has looked at more than so many configurations, no two of which are one: at each some return is to come,
+-- and after one from which an order goes on to the end it has looked at such alone as go on from that one. So but
+-- for those on one way it has looked at dead ends
+pub record LookedAtMore (h : ObservedHistory) (returns : List ℕ) (most : ℕ) : Type 0 where
+  pub looked : List (Configuration h returns)
+  pub different : AllPairs (λ (c d : Configuration h returns). ¬ AreOne h returns c d) looked
+  pub unended : All (λ (c : Configuration h returns). c.to_come ≢ []) looked
+  pub in_depth : AllPairs (λ (c d : Configuration h returns). IsAlive h returns c → GoesOnFrom h returns c d) looked
+  pub many : length looked ≡ most + 1
+
+-- a search for an order gives up: it has looked at more than so many. The returns come in their order, each once
+pub record GivesUp (h : ObservedHistory) (most : ℕ) : Type 0 where
+  pub returns : List ℕ
+  pub are : AreReturns h.entries returns
+  pub once : AllPairs (λ (i j : ℕ). i ≢ j) returns
+  pub searched : LookedAtMore h returns most
+
+-- lock and record are searched apart: the search of one of them gives up
+abbrev pub IsGivenUp : ObservedHistory → ℕ → Type 0
+IsGivenUp h most = GivesUp (of_lock h) most ⊎ GivesUp (of_record h) most

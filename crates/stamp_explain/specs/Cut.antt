@@ -1,5 +1,5 @@
 -- What is known of a history at one of its returns, and the first return at which it is no longer explained.
-use Rattle.std.specs.Prelude.{ℕ, ◌≡◌, ◌+◌, ◌==◌, ◌&&◌, ◌||◌, nat_lt, Bool, false, List, [], ◌∷◌, slice_get}
+use Rattle.std.specs.Prelude.{ℕ, ◌≡◌, ◌+◌, ◌==◌, ◌&&◌, ◌||◌, nat_lt, Bool, false, List, [], ◌∷◌, length, take, slice_get}
 use Rattle.std.specs.Prelude.{Option, Some, None, if◌then◌else◌, filter, not}
 use Rattle.stamp_explain.specs.declared.observed.Observation.{Observation}
 use Rattle.stamp_explain.specs.declared.observed.Returned.{Returned}
@@ -34,6 +34,10 @@ cut_before r i h = cut r.last i h
 -- of these calls, those that had begun by this position
 abbrev pub begun_by : ℕ → List Observation → List Observation
 begun_by last es = filter (λ (e : Observation). not (nat_lt last e.first)) es
+
+-- how many of the calls that are listed before this one had begun by this position: where it stands then
+abbrev pub place_of : ℕ → ℕ → List Observation → ℕ
+place_of last i es = length (begun_by last (take i es))
 
 -- what an observer has seen then: a call that begins later isn't there
 abbrev pub seen_at : ℕ → ℕ → ObservedHistory → ObservedHistory

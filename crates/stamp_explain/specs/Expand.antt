@@ -1,31 +1,32 @@
 -- How a search goes on from a node, and what it finds.
 use Rattle.std.specs.Prelude.{ℕ, ◌≡◌, ◌≢◌, ◌<◌, ◌≤◌, ◌++◌, ◌+◌, List, ◌∷◌, length, drop, map, slice_get, slice_index}
-use Rattle.std.specs.Prelude.{Option, Some, None}
+use Rattle.std.specs.Prelude.{Option, Some, None, Bool, true, false}
 use Rattle.std.specs.List.{All, Contains}
 use Rattle.std.specs.Int.{bit_at}
 use Rattle.stamp_explain.specs.declared.observed.Observation.{Observation}
 use Rattle.stamp_explain.specs.declared.node.Node.{Node}
 use Rattle.stamp_explain.specs.declared.node.Next.{Next}
 use Rattle.stamp_explain.specs.declared.node.Origin.{Origin}
+use Rattle.stamp_explain.specs.declared.node.Waiting.{Waiting}
 use Rattle.stamp_explain.specs.declared.store.Store.{Store}
-use Rattle.stamp_explain.specs.declared.search.Found.{Found}
-use Rattle.stamp_explain.specs.declared.search.Found.TheVariants.{Order, Nothing, Undecided}
-use Rattle.stamp_explain.specs.declared.plan.Plan.{Plan}
+use Rattle.stamp_explain.specs.declared.found.Found.{Found}
+use Rattle.stamp_explain.specs.declared.found.Found.TheVariants.{Order, Nothing, Undecided}
+use Rattle.stamp_explain.specs.declared.timeline.Timeline.{Timeline}
 use Rattle.stamp_explain.specs.Observed.{ObservedHistory, IsObserved, AreOfOneObject}
 use Rattle.stamp_explain.specs.Explained.{Effect, IsEffectOf, IsExplained}
 use Rattle.stamp_explain.specs.Search.{LockState, LockSteps, MayTake, IsCompletedBy}
-use Rattle.stamp_explain.specs.Configuration.{IsTried, ReachesMore, put_after}
+use Rattle.stamp_explain.specs.Configuration.{GivesUp, IsGivenUp, IsTried, put_after}
 use Rattle.stamp_explain.specs.Node.{IsAt, StandsFor, IsReached, IsOpening}
-use Rattle.stamp_explain.specs.Plan.{IsPlan, IsAwaitedAt}
-use Rattle.stamp_explain.specs.Store.{Keeps}
+use Rattle.stamp_explain.specs.Timeline.{IsTimeline, IsAwaitedAt}
+use Rattle.stamp_explain.specs.Store.{IsStored, Keeps}
 use Rattle.stamp_explain.specs.Order.{IsOrderOf}
 
 -- a node that a search reached, with a return to come
-pub record MayGoOn (h : ObservedHistory) (plan : Plan) (node : Node) : Type 0 where
+pub record MayGoOn (h : ObservedHistory) (timeline : Timeline) (node : Node) : Type 0 where
   pub observed : IsObserved h
-  pub is_plan : IsPlan h plan
-  pub reached : IsReached h plan.returns.items node
-  pub past : node.past < length plan.returns.items
+  pub is_timeline : IsTimeline h timeline
+  pub reached : IsReached h timeline.returns.items node
+  pub past : node.past < length timeline.returns.items
 
 -- an order completes what the node stands for, in so many steps: returns and calls that take effect
 pub record Hope (h : ObservedHistory) (returns : List ℕ) (node : Node) (n : ℕ) : Type 0 where
@@ -138,17 +139,41 @@ pub record Tried (h : ObservedHistory) (returns : List ℕ) (node : Node) (a : O
       AreOfOneObject a x.entry → (p : ℕ) → p < length calls → length calls ≤ p + k → slice_index calls p ≡ x.index →
       (w : Next) × (Contains nexts w × ((w.node.past ≡ node.past) × StandsFor h returns w.node u (x.index ∷ taken)))
 
--- what a search finds within so many configurations
+-- what a search finds that looks at so many configurations before it gives up
+abbrev pub IsSearched : ObservedHistory → ℕ → Found → Type 0
+IsSearched h most (Order order) = IsOrderOf h order.items
+IsSearched h most Nothing = ¬ IsExplained h
+IsSearched h most Undecided = GivesUp h most
+
+-- what is found where lock and record are searched apart
 abbrev pub IsFound : ObservedHistory → ℕ → Found → Type 0
 IsFound h most (Order order) = IsOrderOf h order.items
 IsFound h most Nothing = ¬ IsExplained h
-IsFound h most Undecided = ReachesMore h most
+IsFound h most Undecided = IsGivenUp h most
 
 abbrev pub nodes_of : List Next → List Node
 nodes_of nexts = map (λ (w : Next). w.node) nexts
 
 abbrev pub origins_of : ℕ → List Next → List Origin
 origins_of from nexts = map (λ (w : Next). record { from = from; took = w.took }) nexts
+
+-- these nodes wait, each behind the place from which it comes
+abbrev pub waiting_from : ℕ → List Next → List Waiting
+waiting_from from nexts =
+    map (λ (w : Next). record { node = w.node; origin = record { from = from; took = w.took } }) nexts
+
+-- the last of those that waited and were not seen is added to those seen
+pub record LooksAtLast (old new : Store) (waited waiting : List Waiting) : Type 0 where
+  pub last : Waiting
+  pub passed : List Waiting
+  pub are : waited ≡ waiting ++ last ∷ passed
+  pub seen : All (λ (w : Waiting). Contains old.nodes.items w.node) passed
+  pub stored : IsStored old new last.node last.origin true
+
+-- or all that waited were seen
+abbrev pub LooksAt : Store → Store → List Waiting → List Waiting → Bool → Type 0
+LooksAt old new waited waiting true = LooksAtLast old new waited waiting
+LooksAt old new waited waiting false = All (λ (w : Waiting). Contains old.nodes.items w.node) waited
 
 -- a place of the list is that of the node
 pub record IsPlaced (nodes : List Node) (places : List ℕ) (v : Node) : Type 0 where

@@ -1,5 +1,5 @@
 -- Where a search for an order is, and what a node of it stands for.
-use Rattle.std.specs.Prelude.{ℕ, ◌≡◌, ◌≢◌, ◌≤◌, ◌⊎◌, List, length, take, drop, slice_get, Option}
+use Rattle.std.specs.Prelude.{ℕ, ◌≡◌, ◌≢◌, ◌<◌, ◌≤◌, ◌⊎◌, List, length, take, drop, slice_get, Option}
 use Rattle.std.specs.Prelude.{Some, None}
 use Rattle.std.specs.List.{Contains}
 use Rattle.std.specs.Int.{bit_at}
@@ -92,3 +92,13 @@ pub record IsReached (h : ObservedHistory) (returns : List ℕ) (node : Node) : 
   pub inside : node.past ≤ length returns
   pub stands : StandsFor h returns node state taken
   pub way : Reaches h returns (drop node.past returns) state node.writer taken
+
+-- the bit of this thread is set, or cleared, and the others are as before; no bit is set that was not
+pub record SetsBit (old new k : ℕ) : Type 0 where
+  pub here : bit_at new k ≡ 1
+  pub others : (i : ℕ) → i ≢ k → bit_at new i ≡ bit_at old i
+
+pub record ClearsBit (old new k : ℕ) : Type 0 where
+  pub here : bit_at new k ≡ 0
+  pub others : (i : ℕ) → i < 64 → i ≢ k → bit_at new i ≡ bit_at old i
+  pub no_more : (i : ℕ) → bit_at new i ≡ 1 → bit_at old i ≡ 1

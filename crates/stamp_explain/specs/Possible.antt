@@ -1,6 +1,7 @@
 -- Which replies a call of an observed history could have had.
 use Rattle.std.specs.Prelude.{ℕ, ◌≡◌, ◌≢◌, ◌↔◌, ◌+◌, ◌⊎◌, List, slice_get, slice_set, Some, None, codes}
 use Rattle.std.specs.List.{All, AllPairs, Contains}
+use Rattle.stamp_core.specs.declared.call.Call.{Call}
 use Rattle.stamp_core.specs.declared.reply.Reply.{Reply}
 use Rattle.stamp_explain.specs.declared.observed.Observation.{Observation}
 use Rattle.stamp_explain.specs.declared.observed.Returned.{Returned}
@@ -8,8 +9,9 @@ use Rattle.stamp_explain.specs.declared.possible.PossibleError.{PossibleError}
 use Rattle.stamp_explain.specs.declared.possible.PossibleError.TheVariants.{Undecided, Memory}
 use Rattle.stamp_explain.specs.Observed.{ObservedHistory}
 use Rattle.stamp_explain.specs.Explained.{IsExplained}
-use Rattle.stamp_explain.specs.Cut.{cut_after, seen_at}
-use Rattle.stamp_explain.specs.Configuration.{ReachesMore}
+use Rattle.stamp_explain.specs.Cut.{cut_after, place_of, seen_at}
+use Rattle.stamp_explain.specs.Search.{AreReturns, LockState, LockSteps}
+use Rattle.stamp_explain.specs.Configuration.{Configuration, IsGivenUp, ReachesMoreBeside}
 
 -- the call, returned at the same position with this reply
 abbrev pub answering : Observation → Returned → Reply → Observation
@@ -36,14 +38,13 @@ pub record ArePossible (h : ObservedHistory) (i : ℕ) (tried found : List Reply
   pub each : (reply : Reply) → Contains found reply ↔ (Contains tried reply × IsPossible h i reply)
   pub once : AllPairs (λ (a b : Reply). a ≢ b) tried → AllPairs (λ (a b : Reply). a ≢ b) found
 
--- with this reply a search of what is seen when the call at this place has returned reaches more than so many
--- configurations
+-- with this reply a search of what is seen when the call at this place has returned gives up
 pub record IsUndecidedAtReply (h : ObservedHistory) (i most : ℕ) (reply : Reply) : Type 0 where
   pub entry : Observation
   pub return : Returned
   pub is_entry : slice_get h.entries i ≡ Some entry
   pub returned : entry.returned ≡ Some return
-  pub many : ReachesMore (seen_at return.last (i + 1) (with_reply i entry return reply h)) most
+  pub gives_up : IsGivenUp (seen_at return.last (i + 1) (with_reply i entry return reply h)) most
 
 abbrev pub IsUndecidedAtSome : ObservedHistory → ℕ → ℕ → List Reply → Type 0
 IsUndecidedAtSome h i most tried = (reply : Reply) × (Contains tried reply × IsUndecidedAtReply h i most reply)
@@ -54,18 +55,32 @@ pub record AreAllPossible (h : ObservedHistory) (i : ℕ) (found : List Reply) :
   pub whole : (reply : Reply) → ¬ Contains found reply → ¬ IsPossible h i reply
   pub once : AllPairs (λ (a b : Reply). a ≢ b) found
 
--- a search of what is seen when the call at this place has returned reaches more than so many configurations, with
--- its own reply
+-- on a way through a search on which the call at this place takes no effect, lock or record give it this reply
+pub record GetsBeside (h : ObservedHistory) (i : ℕ) (call : Call) (reply : Reply) : Type 0 where
+  pub returns : List ℕ
+  pub are : AreReturns h.entries returns
+  pub reached : Configuration h returns
+  pub still : ¬ Contains reached.taken i
+  pub next : LockState
+  pub steps : LockSteps h.limits reached.state (call, reply) next
+
+-- a search of what is seen when the call at this place has returned reaches more than so many configurations without it
 pub record IsUndecidedAtOwn (h : ObservedHistory) (i most : ℕ) : Type 0 where
   pub entry : Observation
   pub return : Returned
   pub is_entry : slice_get h.entries i ≡ Some entry
   pub returned : entry.returned ≡ Some return
-  pub many : ReachesMore (seen_at return.last (i + 1) h) most
+  pub many : ReachesMoreBeside (seen_at return.last (i + 1) h) (place_of return.last i h.entries) most
 
--- or with some other
+-- a search of what is seen then gives up with a reply that the call gets beside what the others do
+pub record IsUndecidedAtGotten (h : ObservedHistory) (i most : ℕ) : Type 0 where
+  pub reply : Reply
+  pub undecided : IsUndecidedAtReply h i most reply
+  pub gets : GetsBeside (seen_at undecided.return.last (i + 1) h) (place_of undecided.return.last i h.entries)
+      undecided.entry.call reply
+
 abbrev pub IsUndecidedAtAny : ObservedHistory → ℕ → ℕ → Type 0
-IsUndecidedAtAny h i most = IsUndecidedAtOwn h i most ⊎ ((reply : Reply) × IsUndecidedAtReply h i most reply)
+IsUndecidedAtAny h i most = IsUndecidedAtOwn h i most ⊎ IsUndecidedAtGotten h i most
 
 -- why the possible replies are not known, in words
 abbrev pub possible_error_text : PossibleError → List ℕ

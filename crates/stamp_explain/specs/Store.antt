@@ -27,3 +27,8 @@ pub record IsStored (old new : Store) (node : Node) (origin : Origin) (added : B
       ((new.nodes.items ≡ old.nodes.items) × Contains old.nodes.items node)
   pub origins : MatchBool added (new.origins.items ≡ old.origins.items ++ origin ∷ [])
       (new.origins.items ≡ old.origins.items)
+
+-- this node alone
+pub record BeginsWith (store : Store) (node : Node) : Type 0 where
+  pub keeps : Keeps store
+  pub nodes : store.nodes.items ≡ node ∷ []

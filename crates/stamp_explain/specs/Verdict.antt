@@ -10,13 +10,17 @@ use Rattle.stamp_explain.specs.Observed.{ObservedHistory}
 use Rattle.stamp_explain.specs.Explained.{IsExplained}
 use Rattle.stamp_explain.specs.Cut.{IsStuck, cut, cut_before, seen_at}
 use Rattle.stamp_explain.specs.Points.{HasPoints}
-use Rattle.stamp_explain.specs.Configuration.{ReachesMore}
+use Rattle.stamp_explain.specs.Configuration.{IsGivenUp}
 
--- a search of what is seen then reaches more than so many configurations; or one of the whole does, and all of its
--- returns are known then
+-- no order was found of the whole: the search gives up, or there is none
+abbrev pub IsWithoutOrder : ObservedHistory → ℕ → Type 0
+IsWithoutOrder h most = IsGivenUp h most ⊎ (¬ IsExplained h)
+
+-- no order was found of the whole, and a search of what is seen then gives up; or that of the whole does, and all of
+-- its returns are known then
 abbrev pub IsUndecidedAt : ObservedHistory → ℕ → ℕ → ℕ → Type 0
-IsUndecidedAt h most last bound =
-    ((cut last bound h ≡ h) × ReachesMore h most) ⊎ ReachesMore (seen_at last bound h) most
+IsUndecidedAt h most last bound = ((cut last bound h ≡ h) × IsGivenUp h most) ⊎
+    (IsWithoutOrder h most × IsGivenUp (seen_at last bound h) most)
 
 -- it is explained until this entry returns, and undecided then
 pub record IsUndecided (h : ObservedHistory) (most i : ℕ) : Type 0 where
@@ -25,12 +29,12 @@ pub record IsUndecided (h : ObservedHistory) (most i : ℕ) : Type 0 where
   pub is_entry : slice_get h.entries i ≡ Some entry
   pub returned : entry.returned ≡ Some return
   pub explained : IsExplained (cut_before return i h)
-  pub many : IsUndecidedAt h most return.last (i + 1)
+  pub undecided : IsUndecidedAt h most return.last (i + 1)
 
--- no order was found: since none explains it, or since the search was stopped
+-- no order was found: since none explains it, or since the search gave up
 abbrev pub IsNotFound : ObservedHistory → ℕ → Bool → Type 0
 IsNotFound h most true = ¬ IsExplained h
-IsNotFound h most false = ReachesMore h most
+IsNotFound h most false = IsGivenUp h most
 
 -- the entry at whose return the history is stuck, or undecided
 abbrev pub IsFault : ObservedHistory → ℕ → ExplainError → Type 0

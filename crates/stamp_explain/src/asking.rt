@@ -6,31 +6,31 @@ ghost use Rattle.stamp_core.specs.declared.reply.Reply.{Reply};
 ghost use Rattle.stamp_explain.specs.declared.observed.Observation.{Observation};
 ghost use Rattle.stamp_explain.specs.declared.observed.Returned.{Returned};
 ghost use Rattle.stamp_explain.specs.Observed.{ObservedHistory, IsObserved, IsBefore};
-ghost use Rattle.stamp_explain.specs.Configuration.{ReachesMore};
-ghost use Rattle.stamp_explain.specs.Node.{IsReached};
-ghost use Rattle.stamp_explain.specs.Expand.{Expands, Took, IsNotInEffect};
+ghost use Rattle.stamp_explain.specs.Configuration.{ReachesMoreBeside};
+ghost use Rattle.stamp_explain.specs.Cut.{place_of};
+ghost use Rattle.stamp_explain.specs.Expand.{Enters, Expands, Took, IsNotInEffect};
+ghost use Rattle.stamp_explain.specs.Store.{Keeps};
 ghost use Rattle.stamp_explain.specs.Possible.{without_return};
-ghost use Rattle.stamp_explain.specs.Asking.{Adds, AreAsked, AreLed, AreMore, AreReplies, ExpandUnless, IsAnswered, IsAsking, IsAskingAt, LeadsBeside, place_of};
+ghost use Rattle.stamp_explain.specs.Asking.{Adds, AreAsked, AreLed, AreMore, AreReplies, ExpandUnless, IsAnswered, IsAsking, IsAskingAt, LeadsBeside, MayGoOnBeside, GetsMore};
 
 use crate::cut::seen_at;
-use crate::node::{Next, Node};
+use crate::node::{Next, Node, Origin, has_bit, without_bit};
 use crate::observed::{Observation, Observed, Returned, are_of_one_object};
 use crate::observer::observes_at;
-use crate::plan::{Plan, has_bit, without_bit};
-use crate::planning::plan_of;
-use crate::search::{enter, opening, take_of};
+use crate::search::{opening, take_of};
 use crate::stepping::step_of;
 use crate::store::Store;
+use crate::timeline::{Timeline, timeline_of};
 use stamp_core::Reply;
 use std::alloc::{AllocError, Global};
 
-/// What is seen when a call has returned, the same with the call under way, the plan of the first, and
+/// What is seen when a call has returned, the same with the call under way, the timeline of the first, and
 /// the place of the call in both.
 #[derive(Drop)]
 pub(crate) struct Asking {
     pub(crate) seen: Observed,
     pub(crate) before: Observed,
-    pub(crate) plan: Plan,
+    pub(crate) timeline: Timeline,
     pub(crate) place: usize,
 }
 
@@ -87,11 +87,11 @@ pub(crate) fn asking_of(
     let place = place_of(observed.entries(), entry, returned.last);
     let seen = seen_at(alloc, observed, returned.last, entry + 1)?;
     let before = without_return(alloc, &seen, place, observation)?;
-    let plan = plan_of(alloc, &seen)?;
+    let timeline = timeline_of(alloc, &seen)?;
     Ok(Asking {
         seen,
         before,
-        plan,
+        timeline,
         place,
     })
 }
@@ -121,16 +121,14 @@ fn add(replies: &mut Vec<Reply>, reply: Reply) -> Result<(), AllocError>
 
 /// The one node that comes next, where the awaited call is in effect: its return is past.
 fn passed(asking: &Asking, node: &Node) -> Option<Next>
-    requires asking { IsAsking asking.now }
-    requires reached { IsReached asking.now.seen asking.now.plan.returns.items node.now }
-    requires past { node.now.past < length asking.now.plan.returns.items }
+    requires { MayGoOnBeside asking.now node.now }
     ensures leads { IfSome result (λ next. LeadsBeside asking.now node.now next) }
     ensures one { IfSome result (λ next. (reply : Reply) (h : ObservedHistory) → IsAnswered asking.now reply h
-        → Expands h asking.now.plan.returns.items node.now (next ∷ [])) }
-    ensures none { IfNone result (IsNotInEffect asking.now.seen asking.now.plan.returns.items node.now) }
+        → Expands h asking.now.timeline.returns.items node.now (next ∷ [])) }
+    ensures none { IfNone result (IsNotInEffect asking.now.seen asking.now.timeline.returns.items node.now) }
 {
-    let plan = &asking.plan;
-    let thread = asking.seen.entries()[plan.returns[node.past]].thread;
+    let timeline = &asking.timeline;
+    let thread = asking.seen.entries()[timeline.returns[node.past]].thread;
     if has_bit(node.threads, thread) {
         Some(Next {
             node: Node {
@@ -148,15 +146,13 @@ fn passed(asking: &Asking, node: &Node) -> Option<Next>
 
 /// The one node that comes next, where another open call takes effect that changes nothing.
 fn observed_beside(asking: &Asking, node: &Node) -> Option<Next>
-    requires asking { IsAsking asking.now }
-    requires reached { IsReached asking.now.seen asking.now.plan.returns.items node.now }
-    requires past { node.now.past < length asking.now.plan.returns.items }
-    requires awaited { IsNotInEffect asking.now.seen asking.now.plan.returns.items node.now }
+    requires at { MayGoOnBeside asking.now node.now }
+    requires awaited { IsNotInEffect asking.now.seen asking.now.timeline.returns.items node.now }
     ensures leads { IfSome result (λ next. LeadsBeside asking.now node.now next) }
     ensures one { IfSome result (λ next. (reply : Reply) (h : ObservedHistory) → IsAnswered asking.now reply h
-        → Expands h asking.now.plan.returns.items node.now (next ∷ [])) }
+        → Expands h asking.now.timeline.returns.items node.now (next ∷ [])) }
 {
-    for i in asking.plan.opens[node.past].as_slice() {
+    for i in asking.timeline.opens[node.past].as_slice() {
         if *i != asking.place && observes_at(&asking.seen, *i) {
             if let Some(next) = take_of(&asking.seen, node, *i) {
                 return Some(next);
@@ -168,18 +164,16 @@ fn observed_beside(asking: &Asking, node: &Node) -> Option<Next>
 
 /// The nodes that come next where another open call of the awaited one's object takes effect.
 fn choices_beside(asking: &Asking, node: &Node, nexts: &mut Vec<Next>) -> Result<(), AllocError>
-    requires asking { IsAsking asking.now }
-    requires reached { IsReached asking.now.seen asking.now.plan.returns.items node.now }
-    requires past { node.now.past < length asking.now.plan.returns.items }
-    requires awaited { IsNotInEffect asking.now.seen asking.now.plan.returns.items node.now }
+    requires at { MayGoOnBeside asking.now node.now }
+    requires awaited { IsNotInEffect asking.now.seen asking.now.timeline.returns.items node.now }
     ensures leads { IfOk result (λ _. AreLed asking.now node.now nexts.new.items) }
     ensures whole { IfOk result (λ _. (reply : Reply) (h : ObservedHistory) → IsAnswered asking.now reply h
-        → Took h asking.now.plan.returns.items node.now asking.now.place None
-        → Expands h asking.now.plan.returns.items node.now nexts.new.items) }
+        → Took h asking.now.timeline.returns.items node.now asking.now.place None
+        → Expands h asking.now.timeline.returns.items node.now nexts.new.items) }
 {
     nexts.clear();
-    let awaited = asking.plan.returns[node.past];
-    let calls = asking.plan.opens[node.past].as_slice();
+    let awaited = asking.timeline.returns[node.past];
+    let calls = asking.timeline.opens[node.past].as_slice();
     for k in 0..calls.len() {
         let i = calls[calls.len() - 1 - k];
         if i != asking.place && are_of_one_object(&asking.seen, awaited, i) {
@@ -193,13 +187,11 @@ fn choices_beside(asking: &Asking, node: &Node, nexts: &mut Vec<Next>) -> Result
 
 /// Adds the reply that the call gets here, where it is open and doesn't wait.
 fn ask(asking: &Asking, node: &Node, replies: &mut Vec<Reply>) -> Result<(), AllocError>
-    requires asking { IsAsking asking.now }
-    requires reached { IsReached asking.now.seen asking.now.plan.returns.items node.now }
-    requires past { node.now.past < length asking.now.plan.returns.items }
+    requires { MayGoOnBeside asking.now node.now }
     ensures { IfOk result (λ _. AreAsked asking.now node.now replies.old.items replies.new.items) }
 {
     let entries = asking.seen.entries();
-    let awaited = &entries[asking.plan.returns[node.past]];
+    let awaited = &entries[asking.timeline.returns[node.past]];
     if is_before(awaited, &entries[asking.place]) {
         return Ok(());
     }
@@ -216,11 +208,10 @@ fn go_on(
     nexts: &mut Vec<Next>,
     replies: &mut Vec<Reply>,
 ) -> Result<(), AllocError>
-    requires asking { IsAsking asking.now }
-    requires reached { IsReached asking.now.seen asking.now.plan.returns.items node.now }
-    requires past { node.now.past < length asking.now.plan.returns.items }
+    requires { MayGoOnBeside asking.now node.now }
     ensures leads { IfOk result (λ _. AreLed asking.now node.now nexts.new.items) }
     ensures more { IfOk result (λ _. AreMore replies.old.items replies.new.items) }
+    ensures gets { IfOk result (λ _. GetsMore asking.now replies.old.items replies.new.items) }
     ensures whole { IfOk result (λ _. ExpandUnless asking.now node.now nexts.new.items replies.new.items) }
 {
     nexts.clear();
@@ -236,6 +227,30 @@ fn go_on(
     choices_beside(asking, node, nexts)
 }
 
+/// Adds the nodes that were not seen, which come from this place, to those seen, and their places to
+/// those that wait.
+fn enter(
+    store: &mut Store,
+    waiting: &mut Vec<usize>,
+    from: usize,
+    nexts: &[Next],
+) -> Result<(), AllocError>
+    requires { Keeps store.old }
+    ensures { IfOk result (λ _. Enters store.old store.new from waiting.old.items waiting.new.items nexts.now) }
+{
+    for next in nexts {
+        let place = store.nodes.len();
+        let origin = Origin {
+            from,
+            took: next.took,
+        };
+        if store.add(next.node, origin)? {
+            waiting.push(place)?;
+        }
+    }
+    Ok(())
+}
+
 /// The replies that the call gets, whatever the others do before it: each once. None where more than so
 /// many configurations are reached.
 pub(crate) fn replies_of(
@@ -245,7 +260,7 @@ pub(crate) fn replies_of(
 ) -> Result<Option<Vec<Reply>>, AllocError>
     requires { IsAsking asking.now }
     ensures some { IfOk result (λ found. IfSome found (λ replies. AreReplies asking.now replies.items)) }
-    ensures none { IfOk result (λ found. IfNone found (ReachesMore asking.now.seen most)) }
+    ensures none { IfOk result (λ found. IfNone found (ReachesMoreBeside asking.now.seen asking.now.place most)) }
 {
     let mut store = Store::new(alloc);
     let mut waiting = Vec::new(alloc);

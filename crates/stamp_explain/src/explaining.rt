@@ -4,10 +4,10 @@ ghost use Rattle.stamp_explain.specs.Observed.{IsObserved};
 ghost use Rattle.stamp_explain.specs.Verdict.{IsAnswer};
 
 use crate::first_fault::first_fault;
+use crate::found::{Found, find};
 use crate::observed::Observed;
-use crate::planning::{ends_of, plan_of};
 use crate::recording::record_of;
-use crate::search::{Found, search};
+use crate::timeline::ends_of;
 use stamp_core::Record;
 use std::alloc::{AllocError, Global};
 use std::error::Error;
@@ -70,8 +70,7 @@ pub fn explain(alloc: Global, observed: &Observed, most: u64) -> Result<Record, 
     if ends.is_empty() {
         return Ok(record_of(alloc, observed, &[])?);
     }
-    let plan = plan_of(alloc, observed)?;
-    match search(alloc, observed, &plan, most)? {
+    match find(alloc, observed, most)? {
         Found::Order(order) => Ok(record_of(alloc, observed, order.as_slice())?),
         Found::Nothing => Err(first_fault(alloc, observed, ends.as_slice(), most, true)?),
         Found::Undecided => Err(first_fault(alloc, observed, ends.as_slice(), most, false)?),

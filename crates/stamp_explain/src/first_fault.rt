@@ -2,15 +2,14 @@
 ghost use Rattle.std.specs.Prelude.{◌≡◌, ◌≤◌, ◌<◌, ◌+◌, IfOk, length};
 ghost use Rattle.stamp_explain.specs.Cut.{seen_at};
 ghost use Rattle.stamp_explain.specs.Observed.{IsObserved};
-ghost use Rattle.stamp_explain.specs.Planning.{AreEnds};
+ghost use Rattle.stamp_explain.specs.TimelineKeys.{AreEnds};
 ghost use Rattle.stamp_explain.specs.Expand.{IsFound};
 ghost use Rattle.stamp_explain.specs.Verdict.{IsNotFound, IsFault};
 
 use crate::cut::seen_at;
 use crate::explaining::ExplainError;
+use crate::found::{Found, find};
 use crate::observed::Observed;
-use crate::planning::plan_of;
-use crate::search::{Found, search};
 use std::alloc::{AllocError, Global};
 
 /// What a search finds of the history as it is seen when a call has returned: the position of its
@@ -27,12 +26,11 @@ fn found_at(
 {
     let _ = observed.entries();
     let seen = seen_at(alloc, observed, end.0, end.1 + 1)?;
-    let plan = plan_of(alloc, &seen)?;
-    search(alloc, &seen, &plan, most)
+    find(alloc, &seen, most)
 }
 
 /// The first return at which no order was found, where none was found for the whole history: since
-/// there is none, or since the search was stopped. It halves the returns again and again.
+/// there is none, or since the search gave up. It halves the returns again and again.
 pub(crate) fn first_fault(
     alloc: Global,
     observed: &Observed,

@@ -1,4 +1,7 @@
 //! Where a search for an order is.
+ghost use Rattle.std.specs.Prelude.{◌≡◌, ◌<◌, ◌↔◌, IsTrue};
+ghost use Rattle.std.specs.Int.{bit_at};
+ghost use Rattle.stamp_explain.specs.Node.{SetsBit, ClearsBit};
 
 use stamp_core::Reply;
 
@@ -27,10 +30,39 @@ pub(crate) struct Origin {
     pub(crate) took: Option<usize>,
 }
 
+/// A node that waits to be looked at, and where it comes from.
+#[derive(Clone, Copy)]
+pub(crate) struct Waiting {
+    pub(crate) node: Node,
+    pub(crate) origin: Origin,
+}
+
 /// What a call does: the number of the word and the writer afterwards, and the reply.
 #[derive(Clone, Copy)]
 pub(crate) struct Step {
     pub(crate) bits: u64,
     pub(crate) writer: Option<usize>,
     pub(crate) reply: Reply,
+}
+
+/// Whether the thread's bit is set.
+pub(crate) fn has_bit(threads: u64, thread: u64) -> bool
+    requires { thread < 64 }
+    ensures { IsTrue result ↔ (bit_at threads thread ≡ 1) }
+{
+    (threads >> thread) & 1 == 1
+}
+
+pub(crate) fn with_bit(threads: u64, thread: u64) -> u64
+    requires { thread < 64 }
+    ensures { SetsBit threads result thread }
+{
+    threads | (1 << thread)
+}
+
+pub(crate) fn without_bit(threads: u64, thread: u64) -> u64
+    requires { thread < 64 }
+    ensures { ClearsBit threads result thread }
+{
+    threads & !(1 << thread)
 }

@@ -2,15 +2,15 @@
 ghost use Rattle.std.specs.Prelude.{ℕ, ◌≡◌, ◌≤◌, ◌<◌, IfOk, Some, slice_get, length};
 ghost use Rattle.stamp_explain.specs.Observed.{IsObserved};
 ghost use Rattle.stamp_explain.specs.Node.{IsReached};
-ghost use Rattle.stamp_explain.specs.Plan.{IsPlan};
+ghost use Rattle.stamp_explain.specs.Timeline.{IsTimeline};
 ghost use Rattle.stamp_explain.specs.Expand.{AreLinked, IsLed};
 ghost use Rattle.stamp_explain.specs.Order.{IsOrderOf, IsTakenAt, IsEnd};
 
 use crate::node::Node;
 use crate::observed::Observed;
-use crate::plan::Plan;
 use crate::stepping::step_of;
 use crate::store::Store;
+use crate::timeline::Timeline;
 use stamp_core::Reply;
 use std::alloc::{AllocError, Global};
 
@@ -44,14 +44,14 @@ fn taken_at(observed: &Observed, node: &Node, took: Option<usize>) -> Option<Tak
 pub(crate) fn order_to(
     alloc: Global,
     observed: &Observed,
-    plan: &Plan,
+    timeline: &Timeline,
     store: &Store,
     place: usize,
 ) -> Result<Vec<Taken>, AllocError>
     requires observed { IsObserved observed.now }
-    requires plan { IsPlan observed.now plan.now }
-    requires linked { AreLinked observed.now plan.now.returns.items store.now }
-    requires end { IsEnd plan.now.returns.items store.now place }
+    requires timeline { IsTimeline observed.now timeline.now }
+    requires linked { AreLinked observed.now timeline.now.returns.items store.now }
+    requires end { IsEnd timeline.now.returns.items store.now place }
     ensures { IfOk result (λ order. IsOrderOf observed.now order.items) }
 {
     let mut order = Vec::with_capacity(alloc, observed.entries().len())?;

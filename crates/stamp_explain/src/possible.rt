@@ -6,9 +6,8 @@ ghost use Rattle.stamp_explain.specs.Possible.{AreAllPossible, ArePossible, IsPo
 
 use crate::asking::{asking_of, replies_of};
 use crate::cut::seen_at;
+use crate::found::{Found, find};
 use crate::observed::{Observation, Observed, Returned};
-use crate::planning::plan_of;
-use crate::search::{Found, search};
 use stamp_core::Reply;
 use std::alloc::{AllocError, Global};
 use std::error::Error;
@@ -97,8 +96,7 @@ fn is_possible(
     };
     let asked = with_reply(alloc, observed, entry, *observation, *returned, reply)?;
     let seen = seen_at(alloc, &asked, returned.last, entry + 1)?;
-    let plan = plan_of(alloc, &seen)?;
-    match search(alloc, &seen, &plan, most)? {
+    match find(alloc, &seen, most)? {
         Found::Order(_) => Ok(true),
         Found::Nothing => Ok(false),
         Found::Undecided => Err(PossibleError::Undecided),

@@ -1,57 +1,54 @@
 //! The search for an order.
-ghost use Rattle.std.specs.Prelude.{ℕ, ◌<◌, IfOk, IfSome, List, [], ◌∷◌, length};
+ghost use Rattle.std.specs.Prelude.{ℕ, ◌≡◌, ◌<◌, ◌++◌, IfOk, IfSome, List, [], ◌∷◌, length};
 ghost use Rattle.std.specs.Option.{IfNone};
 ghost use Rattle.stamp_core.specs.Word.{IsAdmitted, word_at};
 ghost use Rattle.stamp_explain.specs.Observed.{IsObserved};
 ghost use Rattle.stamp_explain.specs.Search.{AreReturns};
 ghost use Rattle.stamp_explain.specs.Node.{IsOpening};
-ghost use Rattle.stamp_explain.specs.Plan.{IsPlan, IsOpenAt};
+ghost use Rattle.stamp_explain.specs.Timeline.{IsTimeline, IsOpenAt};
 ghost use Rattle.stamp_explain.specs.Store.{Keeps};
-ghost use Rattle.stamp_explain.specs.Expand.{MayGoOn, Expands, Took, IsNotInEffect, IsFound, Enters};
+ghost use Rattle.stamp_explain.specs.Expand.{MayGoOn, Expands, Took, IsNotInEffect, IsSearched, LooksAt, waiting_from};
 
-use crate::node::{Next, Node, Origin};
+use crate::found::Found;
+use crate::node::{Next, Node, Origin, Waiting, has_bit, with_bit, without_bit};
 use crate::observed::{Observed, are_of_one_object};
 use crate::observer::observes_at;
-use crate::order::{Taken, order_to};
-use crate::plan::{Plan, has_bit, with_bit, without_bit};
+use crate::order::order_to;
 use crate::stepping::step_of;
 use crate::store::Store;
+use crate::timeline::Timeline;
 use stamp_core::Word;
 use std::alloc::{AllocError, Global};
 
-/// What a search finds.
-#[derive(Drop)]
-pub(crate) enum Found {
-    /// An order that explains the history.
-    Order(Vec<Taken>),
-    /// None does.
-    Nothing,
-    /// So many configurations were looked at, and others wait.
-    Undecided,
-}
-
-/// Adds the nodes that were not seen, which come from this place, to those seen, and their places to
-/// those that wait.
-pub(crate) fn enter(
-    store: &mut Store,
-    waiting: &mut Vec<usize>,
-    from: usize,
-    nexts: &[Next],
-) -> Result<(), AllocError>
-    requires { Keeps store.old }
-    ensures { IfOk result (λ _. Enters store.old store.new from waiting.old.items waiting.new.items nexts.now) }
+/// Leaves these nodes, which come from this place, to wait: the last is the first to be looked at.
+fn leave(waiting: &mut Vec<Waiting>, from: usize, nexts: &[Next]) -> Result<(), AllocError>
+    ensures { IfOk result (λ _. waiting.new.items ≡ waiting.old.items ++ waiting_from from nexts.now) }
 {
     for next in nexts {
-        let place = store.nodes.len();
         let origin = Origin {
             from,
             took: next.took,
         };
-        if store.add(next.node, origin)? {
-            waiting.push(place)?;
-        }
+        waiting.push(Waiting {
+            node: next.node,
+            origin,
+        })?;
     }
     Ok(())
+}
+
+/// Takes the last of the nodes that wait and were not seen, and adds it to those seen: whether there was
+/// one.
+fn look(store: &mut Store, waiting: &mut Vec<Waiting>) -> Result<bool, AllocError>
+    requires { Keeps store.old }
+    ensures { IfOk result (λ found. LooksAt store.old store.new waiting.old.items waiting.new.items found) }
+{
+    while let Some(last) = waiting.pop() {
+        if store.add(last.node, last.origin)? {
+            return Ok(true);
+        }
+    }
+    Ok(false)
 }
 
 /// What becomes of a node if the call of this entry takes effect; nothing where it is in effect, or
@@ -83,12 +80,12 @@ pub(crate) fn take_of(observed: &Observed, node: &Node, i: usize) -> Option<Next
 
 /// The one node that comes next, where no other has to be looked at: the awaited return is past, where
 /// its call is in effect; else an open call takes effect that changes nothing.
-fn forced(observed: &Observed, plan: &Plan, node: &Node) -> Option<Next>
-    requires { MayGoOn observed.now plan.now node.now }
-    ensures one { IfSome result (λ next. Expands observed.now plan.now.returns.items node.now (next ∷ [])) }
-    ensures none { IfNone result (IsNotInEffect observed.now plan.now.returns.items node.now) }
+fn forced(observed: &Observed, timeline: &Timeline, node: &Node) -> Option<Next>
+    requires { MayGoOn observed.now timeline.now node.now }
+    ensures one { IfSome result (λ next. Expands observed.now timeline.now.returns.items node.now (next ∷ [])) }
+    ensures none { IfNone result (IsNotInEffect observed.now timeline.now.returns.items node.now) }
 {
-    let thread = observed.entries()[plan.returns[node.past]].thread;
+    let thread = observed.entries()[timeline.returns[node.past]].thread;
     if has_bit(node.threads, thread) {
         return Some(Next {
             node: Node {
@@ -100,7 +97,7 @@ fn forced(observed: &Observed, plan: &Plan, node: &Node) -> Option<Next>
             took: None,
         });
     }
-    for i in plan.opens[node.past].as_slice() {
+    for i in timeline.opens[node.past].as_slice() {
         if observes_at(observed, *i) {
             if let Some(next) = take_of(observed, node, *i) {
                 return Some(next);
@@ -114,17 +111,17 @@ fn forced(observed: &Observed, plan: &Plan, node: &Node) -> Option<Next>
 /// object, lock or record, are tried; the node of that which returns first comes last.
 fn choices(
     observed: &Observed,
-    plan: &Plan,
+    timeline: &Timeline,
     node: &Node,
     nexts: &mut Vec<Next>,
 ) -> Result<(), AllocError>
-    requires at { MayGoOn observed.now plan.now node.now }
-    requires awaited { IsNotInEffect observed.now plan.now.returns.items node.now }
-    ensures { IfOk result (λ _. Expands observed.now plan.now.returns.items node.now nexts.new.items) }
+    requires at { MayGoOn observed.now timeline.now node.now }
+    requires awaited { IsNotInEffect observed.now timeline.now.returns.items node.now }
+    ensures { IfOk result (λ _. Expands observed.now timeline.now.returns.items node.now nexts.new.items) }
 {
     nexts.clear();
-    let awaited = plan.returns[node.past];
-    let calls = plan.opens[node.past].as_slice();
+    let awaited = timeline.returns[node.past];
+    let calls = timeline.opens[node.past].as_slice();
     for k in 0..calls.len() {
         let i = calls[calls.len() - 1 - k];
         if are_of_one_object(observed, awaited, i) {
@@ -139,55 +136,49 @@ fn choices(
 /// The nodes that come next.
 fn successors(
     observed: &Observed,
-    plan: &Plan,
+    timeline: &Timeline,
     node: &Node,
     nexts: &mut Vec<Next>,
 ) -> Result<(), AllocError>
-    requires { MayGoOn observed.now plan.now node.now }
-    ensures { IfOk result (λ _. Expands observed.now plan.now.returns.items node.now nexts.new.items) }
+    requires { MayGoOn observed.now timeline.now node.now }
+    ensures { IfOk result (λ _. Expands observed.now timeline.now.returns.items node.now nexts.new.items) }
 {
-    let Some(next) = forced(observed, plan, node) else {
-        return choices(observed, plan, node, nexts);
+    let Some(next) = forced(observed, timeline, node) else {
+        return choices(observed, timeline, node, nexts);
     };
     nexts.clear();
     nexts.push(next)?;
     Ok(())
 }
 
-/// Looks for an order that explains the history, at so many configurations at most.
+/// Looks for an order that explains the history, in depth, and gives up once it has looked at more than
+/// `most` configurations.
 pub(crate) fn search(
     alloc: Global,
     observed: &Observed,
-    plan: &Plan,
+    timeline: &Timeline,
     most: u64,
 ) -> Result<Found, AllocError>
     requires observed { IsObserved observed.now }
-    requires plan { IsPlan observed.now plan.now }
-    ensures { IfOk result (λ found. IsFound observed.now most found) }
+    requires timeline { IsTimeline observed.now timeline.now }
+    ensures { IfOk result (λ found. IsSearched observed.now most found) }
 {
-    let returns = plan.returns.as_slice();
-    let mut store = Store::new(alloc);
+    let returns = timeline.returns.as_slice();
+    let mut store = Store::beginning(alloc, opening(observed))?;
     let mut waiting = Vec::new(alloc);
-    let first = Next {
-        node: opening(observed),
-        took: None,
-    };
-    enter(&mut store, &mut waiting, 0, &[first])?;
     let mut nexts = Vec::new(alloc);
-    for _ in 0..most {
-        let Some(place) = waiting.pop() else {
-            return Ok(Found::Nothing);
-        };
+    for _ in 0..=most {
+        let place = store.nodes.len() - 1;
         let node = store.nodes[place];
         if node.past >= returns.len() {
-            let order = order_to(alloc, observed, plan, &store, place)?;
+            let order = order_to(alloc, observed, timeline, &store, place)?;
             return Ok(Found::Order(order));
         }
-        successors(observed, plan, &node, &mut nexts)?;
-        enter(&mut store, &mut waiting, place, nexts.as_slice())?;
-    }
-    if waiting.is_empty() {
-        return Ok(Found::Nothing);
+        successors(observed, timeline, &node, &mut nexts)?;
+        leave(&mut waiting, place, nexts.as_slice())?;
+        if !look(&mut store, &mut waiting)? {
+            return Ok(Found::Nothing);
+        }
     }
     Ok(Found::Undecided)
 }

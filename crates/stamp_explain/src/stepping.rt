@@ -24,7 +24,7 @@ fn may_reply(entry: &Observation, reply: &Reply) -> bool
 /// The number of the word after a call of the lock, and the reply, where the observation allows it.
 fn lock_step(limits: Limits, bits: u64, entry: &Observation) -> Option<(u64, Reply)>
     requires admitted { IsAdmitted limits (word_at limits bits) }
-    requires lock { IsTrue (is_lock_call entry.now.call) }
+    requires lock_call { IsTrue (is_lock_call entry.now.call) }
     ensures { LockGoes limits bits entry.now result }
 {
     let (next, reply) = step(limits, limits.word(bits), entry.call)?;

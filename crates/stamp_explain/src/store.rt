@@ -1,6 +1,6 @@
 //! The configurations that a search has seen.
 ghost use Rattle.std.specs.Prelude.{◌≡◌, [], IfOk};
-ghost use Rattle.stamp_explain.specs.Store.{Keeps, IsStored, key_of};
+ghost use Rattle.stamp_explain.specs.Store.{BeginsWith, Keeps, IsStored, key_of};
 
 use crate::node::{Node, Origin};
 use std::alloc::{AllocError, Global};
@@ -31,6 +31,19 @@ impl Store {
             origins: Vec::new(alloc),
             known: HashSet::new(alloc),
         }
+    }
+
+    /// With the node at which a search begins.
+    pub(crate) fn beginning(alloc: Global, node: Node) -> Result<Store, AllocError>
+        ensures { IfOk result (λ store. BeginsWith store node) }
+    {
+        let mut store = Store::new(alloc);
+        let origin = Origin {
+            from: 0,
+            took: None,
+        };
+        store.add(node, origin)?;
+        Ok(store)
     }
 
     /// Adds a node, unless it is there: whether it was added.

@@ -10,11 +10,11 @@ returns-then-is_before c =
     asked_not_begun c.args.asking.now c.args.node.now
     (get_or c.entries-entries.result.now c.index.result.now c.index-entries-index.result)
     (get_or c.entries-entries.result.now c.args.asking.now.place c.index-entries-asking.result)
-    c.args.replies.now.items c.requires.asking
-    (awaits_of c.args.asking.now.seen c.args.asking.now.plan c.args.node.now c.index.result.now
-    c.entries-entries.result.now c.index-entries-index.result c.requires.asking.observed c.requires.asking.plan c.requires.past c.index.ensures
+    c.args.replies.now.items c.requires.asks
+    (awaits_of c.args.asking.now.seen c.args.asking.now.timeline c.args.node.now c.index.result.now
+    c.entries-entries.result.now c.index-entries-index.result c.requires.asks.observed c.requires.asks.timeline c.requires.past c.index.ensures
     c.entries-entries.ensures.entries)
-    (asked_read c.args.asking.now c.entries-entries.result.now c.index-entries-asking.result c.requires.asking
+    (asked_read c.args.asking.now c.entries-entries.result.now c.index-entries-asking.result c.requires.asks
     c.entries-entries.ensures.entries)
     (subst (λ (o : Observation). IsBefore o
     (get_or c.entries-entries.result.now c.args.asking.now.place c.index-entries-asking.result))
@@ -22,16 +22,16 @@ returns-then-is_before c =
     c.index-entries-asking.is (c.is_before.ensures.0 c.if-is_before.true)))
 
 pub step_of-requires-clause-inside : goal.step_of-requires-clause-inside
-step_of-requires-clause-inside c = asked_inside c.args.asking.now c.requires.asking
+step_of-requires-clause-inside c = asked_inside c.args.asking.now c.requires.asks
 
 pub step_of-requires-clause-suits : goal.step_of-requires-clause-suits
-step_of-requires-clause-suits c = asked_suits c.args.asking.now c.requires.asking
+step_of-requires-clause-suits c = asked_suits c.args.asking.now c.requires.asks
 
 pub returns-in_ok-add : goal.returns-in_ok-add
 returns-in_ok-add c =
     asked_replies c.args.asking.now c.args.node.now c.in-Some.step c.args.replies.now.items c.add.new.replies.items
-    c.requires.asking c.in-Some.ensures c.in_ok-add.ensures
+    c.requires.asks c.requires.reached c.in-Some.ensures c.in_ok-add.ensures
 
 pub returns-in_default : goal.returns-in_default
 returns-in_default c =
-    asked_waits c.args.asking.now c.args.node.now c.args.replies.now.items c.requires.asking c.in_default.ensures
+    asked_waits c.args.asking.now c.args.node.now c.args.replies.now.items c.requires.asks c.in_default.ensures

@@ -11,12 +11,12 @@ without_return-requires c = record {
       c.entries.ensures.entries c.place_of-place.ensures c.in_ok-seen.ensures;
 }
 
-pub plan_of-requires : goal.plan_of-requires
-plan_of-requires c = subst IsObserved (sym c.in_ok-seen.ensures)
+pub timeline_of-requires : goal.timeline_of-requires
+timeline_of-requires c = subst IsObserved (sym c.in_ok-seen.ensures)
     (seen_explains_as_much c.args.observed.now c.args.returned.last (c.args.entry + 1) c.requires.observed).0
 
 pub returns : goal.returns
-returns c = asked_at c.args.observed.now c.in_ok-seen.seen c.in_ok-before.before c.in_ok-plan.plan c.args.entry
+returns c = asked_at c.args.observed.now c.in_ok-seen.seen c.in_ok-before.before c.in_ok-timeline.timeline c.args.entry
     c.place_of-place.result c.args.observation c.args.returned c.entries.result.now c.requires.observed
     c.requires.is_entry c.requires.returned c.entries.ensures.entries c.place_of-place.ensures c.in_ok-seen.ensures
-    c.in_ok-before.ensures c.in_ok-plan.ensures
+    c.in_ok-before.ensures c.in_ok-timeline.ensures

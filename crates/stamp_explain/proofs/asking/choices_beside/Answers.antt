@@ -2,10 +2,10 @@ use Rattle.std.proofs.Common.{◌≡◌, ◌≢◌, ◌<◌, ◌+◌, ◌-◌, �
 use Rattle.std.proofs.Common.{Vec, Global, true, false}
 use Rattle.std.proofs.lemmas.Option.{slice_get_within}
 use Rattle.stamp_explain.specs.declared.node.Next.{Next}
-use Rattle.stamp_explain.specs.Plan.{IsOpenAt}
+use Rattle.stamp_explain.specs.Timeline.{IsOpenAt}
 use Rattle.stamp_explain.proofs.Succeeding.{open_read, opens_read, open_within, awaited_read}
-use Rattle.stamp_explain.proofs.Answering.{plan_alike}
-use Rattle.stamp_explain.proofs.Beside.{TriesBeside, AwaitsThere, awaits_there, beside_some, beside_none, beside_asked, beside_other}
+use Rattle.stamp_explain.proofs.Answering.{timeline_alike}
+use Rattle.stamp_explain.proofs.Beside.{awaited_inside, TriesBeside, AwaitsThere, awaits_there, beside_some, beside_none, beside_asked, beside_other}
 use Rattle.stamp_explain.proofs.Beside.{expands_beside, alike_of}
 use Rattle.stamp_explain.proofs.asking.choices_beside.Goals as goal
 use Rattle.stamp_explain.proofs.asking.choices_beside.Goals.{then-i-asking+then-are_of_one_object+in-Some+in_ok-push}
@@ -16,18 +16,18 @@ use Rattle.stamp_explain.proofs.asking.choices_beside.Goals.{else-i-asking-via-e
 pub are_of_one_object-requires-clause-other : goal.are_of_one_object-requires-clause-other
 are_of_one_object-requires-clause-other c =
     let calls : List ℕ = c.as_slice-calls.result.now in
-    open_within c.args.asking.now.seen c.args.asking.now.plan c.args.node.now.past c.index.result.now calls
-    (length calls - 1 - c.loop-k.k) c.requires.asking.plan c.requires.past c.index.ensures
+    open_within c.args.asking.now.seen c.args.asking.now.timeline c.args.node.now.past c.index.result.now calls
+    (length calls - 1 - c.loop-k.k) c.requires.at.asks.timeline c.requires.at.past c.index.ensures
     c.as_slice-calls.ensures.value (omega (arith, c.loop-k-test.true))
 
 pub take_of-requires-clause-inside : goal.take_of-requires-clause-inside
 take_of-requires-clause-inside c =
     let calls : List ℕ = c.as_slice-calls.result.now in
     let within : length calls - 1 - c.loop-k.k < length calls = omega (arith, c.loop-k-test.true) in
-    let it : IsOpenAt c.args.asking.now.seen c.args.asking.now.plan.returns.items c.args.node.now.past
+    let it : IsOpenAt c.args.asking.now.seen c.args.asking.now.timeline.returns.items c.args.node.now.past
     (get_or calls (length calls - 1 - c.loop-k.k) 0) =
-    open_read c.args.asking.now.seen c.args.asking.now.plan c.args.node.now.past c.index.result.now calls
-    (length calls - 1 - c.loop-k.k) c.requires.asking.plan c.requires.past c.index.ensures
+    open_read c.args.asking.now.seen c.args.asking.now.timeline c.args.node.now.past c.index.result.now calls
+    (length calls - 1 - c.loop-k.k) c.requires.at.asks.timeline c.requires.at.past c.index.ensures
     c.as_slice-calls.ensures.value within in
     slice_get_within c.args.asking.now.seen.entries (get_or calls (length calls - 1 - c.loop-k.k) 0) it.entry
     it.is_entry
@@ -42,10 +42,10 @@ loop-k-preserved c =
     let calls : List ℕ = c.as_slice-calls.result.now in
     let k : ℕ = c.loop-k.k in
     let within : length calls - 1 - k < length calls = omega (arith, c.loop-k-test.true) in
-    let it : IsOpenAt asking.seen asking.plan.returns.items node.past (get_or calls (length calls - 1 - k) 0) =
-    open_read asking.seen asking.plan node.past c.index.result.now calls (length calls - 1 - k)
-    c.requires.asking.plan c.requires.past c.index.ensures c.as_slice-calls.ensures.value within in
-    let there : AwaitsThere asking node = awaits_there asking node c.requires.asking c.requires.past
+    let it : IsOpenAt asking.seen asking.timeline.returns.items node.past (get_or calls (length calls - 1 - k) 0) =
+    open_read asking.seen asking.timeline node.past c.index.result.now calls (length calls - 1 - k)
+    c.requires.at.asks.timeline c.requires.at.past c.index.ensures c.as_slice-calls.ensures.value within in
+    let there : AwaitsThere asking node = awaits_there asking node c.requires.at.asks c.requires.at.past
     c.requires.awaited in
     elim c.if-i-asking.branch [
       | then-i-asking+then-are_of_one_object+in-Some+in_ok-push w ↦
@@ -55,10 +55,10 @@ loop-k-preserved c =
           ap (λ (v : Vec Next Global). v.items) w.nexts-is ∙ w.in_ok-push.ensures.items in
           subst (λ (ns : List Next). TriesBeside asking node calls (k + 1) ns) (sym same)
           (beside_some asking node there.entry calls k c.loop-k.nexts.items w.in-Some.next there.awaits
-          c.requires.reached there.bit c.loop-k.invariant c.loop-k-test.true other
-          (w.in-Some.ensures asking.plan.returns.items c.requires.asking.plan.are it)
+          c.requires.at.reached.reached there.bit c.loop-k.invariant c.loop-k-test.true other
+          (w.in-Some.ensures asking.timeline.returns.items c.requires.at.asks.timeline.are it)
           (λ b e awaited at. (w.are_of_one_object.ensures b e (awaited_read asking.seen
-          asking.plan.returns.items node.past c.index-awaited.result.now b awaited c.index-awaited.ensures) at).0
+          asking.timeline.returns.items node.past c.index-awaited.result.now b awaited c.index-awaited.ensures) at).0
           w.if-are_of_one_object.true))
       | then-i-asking+then-are_of_one_object+in_default w ↦
           let other : get_or calls (length calls - 1 - k) 0 ≢ asking.place =
@@ -67,7 +67,7 @@ loop-k-preserved c =
           ap (λ (v : Vec Next Global). v.items) w.nexts-is in
           subst (λ (ns : List Next). TriesBeside asking node calls (k + 1) ns) (sym same)
           (beside_none asking node calls k c.loop-k.nexts.items c.loop-k.invariant c.loop-k-test.true other
-          (w.in_default.ensures asking.plan.returns.items c.requires.asking.plan.are it))
+          (w.in_default.ensures asking.timeline.returns.items c.requires.at.asks.timeline.are it))
       | else-i-asking w ↦
           let same : c.if-i-asking.nexts.items ≡ c.loop-k.nexts.items =
           ap (λ (v : Vec Next Global). v.items) w.nexts-is in
@@ -76,7 +76,7 @@ loop-k-preserved c =
             | else-i-asking-via-then-i-asking+else-are_of_one_object v ↦
                 beside_other asking node calls k c.loop-k.nexts.items c.loop-k.invariant c.loop-k-test.true
                 (λ a e awaited at alike. false_true (sym v.if-are_of_one_object.false ∙
-                (v.are_of_one_object.ensures a e (awaited_read asking.seen asking.plan.returns.items node.past
+                (v.are_of_one_object.ensures a e (awaited_read asking.seen asking.timeline.returns.items node.past
                 c.index-awaited.result.now a awaited c.index-awaited.ensures) at).1 alike))
             | else-i-asking-via-else-i-asking v ↦
                 let here : get_or calls (length calls - 1 - k) 0 ≡ asking.place = omega (arith, v.if-i-asking.false) in
@@ -87,9 +87,13 @@ loop-k-preserved c =
 pub returns-clause-whole : goal.returns-clause-whole
 returns-clause-whole c = λ reply h is none.
     expands_beside c.args.asking.now c.args.node.now c.as_slice-calls.result.now c.loop-k.k c.loop-k.nexts.items reply h
-    c.requires.asking c.requires.past c.requires.awaited
-    (opens_read h c.args.asking.now.plan c.args.node.now.past c.index.result.now c.as_slice-calls.result.now
-    (plan_alike c.args.asking.now.seen h c.args.asking.now.place c.args.asking.now.plan
-    (alike_of c.args.asking.now reply h is) c.requires.asking.plan) c.requires.past c.index.ensures
+    c.requires.at.asks c.requires.at.past c.requires.awaited
+    (opens_read h c.args.asking.now.timeline c.args.node.now.past c.index.result.now c.as_slice-calls.result.now
+    (timeline_alike c.args.asking.now.seen h c.args.asking.now.place c.args.asking.now.timeline
+    (alike_of c.args.asking.now reply h is) c.requires.at.asks.timeline) c.requires.at.past c.index.ensures
     c.as_slice-calls.ensures.value)
     (omega (arith, c.loop-k-test.false)) is (c.loop-k.invariant.tries reply h is none)
+
+pub are_of_one_object-requires-clause-one : goal.are_of_one_object-requires-clause-one
+are_of_one_object-requires-clause-one c = awaited_inside c.args.asking.now c.args.node.now c.index-awaited.result.now
+    c.requires.at.asks c.requires.at.past c.index-awaited.ensures

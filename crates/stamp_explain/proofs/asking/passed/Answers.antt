@@ -12,21 +12,21 @@ false_true h = cc
 
 pub without_bit-requires : goal.without_bit-requires
 without_bit-requires c =
-    let is : Awaits c.args.asking.now.seen c.args.asking.now.plan c.args.node.now
+    let is : Awaits c.args.asking.now.seen c.args.asking.now.timeline c.args.node.now
     (get_or c.entries.result.now c.index.result.now c.index-entries-index.result) =
-    awaits_of c.args.asking.now.seen c.args.asking.now.plan c.args.node.now c.index.result.now c.entries.result.now
-    c.index-entries-index.result c.requires.asking.observed c.requires.asking.plan c.requires.past c.index.ensures
+    awaits_of c.args.asking.now.seen c.args.asking.now.timeline c.args.node.now c.index.result.now c.entries.result.now
+    c.index-entries-index.result c.requires.asks.observed c.requires.asks.timeline c.requires.past c.index.ensures
     c.entries.ensures.entries in
     at_place (λ (o : Observation). o.thread < 64) c.args.asking.now.seen.entries _
-    (get_or c.entries.result.now c.index.result.now c.index-entries-index.result) c.requires.asking.observed.threads
+    (get_or c.entries.result.now c.index.result.now c.index-entries-index.result) c.requires.asks.observed.threads
     is.at
 
 pub returns-then-has_bit-clause-leads : goal.returns-then-has_bit-clause-leads
 returns-then-has_bit-clause-leads c =
     past_leads c.args.asking.now c.args.node.now
     (get_or c.entries.result.now c.index.result.now c.index-entries-index.result) c.without_bit.result
-    (awaits_of c.args.asking.now.seen c.args.asking.now.plan c.args.node.now c.index.result.now c.entries.result.now
-    c.index-entries-index.result c.requires.asking.observed c.requires.asking.plan c.requires.past c.index.ensures
+    (awaits_of c.args.asking.now.seen c.args.asking.now.timeline c.args.node.now c.index.result.now c.entries.result.now
+    c.index-entries-index.result c.requires.asks.observed c.requires.asks.timeline c.requires.past c.index.ensures
     c.entries.ensures.entries)
     (c.has_bit.ensures.0 c.if-has_bit.true) c.without_bit.ensures
 
@@ -34,19 +34,19 @@ pub returns-then-has_bit-clause-one : goal.returns-then-has_bit-clause-one
 returns-then-has_bit-clause-one c = λ reply h is.
     past_expands c.args.asking.now c.args.node.now
     (get_or c.entries.result.now c.index.result.now c.index-entries-index.result) c.without_bit.result reply h
-    c.requires.asking
-    (awaits_of c.args.asking.now.seen c.args.asking.now.plan c.args.node.now c.index.result.now c.entries.result.now
-    c.index-entries-index.result c.requires.asking.observed c.requires.asking.plan c.requires.past c.index.ensures
+    c.requires.asks
+    (awaits_of c.args.asking.now.seen c.args.asking.now.timeline c.args.node.now c.index.result.now c.entries.result.now
+    c.index-entries-index.result c.requires.asks.observed c.requires.asks.timeline c.requires.past c.index.ensures
     c.entries.ensures.entries)
     (c.has_bit.ensures.0 c.if-has_bit.true) c.without_bit.ensures is
 
 pub returns-else-has_bit-clause-none : goal.returns-else-has_bit-clause-none
 returns-else-has_bit-clause-none c = record {
   awaited = λ a it bit.
-      let is : Awaits c.args.asking.now.seen c.args.asking.now.plan c.args.node.now
+      let is : Awaits c.args.asking.now.seen c.args.asking.now.timeline c.args.node.now
       (get_or c.entries.result.now c.index.result.now c.index-entries-index.result) =
-      awaits_of c.args.asking.now.seen c.args.asking.now.plan c.args.node.now c.index.result.now c.entries.result.now
-      c.index-entries-index.result c.requires.asking.observed c.requires.asking.plan c.requires.past c.index.ensures
+      awaits_of c.args.asking.now.seen c.args.asking.now.timeline c.args.node.now c.index.result.now c.entries.result.now
+      c.index-entries-index.result c.requires.asks.observed c.requires.asks.timeline c.requires.past c.index.ensures
       c.entries.ensures.entries in
       let same : get_or c.entries.result.now c.index.result.now c.index-entries-index.result ≡ a =
       same_Some (get_or c.entries.result.now c.index.result.now c.index-entries-index.result) a

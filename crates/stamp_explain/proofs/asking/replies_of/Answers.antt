@@ -5,6 +5,7 @@ use Rattle.stamp_explain.specs.Expand.{Enters}
 use Rattle.stamp_explain.proofs.Exploring.{is_zero, is_more, nil_of_length}
 use Rattle.stamp_explain.proofs.Beside.{Walks, walks_first, walks_more, walks_end, walks_on, walked_inside, walked_node}
 use Rattle.stamp_explain.proofs.Beside.{walked_reached, beside_inside}
+use Rattle.stamp_explain.specs.Asking.{IsReachedBeside}
 use Rattle.stamp_explain.proofs.asking.replies_of.Goals as goal
 
 pub loop-init : goal.loop-init
@@ -26,17 +27,17 @@ index-requires c = subst (λ (n : ℕ). c.in-Some.place < n) (sym c.loop.store.n
     (walked_inside c.args.asking.now c.loop.counter c.loop.store c.loop.waiting.items c.pop.new.self.items
     c.loop.replies.items c.in-Some.place c.loop.invariant c.in-Some.ensures.items)
 
-pub go_on-requires-clause-reached : goal.go_on-requires-clause-reached
-go_on-requires-clause-reached c =
-    (walked_reached c.args.asking.now c.loop.counter c.loop.store c.loop.waiting.items c.pop.new.self.items
+pub go_on-requires : goal.go_on-requires
+go_on-requires c =
+    let walked : IsReachedBeside c.args.asking.now c.index.result.now =
+    walked_reached c.args.asking.now c.loop.counter c.loop.store c.loop.waiting.items c.pop.new.self.items
     c.loop.replies.items c.in-Some.place c.index.result.now c.loop.invariant c.in-Some.ensures.items
-    c.index.ensures).reached
-
-pub go_on-requires-clause-past : goal.go_on-requires-clause-past
-go_on-requires-clause-past c = beside_inside c.args.asking.now c.index.result.now c.requires
-    (walked_reached c.args.asking.now c.loop.counter c.loop.store c.loop.waiting.items c.pop.new.self.items
-    c.loop.replies.items c.in-Some.place c.index.result.now c.loop.invariant c.in-Some.ensures.items
-    c.index.ensures)
+    c.index.ensures in
+    record {
+      asks = c.requires;
+      reached = walked;
+      past = beside_inside c.args.asking.now c.index.result.now c.requires walked;
+    }
 
 pub loop-preserved : goal.loop-preserved
 loop-preserved c =
@@ -45,7 +46,8 @@ loop-preserved c =
     c.go_on.new.replies.items c.in-Some.place c.index.result.now c.loop.invariant c.in-Some.ensures.items
     (walked_node c.args.asking.now c.loop.counter c.loop.store c.loop.waiting.items c.pop.new.self.items
     c.loop.replies.items c.in-Some.place c.index.result.now c.loop.invariant c.in-Some.ensures.items
-    c.index.ensures) c.in_ok-go_on.ensures.leads c.in_ok-go_on.ensures.more c.in_ok-go_on.ensures.whole
+    c.index.ensures) c.in_ok-go_on.ensures.leads c.in_ok-go_on.ensures.more
+    c.in_ok-go_on.ensures.gets c.in_ok-go_on.ensures.whole
     (subst (λ (ns : List Next). Enters c.loop.store c.enter-in-loop.new.store c.in-Some.place c.pop.new.self.items
     c.enter-in-loop.new.waiting.items ns) c.as_slice.ensures.value c.in_ok-enter-2.ensures)
 

@@ -1,6 +1,6 @@
 use Rattle.std.proofs.Common.{List, ◌∙◌, sym, subst}
 use Rattle.stamp_explain.specs.declared.observed.Observation.{Observation}
-use Rattle.stamp_explain.specs.Planning.{AreEnds}
+use Rattle.stamp_explain.specs.TimelineKeys.{AreEnds}
 use Rattle.stamp_explain.proofs.Exploring.{is_zero}
 use Rattle.stamp_explain.proofs.Faulting.{order_of_none}
 use Rattle.stamp_explain.proofs.explaining.explain.Goals as goal

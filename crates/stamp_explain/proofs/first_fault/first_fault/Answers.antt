@@ -1,5 +1,5 @@
 use Rattle.std.proofs.Common.{◌<◌, ◌+◌, ◌-◌, ◌/◌, ℕ, Bool, sym, subst, arith, length}
-use Rattle.stamp_explain.specs.declared.search.Found.{Found}
+use Rattle.stamp_explain.specs.declared.found.Found.{Found}
 use Rattle.stamp_explain.proofs.Faulting.{IsBetween, Narrows, between_at_first, stuck_between, undecided_between}
 use Rattle.stamp_explain.proofs.Faulting.{middle_inside, end_at, end_is_entry, narrowed}
 use Rattle.stamp_explain.proofs.first_fault.first_fault.Goals as goal

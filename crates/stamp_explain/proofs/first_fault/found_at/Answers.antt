@@ -3,10 +3,6 @@ use Rattle.stamp_explain.specs.Observed.{IsObserved}
 use Rattle.stamp_explain.proofs.Seeing.{seen_explains_as_much}
 use Rattle.stamp_explain.proofs.first_fault.found_at.Goals as goal
 
-pub plan_of-requires : goal.plan_of-requires
-plan_of-requires c = subst IsObserved (sym c.in_ok-seen.ensures)
-    (seen_explains_as_much c.args.observed.now c.args.end.0 (c.args.end.1 + 1) c.requires.observed).0
-
-pub search-requires-clause-observed : goal.search-requires-clause-observed
-search-requires-clause-observed c = subst IsObserved (sym c.in_ok-seen.ensures)
+pub find-requires : goal.find-requires
+find-requires c = subst IsObserved (sym c.in_ok-seen.ensures)
     (seen_explains_as_much c.args.observed.now c.args.end.0 (c.args.end.1 + 1) c.requires.observed).0

@@ -6,59 +6,59 @@ use Rattle.stamp_explain.proofs.Ordering.{origin_inside, node_inside, reads_ther
 use Rattle.stamp_explain.proofs.order.order_to.Goals as goal
 
 pub loop-at-init : goal.loop-at-init
-loop-at-init c = walks_last c.args.observed.now c.args.plan.now.returns.items c.args.store.now c.args.place
+loop-at-init c = walks_last c.args.observed.now c.args.timeline.now.returns.items c.args.store.now c.args.place
     c.in_ok-order.order.items c.requires.end c.in_ok-order.ensures.items
 
 pub index-origin-requires : goal.index-origin-requires
 index-origin-requires c = subst (λ (n : ℕ). c.loop-at.at < n) (sym c.args.store.now.origins.ok.0)
-    (origin_inside c.args.observed.now c.args.plan.now.returns.items c.args.store.now c.loop-at.at
+    (origin_inside c.args.observed.now c.args.timeline.now.returns.items c.args.store.now c.loop-at.at
     c.loop-at.order.items c.requires.linked c.loop-at-test.true c.loop-at.invariant)
 
 pub index-node-requires : goal.index-node-requires
 index-node-requires c = subst (λ (n : ℕ). c.index-origin.result.now.from < n) (sym c.args.store.now.nodes.ok.0)
-    (node_inside c.args.observed.now c.args.plan.now.returns.items c.args.store.now c.loop-at.at
+    (node_inside c.args.observed.now c.args.timeline.now.returns.items c.args.store.now c.loop-at.at
     c.loop-at.order.items c.index-origin.result.now c.requires.linked c.loop-at-test.true c.loop-at.invariant
     c.index-origin.ensures)
 
 pub taken_at-requires-clause-led : goal.taken_at-requires-clause-led
 taken_at-requires-clause-led c =
-    let read : Reads c.args.observed.now c.args.plan.now.returns.items c.args.store.now c.loop-at.at
+    let read : Reads c.args.observed.now c.args.timeline.now.returns.items c.args.store.now c.loop-at.at
     c.index-origin.result.now c.index-node.result.now c.loop-at.invariant.node =
-    reads_there c.args.observed.now c.args.plan.now.returns.items c.args.store.now c.loop-at.at
+    reads_there c.args.observed.now c.args.timeline.now.returns.items c.args.store.now c.loop-at.at
     c.loop-at.order.items c.index-origin.result.now c.index-node.result.now c.requires.linked c.loop-at-test.true
     c.loop-at.invariant c.index-origin.ensures c.index-node.ensures in read.led
 
 pub loop-at-smaller-in_ok-push : goal.loop-at-smaller-in_ok-push
 loop-at-smaller-in_ok-push c =
-    let read : Reads c.args.observed.now c.args.plan.now.returns.items c.args.store.now c.loop-at.at
+    let read : Reads c.args.observed.now c.args.timeline.now.returns.items c.args.store.now c.loop-at.at
     c.index-origin.result.now c.index-node.result.now c.loop-at.invariant.node =
-    reads_there c.args.observed.now c.args.plan.now.returns.items c.args.store.now c.loop-at.at
+    reads_there c.args.observed.now c.args.timeline.now.returns.items c.args.store.now c.loop-at.at
     c.loop-at.order.items c.index-origin.result.now c.index-node.result.now c.requires.linked c.loop-at-test.true
     c.loop-at.invariant c.index-origin.ensures c.index-node.ensures in read.sooner
 
 pub loop-at-preserved-in_ok-push : goal.loop-at-preserved-in_ok-push
 loop-at-preserved-in_ok-push c =
-    subst (WalksTo c.args.observed.now c.args.plan.now.returns.items c.args.store.now
+    subst (WalksTo c.args.observed.now c.args.timeline.now.returns.items c.args.store.now
     c.index-origin.result.now.from) (sym c.in_ok-push.ensures.items)
-    (walks_call c.args.observed.now c.args.plan.now.returns.items c.args.store.now c.loop-at.at
+    (walks_call c.args.observed.now c.args.timeline.now.returns.items c.args.store.now c.loop-at.at
     c.index-origin.result.now c.index-node.result.now c.loop-at.order.items c.in-Some.field-0 c.loop-at.invariant
-    (reads_there c.args.observed.now c.args.plan.now.returns.items c.args.store.now c.loop-at.at
+    (reads_there c.args.observed.now c.args.timeline.now.returns.items c.args.store.now c.loop-at.at
     c.loop-at.order.items c.index-origin.result.now c.index-node.result.now c.requires.linked c.loop-at-test.true
     c.loop-at.invariant c.index-origin.ensures c.index-node.ensures) c.in-Some.ensures)
 
 pub loop-at-smaller : goal.loop-at-smaller
 loop-at-smaller c =
-    let read : Reads c.args.observed.now c.args.plan.now.returns.items c.args.store.now c.loop-at.at
+    let read : Reads c.args.observed.now c.args.timeline.now.returns.items c.args.store.now c.loop-at.at
     c.index-origin.result.now c.index-node.result.now c.loop-at.invariant.node =
-    reads_there c.args.observed.now c.args.plan.now.returns.items c.args.store.now c.loop-at.at
+    reads_there c.args.observed.now c.args.timeline.now.returns.items c.args.store.now c.loop-at.at
     c.loop-at.order.items c.index-origin.result.now c.index-node.result.now c.requires.linked c.loop-at-test.true
     c.loop-at.invariant c.index-origin.ensures c.index-node.ensures in read.sooner
 
 pub loop-at-preserved : goal.loop-at-preserved
 loop-at-preserved c =
-    walks_past c.args.observed.now c.args.plan.now.returns.items c.args.store.now c.loop-at.at
+    walks_past c.args.observed.now c.args.timeline.now.returns.items c.args.store.now c.loop-at.at
     c.index-origin.result.now c.index-node.result.now c.loop-at.order.items c.loop-at.invariant
-    (reads_there c.args.observed.now c.args.plan.now.returns.items c.args.store.now c.loop-at.at
+    (reads_there c.args.observed.now c.args.timeline.now.returns.items c.args.store.now c.loop-at.at
     c.loop-at.order.items c.index-origin.result.now c.index-node.result.now c.requires.linked c.loop-at-test.true
     c.loop-at.invariant c.index-origin.ensures c.index-node.ensures) c.in_default.ensures
 
@@ -66,7 +66,7 @@ pub returns : goal.returns
 returns c =
     let none : c.loop-at.at ≡ 0 = omega (arith, c.loop-at-test.false) in
     subst (λ (xs : List Taken). IsOrderOf c.args.observed.now xs) (sym c.reverse.ensures.items)
-    (walked c.args.observed.now c.args.plan.now.returns.items c.args.store.now c.loop-at.order.items
-    c.requires.plan.are c.requires.linked
-    (subst (λ (n : ℕ). WalksTo c.args.observed.now c.args.plan.now.returns.items c.args.store.now n
+    (walked c.args.observed.now c.args.timeline.now.returns.items c.args.store.now c.loop-at.order.items
+    c.requires.timeline.are c.requires.linked
+    (subst (λ (n : ℕ). WalksTo c.args.observed.now c.args.timeline.now.returns.items c.args.store.now n
     c.loop-at.order.items) none c.loop-at.invariant))

@@ -1,7 +1,7 @@
 use Rattle.std.proofs.Common.{◌≡◌, ◌+◌, false, true, refl, sym, ◌∙◌, ap, subst}
 use Rattle.stamp_explain.specs.Observed.{ObservedHistory, IsObserved}
 use Rattle.stamp_explain.specs.Cut.{seen_at}
-use Rattle.stamp_explain.specs.declared.search.Found.{Found}
+use Rattle.stamp_explain.specs.declared.found.Found.{Found}
 use Rattle.stamp_explain.proofs.Replying.{Tells, replied_is_observed, found_tells, read_at}
 use Rattle.stamp_explain.proofs.Seeing.{seen_explains_as_much}
 use Rattle.stamp_explain.proofs.possible.is_possible.Goals as goal
@@ -12,16 +12,8 @@ seen_at-requires c = subst IsObserved (sym c.in_ok-asked.ensures)
     (read_at c.args.observed.now c.args.entry c.index-entries-entry.result c.entries.result.now c.requires.returned
     c.index-entries-entry.is c.entries.ensures.entries) c.in-Some.is c.requires.observed)
 
-pub plan_of-requires : goal.plan_of-requires
-plan_of-requires c = subst IsObserved (sym c.in_ok-seen.ensures)
-    (seen_explains_as_much c.in_ok-asked.asked c.in-Some.returned.last (c.args.entry + 1)
-    (subst IsObserved (sym c.in_ok-asked.ensures)
-    (replied_is_observed c.args.observed.now c.args.entry c.index-entries-entry.result c.in-Some.returned c.args.reply
-    (read_at c.args.observed.now c.args.entry c.index-entries-entry.result c.entries.result.now c.requires.returned
-    c.index-entries-entry.is c.entries.ensures.entries) c.in-Some.is c.requires.observed))).0
-
-pub search-requires-clause-observed : goal.search-requires-clause-observed
-search-requires-clause-observed c = subst IsObserved (sym c.in_ok-seen.ensures)
+pub find-requires : goal.find-requires
+find-requires c = subst IsObserved (sym c.in_ok-seen.ensures)
     (seen_explains_as_much c.in_ok-asked.asked c.in-Some.returned.last (c.args.entry + 1)
     (subst IsObserved (sym c.in_ok-asked.ensures)
     (replied_is_observed c.args.observed.now c.args.entry c.index-entries-entry.result c.in-Some.returned c.args.reply
@@ -34,9 +26,9 @@ returns-in-Order-clause-ok c = (
       (found_tells c.args.observed.now c.in_ok-seen.seen c.args.entry c.args.most c.index-entries-entry.result
       c.in-Some.returned c.args.reply (read_at c.args.observed.now c.args.entry c.index-entries-entry.result
       c.entries.result.now c.requires.returned c.index-entries-entry.is c.entries.ensures.entries) c.in-Some.is
-      c.requires.observed c.in_ok-search.field-0 (c.in_ok-seen.ensures ∙
+      c.requires.observed c.in_ok-find.field-0 (c.in_ok-seen.ensures ∙
       ap (λ (h : ObservedHistory). seen_at c.in-Some.returned.last (c.args.entry + 1) h) c.in_ok-asked.ensures)
-      c.in_ok-search.ensures),
+      c.in_ok-find.ensures),
   λ _. refl,
 )
 
@@ -47,9 +39,9 @@ returns-in-Nothing-clause-ok c = (
       (found_tells c.args.observed.now c.in_ok-seen.seen c.args.entry c.args.most c.index-entries-entry.result
       c.in-Some.returned c.args.reply (read_at c.args.observed.now c.args.entry c.index-entries-entry.result
       c.entries.result.now c.requires.returned c.index-entries-entry.is c.entries.ensures.entries) c.in-Some.is
-      c.requires.observed c.in_ok-search.field-0 (c.in_ok-seen.ensures ∙
+      c.requires.observed c.in_ok-find.field-0 (c.in_ok-seen.ensures ∙
       ap (λ (h : ObservedHistory). seen_at c.in-Some.returned.last (c.args.entry + 1) h) c.in_ok-asked.ensures)
-      c.in_ok-search.ensures) is),
+      c.in_ok-find.ensures) is),
 )
   where
     differ : false ≡ true → ⊥
@@ -60,6 +52,6 @@ returns-clause-undecided c = λ _. subst (λ (f : Found). Tells c.args.observed.
     (found_tells c.args.observed.now c.in_ok-seen.seen c.args.entry c.args.most c.index-entries-entry.result
     c.in-Some.returned c.args.reply (read_at c.args.observed.now c.args.entry c.index-entries-entry.result
     c.entries.result.now c.requires.returned c.index-entries-entry.is c.entries.ensures.entries) c.in-Some.is
-    c.requires.observed c.in_ok-search.field-0 (c.in_ok-seen.ensures ∙
+    c.requires.observed c.in_ok-find.field-0 (c.in_ok-seen.ensures ∙
     ap (λ (h : ObservedHistory). seen_at c.in-Some.returned.last (c.args.entry + 1) h) c.in_ok-asked.ensures)
-    c.in_ok-search.ensures)
+    c.in_ok-find.ensures)

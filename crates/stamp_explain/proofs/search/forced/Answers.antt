@@ -10,35 +10,35 @@ false_true h = cc
 
 pub returns-then-has_bit-clause-one : goal.returns-then-has_bit-clause-one
 returns-then-has_bit-clause-one c =
-    expands_past c.args.observed.now c.args.plan.now c.args.node.now
+    expands_past c.args.observed.now c.args.timeline.now c.args.node.now
     (get_or c.entries.result.now c.index.result.now c.index-entries-index.result) c.without_bit.result
-    (awaits_of c.args.observed.now c.args.plan.now c.args.node.now c.index.result.now c.entries.result.now
-    c.index-entries-index.result c.requires.observed c.requires.is_plan c.requires.past c.index.ensures
+    (awaits_of c.args.observed.now c.args.timeline.now c.args.node.now c.index.result.now c.entries.result.now
+    c.index-entries-index.result c.requires.observed c.requires.is_timeline c.requires.past c.index.ensures
     c.entries.ensures.entries)
     (c.has_bit.ensures.0 c.if-has_bit.true) c.without_bit.ensures
 
 pub returns-in-Some-clause-one : goal.returns-in-Some-clause-one
 returns-in-Some-clause-one c =
-    expands_at_once c.args.observed.now c.args.plan.now c.args.node.now
+    expands_at_once c.args.observed.now c.args.timeline.now c.args.node.now
     (get_or c.entries.result.now c.index.result.now c.index-entries-index.result)
     (get_or c.as_slice-i-items.result.now c.loop-i.i-index 0) c.in-Some.next
-    (awaits_of c.args.observed.now c.args.plan.now c.args.node.now c.index.result.now c.entries.result.now
-    c.index-entries-index.result c.requires.observed c.requires.is_plan c.requires.past c.index.ensures
+    (awaits_of c.args.observed.now c.args.timeline.now c.args.node.now c.index.result.now c.entries.result.now
+    c.index-entries-index.result c.requires.observed c.requires.is_timeline c.requires.past c.index.ensures
     c.entries.ensures.entries)
     (λ bit. false_true (sym c.if-has_bit.false ∙ c.has_bit.ensures.1 bit))
     (sym c.observes_at.ensures ∙ c.if-observes_at.true)
-    (c.in-Some.ensures c.args.plan.now.returns.items c.requires.is_plan.are
-    (open_read c.args.observed.now c.args.plan.now c.args.node.now.past c.index-2.result.now
-    c.as_slice-i-items.result.now c.loop-i.i-index c.requires.is_plan c.requires.past c.index-2.ensures
+    (c.in-Some.ensures c.args.timeline.now.returns.items c.requires.is_timeline.are
+    (open_read c.args.observed.now c.args.timeline.now c.args.node.now.past c.index-2.result.now
+    c.as_slice-i-items.result.now c.loop-i.i-index c.requires.is_timeline c.requires.past c.index-2.ensures
     c.as_slice-i-items.ensures.value c.loop-i-test.true))
 
 pub returns-clause-none : goal.returns-clause-none
 returns-clause-none c = record {
   awaited = λ a it bit.
-      let is : Awaits c.args.observed.now c.args.plan.now c.args.node.now
+      let is : Awaits c.args.observed.now c.args.timeline.now c.args.node.now
       (get_or c.entries.result.now c.index.result.now c.index-entries-index.result) =
-      awaits_of c.args.observed.now c.args.plan.now c.args.node.now c.index.result.now c.entries.result.now
-      c.index-entries-index.result c.requires.observed c.requires.is_plan c.requires.past c.index.ensures
+      awaits_of c.args.observed.now c.args.timeline.now c.args.node.now c.index.result.now c.entries.result.now
+      c.index-entries-index.result c.requires.observed c.requires.is_timeline c.requires.past c.index.ensures
       c.entries.ensures.entries in
       let same : get_or c.entries.result.now c.index.result.now c.index-entries-index.result ≡ a =
       same_Some (get_or c.entries.result.now c.index.result.now c.index-entries-index.result) a

@@ -1,5 +1,5 @@
-use Rattle.stamp_explain.proofs.Exploring.{Searches}
+use Rattle.stamp_explain.proofs.Deepening.{IsAtLast}
 use Rattle.stamp_explain.proofs.search.search.Given as goal
 
 abbrev pub invariant-loop : goal.invariant-loop
-invariant-loop l = Searches l.observed l.plan.returns.items l.counter l.store l.waiting.items
+invariant-loop l = IsAtLast l.observed l.timeline.returns.items l.store l.waiting.items l.counter

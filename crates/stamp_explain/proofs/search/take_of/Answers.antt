@@ -3,7 +3,7 @@ use Rattle.std.specs.Prelude.{IsTrue}
 use Rattle.std.specs.Int.{bit_at}
 use Rattle.stamp_core.specs.Call.{call_suits}
 use Rattle.stamp_explain.specs.declared.observed.Observation.{Observation}
-use Rattle.stamp_explain.specs.Plan.{SetsBit}
+use Rattle.stamp_explain.specs.Node.{SetsBit}
 use Rattle.stamp_explain.proofs.Expanding.{at_place, entry_is, none_by_bit, none_by_reply, taken_to}
 use Rattle.std.proofs.Common.{subst}
 use Rattle.stamp_explain.proofs.search.take_of.Goals as goal

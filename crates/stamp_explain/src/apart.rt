@@ -1,0 +1,95 @@
+//! The subhistories of the lock and of the record, and the merging of their orders.
+ghost use Rattle.std.specs.Prelude.{◌≡◌, ◌<◌, true, false, length, slice_get, Some, IfOk};
+ghost use Rattle.stamp_explain.specs.Observed.{IsObserved};
+ghost use Rattle.stamp_explain.specs.Order.{IsOrderOf};
+ghost use Rattle.stamp_explain.specs.Apart.{IsSubhistoryOf};
+
+use crate::observed::{Observation, Observed};
+use crate::order::Taken;
+use std::alloc::{AllocError, Global};
+
+/// The calls of one object alone, with the place of each in the whole history.
+#[derive(Drop)]
+pub(crate) struct Subhistory {
+    pub(crate) history: Observed,
+    pub(crate) places: Vec<usize>,
+}
+
+/// The subhistory of the lock, or else that of the record.
+pub(crate) fn subhistory_of(
+    alloc: Global,
+    observed: &Observed,
+    lock: bool,
+) -> Result<Subhistory, AllocError>
+    ensures { IfOk result (λ sub. IsSubhistoryOf observed.now lock sub) }
+{
+    let mut entries = Vec::new(alloc);
+    let mut places = Vec::new(alloc);
+    for (i, entry) in observed.entries().iter().enumerate() {
+        if entry.call.is_lock_call() == lock {
+            entries.push(*entry)?;
+            places.push(i)?;
+        }
+    }
+    match Observed::of(observed.limits(), observed.width(), entries) {
+        Some(history) => Ok(Subhistory { history, places }),
+        None => unreachable!(),
+    }
+}
+
+impl Subhistory {
+    /// The position at which this call began.
+    fn first_of(&self, taken: Taken) -> u64
+        requires { taken.entry < length self.now.history.entries }
+        ensures { (e : Observation) → slice_get self.now.history.entries taken.entry ≡ Some e → result ≡ e.first }
+    {
+        self.history.entries()[taken.entry].first
+    }
+
+    /// The same call, with its entry in the whole history.
+    fn in_whole(&self, taken: Taken) -> Taken
+        requires { taken.entry < length self.now.places.items }
+        ensures entry { slice_get self.now.places.items taken.entry ≡ Some result.entry }
+        ensures reply { result.reply ≡ taken.reply }
+    {
+        Taken {
+            entry: self.places[taken.entry],
+            reply: taken.reply,
+        }
+    }
+}
+
+/// Merges an order of each subhistory into one of the whole history: of the two calls that are next,
+/// the one that began first.
+pub(crate) fn merged(
+    alloc: Global,
+    observed: &Observed,
+    locks: &Subhistory,
+    lock_order: &[Taken],
+    records: &Subhistory,
+    record_order: &[Taken],
+) -> Result<Vec<Taken>, AllocError>
+    requires observed { IsObserved observed.now }
+    requires locks { IsSubhistoryOf observed.now true locks.now }
+    requires records { IsSubhistoryOf observed.now false records.now }
+    requires lock_order { IsOrderOf locks.now.history lock_order.now }
+    requires record_order { IsOrderOf records.now.history record_order.now }
+    ensures { IfOk result (λ order. IsOrderOf observed.now order.items) }
+{
+    let mut order = Vec::with_capacity(alloc, observed.entries().len())?;
+    let mut i = 0;
+    let mut j = 0;
+    while i < lock_order.len() || j < record_order.len() {
+        let lock_is_next = j == record_order.len()
+            || i < lock_order.len()
+                && locks.first_of(lock_order[i]) <= records.first_of(record_order[j]);
+        if lock_is_next {
+            order.push(locks.in_whole(lock_order[i]))?;
+            i += 1;
+        } else {
+            order.push(records.in_whole(record_order[j]))?;
+            j += 1;
+        }
+    }
+    Ok(order)
+}

@@ -1,0 +1,65 @@
+//! What is found of a history: lock and record are searched apart.
+ghost use Rattle.std.specs.Prelude.{IfOk};
+ghost use Rattle.stamp_explain.specs.Observed.{IsObserved};
+ghost use Rattle.stamp_explain.specs.Expand.{IsFound, IsSearched};
+
+use crate::apart::{merged, subhistory_of};
+use crate::observed::Observed;
+use crate::order::Taken;
+use crate::search::search;
+use crate::timeline::timeline_of;
+use std::alloc::{AllocError, Global};
+
+/// What a search finds.
+#[derive(Drop)]
+pub(crate) enum Found {
+    /// An order that explains the history.
+    Order(Vec<Taken>),
+    /// None does.
+    Nothing,
+    /// More configurations were looked at than the search may look at.
+    Undecided,
+}
+
+/// What one search finds of all calls of a history.
+fn find_alone(alloc: Global, observed: &Observed, most: u64) -> Result<Found, AllocError>
+    requires { IsObserved observed.now }
+    ensures { IfOk result (λ found. IsSearched observed.now most found) }
+{
+    let timeline = timeline_of(alloc, observed)?;
+    search(alloc, observed, &timeline, most)
+}
+
+/// Looks for an order that explains the history. Lock and record are searched apart, and each search gives
+/// up once it has looked at more than `most` configurations.
+pub(crate) fn find(alloc: Global, observed: &Observed, most: u64) -> Result<Found, AllocError>
+    requires { IsObserved observed.now }
+    ensures { IfOk result (λ found. IsFound observed.now most found) }
+{
+    if observed.width() == 0 {
+        return find_alone(alloc, observed, most);
+    }
+    let locks = subhistory_of(alloc, observed, true)?;
+    let records = subhistory_of(alloc, observed, false)?;
+    let of_locks = find_alone(alloc, &locks.history, most)?;
+    let of_records = find_alone(alloc, &records.history, most)?;
+    match of_locks {
+        Found::Nothing => Ok(Found::Nothing),
+        Found::Undecided => match of_records {
+            Found::Nothing => Ok(Found::Nothing),
+            Found::Order(_) | Found::Undecided => Ok(Found::Undecided),
+        },
+        Found::Order(lock_order) => match of_records {
+            Found::Nothing => Ok(Found::Nothing),
+            Found::Undecided => Ok(Found::Undecided),
+            Found::Order(record_order) => Ok(Found::Order(merged(
+                alloc,
+                observed,
+                &locks,
+                lock_order.as_slice(),
+                &records,
+                record_order.as_slice(),
+            )?)),
+        },
+    }
+}

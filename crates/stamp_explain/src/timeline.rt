@@ -1,0 +1,159 @@
+//! What a search is given of a history: when calls returned, and which are open then.
+ghost use Rattle.std.specs.Prelude.{ℕ, ◌≡◌, ◌≢◌, ◌<◌, ◌≤◌, IfOk, length};
+ghost use Rattle.std.specs.List.{All, AllPairs};
+ghost use Rattle.stamp_explain.specs.TimelineKeys.{AreKeys, AreRising, AreRanked, AreTimelineKeys, AreOpens, BeginsMore, AreEnds, EndsAt, BeginsAt, places_of};
+ghost use Rattle.stamp_explain.specs.Observed.{IsObserved};
+ghost use Rattle.stamp_explain.specs.Timeline.{IsTimeline};
+
+use crate::observed::{Observation, Observed};
+use std::alloc::{AllocError, Global};
+
+/// The returned calls in the order of their returns, and before each return the calls that are open,
+/// in the order of theirs.
+#[derive(Drop)]
+pub(crate) struct Timeline {
+    pub(crate) returns: Vec<usize>,
+    pub(crate) opens: Vec<Vec<usize>>,
+}
+
+/// Where each returned call returned, and its place.
+fn returns_of(alloc: Global, entries: &[Observation]) -> Result<Vec<(u64, usize)>, AllocError>
+    ensures { IfOk result (λ keys. AreKeys EndsAt entries.now (length entries.now) keys.items) }
+{
+    let mut keys = Vec::new(alloc);
+    for (i, entry) in entries.iter().enumerate() {
+        if let Some(returned) = &entry.returned {
+            keys.push((returned.last, i))?;
+        }
+    }
+    Ok(keys)
+}
+
+/// The same, in the order of the positions; of two calls that return at one, that which is listed
+/// first comes first.
+pub(crate) fn ends_of(
+    alloc: Global,
+    entries: &[Observation],
+) -> Result<Vec<(u64, usize)>, AllocError>
+    ensures { IfOk result (λ ends. AreEnds entries.now ends.items) }
+{
+    let mut ends = returns_of(alloc, entries)?;
+    ends.sort()?;
+    Ok(ends)
+}
+
+/// Where each call began, and its place.
+fn begins_of(alloc: Global, entries: &[Observation]) -> Result<Vec<(u64, usize)>, AllocError>
+    ensures { IfOk result (λ keys. AreKeys BeginsAt entries.now (length entries.now) keys.items) }
+{
+    let mut keys = Vec::new(alloc);
+    for (i, entry) in entries.iter().enumerate() {
+        keys.push((entry.first, i))?;
+    }
+    Ok(keys)
+}
+
+/// The places alone.
+fn places_alone(alloc: Global, keys: &[(u64, usize)]) -> Result<Vec<usize>, AllocError>
+    ensures { IfOk result (λ places. places.items ≡ places_of keys.now) }
+{
+    keys.iter().map(|key| key.1).collect(alloc)
+}
+
+/// The same in the order of the numbers.
+fn in_order(keys: Vec<(u64, usize)>) -> Result<Vec<(u64, usize)>, AllocError>
+    ensures { IfOk result (λ sorted. AreRising keys.items sorted.items) }
+{
+    let mut sorted = keys;
+    sorted.sort_by_key(|key| key.0)?;
+    Ok(sorted)
+}
+
+/// The place of each call among the returns; one that is under way has a place behind all.
+fn ranks_of(alloc: Global, calls: usize, returns: &[usize]) -> Result<Vec<usize>, AllocError>
+    requires calls { All (λ i. i < calls) returns.now }
+    requires once { AllPairs (λ i j. i ≢ j) returns.now }
+    ensures each { IfOk result (λ ranks. length ranks.items ≡ calls) }
+    ensures ranks { IfOk result (λ ranks. AreRanked calls returns.now (length returns.now) ranks.items) }
+{
+    let mut ranks = vec![in alloc; usize::MAX; calls]?;
+    for (rank, i) in returns.iter().enumerate() {
+        ranks[*i] = rank;
+    }
+    Ok(ranks)
+}
+
+/// Adds the calls that begin up to this position, each behind its rank: how many have begun then, of
+/// those in the order of their beginnings.
+fn begin_more(
+    begins: &[(u64, usize)],
+    ranks: &[usize],
+    last: u64,
+    from: usize,
+    kept: &mut Vec<(usize, usize)>,
+) -> Result<usize, AllocError>
+    requires from { from ≤ length begins.now }
+    requires ranks { All (λ (p : ℕ × ℕ). p.1 < length ranks.now) begins.now }
+    ensures { IfOk result (λ to. BeginsMore begins.now ranks.now last from to kept.old.items kept.new.items) }
+{
+    for place in from..begins.len() {
+        let (first, call) = begins[place];
+        if last < first {
+            return Ok(place);
+        }
+        kept.push((ranks[call], call))?;
+    }
+    Ok(begins.len())
+}
+
+/// The calls alone.
+fn calls_alone(alloc: Global, kept: &[(usize, usize)]) -> Result<Vec<usize>, AllocError>
+    ensures { IfOk result (λ calls. calls.items ≡ places_of kept.now) }
+{
+    kept.iter().map(|key| key.1).collect(alloc)
+}
+
+/// For each return the calls that are open before it, in the order of their returns.
+fn opens_of(
+    alloc: Global,
+    observed: &Observed,
+    ends: &[(u64, usize)],
+    begins: &[(u64, usize)],
+    ranks: &[usize],
+) -> Result<Vec<Vec<usize>>, AllocError>
+    requires { AreTimelineKeys observed.now ends.now begins.now ranks.now }
+    ensures many { IfOk result (λ opens. length opens.items ≡ length ends.now) }
+    ensures opens { IfOk result (λ opens. AreOpens observed.now (places_of ends.now) opens.items) }
+{
+    let _ = observed.entries();
+    let mut opens = Vec::new(alloc);
+    let mut kept = Vec::new(alloc);
+    let mut begun = 0;
+    for (past, end) in ends.iter().enumerate() {
+        begun = begin_more(begins, ranks, end.0, begun, &mut kept)?;
+        kept.retain(|call| call.0 >= past);
+        kept.sort_unstable();
+        opens.push(calls_alone(alloc, kept.as_slice())?)?;
+    }
+    Ok(opens)
+}
+
+/// The timeline of a search.
+pub(crate) fn timeline_of(alloc: Global, observed: &Observed) -> Result<Timeline, AllocError>
+    requires { IsObserved observed.now }
+    ensures { IfOk result (λ timeline. IsTimeline observed.now timeline) }
+{
+    let entries = observed.entries();
+    let ends = in_order(returns_of(alloc, entries)?)?;
+    let returns = places_alone(alloc, ends.as_slice())?;
+    let begins = in_order(begins_of(alloc, entries)?)?;
+    let ranks = ranks_of(alloc, entries.len(), returns.as_slice())?;
+    let opens = opens_of(
+        alloc,
+        observed,
+        ends.as_slice(),
+        begins.as_slice(),
+        ranks.as_slice(),
+    )?;
+    Ok(Timeline { returns, opens })
+}
