@@ -9,13 +9,16 @@ use crate::checking::Why;
 use crate::judging::{lock_goes_on, record_goes_on};
 use stamp_core::{Entry, Limits, Word, Words};
 
-/// What is kept of the entries so far: the number of the lock's word, the record's content, the
-/// last point, and the last position of each thread.
+/// What is kept of the entries so far.
 #[derive(Drop)]
 pub(crate) struct Walk {
+    /// The number of the lock's word.
     pub(crate) bits: u64,
+    /// What the record holds; one zero where there is no record.
     pub(crate) content: Words,
+    /// The point of the last entry; `None` before the first.
     pub(crate) point: Option<u64>,
+    /// For each thread the last position of its last entry; `None` where it has none.
     pub(crate) lasts: [Option<u64>; 64],
 }
 

@@ -18,7 +18,7 @@ use Rattle.stamp_cli.specs.declared.faults.ServeFault.{ServeFault}
 use Rattle.stamp_cli.specs.declared.faults.ServeFault.TheVariants.{Waits, BadReply}
 use Rattle.stamp_cli.specs.declared.orders.Order.{Order}
 use Rattle.stamp_cli.specs.declared.orders.Order.TheVariants as order
-use Rattle.stamp_cli.specs.Answer.{Answered, IsWaitFault, IsReplayAnswer, IsInputAnswer, IsCheckAnswer, IsMigrateAnswer}
+use Rattle.stamp_cli.specs.Answer.{LineView, IsWaitFault, IsReplayAnswer, IsInputAnswer, IsCheckAnswer, IsMigrateAnswer}
 use Rattle.stamp_cli.specs.Answer.{AnswersReplay, AnswersRun, AnswersReportedRun, AnswersCheck, AnswersMigrate}
 use Rattle.stamp_cli.specs.Answer.{IsStampAnswer, IsAccepted, IsAnswer}
 use Rattle.stamp_cli.specs.CheckText.{verdict_text, verdict_of}
@@ -76,7 +76,7 @@ err_inj e = cc
 ok_not_err : {A : Type 0} {a : A} {e : ServeFault} → Path (Result A ServeFault) (Ok a) (Err e) → ⊥
 ok_not_err e = cc
 
-same_line : (a b : Answered) → a.text ≡ b.text → a.verdict ≡ b.verdict → a ≡ b
+same_line : (a b : LineView) → a.text ≡ b.text → a.verdict ≡ b.verdict → a ≡ b
 same_line a b t v = let parts : record { text = a.text; verdict = a.verdict } ≡
     record { text = b.text; verdict = b.verdict } = cc in parts
 
@@ -93,7 +93,7 @@ one_to_input IsSo once input a b x y = by (long_or_not most_bytes (length input)
 
 -- a text or a refusal, as a line that is accepted
 one_accepted : (IsSo : Result (List ℕ) ServeFault → Type 0) →
-    ((a b : Result (List ℕ) ServeFault) → IsSo a → IsSo b → a ≡ b) → (a b : Result Answered ServeFault) →
+    ((a b : Result (List ℕ) ServeFault) → IsSo a → IsSo b → a ≡ b) → (a b : Result LineView ServeFault) →
     IsAccepted IsSo a → IsAccepted IsSo b → a ≡ b
 one_accepted IsSo once (Ok a) (Ok b) x y = ap Ok
     (same_line a b (ok_inj (once (Ok a.text) (Ok b.text) x.0 y.0)) (x.1 ∙ sym y.1))
@@ -116,7 +116,7 @@ one_to_stamp layout n a b x y =
     let same = one_kind layout n x.text.kind y.text.kind x.text.has y.text.has in
     x.is ∙ ap Ok (x.text.says ∙ ap kind_text same ∙ sym y.text.says) ∙ sym y.is
 
-one_check : (r : Result Recorded ReadError) (a b : Result Answered ServeFault) → IsCheckAnswer r a →
+one_check : (r : Result Recorded ReadError) (a b : Result LineView ServeFault) → IsCheckAnswer r a →
     IsCheckAnswer r b → a ≡ b
 one_check (Ok h) (Ok a) (Ok b) x y =
     let same = one_verdict h x.found y.found x.is y.is in
@@ -142,11 +142,11 @@ one_to_migrate input a b x y = one_migration (history_of input) a b x y
 
 -- of an input's accepted text
 one_text : (IsSo : List ℕ → Result (List ℕ) ServeFault → Type 0) → IsOnce IsSo →
-    (input : List ℕ) (a b : Result Answered ServeFault) → IsAccepted (IsInputAnswer IsSo input) a →
+    (input : List ℕ) (a b : Result LineView ServeFault) → IsAccepted (IsInputAnswer IsSo input) a →
     IsAccepted (IsInputAnswer IsSo input) b → a ≡ b
 one_text IsSo once input a b x y = one_accepted (IsInputAnswer IsSo input) (one_to_input IsSo once input) a b x y
 
-pub one_answer : (o : Order) (input : List ℕ) (a b : Result Answered ServeFault) → IsAnswer o input a →
+pub one_answer : (o : Order) (input : List ℕ) (a b : Result LineView ServeFault) → IsAnswer o input a →
     IsAnswer o input b → a ≡ b
 one_answer order.Replay input a b x y = one_text AnswersReplay one_to_replay input a b x y
 one_answer order.Run input a b x y = one_text AnswersRun one_to_run input a b x y

@@ -28,12 +28,12 @@ use Rattle.stamp_cli.specs.Refusal.{refusal}
 use Rattle.stamp_cli.specs.Source.{most_bytes, most_reads, most_taken, Reads, ReadsNone}
 use Rattle.stamp_cli.specs.StampText.{IsStampText}
 
--- a line without its line feed, and what it says
-pub record Answered : Type 0 where
+-- a line as contracts see it: its text, without the line feed, and what it says
+pub record LineView : Type 0 where
   pub text : List ℕ
   pub verdict : Verdict
 
-abbrev pub line_in : made.Line → Answered
+abbrev pub line_in : made.Line → LineView
 line_in line = record { text = line.text.items; verdict = line.verdict }
 
 -- a call waits, and the fault names it
@@ -54,14 +54,14 @@ script_answer record_of (Ok script) = Ok (history_text (record_of script))
 script_answer record_of (Err e) = Err (refusal e)
 
 -- a history has this verdict, which the line says
-pub record IsJudged (history : Recorded) (line : Answered) : Type 0 where
+pub record IsJudged (history : Recorded) (line : LineView) : Type 0 where
   pub found : Result ℕ Bad
   pub is : IsVerdict history found
   pub says : line.text ≡ verdict_text found
   pub verdict : line.verdict ≡ verdict_of found
 
 -- and if that is a history: its verdict
-abbrev pub IsCheckAnswer : Result Recorded ReadError → Result Answered ServeFault → Type 0
+abbrev pub IsCheckAnswer : Result Recorded ReadError → Result LineView ServeFault → Type 0
 IsCheckAnswer (Ok history) (Ok line) = IsJudged history line
 IsCheckAnswer (Ok history) (Err fault) = ⊥
 IsCheckAnswer (Err e) answer = answer ≡ Err (refusal e)
@@ -94,7 +94,7 @@ AnswersRun input answer = answer ≡ script_answer run_record (script_of input)
 abbrev pub AnswersReportedRun : List ℕ → Result (List ℕ) ServeFault → Type 0
 AnswersReportedRun input answer = answer ≡ script_answer reported_record (script_of input)
 
-abbrev pub AnswersCheck : List ℕ → Result Answered ServeFault → Type 0
+abbrev pub AnswersCheck : List ℕ → Result LineView ServeFault → Type 0
 AnswersCheck input answer = IsCheckAnswer (history_of input) answer
 
 abbrev pub AnswersMigrate : List ℕ → Result (List ℕ) ServeFault → Type 0
@@ -107,12 +107,12 @@ pub record IsStampAnswer (layout : Layout) (n : ℕ) (answer : Result (List ℕ)
   pub is : answer ≡ Ok line
 
 -- a text that is accepted, or a refusal
-abbrev pub IsAccepted : (Result (List ℕ) ServeFault → Type 0) → Result Answered ServeFault → Type 0
+abbrev pub IsAccepted : (Result (List ℕ) ServeFault → Type 0) → Result LineView ServeFault → Type 0
 IsAccepted IsSo (Ok line) = IsSo (Ok line.text) × (line.verdict ≡ Accepted)
 IsAccepted IsSo (Err fault) = IsSo (Err fault)
 
 -- the answer to an order, without the line feed
-abbrev pub IsAnswer : Order → List ℕ → Result Answered ServeFault → Type 0
+abbrev pub IsAnswer : Order → List ℕ → Result LineView ServeFault → Type 0
 IsAnswer order.Replay input answer = IsAccepted (IsInputAnswer AnswersReplay input) answer
 IsAnswer order.Run input answer = IsAccepted (IsInputAnswer AnswersRun input) answer
 IsAnswer order.RunReported input answer = IsAccepted (IsInputAnswer AnswersReportedRun input) answer
@@ -152,7 +152,7 @@ most_taken_of (order.Stamp n) = 0
 most_taken_of (order.StampIn layout n) = 0
 
 -- a source was read as far as the order asks, by reads that took this many bytes, and this is the answer to all of them
-pub record Answers (order : Order) (old new : Option (List ℕ)) (taken : ℕ) (answer : Result Answered ServeFault) :
+pub record Answers (order : Order) (old new : Option (List ℕ)) (taken : ℕ) (answer : Result LineView ServeFault) :
     Type 0 where
   pub input : List ℕ
   pub reads : IsRead order old new input
@@ -165,6 +165,6 @@ UnlessMemory P (Ok line) = P (Ok line.items)
 UnlessMemory P (Err e) = e ≢ Memory → P (Err e)
 
 -- the same of a line
-abbrev pub LineUnlessMemory : (Result Answered ServeFault → Type 0) → Result made.Line ServeFault → Type 0
+abbrev pub LineUnlessMemory : (Result LineView ServeFault → Type 0) → Result made.Line ServeFault → Type 0
 LineUnlessMemory P (Ok line) = P (Ok (line_in line))
 LineUnlessMemory P (Err e) = e ≢ Memory → P (Err e)

@@ -3,6 +3,7 @@ pub mod Log
 pub mod Results
 pub mod Source
 pub mod Sink
+pub mod Serving
 pub mod Order
 pub mod Refusal
 pub mod FaultText

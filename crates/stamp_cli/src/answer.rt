@@ -3,6 +3,7 @@
 ghost use Rattle.std.specs.Prelude.{◌≡◌, ◌≢◌, ◌↔◌, ◌⊎◌, ◌+◌, ◌<◌, ◌≤◌, length, true, false};
 ghost use Rattle.std.specs.Prelude.{IfOk, IfErr, OnOk, Ok, Err, is_err};
 ghost use Rattle.stamp_cli.specs.Refusal.{is_of_end};
+ghost use Rattle.stamp_cli.specs.Serving.{HasRead};
 ghost use Rattle.stamp_cli.specs.Results.{MakesAtMost, ReadsToTheEnd, any_since, taken_since};
 ghost use Rattle.stamp_cli.specs.Source.{TakesAtMost, most_bytes};
 ghost use Rattle.stamp_cli.specs.Answer.{Answers, AnswersCheck, AnswersMigrate, AnswersReplay, AnswersReportedRun, AnswersRun};
@@ -129,17 +130,13 @@ pub(crate) fn line_of<S: Source>(
     order: Order,
     source: &mut S,
 ) -> Result<Line, ServeFault>
-    ensures reads { MakesAtMost (S.reads source.old) (S.reads source.new) (most_reads_of order) (most_taken_of order) }
-    ensures took { TakesAtMost (S.left source.old) (S.left source.new) (most_taken_of order) }
+    ensures reads { HasRead ServeFault.ReadFault ServeFault.Memory (S.left source.old) (S.left source.new)
+        (S.reads source.old) (S.reads source.new) (most_reads_of order) (most_taken_of order) result }
     ensures ok { IfOk result (λ line. Answers order (S.left source.old) (S.left source.new)
         (taken_since (S.reads source.old) (S.reads source.new)) (Ok (line_in line))) }
     ensures err { IfErr result (λ e. e ≢ ServeFault.ReadFault → e ≢ ServeFault.Memory
         → Answers order (S.left source.old) (S.left source.new)
         (taken_since (S.reads source.old) (S.reads source.new)) (Err e)) }
-    ensures ends { result ≢ Err ServeFault.ReadFault → result ≢ Err ServeFault.Memory
-        → ReadsToTheEnd (S.reads source.old) (S.reads source.new) (most_taken_of order) }
-    ensures failed { (result ≡ Err ServeFault.ReadFault)
-        ↔ (any_since is_err (S.reads source.old) (S.reads source.new) ≡ true) }
     ensures not_written { result ≢ Err ServeFault.WriteFault }
 {
     let input = input_of(alloc, order, source)?;

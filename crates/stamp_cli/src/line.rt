@@ -2,7 +2,7 @@
 
 ghost use Rattle.std.specs.Prelude.{◌≡◌};
 
-/// What the line that was written says.
+/// What a line says.
 #[derive(Clone, Copy, Debug, PartialEq, Eq)]
 pub enum Verdict {
     /// The line is an answer.
@@ -11,10 +11,12 @@ pub enum Verdict {
     Bad,
 }
 
-/// A line without its line feed, and what it says.
+/// The line that answers a command.
 #[derive(Drop)]
 pub struct Line {
+    /// The line, without its line feed.
     pub text: Vec<u8>,
+    /// What it says.
     pub verdict: Verdict,
 }
 

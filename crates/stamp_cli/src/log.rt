@@ -9,7 +9,9 @@ use std::snapshot::Snapshot;
 /// The results so far. No memory holds them: only contracts see a snapshot.
 #[derive(Drop)]
 pub(crate) enum Log {
+    /// There was none.
     Empty,
+    /// Those before the last, and the last.
     After(Snapshot<Log>, Snapshot<io::Result<usize>>),
 }
 

@@ -1,12 +1,11 @@
 //! A command from the bytes that come in to the line that goes out.
 
-ghost use Rattle.std.specs.Prelude.{◌≡◌, ◌≢◌, ◌↔◌, ◌++◌, ◌∷◌, ◌+◌, [], true, length, IfOk, IfErr, Ok, Err, is_err};
-ghost use Rattle.std.specs.Io.KnownBytes.{Appends, Keeps};
+ghost use Rattle.std.specs.Prelude.{◌≡◌, ◌≢◌, ◌++◌, ◌∷◌, ◌+◌, [], length, IfOk, IfErr, Ok, Err};
+ghost use Rattle.std.specs.Io.KnownBytes.{Appends};
 ghost use Rattle.stamp_cli.specs.Sink.{AppendsFront};
-ghost use Rattle.stamp_cli.specs.Results.{Makes, MakesAtMost, ReadsToTheEnd, any_since, taken_since};
-ghost use Rattle.stamp_cli.specs.Source.{TakesAtMost};
-ghost use Rattle.stamp_cli.specs.TakesNone.{takes_none};
-ghost use Rattle.stamp_cli.specs.Answer.{Answered, Answers, most_reads_of, most_taken_of};
+ghost use Rattle.stamp_cli.specs.Results.{Makes, MakesAtMost, taken_since};
+ghost use Rattle.stamp_cli.specs.Serving.{HasRead, HasWritten};
+ghost use Rattle.stamp_cli.specs.Answer.{LineView, Answers, most_reads_of, most_taken_of};
 
 use crate::answer::line_of;
 use crate::faults::ServeFault;
@@ -27,18 +26,12 @@ pub fn serve<S: Source, K: Sink>(
     source: &mut S,
     sink: &mut K,
 ) -> Result<Verdict, ServeFault>
-    // However it ends, there are no more reads than these, none after one that took no byte, and they
-    // take no more bytes than these.
-    ensures reads { MakesAtMost (S.reads source.old) (S.reads source.new)
-        (most_reads_of order) (most_taken_of order) }
-    ensures took { TakesAtMost (S.left source.old) (S.left source.new) (most_taken_of order) }
-
-    // Where what was read is answered or refused, it was read to the end.
-    ensures ends { result ≢ Err ServeFault.ReadFault → result ≢ Err ServeFault.Memory
-        → ReadsToTheEnd (S.reads source.old) (S.reads source.new) (most_taken_of order) }
+    // However it ends, there are no more reads than these, and they take no more bytes than these.
+    ensures reads { HasRead ServeFault.ReadFault ServeFault.Memory (S.left source.old) (S.left source.new)
+        (S.reads source.old) (S.reads source.new) (most_reads_of order) (most_taken_of order) result }
 
     // The answer to all that was read is written with a line feed, and nothing else; the verdict is its.
-    ensures ok { IfOk result (λ verdict. (line : Answered)
+    ensures ok { IfOk result (λ verdict. (line : LineView)
         × Answers order (S.left source.old) (S.left source.new)
         (taken_since (S.reads source.old) (S.reads source.new)) (Ok line) × (verdict ≡ line.verdict)
         × Appends (K.sent sink.old) (K.sent sink.new) (line.text ++ 10 ∷ [])
@@ -48,19 +41,15 @@ pub fn serve<S: Source, K: Sink>(
     ensures refused { IfErr result (λ e. e ≢ ServeFault.ReadFault → e ≢ ServeFault.WriteFault
         → e ≢ ServeFault.Memory → Answers order (S.left source.old) (S.left source.new)
         (taken_since (S.reads source.old) (S.reads source.new)) (Err e)) }
-    ensures read_fault { (result ≡ Err ServeFault.ReadFault)
-        ↔ (any_since is_err (S.reads source.old) (S.reads source.new) ≡ true) }
 
     // A write that failed leaves a front of the line and is the last, and no other refusal writes.
-    ensures write_fault { (result ≡ Err ServeFault.WriteFault)
-        ↔ (any_since takes_none (K.writes sink.old) (K.writes sink.new) ≡ true) }
-    ensures front { result ≡ Err ServeFault.WriteFault → ((line : Answered)
+    ensures writes { HasWritten ServeFault.WriteFault (K.sent sink.old) (K.sent sink.new)
+        (K.writes sink.old) (K.writes sink.new) result }
+    ensures front { result ≡ Err ServeFault.WriteFault → ((line : LineView)
         × Answers order (S.left source.old) (S.left source.new)
         (taken_since (S.reads source.old) (S.reads source.new)) (Ok line)
         × AppendsFront (K.sent sink.old) (K.sent sink.new) (line.text ++ 10 ∷ [])
         × MakesAtMost (K.writes sink.old) (K.writes sink.new) (length line.text + 1) (length line.text + 1)) }
-    ensures silent { IfErr result (λ e. e ≢ ServeFault.WriteFault
-        → Keeps (K.sent sink.old) (K.sent sink.new) × (K.writes sink.new ≡ K.writes sink.old)) }
 {
     let Line { mut text, verdict } = line_of(alloc, order, source)?;
     text.push(b'\n')?;

@@ -25,6 +25,7 @@ impl fmt::Display for KindText {
     }
 }
 
+/// What a number is as a stamp of the layout, in words.
 pub(crate) fn stamp_line(alloc: Global, layout: Layout, stamp: u64) -> Result<Vec<u8>, AllocError>
     ensures { IfOk result (λ line. IsStampText layout stamp line.items) }
 {

@@ -85,7 +85,7 @@ fn write_lock(limits: Limits, word: Word) -> LockDecision
     requires { word.layout ≡ limits.layout }
     ensures { decision_as result ≡ decision_of limits word Call.WriteLock }
 {
-    if word.version() == limits.versions() {
+    if word.write_count() == limits.versions() {
         zero()
     } else if word.may_write(limits) {
         gets(word.with_writer())
@@ -167,7 +167,7 @@ fn to_write(limits: Limits, word: Word, stamp: u64) -> LockDecision
         LockDecision::Answer(LockReply::Stamp(stamp))
     } else if word.holds_read(stamp)
         && word.reader_count() == 1
-        && word.version() < limits.versions()
+        && word.write_count() < limits.versions()
     {
         gets(word.without_reader().with_writer())
     } else if word.may_write(limits) && stamp == word.observed() {

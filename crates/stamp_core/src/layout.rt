@@ -84,7 +84,8 @@ impl Layout {
         self.holders_of(number) == self.writer_unit()
     }
 
-    /// How often write mode was acquired, by the number of a word.
+    /// How often write mode was acquired, by the number of a word, which is 256 or more (in layout 2
+    /// 131,072 or more).
     #[inline(always)]
     pub fn writes_of(self, number: u64) -> u64
         requires { (units_of self).version ≤ number }

@@ -25,7 +25,7 @@ pub use entry::Entry;
 pub use layout::Layout;
 pub use limits::{CoreError, Limits};
 pub use lock_decision::{LockDecision, LockReply, decide_lock};
-pub use records::{MOST_ENTRIES, MOST_THREADS, MOST_WIDTH, Record};
+pub use records::{MOST_ENTRIES, MOST_THREADS, Record};
 pub use replayed::{ReplayError, Replayed, replay};
 pub use reply::Reply;
 pub use respelling::respell;

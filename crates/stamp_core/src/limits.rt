@@ -140,7 +140,7 @@ impl Limits {
         ensures { IsTrue result ↔ ((counts_in word).readers ≤ self.now.readers)
             × ((counts_in word).write_count ≤ self.now.versions) }
     {
-        word.reader_count() <= self.readers && word.version() <= self.versions
+        word.reader_count() <= self.readers && word.write_count() <= self.versions
     }
 
     /// The word of a number that the limits admit, which is not tested again.

@@ -17,11 +17,18 @@ use crate::word::Word;
 /// What a call of the lock is answered: as `Reply`, without `Content`.
 #[derive(Clone, Copy, Debug, PartialEq, Eq)]
 pub enum LockReply {
+    /// A stamp, or 0 where the mode was not acquired.
     Stamp(u64),
+    /// What was asked is so; or the release without a stamp was made.
     Yes,
+    /// It is not so; or nothing was released.
     No,
+    /// The release by a stamp was made.
     Done,
+    /// Nothing was released, since the stamp matches no held mode that the call releases
+    /// (`IllegalMonitorStateException` in Java).
     Mismatch,
+    /// How many readers there are.
     Count(u64),
 }
 

@@ -6,6 +6,7 @@ ghost use Rattle.stamp_core.specs.Record.{recorded, IsRecorded, SuitsRecord, Rep
 use crate::entry::Entry;
 use crate::limits::Limits;
 use crate::reply::Reply;
+use crate::words::MOST_WORDS;
 use std::marker::Model;
 
 /// The most entries of a record.
@@ -13,9 +14,6 @@ pub const MOST_ENTRIES: usize = 640_000;
 
 /// The most threads of a record.
 pub const MOST_THREADS: u64 = 64;
-
-/// The most words of the guarded record.
-pub const MOST_WIDTH: u64 = 16;
 
 /// A recorded history: the calls of a lock, and of the record of `width` words that it guards, if
 /// there is one (width 0 is none). A report has a pair for each entry: the steps that the call took,
@@ -95,7 +93,7 @@ impl Record {
             ≡ recorded limits width entries.items report.items) }
     {
         let reported = report.is_empty() || report.len() == entries.len();
-        if width <= MOST_WIDTH
+        if width <= MOST_WORDS as u64
             && entries.len() <= MOST_ENTRIES
             && reported
             && all_suit(width, entries.as_slice())

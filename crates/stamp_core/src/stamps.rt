@@ -30,11 +30,11 @@ pub fn stamp_kind_in(layout: Layout, stamp: u64) -> StampKind
         return StampKind::Neither;
     };
     if word.has_writer() {
-        StampKind::Write(word.version())
+        StampKind::Write(word.write_count())
     } else if word.reader_count() > 0 {
-        StampKind::Read(word.version(), word.reader_count())
+        StampKind::Read(word.write_count(), word.reader_count())
     } else {
-        StampKind::Optimistic(word.version())
+        StampKind::Optimistic(word.write_count())
     }
 }
 

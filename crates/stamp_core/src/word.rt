@@ -104,7 +104,7 @@ impl Word {
     pub fn writes(&self) -> u64
         ensures { HoldsForEvents self.now (λ events. result ≡ write_count events) }
     {
-        self.version()
+        self.write_count()
     }
 
     /// How many hold read mode.
@@ -166,7 +166,7 @@ impl Word {
         }
     }
 
-    pub(crate) fn version(&self) -> u64
+    pub(crate) fn write_count(&self) -> u64
         ensures { result ≡ (counts_in self.now).write_count }
     {
         self.layout.writes_of(self.bits)
@@ -177,7 +177,7 @@ impl Word {
         requires { self.now.layout ≡ limits.layout }
         ensures { result ≡ may_write limits (counts_in self.now) }
     {
-        self.layout.holders_of(self.bits) == 0 && self.version() < limits.versions()
+        self.layout.holders_of(self.bits) == 0 && self.write_count() < limits.versions()
     }
 
     /// Read mode can be acquired.
@@ -231,7 +231,7 @@ impl Word {
         } else {
             let seen = self.observed();
             (stamp >= seen && stamp - seen < self.layout.writer_unit())
-                || (self.version() > 0 && stamp == self.last_write())
+                || (self.write_count() > 0 && stamp == self.last_write())
         }
     }
 

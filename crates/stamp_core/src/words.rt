@@ -5,7 +5,7 @@ ghost use Rattle.stamp_core.specs.Content.{same_words};
 
 use std::marker::Model;
 
-/// The most words of a record.
+/// The most words of a guarded record.
 pub const MOST_WORDS: usize = 16;
 
 /// One to sixteen words of 64 bits.
@@ -13,7 +13,7 @@ pub const MOST_WORDS: usize = 16;
 pub struct Words {
     len: usize,
     // Zeros stand behind the first `len`.
-    words: [u64; 16],
+    words: [u64; MOST_WORDS],
 }
 
 impl Model for Words {
@@ -47,7 +47,7 @@ impl Words {
         if words.is_empty() || words.len() > MOST_WORDS {
             return None;
         }
-        let mut held = [0; 16];
+        let mut held = [0; MOST_WORDS];
         for (i, word) in words.iter().enumerate() {
             held[i] = *word;
         }
@@ -59,7 +59,7 @@ impl Words {
 
     /// The first `len` words of a row in which zeros stand behind them.
     #[inline(always)]
-    pub fn of_row(row: [u64; 16], len: usize) -> Words
+    pub fn of_row(row: [u64; MOST_WORDS], len: usize) -> Words
         requires some { 1 ≤ len }
         requires few { len ≤ 16 }
         requires zeros { drop len row ≡ replicate (16 - len) 0 }
@@ -76,7 +76,7 @@ impl Words {
     {
         Words {
             len,
-            words: [0; 16],
+            words: [0; MOST_WORDS],
         }
     }
 

@@ -116,6 +116,7 @@ pub(crate) fn lanes_in(bars: &[Bar]) -> u64
     lanes
 }
 
+/// The right side of the picture, after the last column.
 pub(crate) fn right_of(ends: &[u64]) -> u64
     requires { length ends.now ≤ 6000 }
     ensures { result ≡ places.right_of ends.now }
@@ -123,6 +124,7 @@ pub(crate) fn right_of(ends: &[u64]) -> u64
     x_of(ends.len() as u64)
 }
 
+/// Whether the bar is that of the first fault.
 pub(crate) fn is_bad(verdict: &Result<u64, Fault>, bar: &Bar) -> bool
     ensures { result ≡ places.is_bad verdict.now bar.now }
 {
@@ -142,6 +144,7 @@ fn bar_class(verdict: &Result<u64, Fault>, bar: &Bar) -> Class
     }
 }
 
+/// The box of a call, in the lane of its thread.
 pub(crate) fn bar_place(verdict: &Result<u64, Fault>, ends: &[u64], bar: &Bar) -> Place
     requires few { length ends.now ≤ 6000 }
     requires lane { bar.now.lane < 64 }
@@ -158,6 +161,7 @@ pub(crate) fn bar_place(verdict: &Result<u64, Fault>, ends: &[u64], bar: &Bar) -
     }
 }
 
+/// The middle of the column of a point.
 pub(crate) fn point_x(ends: &[u64], point: u64) -> u64
     requires { length ends.now ≤ 6000 }
     ensures { result ≡ places.point_x ends.now point }
@@ -165,6 +169,7 @@ pub(crate) fn point_x(ends: &[u64], point: u64) -> u64
     x_of(column(ends, point)) + 20
 }
 
+/// The box that marks the point of a call.
 pub(crate) fn mark_place(ends: &[u64], bar: &Bar) -> Place
     requires few { length ends.now ≤ 6000 }
     requires lane { bar.now.lane < 64 }
@@ -179,6 +184,7 @@ pub(crate) fn mark_place(ends: &[u64], bar: &Bar) -> Place
     }
 }
 
+/// What a box of this mode is.
 pub(crate) fn class_of(mode: Mode) -> Class
     ensures { result ≡ places.class_of mode }
 {
@@ -189,6 +195,7 @@ pub(crate) fn class_of(mode: Mode) -> Class
     }
 }
 
+/// The box of what the lock is from a moment on, to the right side.
 pub(crate) fn moment_place(ends: &[u64], moment: &Moment) -> Place
     requires { length ends.now ≤ 6000 }
     ensures { result ≡ places.moment_place ends.now moment.now }
@@ -217,6 +224,7 @@ pub(crate) fn opening_place(ends: &[u64], state: &State) -> Place
     }
 }
 
+/// The box of what the record holds from here on, to the right side.
 pub(crate) fn content_place(ends: &[u64], x: u64) -> Place
     requires { length ends.now ≤ 6000 }
     ensures { result ≡ places.content_place ends.now x }
@@ -230,6 +238,7 @@ pub(crate) fn content_place(ends: &[u64], x: u64) -> Place
     }
 }
 
+/// The box of a lane.
 pub(crate) fn lane_place(ends: &[u64], lane: u64) -> Place
     requires few { length ends.now ≤ 6000 }
     requires lane { lane ≤ 64 }

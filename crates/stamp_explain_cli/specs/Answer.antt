@@ -2,7 +2,7 @@
 use Rattle.std.specs.Prelude.{◌≡◌, ◌≢◌, ℕ, List, length, Option, Result, Ok, Err, String}
 use Rattle.std.specs.declared.alloc.AllocError.{AllocError}
 use Rattle.std.specs.declared.alloc.Global.{Global}
-use Rattle.stamp_cli.specs.Answer.{Answered, IsInputAnswer, line_in}
+use Rattle.stamp_cli.specs.Answer.{LineView, IsInputAnswer, line_in}
 use Rattle.stamp_cli.specs.Refusal.{refusal}
 use Rattle.stamp_cli.specs.Source.{Reads}
 use Rattle.stamp_cli.specs.declared.faults.ServeFault.{ServeFault}
@@ -16,16 +16,16 @@ use Rattle.stamp_explain_cli.specs.FindingText.{finding_text, finding_verdict}
 use Rattle.stamp_explain_cli.specs.Note.{IsNote}
 use Rattle.stamp_explain_cli.specs.declared.answer.Told as made
 
--- a line, and what is said beside it
-pub record AnsweredSo : Type 0 where
-  pub line : Answered
+-- a line and what is said beside it, as contracts see them
+pub record ToldView : Type 0 where
+  pub line : LineView
   pub note : Result (Option (String Global)) AllocError
 
-abbrev pub told_in : made.Told → AnsweredSo
+abbrev pub told_in : made.Told → ToldView
 told_in told = record { line = line_in told.line; note = told.note }
 
 -- this is found of an observed history, the line says it, and this is said of it
-pub record IsTold (h : ObservedHistory) (most : ℕ) (told : AnsweredSo) : Type 0 where
+pub record IsTold (h : ObservedHistory) (most : ℕ) (told : ToldView) : Type 0 where
   pub found : Finding
   pub is : IsFound h most found
   pub says : told.line.text ≡ finding_text found
@@ -33,20 +33,20 @@ pub record IsTold (h : ObservedHistory) (most : ℕ) (told : AnsweredSo) : Type 
   pub note : IsNote h most found told.note
 
 -- the answer to what an input reads as
-abbrev pub IsExplainAnswer : ℕ → Result ObservedHistory ReadError → Result AnsweredSo ServeFault → Type 0
+abbrev pub IsExplainAnswer : ℕ → Result ObservedHistory ReadError → Result ToldView ServeFault → Type 0
 IsExplainAnswer most (Ok h) (Ok told) = IsTold h most told
 IsExplainAnswer most (Ok h) (Err fault) = ⊥
 IsExplainAnswer most (Err e) answer = answer ≡ Err (refusal e)
 
-abbrev pub AnswersExplain : ℕ → List ℕ → Result AnsweredSo ServeFault → Type 0
+abbrev pub AnswersExplain : ℕ → List ℕ → Result ToldView ServeFault → Type 0
 AnswersExplain most input answer = IsExplainAnswer most (observed_of input) answer
 
 -- the answer to an input, without the line feed
-abbrev pub IsAnswer : ℕ → List ℕ → Result AnsweredSo ServeFault → Type 0
+abbrev pub IsAnswer : ℕ → List ℕ → Result ToldView ServeFault → Type 0
 IsAnswer most input answer = IsInputAnswer (AnswersExplain most) input answer
 
 -- a source was read as input, by reads that took this many bytes, and this is the answer to all of them
-pub record Answers (most : ℕ) (old new : Option (List ℕ)) (taken : ℕ) (answer : Result AnsweredSo ServeFault) :
+pub record Answers (most : ℕ) (old new : Option (List ℕ)) (taken : ℕ) (answer : Result ToldView ServeFault) :
     Type 0 where
   pub input : List ℕ
   pub reads : Reads old new input
@@ -54,6 +54,6 @@ pub record Answers (most : ℕ) (old new : Option (List ℕ)) (taken : ℕ) (ans
   pub is : IsAnswer most input answer
 
 -- memory aside, the fact holds of what a function returned
-abbrev pub ToldUnlessMemory : (Result AnsweredSo ServeFault → Type 0) → Result made.Told ServeFault → Type 0
+abbrev pub ToldUnlessMemory : (Result ToldView ServeFault → Type 0) → Result made.Told ServeFault → Type 0
 ToldUnlessMemory P (Ok told) = P (Ok (told_in told))
 ToldUnlessMemory P (Err e) = e ≢ Memory → P (Err e)

@@ -1,9 +1,10 @@
 //! The line that answers an observed history, and what is said of it.
 
-ghost use Rattle.std.specs.Prelude.{◌≡◌, ◌≢◌, ◌↔◌, true, false, IfOk, IfErr, Ok, Err, is_err};
+ghost use Rattle.std.specs.Prelude.{◌≡◌, ◌≢◌, false, IfOk, IfErr, Ok, Err};
 ghost use Rattle.stamp_cli.specs.Refusal.{is_of_end};
-ghost use Rattle.stamp_cli.specs.Results.{MakesAtMost, ReadsToTheEnd, any_since, taken_since};
-ghost use Rattle.stamp_cli.specs.Source.{TakesAtMost, most_reads, most_taken};
+ghost use Rattle.stamp_cli.specs.Results.{taken_since};
+ghost use Rattle.stamp_cli.specs.Serving.{HasRead};
+ghost use Rattle.stamp_cli.specs.Source.{most_reads, most_taken};
 ghost use Rattle.stamp_explain_cli.specs.Answer.{Answers, IsAnswer, ToldUnlessMemory, told_in};
 
 use crate::finding::finding_of;
@@ -13,18 +14,22 @@ use stamp_cli::{Line, ServeFault, Source, Verdict, read_input, within};
 use stamp_observed::read_observed;
 use std::alloc::{AllocError, Global};
 
-/// What was written of an observed history, and what is said of it on standard error: nothing, unless it
-/// is stuck. Where memory is refused for that, it isn't said.
+/// What was written of an observed history, and what is said of it on standard error.
 #[derive(Drop)]
 pub struct Explanation {
+    /// What the line that was written says: `Bad` unless it is a history.
     pub verdict: Verdict,
+    /// The line for standard error, without its line feed; `None` unless the history is stuck. Where memory
+    /// is refused for it, it isn't said.
     pub note: Result<Option<String>, AllocError>,
 }
 
-/// The line that answers, and what is said.
+/// The line that answers an observed history, and what is said of it on standard error.
 #[derive(Drop)]
 pub(crate) struct Told {
+    /// The line that answers.
     pub(crate) line: Line,
+    /// What is said, as in `Explanation`.
     pub(crate) note: Result<Option<String>, AllocError>,
 }
 
@@ -47,17 +52,13 @@ pub(crate) fn told_of<S: Source>(
     most: u64,
     source: &mut S,
 ) -> Result<Told, ServeFault>
-    ensures reads { MakesAtMost (S.reads source.old) (S.reads source.new) most_reads most_taken }
-    ensures took { TakesAtMost (S.left source.old) (S.left source.new) most_taken }
+    ensures reads { HasRead ServeFault.ReadFault ServeFault.Memory (S.left source.old) (S.left source.new)
+        (S.reads source.old) (S.reads source.new) most_reads most_taken result }
     ensures ok { IfOk result (λ told. Answers most (S.left source.old) (S.left source.new)
         (taken_since (S.reads source.old) (S.reads source.new)) (Ok (told_in told))) }
     ensures err { IfErr result (λ e. e ≢ ServeFault.ReadFault → e ≢ ServeFault.Memory
         → Answers most (S.left source.old) (S.left source.new)
         (taken_since (S.reads source.old) (S.reads source.new)) (Err e)) }
-    ensures ends { result ≢ Err ServeFault.ReadFault → result ≢ Err ServeFault.Memory
-        → ReadsToTheEnd (S.reads source.old) (S.reads source.new) most_taken }
-    ensures failed { (result ≡ Err ServeFault.ReadFault)
-        ↔ (any_since is_err (S.reads source.old) (S.reads source.new) ≡ true) }
     ensures not_written { result ≢ Err ServeFault.WriteFault }
 {
     let input = read_input(alloc, source)?;

@@ -36,6 +36,8 @@ fn searched(alloc: Global, observed: &Observed, most: u64) -> Result<Finding, Al
     }
 }
 
+/// What is found: a fault of the observation, or else what the search finds. Each search looks at `most`
+/// configurations at most.
 pub(crate) fn finding_of(
     alloc: Global,
     observed: &Observed,

@@ -1,12 +1,12 @@
 //! An observed history from the bytes that come in to the line that goes out.
 
-ghost use Rattle.std.specs.Prelude.{◌≡◌, ◌≢◌, ◌↔◌, ◌++◌, ◌∷◌, ◌+◌, [], true, length, IfOk, IfErr, Ok, Err, is_err};
-ghost use Rattle.std.specs.Io.KnownBytes.{Appends, Keeps};
+ghost use Rattle.std.specs.Prelude.{◌≡◌, ◌≢◌, ◌++◌, ◌∷◌, ◌+◌, [], length, IfOk, IfErr, Ok, Err};
+ghost use Rattle.std.specs.Io.KnownBytes.{Appends};
 ghost use Rattle.stamp_cli.specs.Sink.{AppendsFront};
-ghost use Rattle.stamp_cli.specs.Results.{Makes, MakesAtMost, ReadsToTheEnd, any_since, taken_since};
-ghost use Rattle.stamp_cli.specs.Source.{TakesAtMost, most_reads, most_taken};
-ghost use Rattle.stamp_cli.specs.TakesNone.{takes_none};
-ghost use Rattle.stamp_explain_cli.specs.Answer.{AnsweredSo, Answers};
+ghost use Rattle.stamp_cli.specs.Results.{Makes, MakesAtMost, taken_since};
+ghost use Rattle.stamp_cli.specs.Serving.{HasRead, HasWritten};
+ghost use Rattle.stamp_cli.specs.Source.{most_reads, most_taken};
+ghost use Rattle.stamp_explain_cli.specs.Answer.{ToldView, Answers};
 
 use crate::answer::{Explanation, Told, told_of};
 use stamp_cli::{Line, ServeFault, Sink, Source, write_line};
@@ -25,18 +25,13 @@ pub fn serve_explanation<S: Source, K: Sink>(
     source: &mut S,
     sink: &mut K,
 ) -> Result<Explanation, ServeFault>
-    // However it ends, there are no more reads than these, none after one that took no byte, and they
-    // take no more bytes than these.
-    ensures reads { MakesAtMost (S.reads source.old) (S.reads source.new) most_reads most_taken }
-    ensures took { TakesAtMost (S.left source.old) (S.left source.new) most_taken }
-
-    // Where what was read is answered or refused, it was read to the end.
-    ensures ends { result ≢ Err ServeFault.ReadFault → result ≢ Err ServeFault.Memory
-        → ReadsToTheEnd (S.reads source.old) (S.reads source.new) most_taken }
+    // However it ends, there are no more reads than these, and they take no more bytes than these.
+    ensures reads { HasRead ServeFault.ReadFault ServeFault.Memory (S.left source.old) (S.left source.new)
+        (S.reads source.old) (S.reads source.new) most_reads most_taken result }
 
     // The answer to all that was read is written with a line feed, and nothing else; the verdict and what is
     // said of a history that is stuck are its.
-    ensures ok { IfOk result (λ found. (told : AnsweredSo)
+    ensures ok { IfOk result (λ found. (told : ToldView)
         × Answers most (S.left source.old) (S.left source.new)
         (taken_since (S.reads source.old) (S.reads source.new)) (Ok told)
         × (found.verdict ≡ told.line.verdict) × (found.note ≡ told.note)
@@ -47,20 +42,16 @@ pub fn serve_explanation<S: Source, K: Sink>(
     ensures refused { IfErr result (λ e. e ≢ ServeFault.ReadFault → e ≢ ServeFault.WriteFault
         → e ≢ ServeFault.Memory → Answers most (S.left source.old) (S.left source.new)
         (taken_since (S.reads source.old) (S.reads source.new)) (Err e)) }
-    ensures read_fault { (result ≡ Err ServeFault.ReadFault)
-        ↔ (any_since is_err (S.reads source.old) (S.reads source.new) ≡ true) }
 
     // A write that failed leaves a front of the line and is the last, and no other refusal writes.
-    ensures write_fault { (result ≡ Err ServeFault.WriteFault)
-        ↔ (any_since takes_none (K.writes sink.old) (K.writes sink.new) ≡ true) }
-    ensures front { result ≡ Err ServeFault.WriteFault → ((told : AnsweredSo)
+    ensures writes { HasWritten ServeFault.WriteFault (K.sent sink.old) (K.sent sink.new)
+        (K.writes sink.old) (K.writes sink.new) result }
+    ensures front { result ≡ Err ServeFault.WriteFault → ((told : ToldView)
         × Answers most (S.left source.old) (S.left source.new)
         (taken_since (S.reads source.old) (S.reads source.new)) (Ok told)
         × AppendsFront (K.sent sink.old) (K.sent sink.new) (told.line.text ++ 10 ∷ [])
         × MakesAtMost (K.writes sink.old) (K.writes sink.new) (length told.line.text + 1)
         (length told.line.text + 1)) }
-    ensures silent { IfErr result (λ e. e ≢ ServeFault.WriteFault
-        → Keeps (K.sent sink.old) (K.sent sink.new) × (K.writes sink.new ≡ K.writes sink.old)) }
 {
     let Told { line, note } = told_of(alloc, most, source)?;
     let Line { mut text, verdict } = line;

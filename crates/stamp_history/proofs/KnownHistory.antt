@@ -54,20 +54,24 @@ each_all P one holds i (item d ds) xs e =
     subst (All P) all (All-cons P first.0 rest.0 (holds i d first.0 first.1)
     (each_all P one holds (i + 1) ds rest.0 rest.1))
 
-suited_ok : (w : ℕ) (found : Option Entry) (e : Entry) → option_and_then (suited w) found ≡ Some e →
-    call_suits w e.call ≡ true
-suited_ok w None e h = cc
-suited_ok w (Some x) e h = by (call_suits w x.call) refl h
+-- what a test lets through passes it
+pub let_through : {A : Type 0} (test : A → Bool) (found : Option A) (x : A) →
+    option_and_then (λ y. if test y then Some y else None) found ≡ Some x → test x ≡ true
+let_through test None x e = cc
+let_through {A} test (Some y) x e = by (test y) refl e
   where
-    by : (b : Bool) → call_suits w x.call ≡ b → (if b then Some x else None) ≡ Some e → call_suits w e.call ≡ true
-    by true test h = let same : x ≡ e = cc in subst (λ (z : Entry). call_suits w z.call ≡ true) same test
-    by false test h = cc
+    by : (b : Bool) → test y ≡ b → (if b then Some y else None) ≡ Some x → test x ≡ true
+    by true is e = let same : y ≡ x = cc in subst (λ (z : A). test z ≡ true) same is
+    by false is e = cc
 
 entry_suits : (w i : ℕ) (d : Data) (e : Entry) → entry_at w i d ≡ Ok e → SuitsRecord w e
 entry_suits w i d e h =
     let in_range = ranged_ok (NotHistory (part.Entry i)) (Limit (part.Entry i)) (λ (x : Entry). nat_lt x.thread 64)
     (option_and_then (suited w) (value.entry d)) e h in
-    record { thread = below e.thread in_range.1; call = suited_ok w (value.entry d) e in_range.0 }
+    record {
+      thread = below e.thread in_range.1;
+      call = let_through (λ (x : Entry). call_suits w x.call) (value.entry d) e in_range.0;
+    }
   where
     below : (n : ℕ) → nat_lt n 64 ≡ true → n < 64
     below n t = grind (arith, nat_tests)
@@ -79,16 +83,22 @@ pub known_width : (d : Data) (w : ℕ) → width d ≡ Ok w → w ≤ 16
 known_width d w h = at_most w 16 (ranged_ok (NotHistory part.Width) (Limit part.Width) (λ n. nat_le n 16)
     (whole_under (codes "width") d) w h).1
 
-pub known_entries : (w : ℕ) (d : Data) (es : List Entry) → entries w d ≡ Ok es → (length es ≤ 640000) ×
-    All (SuitsRecord w) es
-unfolding entries
-known_entries w d es h =
-    let listed = bind_ok (listed_entries d) (each (entry_at w) 0) es h in
+-- the items under `entries` are no more than 640,000, and P holds of each as it is read
+pub listed_known : {A : Type 0} (P : A → Type 0) (one : ℕ → Data → Result A ReadError) →
+    ((j : ℕ) (d : Data) (x : A) → one j d ≡ Ok x → P x) → (d : Data) (xs : List A) →
+    (listed_entries d >>= each one 0) ≡ Ok xs → (length xs ≤ 640000) × All P xs
+listed_known P one holds d xs h =
+    let listed = bind_ok (listed_entries d) (each one 0) xs h in
     let in_range = ranged_ok (NotHistory part.Entries) (Limit part.Entries) (λ ds. nat_le (items_len ds) 640000)
     (list_under (codes "entries") d) listed.0 listed.1 in
     let most = at_most (items_len listed.0) 640000 in_range.1 in
-    let n = each_len (entry_at w) 0 listed.0 es listed.2 in
-    (omega arith, each_all (SuitsRecord w) (entry_at w) (λ j x e r. entry_suits w j x e r) 0 listed.0 es listed.2)
+    let n = each_len one 0 listed.0 xs listed.2 in
+    (omega arith, each_all P one holds 0 listed.0 xs listed.2)
+
+pub known_entries : (w : ℕ) (d : Data) (es : List Entry) → entries w d ≡ Ok es → (length es ≤ 640000) ×
+    All (SuitsRecord w) es
+unfolding entries
+known_entries w = listed_known (SuitsRecord w) (entry_at w) (entry_suits w)
 
 counted_ok : (count : ℕ) (found : Option Items) (ds : Items) →
     kind (NotHistory part.Report) (option_and_then (counted count) found) ≡ Ok ds → items_len ds ≡ count

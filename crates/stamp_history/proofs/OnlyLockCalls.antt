@@ -7,7 +7,7 @@ use Rattle.std.proofs.lemmas.List.Elements.{All-nil, All-cons}
 use Rattle.serde_json.specs.Data.{Data, Items, no_items, item}
 use Rattle.stamp_core.specs.Call.{is_lock_call}
 use Rattle.stamp_core.specs.declared.call.Call.{Call}
-use Rattle.stamp_history.specs.declared.text_kind.TextKind.TheVariants.{Script}
+use Rattle.stamp_history.specs.declared.text_kind.TextKind.TheVariants as text
 use Rattle.stamp_history.specs.HistoryCall.{history_call}
 use Rattle.stamp_history.specs.LockCall.{of_lock, lock_call}
 use Rattle.stamp_history.specs.Reading.{◌>>=◌, json_of, each}
@@ -66,9 +66,9 @@ pub replay_of_lock : (bytes : List ℕ) (replay : Replay) → replay_of bytes �
 unfolding replay_of replay_in
 replay_of_lock bytes replay e =
     let value = bind_ok (json_of bytes) replay_in replay e in
-    let keys = bind_ok (top value.0) (λ _. limits Script value.0 >>= λ found_limits. calls value.0 >>= λ found_calls. Ok
-    (record { limits = found_limits; calls = found_calls })) replay value.2 in
-    let bounds = bind_ok (limits Script value.0) (λ found_limits. calls value.0 >>= λ found_calls. Ok
+    let keys = bind_ok (top value.0) (λ _. limits text.Replay value.0 >>= λ found_limits. calls value.0 >>=
+    λ found_calls. Ok (record { limits = found_limits; calls = found_calls })) replay value.2 in
+    let bounds = bind_ok (limits text.Replay value.0) (λ found_limits. calls value.0 >>= λ found_calls. Ok
     (record { limits = found_limits; calls = found_calls })) replay keys.2 in
     let found = bind_ok (calls value.0) (λ found_calls. Ok (record { limits = bounds.0; calls = found_calls }))
     replay bounds.2 in

@@ -10,12 +10,13 @@ use Rattle.stamp_history.specs.declared.field.Field.TheVariants as part
 use Rattle.stamp_history.specs.declared.read_error.ReadError.{ReadError}
 use Rattle.stamp_history.specs.declared.read_error.ReadError.TheVariants.{NotScript, NotHistory, Limit}
 use Rattle.stamp_history.specs.declared.text_kind.TextKind.{TextKind}
-use Rattle.stamp_history.specs.declared.text_kind.TextKind.TheVariants.{Script, History}
+use Rattle.stamp_history.specs.declared.text_kind.TextKind.TheVariants.{Replay, Script, History}
 use Rattle.stamp_history.specs.JsonValue.{has_key, whole_under}
 use Rattle.stamp_history.specs.Reading.{◌>>=◌, ranged}
 
 -- the fault of a field of another kind, in a text that is read as one of these
 abbrev pub mistake : TextKind → Field → ReadError
+mistake Replay field = NotScript field
 mistake Script field = NotScript field
 mistake History field = NotHistory field
 

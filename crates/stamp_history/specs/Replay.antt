@@ -20,7 +20,7 @@ pub record Replay : Type 0 where
 unfoldable pub replay_in : Data → Result Replay ReadError
 replay_in d = do
   _ ← top d
-  found_limits ← limits text.Script d
+  found_limits ← limits text.Replay d
   found_calls ← calls d
   Ok (record { limits = found_limits; calls = found_calls })
 

@@ -10,21 +10,33 @@ use std::fmt;
 pub enum Field {
     /// The object itself: which keys it has.
     Top,
+    /// The number of the format: 1 or 2.
     Format,
+    /// The number of the layout: 1 or 2.
     Layout,
+    /// The most readers at a time: 1 to 127, in layout 2 to 65,535.
     Readers,
+    /// The most write acquisitions in all: 0 to 2^55-2, in layout 2 to 2^46-2.
     Versions,
+    /// How many words the record has: 0 to 16, where 0 is no record.
     Width,
+    /// The calls of a replay, at most 640,000.
     Calls,
-    /// A call of a replay.
+    /// The call at this position in a replay.
     Call(u64),
+    /// The threads of a script, each a list of calls.
     Threads,
-    /// Of a thread, one of its calls.
+    /// Of the thread at the first position in a script, the call at the second.
     ThreadCall(u64, u64),
+    /// The steps of a script.
     Steps,
+    /// The step at this position in a script.
     Step(u64),
+    /// The entries of a history, at most 640,000.
     Entries,
+    /// The entry at this position in a history.
     Entry(u64),
+    /// The report of a history: a pair for each entry.
     Report,
 }
 

@@ -14,7 +14,7 @@ use crate::history_entries::entry_of;
 use crate::json_values::{has_key, has_keys, list_under, whole_under};
 use crate::read_error::ReadError;
 use serde_json::Value;
-use stamp_core::{Call, Entry, MOST_ENTRIES, MOST_THREADS, MOST_WIDTH, Reply};
+use stamp_core::{Call, Entry, MOST_ENTRIES, MOST_THREADS, MOST_WORDS, Reply};
 use std::alloc::Global;
 
 /// The keys of format 1.
@@ -51,6 +51,7 @@ fn has_keys_of_two(value: &Value) -> bool
     )
 }
 
+/// Tests which keys the object has: those of format 1 or of format 2.
 pub(crate) fn check_top(value: &Value) -> Result<(), ReadError>
     ensures { result ≡ field.top (view value.now) }
 {
@@ -90,7 +91,7 @@ pub fn read_width(value: &Value) -> Result<u64, ReadError>
 {
     match whole_under(value, "width") {
         None => Err(ReadError::NotHistory(Field::Width)),
-        Some(width @ ..=MOST_WIDTH) => Ok(width),
+        Some(width) if width <= MOST_WORDS as u64 => Ok(width),
         Some(_) => Err(ReadError::Limit(Field::Width)),
     }
 }
@@ -155,6 +156,7 @@ fn entries_in(alloc: Global, width: u64, list: &[Value]) -> Result<Vec<Entry>, R
     Ok(entries)
 }
 
+/// The entries under the key `entries`, each with a call that suits the width.
 #[tactic(auto, unfolding(crate::specs::HistoryFields::entries))]
 pub(crate) fn read_entries(
     alloc: Global,

@@ -110,6 +110,7 @@ fn push_call(text: &mut Vec<u8>, call: &Call) -> Result<(), AllocError>
     Ok(())
 }
 
+/// Appends an entry as a JSON object, its keys in rising order.
 pub(crate) fn push_entry(text: &mut Vec<u8>, entry: &Entry) -> Result<(), AllocError>
     ensures text { OnOk result (text.new.items
         ≡ text.old.items ++ compact_text (entry_data entry.now)) }

@@ -35,6 +35,7 @@ pub fn has_members(value: &Value, count: usize) -> bool
     }
 }
 
+/// Whether the value is an object with this key.
 pub(crate) fn has_key(value: &Value, key: &str) -> bool
     ensures { result ≡ spec.has_key key.now (view value.now) }
 {

@@ -24,7 +24,7 @@ pub enum ReadError {
     /// 4: a growth was refused. It may come before each of the others.
     #[error("memory")]
     Memory,
-    /// 5: JSON that is no replay or script, at this field.
+    /// 5: JSON that is no replay or script, at this field. Its text says script of both.
     #[error("not a script: {0}")]
     NotScript(Field),
     /// 6: a script whose parts do not suit one another.

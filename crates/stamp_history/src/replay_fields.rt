@@ -12,12 +12,14 @@ use crate::json_values::{has_keys, list_under};
 use crate::lock_calls::lock_call_of;
 use crate::read_error::ReadError;
 use crate::stored_call::StoredCall;
+use crate::text_kind::TextKind;
 use serde_json::Value;
 use std::alloc::Global;
 
 /// The most calls of a replay.
-const MOST_CALLS: usize = 640_000;
+const MOST_REPLAYED: usize = 640_000;
 
+/// Tests which keys the object has.
 pub(crate) fn check_top(value: &Value) -> Result<(), ReadError>
     ensures { result ≡ field.top (view value.now) }
 {
@@ -26,7 +28,7 @@ pub(crate) fn check_top(value: &Value) -> Result<(), ReadError>
     {
         Ok(())
     } else {
-        Err(ReadError::NotScript(Field::Top))
+        Err(TextKind::Replay.mistake(Field::Top))
     }
 }
 
@@ -36,8 +38,8 @@ fn listed_calls(value: &Value) -> Result<&[Value], ReadError>
         (field.listed_calls (view value.now)) }
 {
     match list_under(value, "calls") {
-        None => Err(ReadError::NotScript(Field::Calls)),
-        Some(list) if list.len() > MOST_CALLS => Err(ReadError::Limit(Field::Calls)),
+        None => Err(TextKind::Replay.mistake(Field::Calls)),
+        Some(list) if list.len() > MOST_REPLAYED => Err(ReadError::Limit(Field::Calls)),
         Some(list) => Ok(list.as_slice()),
     }
 }
@@ -45,7 +47,7 @@ fn listed_calls(value: &Value) -> Result<&[Value], ReadError>
 fn call_at(index: u64, value: &Value) -> Result<StoredCall, ReadError>
     ensures { Gives ReadError.Memory call_of result (field.call_at index (view value.now)) }
 {
-    lock_call_of(value).ok_or(ReadError::NotScript(Field::Call(index)))
+    lock_call_of(value).ok_or(TextKind::Replay.mistake(Field::Call(index)))
 }
 
 fn calls_in(alloc: Global, list: &[Value]) -> Result<Vec<StoredCall>, ReadError>
@@ -59,6 +61,7 @@ fn calls_in(alloc: Global, list: &[Value]) -> Result<Vec<StoredCall>, ReadError>
     Ok(calls)
 }
 
+/// The calls under the key `calls`, stored small.
 #[tactic(auto, unfolding(crate::specs::ReplayFields::calls))]
 pub(crate) fn read_calls(alloc: Global, value: &Value) -> Result<Vec<StoredCall>, ReadError>
     ensures { Gives ReadError.Memory stored_calls result (field.calls (view value.now)) }

@@ -28,7 +28,7 @@ pub(crate) fn read_stored(
 {
     let value = json(alloc, bytes)?;
     check_top(&value)?;
-    let limits = read_limits(TextKind::Script, &value)?;
+    let limits = read_limits(TextKind::Replay, &value)?;
     let calls = read_calls(alloc, &value)?;
     Ok((limits, calls))
 }

@@ -12,12 +12,10 @@ use crate::json_values::{as_list, has_keys, list_under, take_list, whole_under};
 use crate::read_error::ReadError;
 use crate::script_calls::script_call_of;
 use serde_json::Value;
-use stamp_machines::ScriptCall;
+use stamp_machines::{MOST_CALLS, ScriptCall};
 use std::alloc::Global;
 
-/// The most calls of a thread, for which room is made at once.
-const MOST_CALLS: usize = 10_000;
-
+/// Tests which keys the object has.
 pub(crate) fn check_top(value: &Value) -> Result<(), ReadError>
     ensures { result ≡ field.top (view value.now) }
 {
@@ -33,6 +31,7 @@ pub(crate) fn check_top(value: &Value) -> Result<(), ReadError>
     }
 }
 
+/// The words of the record, 0 where there is none. Their range is tested by `Script::new`.
 pub(crate) fn read_width(value: &Value) -> Result<u64, ReadError>
     ensures { result ≡ field.width (view value.now) }
 {
@@ -66,6 +65,7 @@ fn call_at(thread: u64, index: u64, value: &Value) -> Result<ScriptCall, ReadErr
     script_call_of(value).ok_or(ReadError::NotScript(Field::ThreadCall(thread, index)))
 }
 
+/// The calls of one thread. Room is made at once for as many as a thread may have.
 fn calls_of_thread(
     alloc: Global,
     thread: u64,
@@ -141,6 +141,7 @@ fn steps_in(alloc: Global, list: &[Value]) -> Result<Vec<u64>, ReadError>
     Ok(steps)
 }
 
+/// The thread of each step.
 #[tactic(auto, unfolding(crate::specs::ScriptValue::steps))]
 pub(crate) fn read_steps(alloc: Global, value: &Value) -> Result<Vec<u64>, ReadError>
     ensures { Gives ReadError.Memory (λ steps. steps.items) result

@@ -9,8 +9,11 @@ use crate::read_error::ReadError;
 /// What a text is read as, which names the fault of a field of another kind.
 #[derive(Clone, Copy)]
 pub enum TextKind {
-    /// A replay or a script.
+    /// A replay. Its faults are a script's: `NotScript`.
+    Replay,
+    /// A script: `NotScript`.
     Script,
+    /// A history, also an observed one: `NotHistory`.
     History,
 }
 
@@ -20,7 +23,7 @@ impl TextKind {
         ensures { result ≡ mistake self field }
     {
         match self {
-            TextKind::Script => ReadError::NotScript(field),
+            TextKind::Replay | TextKind::Script => ReadError::NotScript(field),
             TextKind::History => ReadError::NotHistory(field),
         }
     }

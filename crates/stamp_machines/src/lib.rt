@@ -23,4 +23,4 @@ pub use run_whole::{run, run_reported};
 pub use running::{MOST_STEPS, Run, RunError, Stepped};
 pub use script::{Arg, MOST_CALLS, Script, ScriptCall};
 pub use shape::Shape;
-pub use stamp_core::{MOST_THREADS, MOST_WIDTH, ScriptError};
+pub use stamp_core::{MOST_THREADS, MOST_WORDS, ScriptError};

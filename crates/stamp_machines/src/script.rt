@@ -6,7 +6,7 @@ ghost use Rattle.stamp_machines.specs.Script.{Suits, IsSound, calls_of};
 
 use crate::running::MOST_STEPS;
 use crate::shape::Shape;
-use stamp_core::{Limits, MOST_THREADS, MOST_WIDTH, ScriptError, Words};
+use stamp_core::{Limits, MOST_THREADS, MOST_WORDS, ScriptError, Words};
 use std::marker::Model;
 
 /// No thread of a script has more calls.
@@ -113,7 +113,7 @@ fn first_unknown(steps: &[u64], threads: u64) -> Option<usize>
 impl Script {
     /// A script of just what was given, or its first fault; then all of it is dropped. It may
     /// have up to `MOST_THREADS` threads, `MOST_CALLS` calls in each, `MOST_STEPS` steps and a record
-    /// of `MOST_WIDTH` words.
+    /// of `MOST_WORDS` words.
     pub fn new(
         limits: Limits,
         width: u64,
@@ -143,7 +143,7 @@ impl Script {
         if let Some(at) = first_unknown(&steps, count) {
             return Err(ScriptError::NoSuchThread(at as u64));
         }
-        if width > MOST_WIDTH || !are_suited(width, &threads) {
+        if width > MOST_WORDS as u64 || !are_suited(width, &threads) {
             return Err(ScriptError::RecordWidth);
         }
         Ok(Script {

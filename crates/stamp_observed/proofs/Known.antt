@@ -1,34 +1,20 @@
 -- What was read makes an observed history.
-use Rattle.std.proofs.Common.{◌≡◌, ◌≤◌, ◌<◌, ℕ, List, length, refl, subst, arith, Bool, true, false, Option, Some}
+use Rattle.std.proofs.Common.{◌≡◌, ◌≤◌, ◌<◌, ℕ, List, length, refl, arith, Bool, true, false, Option, Some}
 use Rattle.std.proofs.Common.{None, Ok, option_and_then}
-use Rattle.std.specs.Prelude.{◌&&◌, nat_le, nat_lt, if◌then◌else◌, codes, IsTrue}
+use Rattle.std.specs.Prelude.{◌&&◌, nat_lt, IsTrue}
 use Rattle.std.specs.List.{All}
 use Rattle.std.proofs.lemmas.Bool.Decides.{nat_tests}
 use Rattle.serde_json.specs.Data.{Data}
-use Rattle.serde_json.specs.Events.{items_len}
 use Rattle.stamp_core.specs.Call.{call_suits}
 use Rattle.stamp_explain.specs.declared.observed.Observation.{Observation}
 use Rattle.stamp_explain.specs.declared.observed.Returned.{Returned}
 use Rattle.stamp_explain.specs.Observed.{IsLow}
 use Rattle.stamp_history.specs.declared.field.Field.TheVariants as part
 use Rattle.stamp_history.specs.declared.read_error.ReadError.TheVariants.{NotHistory, Limit}
-use Rattle.stamp_history.specs.HistoryFields.{listed_entries}
-use Rattle.stamp_history.specs.JsonValue.{list_under}
-use Rattle.stamp_history.specs.Reading.{each}
-use Rattle.stamp_history.proofs.EachItem.{bind_ok}
-use Rattle.stamp_history.proofs.KnownHistory.{ranged_ok, each_len, each_all, at_most}
+use Rattle.stamp_history.proofs.KnownHistory.{ranged_ok, let_through, listed_known}
 use Rattle.stamp_observed.specs.ObservationValue as value
 use Rattle.stamp_observed.specs.ObservedFields.{suited, ends_in_range, is_in_range, entry_at, entries}
 use Rattle.stamp_observed.specs.Span.{EndsLow}
-
-suited_ok : (w : ℕ) (found : Option Observation) (e : Observation) → option_and_then (suited w) found ≡ Some e →
-    call_suits w e.call ≡ true
-suited_ok w None e h = cc
-suited_ok w (Some x) e h = by (call_suits w x.call) refl h
-  where
-    by : (b : Bool) → call_suits w x.call ≡ b → (if b then Some x else None) ≡ Some e → call_suits w e.call ≡ true
-    by true test h = let same : x ≡ e = cc in subst (λ (z : Observation). call_suits w z.call ≡ true) same test
-    by false test h = cc
 
 -- what one entry keeps to
 pub record IsKnown (w : ℕ) (e : Observation) : Type 0 where
@@ -56,16 +42,10 @@ entry_known w i d e h =
     record {
       thread = all.0;
       low = record { first = all.1.0; last = ends_low e.returned all.1.1 };
-      suits = suited_ok w (value.observation d) e in_range.0;
+      suits = let_through (λ (x : Observation). call_suits w x.call) (value.observation d) e in_range.0;
     }
 
 pub known_entries : (w : ℕ) (d : Data) (es : List Observation) → entries w d ≡ Ok es → (length es ≤ 640000) ×
     All (IsKnown w) es
 unfolding entries
-known_entries w d es h =
-    let listed = bind_ok (listed_entries d) (each (entry_at w) 0) es h in
-    let in_range = ranged_ok (NotHistory part.Entries) (Limit part.Entries) (λ ds. nat_le (items_len ds) 640000)
-    (list_under (codes "entries") d) listed.0 listed.1 in
-    let most = at_most (items_len listed.0) 640000 in_range.1 in
-    let n = each_len (entry_at w) 0 listed.0 es listed.2 in
-    (omega arith, each_all (IsKnown w) (entry_at w) (λ j x e r. entry_known w j x e r) 0 listed.0 es listed.2)
+known_entries w = listed_known (IsKnown w) (entry_at w) (entry_known w)

@@ -14,6 +14,7 @@ use stamp_explain::{END_OF_POSITIONS, Observation, Returned};
 use stamp_history::{Field, ReadError, has_keys, listed_entries};
 use std::alloc::Global;
 
+/// Tests which keys the object has.
 pub(crate) fn check_top(value: &Value) -> Result<(), ReadError>
     ensures { result ≡ field.top (view value.now) }
 {
@@ -98,6 +99,7 @@ fn entries_in(alloc: Global, width: u64, list: &[Value]) -> Result<Vec<Observati
     Ok(entries)
 }
 
+/// The calls under the key `entries`, each one that suits the width.
 #[tactic(auto, unfolding(crate::specs::ObservedFields::entries))]
 pub(crate) fn read_entries(
     alloc: Global,

@@ -11,8 +11,11 @@ use std::alloc::{AllocError, Global};
 /// A call by a thread: where it began, and from where on the thread is free for its next call.
 #[derive(Clone, Copy)]
 pub(crate) struct Span {
+    /// The thread, 0 to 63.
     pub(crate) thread: u64,
+    /// Where the call began.
     pub(crate) first: u64,
+    /// One past where the call returned; the largest number where it didn't.
     pub(crate) free: u64,
 }
 

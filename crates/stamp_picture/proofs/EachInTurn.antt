@@ -1,5 +1,6 @@
 -- Bars, moments and the opening, one entry more.
-use Rattle.std.proofs.Common.{◌≡◌, ◌∙◌, ℕ, ◌+◌, ◌<◌, List, [], ◌∷◌, ◌++◌, Bool, true, false, length, take, get_or, sym, ap}
+use Rattle.std.proofs.Common.{◌≡◌, ◌∙◌, ℕ, ◌+◌, ◌<◌, List, [], ◌∷◌, ◌++◌, Bool, true, false}
+use Rattle.std.proofs.Common.{length, take, get_or, sym, ap}
 use Rattle.std.proofs.Common.{arith, append_assoc}
 use Rattle.std.specs.Prelude.{if◌then◌else◌}
 use Rattle.std.proofs.lemmas.List.{take_more, append-nil, length-take}
@@ -94,7 +95,8 @@ pub opening_more : (l : Bounds) (n : ℕ) (w : Window) (xs : List Entry) (i : �
 opening_more l n w xs i e lt is =
     let more = taken_more xs i e lt is in
     ap (λ (ys : List Entry). opening_of l n w ys) more ∙ opening_push l n w (state_after l n []) [] (take i xs) e
-    ∙ ap (λ (ys : List Entry). if precedes e.point w then state_after l n ys else opening_of l n w (take i xs)) (sym more)
+    ∙ ap (λ (ys : List Entry). if precedes e.point w then state_after l n ys else opening_of l n w (take i xs))
+    (sym more)
 
 -- the lanes are those of a record's threads
 pub if_all : {X : Type 0} (P : X → Type 0) (b : Bool) (x : X) (xs : List X) → P x → All P xs →

@@ -32,8 +32,8 @@ same_replies : (t : Option Transition) (a b : Reply) → Replies t a → Replies
 same_replies None a b x y = absurd x
 same_replies (Some t) a b x y = sym x ∙ y
 
-same_held : (content : List ℕ) (call : Call) (a b : Reply) → RecordReplies content call a → RecordReplies content call b →
-    a ≡ b
+same_held : (content : List ℕ) (call : Call) (a b : Reply) → RecordReplies content call a →
+    RecordReplies content call b → a ≡ b
 same_held content Get a b x y = x ∙ sym y
 same_held content (Put words) a b x y = x ∙ sym y
 same_held content (PutIf expected words) a b x y = x ∙ sym y

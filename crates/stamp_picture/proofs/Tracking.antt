@@ -46,8 +46,9 @@ goes_on limits e track word content moves held = record {
 }
 
 -- a call without a transition leaves the word, and so does a call of the record
-pub waits : (limits : Bounds) (call : Call) (word : LockWord) (events : List LockEvent) → Represents limits word events →
-    transition limits events call ≡ None → Represents limits word (events ++ appended_by (transition limits events call))
+pub waits : (limits : Bounds) (call : Call) (word : LockWord) (events : List LockEvent) →
+    Represents limits word events → transition limits events call ≡ None →
+    Represents limits word (events ++ appended_by (transition limits events call))
 waits limits call word events now none =
     subst (λ (xs : List LockEvent). Represents limits word xs)
     (sym (ap (λ t. events ++ appended_by t) none ∙ append-nil events)) now
@@ -83,8 +84,9 @@ shows limits width track mode version content m v held = record {
       same mode version content _ _ _ a b c;
 }
   where
-    same : (m : Mode) (v : ℕ) (c : Option (List ℕ)) (m' : Mode) (v' : ℕ) (c' : Option (List ℕ)) → m ≡ m' → v ≡ v' → c ≡ c' →
-        (let s : State = record { mode = m; version = v; content = c } in s) ≡ record { mode = m'; version = v'; content = c' }
+    same : (m : Mode) (v : ℕ) (c : Option (List ℕ)) (m' : Mode) (v' : ℕ) (c' : Option (List ℕ)) → m ≡ m' →
+        v ≡ v' → c ≡ c' → (let s : State = record { mode = m; version = v; content = c } in s) ≡
+        record { mode = m'; version = v'; content = c' }
     same m v c m' v' c' a b d = cc
 
 -- what is due to a call of the lock, and of the record

@@ -11,11 +11,12 @@ ghost use Rattle.stamp_picture.specs.Track.{IsTrack, Advances, Shows, Answers};
 use crate::state::{Mode, State};
 use stamp_core::{Call, Entry, Limits, Reply, Word, Words, step};
 
-/// The lock's word and the record's content after some entries. Without a record the content is
-/// one zero, which nothing reads.
+/// The lock and the record after some entries.
 #[derive(Clone, Copy)]
 pub(crate) struct Track {
+    /// The lock's word.
     pub(crate) word: Word,
+    /// What the record holds. Without a record it is one zero, which nothing reads.
     pub(crate) content: Words,
 }
 
@@ -101,6 +102,7 @@ impl Track {
         }
     }
 
+    /// What a picture shows of them.
     pub(crate) fn state(&self, limits: Limits, width: u64) -> State
         requires { IsAdmitted limits self.now.word }
         ensures { Shows limits width self.now result }

@@ -45,12 +45,14 @@ impl Window {
         self.from.max(position.min(self.to))
     }
 
+    /// Whether the point lies in the window.
     pub(crate) fn contains(&self, point: u64) -> bool
         ensures { result ≡ contains self.now point }
     {
         self.from <= point && point <= self.to
     }
 
+    /// Whether the point lies before the window.
     pub(crate) fn is_after(&self, point: u64) -> bool
         ensures { result ≡ precedes point self.now }
     {

@@ -79,6 +79,7 @@ fn decided_in<const LAYOUT: u32>(
     }
 }
 
+/// What the call of this code does with the word of this number, or the first fault of what was given.
 pub(crate) fn decided(given: CLimits, number: u64, code: u32, stamp: u64) -> CDecision
     ensures { InC (IsDecided given number code stamp) number result }
 {

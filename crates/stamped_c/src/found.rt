@@ -9,8 +9,11 @@ use stamp_core::{LockDecision, LockReply, StampKind};
 #[repr(C)]
 #[derive(Clone, Copy)]
 pub struct CLimits {
+    /// The number of the layout: 1 or 2.
     pub layout: u32,
+    /// The most readers at a time: 1 to 127, in layout 2 to 65,535.
     pub readers: u32,
+    /// The most write acquisitions in all: 0 to 2^55-2, in layout 2 to 2^46-2.
     pub versions: u64,
 }
 

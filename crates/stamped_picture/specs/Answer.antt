@@ -22,12 +22,12 @@ use Rattle.stamped_picture.specs.declared.answer.Drawing as made
 use Rattle.stamped_picture.specs.declared.faults.PictureFault.{PictureFault}
 use Rattle.stamped_picture.specs.declared.faults.PictureFault.TheVariants.{Serve, TooMany}
 
--- a picture's text, and what it says of the history
-pub record Drawing : Type 0 where
+-- a picture as contracts see it: its text, and what it says of the history
+pub record DrawingView : Type 0 where
   pub text : List ℕ
   pub verdict : Verdict
 
-abbrev pub drawing_in : made.Drawing → Drawing
+abbrev pub drawing_in : made.Drawing → DrawingView
 drawing_in drawing = record { text = drawing.text.items; verdict = drawing.verdict }
 
 abbrev pub verdict_in : Result ℕ Fault → Verdict
@@ -47,7 +47,8 @@ IsDrawnAs Svg style picture text = IsSvg style picture text
 IsDrawnAs (Text width) style picture text = IsRows width picture text × AreNarrow width text
 
 -- the text is that of the history's picture in the window, and the verdict is the picture's
-pub record IsDrawnText (style : List ℕ) (order : PictureOrder) (history : Recorded) (drawing : Drawing) : Type 0 where
+pub record IsDrawnText (style : List ℕ) (order : PictureOrder) (history : Recorded) (drawing : DrawingView) :
+    Type 0 where
   pub picture : Drawn
   pub is_picture : IsPicture history order.window picture
   pub drawn : IsDrawnAs order.form style picture drawing.text
@@ -59,7 +60,7 @@ IsUndrawn window history (TooMany n) = IsCrowded history window n
 IsUndrawn window history (Serve fault) = ⊥
 
 -- the input is a history, and this is its picture
-pub record IsAnswer (style : List ℕ) (order : PictureOrder) (input : List ℕ) (drawing : Drawing) : Type 0 where
+pub record IsAnswer (style : List ℕ) (order : PictureOrder) (input : List ℕ) (drawing : DrawingView) : Type 0 where
   pub within : length input ≤ most_bytes
   pub history : Recorded
   pub read : history_of input ≡ Ok history
@@ -78,13 +79,13 @@ IsRefused window input (Serve fault) = IsInputAnswer AnswersCheck input (Err fau
 IsRefused window input (TooMany n) = IsTooMany window input n
 
 -- the answer to an input
-abbrev pub IsAnswered : List ℕ → PictureOrder → List ℕ → Result Drawing PictureFault → Type 0
+abbrev pub IsAnswered : List ℕ → PictureOrder → List ℕ → Result DrawingView PictureFault → Type 0
 IsAnswered style order input (Ok drawing) = IsAnswer style order input drawing
 IsAnswered style order input (Err fault) = IsRefused order.window input fault
 
 -- a source was read as input, by reads that took this many bytes, and this is the answer to all of them
 pub record Answers (style : List ℕ) (order : PictureOrder) (old new : Option (List ℕ)) (taken : ℕ)
-    (answer : Result Drawing PictureFault) : Type 0 where
+    (answer : Result DrawingView PictureFault) : Type 0 where
   pub input : List ℕ
   pub reads : Reads old new input
   pub whole : length input ≡ taken

@@ -1,9 +1,10 @@
 //! The picture that answers an order.
 
-ghost use Rattle.std.specs.Prelude.{◌≡◌, ◌≢◌, ◌↔◌, ◌≤◌, ◌<◌, true, false, length, All, IfOk, IfErr, Ok, Err, is_err};
+ghost use Rattle.std.specs.Prelude.{◌≡◌, ◌≢◌, ◌≤◌, ◌<◌, false, length, All, IfOk, IfErr, Ok, Err};
 ghost use Rattle.stamp_picture.specs.Picture.{most_bars};
-ghost use Rattle.stamp_cli.specs.Results.{MakesAtMost, ReadsToTheEnd, any_since, taken_since};
-ghost use Rattle.stamp_cli.specs.Source.{TakesAtMost, most_reads, most_taken};
+ghost use Rattle.stamp_cli.specs.Results.{taken_since};
+ghost use Rattle.stamp_cli.specs.Serving.{HasRead};
+ghost use Rattle.stamp_cli.specs.Source.{most_reads, most_taken};
 ghost use Rattle.stamp_cli.specs.declared.faults.ServeFault.TheVariants.{Memory, ReadFault, WriteFault};
 ghost use Rattle.stamped_picture.specs.declared.faults.PictureFault.TheVariants.{Serve};
 ghost use Rattle.stamped_picture.specs.Answer.{IsSvg, IsDrawnAs, IsDrawnText, IsUndrawn};
@@ -18,10 +19,12 @@ use stamp_history::read_history;
 use stamp_picture::{Fault, Picture, picture_of};
 use std::alloc::{AllocError, Global};
 
-/// A picture's text, and what it says of the history.
+/// The picture that answers an order.
 #[derive(Drop)]
 pub(crate) struct Drawing {
+    /// The picture, as SVG or in characters.
     pub(crate) text: Vec<u8>,
+    /// What it says of the history.
     pub(crate) verdict: Verdict,
 }
 
@@ -106,17 +109,13 @@ pub(crate) fn drawing_from<S: Source>(
     style: &str,
     source: &mut S,
 ) -> Result<Drawing, PictureFault>
-    ensures reads { MakesAtMost (S.reads source.old) (S.reads source.new) most_reads most_taken }
-    ensures took { TakesAtMost (S.left source.old) (S.left source.new) most_taken }
+    ensures reads { HasRead (Serve ReadFault) (Serve Memory) (S.left source.old) (S.left source.new)
+        (S.reads source.old) (S.reads source.new) most_reads most_taken result }
     ensures ok { IfOk result (λ drawing. Answers style.now order (S.left source.old) (S.left source.new)
         (taken_since (S.reads source.old) (S.reads source.new)) (Ok (drawing_in drawing))) }
     ensures err { IfErr result (λ e. e ≢ Serve ReadFault → e ≢ Serve Memory
         → Answers style.now order (S.left source.old) (S.left source.new)
         (taken_since (S.reads source.old) (S.reads source.new)) (Err e)) }
-    ensures ends { result ≢ Err (Serve ReadFault) → result ≢ Err (Serve Memory)
-        → ReadsToTheEnd (S.reads source.old) (S.reads source.new) most_taken }
-    ensures failed { (result ≡ Err (Serve ReadFault))
-        ↔ (any_since is_err (S.reads source.old) (S.reads source.new) ≡ true) }
     ensures not_written { result ≢ Err (Serve WriteFault) }
 {
     let input = read_input(alloc, source)?;

@@ -10,7 +10,7 @@ pub returns-then-has_writer : goal.returns-then-has_writer
 returns-then-has_writer c =
     let k = kind_of c.args.layout c.args.stamp (c.in-Some.ensures.some.0 refl) in
     let w : (counts_in c.in-Some.word).writers ≡ 1 = grind (arith, nat_tests) in
-    rw (c.version.ensures, c.in-Some.ensures.bits) (k.0 (rw c.in-Some.ensures.bits at w))
+    rw (c.write_count.ensures, c.in-Some.ensures.bits) (k.0 (rw c.in-Some.ensures.bits at w))
 
 pub returns-then-reader_count-gt0 : goal.returns-then-reader_count-gt0
 returns-then-reader_count-gt0 c =
@@ -24,7 +24,7 @@ returns-else-reader_count-gt0 c =
     let one = one_holder (units_of c.args.layout) c.args.stamp in
     let w : (counts_of (units_of c.args.layout) c.args.stamp).writers ≡ 0 = grind (arith, nat_tests) in
     let r : (counts_of (units_of c.args.layout) c.args.stamp).readers ≡ 0 = grind (arith, nat_tests) in
-    rw (c.version-else-reader_count-gt0.ensures, c.in-Some.ensures.bits) (k.2 w r)
+    rw (c.write_count-else-reader_count-gt0.ensures, c.in-Some.ensures.bits) (k.2 w r)
 
 pub returns-in_default : goal.returns-in_default
 returns-in_default c = λ k stamp. let some = c.in_default.ensures.some.1

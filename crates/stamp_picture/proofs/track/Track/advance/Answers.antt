@@ -7,7 +7,8 @@ returns-in-Some c = goes_on c.args.limits c.args.entry.now c.args.self.now _ c.n
     (λ events now. (c.in-Some.ensures.after events now).0) c.next_content-self.ensures
 
 pub returns-in_default : goal.returns-in_default
-returns-in_default c = goes_on c.args.limits c.args.entry.now c.args.self.now c.args.self.now.word c.next_content-self.result
+returns-in_default c =
+    goes_on c.args.limits c.args.entry.now c.args.self.now c.args.self.now.word c.next_content-self.result
     (λ events now. waits c.args.limits c.args.entry.now.call c.args.self.now.word events now
     (c.in_default.ensures.after events now)) c.next_content-self.ensures
 
