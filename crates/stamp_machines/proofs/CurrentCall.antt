@@ -17,7 +17,7 @@ use Rattle.stamp_machines.specs.declared.script.ScriptCall.TheVariants.{TryUnloc
 use Rattle.stamp_machines.specs.declared.script.ScriptCall.TheVariants.{IsWriteLocked, IsReadLocked}
 use Rattle.stamp_machines.specs.declared.script.ScriptCall.TheVariants.{ReadCount, Get, Put, PutIf}
 use Rattle.stamp_machines.specs.Job.{Job, Getting, Putting, PuttingIf, job_in, new_words, is_get}
-use Rattle.stamp_machines.specs.RecordPhase.{opening}
+use Rattle.stamp_machines.specs.Place.{opening}
 use Rattle.stamp_machines.specs.declared.shape.Shape.{Shape}
 use Rattle.stamp_machines.specs.MachineState.{first_phase, start}
 use Rattle.stamp_machines.specs.Script.{Scripted, Suits, calls_of}

@@ -3,7 +3,7 @@ use Rattle.std.specs.Prelude.{ℕ, Option, Some, None}
 use Rattle.stamp_core.specs.Limits.{Bounds, widest}
 use Rattle.stamp_core.specs.declared.call.Call.{Call}
 use Rattle.stamp_machines.specs.Job.{Job, job_in}
-use Rattle.stamp_machines.specs.RecordPhase.{Place, opening}
+use Rattle.stamp_machines.specs.Place.{Place, opening}
 use Rattle.stamp_machines.specs.declared.shape.Shape.{Shape}
 
 pub data Phase : Type 0 where
