@@ -14,7 +14,7 @@ use Rattle.stamp_threads.specs.LockLog.{LockLog, events_after, transition_after,
 use Rattle.stamp_threads.specs.LockPass.{LockPass, Seated, IsConsistentWith, LeavesWord, first_of}
 use Rattle.stamp_threads.specs.LockPass.{HasEntered}
 use Rattle.stamp_threads.specs.LockPass.{second_of}
-use Rattle.stamp_threads.specs.HaveMet.{HaveMet}
+use Rattle.stamp_threads.specs.LockPassesMet.{LockPassesMet}
 
 -- there is one legal history, whose events the word represents; each pass that stands knows a part
 -- of it, and their names are apart. Where passes may not enter, the first root is the only one
@@ -79,7 +79,7 @@ ExchangeTells limits call st m found n =
 -- and the seat of two passes: both have observed the whole history
 abbrev pub MeetTells : Bounds → Step (Unit {0}) → Seated → ℕ → Seated → Type 0
 MeetTells limits st m found n = (n ≡ both (first_of n.0) (second_of n.0)) ×
-    HaveMet limits (first_of m.0) (second_of m.0) (first_of n.0) (second_of n.0)
+    LockPassesMet limits (first_of m.0) (second_of m.0) (first_of n.0) (second_of n.0)
 
 -- and a seat that is made by a load
 abbrev pub EnterTells : Bounds → Step (Unit {0}) → Seated → ℕ → Seated → Type 0

@@ -7,7 +7,7 @@ ghost use Rattle.stamp_threads.specs.PassView.{after_split, split_off};
 ghost use Rattle.stamp_threads.specs.Seats.{alone, both};
 ghost use Rattle.stamp_threads.specs.LockPass.{first_of, second_of, HasEntered, IsAtSeat, AreAtSeat};
 ghost use Rattle.stamp_threads.specs.LockRule.{Loaded, Exchanged};
-ghost use Rattle.stamp_threads.specs.HaveMet.{HaveMet};
+ghost use Rattle.stamp_threads.specs.LockPassesMet.{LockPassesMet};
 
 use crate::lock_rule::{
     EnterStep, ExchangeStep, GivePass, LoadStep, LockKey, LockRule, MeetStep, PartSeats, Passes,
@@ -88,7 +88,7 @@ pub fn load_both<C: StepFor>(table: &LockTable, seat: &mut LockSeat)
     requires seat { AreAtSeat table.now.table_id seat.old.table_id seat.old.me }
     ensures seat { AreAtSeat table.now.table_id seat.new.table_id seat.new.me }
     ensures met { let old = seat.old.me.0 in let new = seat.new.me.0 in
-        HaveMet table.now.key.limits (first_of old) (second_of old) (first_of new) (second_of new) }
+        LockPassesMet table.now.key.limits (first_of old) (second_of old) (first_of new) (second_of new) }
 {
     table.load::<MeetStep<C>>(seat, 0);
 }
