@@ -19,7 +19,7 @@ use std::thread;
 pub struct RecordHandle<'a, const N: usize, P: ContentRule> {
     shared: &'a RuledRecord<P>,
     pass: RecordPass,
-    ghost own: { pass.table ≡ shared.now.table },
+    ghost table: { pass.table ≡ shared.now.table },
     ghost width: { (shared.now.shape.width ≡ N) × (1 ≤ N) × (N ≤ 16) },
 }
 
@@ -35,7 +35,7 @@ impl<'a, const N: usize, P: ContentRule> Model for RecordHandle<'a, N, P> {
 impl<'a, const N: usize, P: ContentRule> RecordHandle<'a, N, P> {
     /// The handle of a record and a pass of it.
     pub(crate) fn new(shared: &'a RuledRecord<P>, pass: RecordPass) -> RecordHandle<'a, N, P>
-        requires own { pass.table ≡ shared.now.table }
+        requires table { pass.table ≡ shared.now.table }
         requires width { (shared.now.shape.width ≡ N) × (1 ≤ N) × (N ≤ 16) }
         ensures shared { result.shared ≡ shared.now }
         ensures pass { result.pass ≡ pass.view }
