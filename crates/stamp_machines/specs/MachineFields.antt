@@ -114,5 +114,5 @@ abbrev pub IsStageNext : Shape → Call → List ℕ → List ℕ → StageNext 
 IsStageNext shape call before loaded (next.Going stage) = IsStage shape call loaded stage
 IsStageNext shape call before loaded next.Done = loaded ≡ before
 
-abbrev pub IsSound : Inside → Type 0
-IsSound m = IsStage m.shape m.call m.loaded m.stage
+abbrev pub IsAtStage : Inside → Type 0
+IsAtStage m = IsStage m.shape m.call m.loaded m.stage

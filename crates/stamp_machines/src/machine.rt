@@ -49,11 +49,11 @@ impl Model for Machine {
 
     ghost Value = { MachineState };
 
-    ghost use Rattle.stamp_machines.specs.MachineFields.{state_in, IsSound};
+    ghost use Rattle.stamp_machines.specs.MachineFields.{state_in, IsAtStage};
 
     ghost view = { state_in };
 
-    ghost invariant = { IsSound };
+    ghost invariant = { IsAtStage };
 }
 
 /// A lock call on the public lock goes on.
