@@ -24,7 +24,7 @@ pub record LockView : Type 0 where
   pub enterable : Bool
 
 -- a pass is seen as the lock that gave it, and what it knows
-pub record Token : Type 0 where
+pub record LockToken : Type 0 where
   pub table : TableId
   pub view : LockPass
 
@@ -56,7 +56,7 @@ pub record IsConsistentWith (limits : Bounds) (v : LockPass) : Type 0 where
   pub given : HasGivenAll v.name v.splits v.observed
 
 -- a new lock, and its first pass, which has made no call
-pub record IsNew (limits : Bounds) (enterable : Bool) (lock : LockView) (pass : Token) : Type 0 where
+pub record IsNew (limits : Bounds) (enterable : Bool) (lock : LockView) (pass : LockToken) : Type 0 where
   pub has_limits : lock.limits ≡ limits
   pub opens : lock.enterable ≡ enterable
   pub table : pass.table ≡ lock.table

@@ -22,13 +22,13 @@ pub struct Book {
 }
 
 impl Model for Book {
-    ghost use Rattle.stamp_threads.specs.Book.{Booked, booked, IsKept};
+    ghost use Rattle.stamp_threads.specs.Book.{Booked, booked, HasWord};
 
     ghost Value = { Booked };
 
     ghost view = { λ b. booked b.limits b.most b.entries.items };
 
-    ghost invariant = { λ b. IsKept (booked b.limits b.most b.entries.items) b.word };
+    ghost invariant = { λ b. HasWord (booked b.limits b.most b.entries.items) b.word };
 }
 
 /// The entry of a call that begins, takes effect and ends at this position.

@@ -15,7 +15,7 @@ ghost use Rattle.stamp_threads.specs.Underway.{GoesAsMachine, turn_once};
 ghost use Rattle.stamp_threads.specs.LockPassesMet.{LockPassesMet};
 ghost use Rattle.stamp_threads.specs.Closes.{Closes};
 
-use crate::lock_rule::{LockKey, LockRule, Passes};
+use crate::lock_rule::{LockKey, LockPasses, LockRule};
 use crate::lock_steps;
 use crate::lost::Lost;
 use crate::pass::Pass;
@@ -62,7 +62,7 @@ fn try_form(call: &Call) -> Call
 /// A lock in one word that threads share by reference, each with a pass of its own.
 #[derive(Drop)]
 pub struct RunningLock {
-    pub(crate) table: Table<(), Passes, LockKey, LockRule, Global>,
+    pub(crate) table: Table<(), LockPasses, LockKey, LockRule, Global>,
     pub(crate) limits: Limits,
 }
 
