@@ -177,7 +177,7 @@ impl<'a> Run<'a> {
         let before = self.word().bits();
         match self.step(thread) {
             Ok(stepped) => {
-                let _ = told(&stepped);
+                let _ = ended_call(&stepped);
                 let is_changed = self.word().bits() != before;
                 tally.count(thread as usize, is_changed, &stepped)?;
                 Ok(())
@@ -267,7 +267,7 @@ impl<'a> Run<'a> {
 }
 
 /// The call that ended, if one did.
-fn told(stepped: &Stepped) -> Option<Call> {
+fn ended_call(stepped: &Stepped) -> Option<Call> {
     match stepped {
         Stepped::Ended(entry) => Some(entry.call),
         _ => None,

@@ -3,7 +3,7 @@ use Rattle.std.specs.Prelude.{ℕ}
 use Rattle.stamp_core.specs.Limits.{Bounds}
 use Rattle.stamp_threads.specs.PassView.{every}
 use Rattle.stamp_threads.specs.LockLog.{IsLegalLog}
-use Rattle.stamp_threads.specs.LockPass.{LockPass}
+use Rattle.stamp_threads.specs.LockPass.{LockPassView}
 use Rattle.stamp_threads.specs.LockPassesMet.{LockPassesMet}
 use Rattle.stamp_threads.specs.RecordLog.{IsLegalRecord, is_own}
 use Rattle.stamp_threads.specs.RecordPass.{RecordPassView}
@@ -12,7 +12,7 @@ use Rattle.stamp_threads.specs.OneHistory.{Agree}
 
 -- Passes of a lock that meet agreed before they met.
 abbrev pub LockPassesAgree : Type 0
-LockPassesAgree = (limits : Bounds) (v w v' w' : LockPass) →
+LockPassesAgree = (limits : Bounds) (v w v' w' : LockPassView) →
     LockPassesMet limits v w v' w' → Agree every (IsLegalLog limits) v w
 
 -- And so did passes of a record.

@@ -36,9 +36,9 @@ pub struct LockHandle<'a> {
 
 impl<'a> Model for LockHandle<'a> {
     ghost use Rattle.std.specs.Prelude.{◌≡◌};
-    ghost use Rattle.stamped_lock.specs.HandleView.{HandleView};
+    ghost use Rattle.stamped_lock.specs.LockHandleView.{LockHandleView};
 
-    ghost Value = { HandleView };
+    ghost Value = { LockHandleView };
 
     ghost view = { λ h. record { lock = h.lock.now; pass = h.pass.view } };
 }
