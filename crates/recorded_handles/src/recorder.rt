@@ -4,8 +4,9 @@ use stamped_lock::{LockHandle, Lost, Mismatch, Stamp};
 use std::alloc::{AllocError, Global};
 use std::sync::atomic::{AtomicU64, Ordering};
 
-/// What a handle's method answers, as a reply. None where the call was not made.
+/// What a handle's method answers.
 pub trait Answer: Copy {
+    /// The reply that the sequential call has. None where the call lost, and was not made.
     fn reply(self) -> Option<Reply>;
 }
 
@@ -53,16 +54,22 @@ impl<T: Answer> Answer for Result<T, Lost> {
 /// A call on a tape.
 #[derive(Clone, Copy)]
 pub struct Entry {
+    /// The number of the thread that made the call.
     pub thread: usize,
+    /// The call, with the number of the stamp that it takes.
     pub call: Call,
+    /// The ticket taken before the call.
     pub first: u64,
+    /// The ticket taken after it.
     pub last: u64,
+    /// What the call answered.
     pub reply: Reply,
 }
 
 /// A thread's handle, the tickets that all threads share, and the calls that this thread made.
 #[derive(Drop)]
 pub struct Recorder<'a> {
+    /// The handle, by which the thread makes its calls between `begin` and `end`.
     pub handle: LockHandle<'a>,
     tickets: &'a AtomicU64,
     thread: usize,

@@ -12,8 +12,8 @@ use Rattle.stamp_machines.specs.Access.{place_of, seen_by}
 use Rattle.stamp_machines.specs.LockNumber.{IsAdmittedAt}
 use Rattle.stamp_core.specs.CountedDecision.{decision}
 use Rattle.stamp_machines.specs.Job.{Job}
-use Rattle.stamp_machines.specs.RecordPhase as record_calls
-use Rattle.stamp_machines.specs.RecordPhase.{Place, LockStep, call_for}
+use Rattle.stamp_machines.specs.Place as places
+use Rattle.stamp_machines.specs.Place.{Place, LockStep, call_for}
 use Rattle.stamp_machines.specs.LocalAccess.{LoadLock, LoadItem, with_lock}
 use Rattle.stamp_machines.specs.LockPhase.{phase_next, next_on}
 use Rattle.stamp_machines.specs.declared.shape.Shape.{Shape}
@@ -41,7 +41,7 @@ IsSafeIn shape call phase words =
 copying-safe : (shape : Shape) (call : Call) (job : Job) (first : ℕ) (loaded : List ℕ)
     (words : List ℕ) → length words ≡ 2 + shape.width →
     IsAdmittedAt (record_limits shape) (slice_index words 1) →
-    IsSafeIn shape call (OnRecord job (record_calls.Copying first loaded)) words
+    IsSafeIn shape call (OnRecord job (places.Copying first loaded)) words
 copying-safe shape call job first loaded words n w = go (nat_lt (length loaded) shape.width) refl
   where
     go : (b : Bool) → nat_lt (length loaded) shape.width ≡ b →
@@ -60,11 +60,11 @@ pub record-safe : (shape : Shape) (call : Call) (limits : Bounds) (k wr : ℕ)
     IsAdmittedAt (record_limits shape) (slice_index words 1) →
     HasVersionLeft shape (slice_index words 1) → Fits limits k wr content items job place →
     IsSafeIn shape call (OnRecord job place) words
-record-safe shape call limits k wr content items job record_calls.LoadingLock words n l w v f =
+record-safe shape call limits k wr content items job places.LoadingLock words n l w v f =
     (omega (arith, n), w)
-record-safe shape call limits k wr content items job (record_calls.Copying first loaded) words n l w
+record-safe shape call limits k wr content items job (places.Copying first loaded) words n l w
     v f = copying-safe shape call job first loaded words n w
-record-safe shape call limits k wr content items job (record_calls.Locking e seen) words n l w
+record-safe shape call limits k wr content items job (places.Locking e seen) words n l w
     v f =
     let at : place_of (with_lock 1 (phase_next (record_limits shape) (call_for e) seen)) ≡ 1 =
     phase-place 1 (record_limits shape) (call_for e) seen in (
@@ -74,14 +74,14 @@ record-safe shape call limits k wr content items job (record_calls.Locking e see
         subst (λ (i : ℕ). HasVersionLeft shape (slice_index words i)) (sym at) v,
       ),
     )
-record-safe shape call limits k wr content items job (record_calls.Reading s loaded) words n l w
+record-safe shape call limits k wr content items job (places.Reading s loaded) words n l w
     v f =
     (omega (arith, n, l, f.2), tt)
-record-safe shape call limits k wr content items job (record_calls.Checking s loaded) words n l w
+record-safe shape call limits k wr content items job (places.Checking s loaded) words n l w
     v f = (omega (arith, n, l, f.4), tt)
-record-safe shape call limits k wr content items job (record_calls.Storing s i) words n l w v f =
+record-safe shape call limits k wr content items job (places.Storing s i) words n l w v f =
     (omega (arith, n, l, f.3), tt)
-record-safe shape call limits k wr content items job (record_calls.Releasing s a) words n l w v
+record-safe shape call limits k wr content items job (places.Releasing s a) words n l w v
     f =
     (omega (arith, n), tt)
 

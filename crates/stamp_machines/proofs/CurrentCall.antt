@@ -17,7 +17,7 @@ use Rattle.stamp_machines.specs.declared.script.ScriptCall.TheVariants.{TryUnloc
 use Rattle.stamp_machines.specs.declared.script.ScriptCall.TheVariants.{IsWriteLocked, IsReadLocked}
 use Rattle.stamp_machines.specs.declared.script.ScriptCall.TheVariants.{ReadCount, Get, Put, PutIf}
 use Rattle.stamp_machines.specs.Job.{Job, Getting, Putting, PuttingIf, job_in, new_words, is_get}
-use Rattle.stamp_machines.specs.RecordPhase.{opening}
+use Rattle.stamp_machines.specs.Place.{first_place}
 use Rattle.stamp_machines.specs.declared.shape.Shape.{Shape}
 use Rattle.stamp_machines.specs.MachineState.{first_phase, start}
 use Rattle.stamp_machines.specs.Script.{Scripted, Suits, calls_of}
@@ -26,21 +26,21 @@ use Rattle.stamp_machines.specs.World.{World, current_of, begin, call_of, shape_
 use Rattle.stamp_machines.specs.Invariant.{doing_at, doing_in, IsOf}
 use Rattle.stamp_machines.specs.RecordKept.{read_by, written_by, read_in, written_in, Fits, FitsIn}
 
-opening_reads : (job : Job) → read_by (opening job) ≡ 0
-opening_reads Getting = refl
-opening_reads (Putting a) = refl
-opening_reads (PuttingIf a b) = refl
+first_place_reads : (job : Job) → read_by (first_place job) ≡ 0
+first_place_reads Getting = refl
+first_place_reads (Putting a) = refl
+first_place_reads (PuttingIf a b) = refl
 
-opening_writes : (job : Job) → written_by (opening job) ≡ 0
-opening_writes Getting = refl
-opening_writes (Putting a) = refl
-opening_writes (PuttingIf a b) = refl
+first_place_writes : (job : Job) → written_by (first_place job) ≡ 0
+first_place_writes Getting = refl
+first_place_writes (Putting a) = refl
+first_place_writes (PuttingIf a b) = refl
 
-opening_fits : (limits : Bounds) (k w : ℕ) (content items : List ℕ) (job : Job) →
-    Fits limits k w content items job (opening job)
-opening_fits limits k w content items Getting = refl
-opening_fits limits k w content items (Putting a) = refl
-opening_fits limits k w content items (PuttingIf a b) = tt
+first_place_fits : (limits : Bounds) (k w : ℕ) (content items : List ℕ) (job : Job) →
+    Fits limits k w content items job (first_place job)
+first_place_fits limits k w content items Getting = refl
+first_place_fits limits k w content items (Putting a) = refl
+first_place_fits limits k w content items (PuttingIf a b) = tt
 
 abbrev pub SuitsJob : ℕ → Option Job → Type 0
 SuitsJob width None = Unit {0}
@@ -90,9 +90,9 @@ first-ready limits shape k w content items call first None e s =
 first-ready limits shape k w content items call first (Some job) e s =
     record {
       of = (refl, e);
-      reads = sym (opening_reads job);
-      writes = sym (opening_writes job);
-      fits = (s.0, s.1, opening_fits limits k w content items job);
+      reads = sym (first_place_reads job);
+      writes = sym (first_place_writes job);
+      fits = (s.0, s.1, first_place_fits limits k w content items job);
       lock = λ _. refl;
     }
 

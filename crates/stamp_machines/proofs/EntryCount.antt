@@ -30,8 +30,8 @@ use Rattle.stamp_machines.specs.declared.machine.Turn.TheVariants.{Going, Done}
 use Rattle.stamp_machines.specs.declared.shape.Shape.{Shape}
 use Rattle.stamp_machines.specs.Job.{Job}
 use Rattle.stamp_machines.specs.LockPhase.{PhaseTurn, Still, Ended}
-use Rattle.stamp_machines.specs.RecordPhase as places
-use Rattle.stamp_machines.specs.RecordPhase.{PlaceTurn}
+use Rattle.stamp_machines.specs.Place as places
+use Rattle.stamp_machines.specs.Place.{PlaceTurn}
 use Rattle.stamp_machines.specs.MachineState.{MachineState, Phase, OnLock, OnRecord, start}
 use Rattle.stamp_machines.specs.Machine.{after_access, after_in, lock_turn, record_turn}
 use Rattle.stamp_machines.specs.Script.{Scripted, IsSound, Suits, calls_of}

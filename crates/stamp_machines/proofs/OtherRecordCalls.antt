@@ -7,9 +7,9 @@ use Rattle.std.proofs.lemmas.List.Sums.{sum_by-set, sum_by-cons}
 use Rattle.stamp_core.specs.Limits.{Bounds}
 use Rattle.stamp_machines.specs.LockNumber.{counts_at}
 use Rattle.stamp_machines.specs.Job.{Job}
-use Rattle.stamp_machines.specs.RecordPhase.{Place, LoadingLock, Copying, Locking, Reading, Checking}
-use Rattle.stamp_machines.specs.RecordPhase.{Storing, Releasing, ToShare, ToLeave, ToRefuse}
-use Rattle.stamp_machines.specs.RecordPhase.{ToUpgrade, ToReleaseFirst, ToClaim}
+use Rattle.stamp_machines.specs.Place.{Place, LoadingLock, Copying, Locking, Reading, Checking}
+use Rattle.stamp_machines.specs.Place.{Storing, Releasing, ToShare, ToLeave, ToRefuse}
+use Rattle.stamp_machines.specs.Place.{ToUpgrade, ToReleaseFirst, ToClaim}
 use Rattle.stamp_machines.specs.RecordKept.{read_by, written_by, Fits, FitsIn, Doing, read_in}
 use Rattle.stamp_machines.specs.RecordKept.{written_in, RecordKept, Moved, SameFor, AloneFor}
 

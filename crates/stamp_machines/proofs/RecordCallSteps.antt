@@ -28,11 +28,11 @@ use Rattle.stamp_machines.specs.LockNumber.{IsAdmittedAt, RepresentsAt, counts_a
 use Rattle.stamp_core.specs.CountedDecision.{decision}
 use Rattle.stamp_machines.specs.Job.{Job, Getting, Putting, PuttingIf, content_with, reply_to}
 use Rattle.stamp_machines.specs.Job.{new_words, expects, is_get, stored_reply}
-use Rattle.stamp_machines.specs.RecordPhase.{Going, Done, Place, LockStep, LoadingLock, Copying, Locking}
-use Rattle.stamp_machines.specs.RecordPhase.{Reading, Checking, Storing, Releasing, ToShare}
-use Rattle.stamp_machines.specs.RecordPhase.{ToLeave, ToRefuse, ToUpgrade, ToReleaseFirst, ToClaim, next}
-use Rattle.stamp_machines.specs.RecordPhase.{after, call_for, passed, lock_step_done, all_read}
-use Rattle.stamp_machines.specs.RecordPhase.{unchanged}
+use Rattle.stamp_machines.specs.Place.{Going, Done, Place, LockStep, LoadingLock, Copying, Locking}
+use Rattle.stamp_machines.specs.Place.{Reading, Checking, Storing, Releasing, ToShare}
+use Rattle.stamp_machines.specs.Place.{ToLeave, ToRefuse, ToUpgrade, ToReleaseFirst, ToClaim, next}
+use Rattle.stamp_machines.specs.Place.{after, call_for, passed, lock_step_done, all_read}
+use Rattle.stamp_machines.specs.Place.{unchanged}
 use Rattle.stamp_machines.specs.LockPhase.{Still, Ended, next_on, phase_next, phase_after}
 use Rattle.stamp_machines.specs.LockPhase.{PhaseTurn}
 use Rattle.stamp_machines.specs.LocalAccess.{LoadLock, LoadItem, lock_after, items_after}

@@ -23,8 +23,8 @@ use Rattle.stamp_machines.specs.LockNumber.{RepresentsAt, IsAdmittedAt, counts_a
 use Rattle.stamp_machines.specs.Job.{Job, job_in, content_with, reply_to}
 use Rattle.stamp_core.specs.History.{IsLegal, History, IsReply, appended_by, content_after}
 use Rattle.stamp_core.specs.History.{events_of}
-use Rattle.stamp_machines.specs.RecordPhase as record_calls
-use Rattle.stamp_machines.specs.RecordPhase.{Place, PlaceTurn}
+use Rattle.stamp_machines.specs.Place as places
+use Rattle.stamp_machines.specs.Place.{Place, PlaceTurn}
 use Rattle.stamp_machines.specs.LockPhase.{Still, Ended, phase_next, phase_after, PhaseTurn}
 use Rattle.stamp_machines.specs.LocalAccess.{LocalAccess, lock_after, with_lock, local_seen}
 use Rattle.stamp_machines.specs.declared.machine.Turn.{Turn as MachineTurn}
@@ -217,7 +217,7 @@ record-step : (script : Scripted) (world : World) (t : ℕ) (b : Begun) (job : J
     Steps (record_limits (shape_of script)) job place (slice_index world.words 1) (drop 2 world.words)
     (content_in script world) lock items turned →
     Invariant script (landed world t b words (record_turn b.machine.shape b.machine.call job turned))
-record-step script world t b job place lock items words (record_calls.Going to) k h o j rd wr w n f
+record-step script world t b job place lock items words (places.Going to) k h o j rd wr w n f
     s =
     going-kept script world t b words (record b.machine { phase = OnRecord job to }) k (o, j) n
     (rw w refl)
@@ -233,7 +233,7 @@ record-step script world t b job place lock items words (record_calls.Going to) 
     (rw (length-map world.begun) h) (rw (map-index world.begun t) rd)
     (rw (map-index world.begun t) wr) s.0))
     (rw w f)
-record-step script world t b job place lock items words (record_calls.Done r) k h o j rd wr w n f s =
+record-step script world t b job place lock items words (places.Done r) k h o j rd wr w n f s =
     done-kept script world t b words r _ _ k (record-ends script world b.machine.call job r j s.1)
     (rw w k.represented)
     (rw (w, map-set doing_in world.begun t None)
@@ -333,7 +333,7 @@ begun-kept script world t b (OnLock seen) k sound room h ready e =
     (lock-step script world t b _ _ _ k sound ready.of.0 j slot m.after n l))
 begun-kept script world t b (OnRecord job place) k sound room h ready e =
     let limits : Bounds = record_limits (shape_of script) in
-    let a : LocalAccess = record_calls.next limits script.width job place in
+    let a : LocalAccess = places.next limits script.width job place in
     let m = record-moves world.words script.width a k.memory in
     let d : doing_at b.machine.phase ≡ Some (record { job = job; place = place }) = ap doing_at e in
     let j : job_in b.machine.call ≡ Some job = ready.of.1 ∙ ap job_at e in
@@ -354,7 +354,7 @@ begun-kept script world t b (OnRecord job place) k sound room h ready e =
     (λ (x : Shape). Invariant script
     (landed world t b (words_after (with_lock 1 a) world.words)
     (record_turn x b.machine.call job
-    (record_calls.after limits script.width job place
+    (places.after limits script.width job place
     (local_seen a (slice_index world.words 1) (drop 2 world.words)))))) ready.of.0
     (record-step script world t b job place _ _ _ _ k h ready.of.0 j rd wr m.after n few s))
 
@@ -514,7 +514,7 @@ current-safe script world t b k sound room e =
 -- the exchange that releases finds what it expects
 releases : (script : Scripted) (world : World) (t : ℕ) (b : Begun) (job : Job) (s : ℕ) (r : Reply) →
     Invariant script world → IsSound script → world.position < 1000000 → current script world t ≡ Some b →
-    b.machine.phase ≡ OnRecord job (record_calls.Releasing s r) →
+    b.machine.phase ≡ OnRecord job (places.Releasing s r) →
     (next_access b.machine ≡ Cas 1 s (s + (units script.limits).writer))
     × (slice_index world.words 1 ≡ s)
 releases script world t b job s r k sound room e at =
@@ -527,7 +527,7 @@ releases script world t b job s r k sound room e at =
     (slice_index_or world.begun t None) b sound.suited k.width k.threads refl (k.begun t) fits e
     in
     let stands =
-    record-stands script world t b job (record_calls.Releasing s r) k room ready.1 at in (
+    record-stands script world t b job (places.Releasing s r) k room ready.1 at in (
       rw (at, ready.1.of.0) refl,
       releasing-wins limits job s r (slice_index world.words 1) (drop 2 world.words)
           (content_in script world) stands,

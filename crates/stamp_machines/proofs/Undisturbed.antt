@@ -14,7 +14,7 @@ use Rattle.stamp_machines.specs.declared.machine.Turn.TheVariants.{Going}
 use Rattle.stamp_machines.specs.LockPhase.{judged}
 use Rattle.stamp_machines.specs.MachineState.{MachineState, OnLock}
 use Rattle.stamp_machines.specs.Machine.{lock_turn}
-use Rattle.stamp_machines.specs.Undisturbed.{alone, HasEnded, EndsWithinTwo}
+use Rattle.stamp_machines.specs.Undisturbed.{left_alone, HasEnded, EndsWithinTwo}
 use Rattle.stamp_machines.proofs.LockCallSteps.{by_number, decided}
 use Rattle.stamp_machines.proofs.TwoKindsOfCall.{lock_none}
 
@@ -33,7 +33,7 @@ wins : (shape : Shape) (call : Call) (w : ℕ) (rest : List ℕ) (events : List 
     decision shape.limits w call ≡ Change new r →
     Moves shape.limits events call (word_at shape.limits w) (word_at shape.limits new.bits) r →
     HasEnded shape.limits events call
-    (alone 1 (w ∷ rest) (Going (record { shape = shape; call = call; phase = OnLock (Some w) })))
+    (left_alone 1 (w ∷ rest) (Going (record { shape = shape; call = call; phase = OnLock (Some w) })))
 wins shape call w rest events new r is moves = rw (is, itself w) (record {
   taken = record { appended = moves.appended; reply = r };
   taken_is = moves.transition_is;
@@ -46,7 +46,7 @@ by_decision : (shape : Shape) (call : Call) (w : ℕ) (rest : List ℕ) (events 
     Decides shape.limits (word_at shape.limits w) call d →
     Represents shape.limits (word_at shape.limits w) events →
     transition shape.limits events call ≢ None →
-    HasEnded shape.limits events call (alone 1 (w ∷ rest) (lock_turn shape call (judged w d)))
+    HasEnded shape.limits events call (left_alone 1 (w ∷ rest) (lock_turn shape call (judged w d)))
 by_decision shape call w rest events (Answer r) is says represented some = record {
   taken = record { appended = []; reply = r };
   taken_is = says events represented;

@@ -3,7 +3,7 @@ pub mod LockNumber
 pub mod Job
 pub mod LocalAccess
 pub mod LockPhase
-pub mod RecordPhase
+pub mod Place
 pub mod MachineState
 pub mod Machine
 pub mod PhaseState

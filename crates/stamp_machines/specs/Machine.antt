@@ -3,8 +3,8 @@ use Rattle.std.specs.Prelude.{◌≡◌, ℕ, ◌<◌, ◌≤◌, List, [], ◌�
 use Rattle.stamp_core.specs.declared.call.Call.{Call}
 use Rattle.stamp_machines.specs.LockNumber.{IsAdmittedAt, counts_at}
 use Rattle.stamp_machines.specs.Job.{Job}
-use Rattle.stamp_machines.specs.RecordPhase as record_calls
-use Rattle.stamp_machines.specs.RecordPhase.{Place, PlaceTurn}
+use Rattle.stamp_machines.specs.Place as places
+use Rattle.stamp_machines.specs.Place.{Place, PlaceTurn}
 use Rattle.stamp_machines.specs.LocalAccess.{with_lock}
 use Rattle.stamp_machines.specs.LockPhase.{PhaseTurn, Still, Ended, phase_next, phase_after}
 use Rattle.stamp_machines.specs.MachineState.{MachineState, Phase, OnLock, OnRecord, record_limits}
@@ -17,7 +17,7 @@ use Rattle.stamp_machines.specs.declared.access.Access.{Access}
 abbrev pub next_in : Shape → Call → Phase → Access
 next_in shape call (OnLock seen) = with_lock 0 (phase_next shape.limits call seen)
 next_in shape call (OnRecord job place) =
-    with_lock 1 (record_calls.next (record_limits shape) shape.width job place)
+    with_lock 1 (places.next (record_limits shape) shape.width job place)
 
 abbrev pub next_access : MachineState → Access
 next_access s = next_in s.shape s.call s.phase
@@ -28,15 +28,15 @@ lock_turn shape call (Still seen) =
 lock_turn shape call (Ended r) = Done r
 
 abbrev pub record_turn : Shape → Call → Job → PlaceTurn → Turn
-record_turn shape call job (record_calls.Going place) =
+record_turn shape call job (places.Going place) =
     Going (record { shape = shape; call = call; phase = OnRecord job place })
-record_turn shape call job (record_calls.Done r) = Done r
+record_turn shape call job (places.Done r) = Done r
 
 abbrev pub after_in : Shape → Call → ℕ → Phase → Turn
 after_in shape call seen (OnLock last) =
     lock_turn shape call (phase_after shape.limits call last seen)
 after_in shape call seen (OnRecord job place) =
-    record_turn shape call job (record_calls.after (record_limits shape) shape.width job place seen)
+    record_turn shape call job (places.after (record_limits shape) shape.width job place seen)
 
 -- where the call stands after its access has seen this, or its reply
 abbrev pub after_access : MachineState → ℕ → Turn
@@ -57,15 +57,15 @@ HasVersionLeft shape found =
 -- what is read as a lock's word is one that the lock's limits admit, and where a call of the record
 -- is about its lock, one with a version left
 abbrev pub IsFoundAt : Shape → Place → ℕ → Type 0
-IsFoundAt shape record_calls.LoadingLock found = IsAdmittedAt (record_limits shape) found
-IsFoundAt shape (record_calls.Copying first loaded) found =
+IsFoundAt shape places.LoadingLock found = IsAdmittedAt (record_limits shape) found
+IsFoundAt shape (places.Copying first loaded) found =
     shape.width ≤ length loaded → IsAdmittedAt (record_limits shape) found
-IsFoundAt shape (record_calls.Locking e seen) found =
+IsFoundAt shape (places.Locking e seen) found =
     IsAdmittedAt (record_limits shape) found × HasVersionLeft shape found
-IsFoundAt shape (record_calls.Reading s loaded) found = Unit {0}
-IsFoundAt shape (record_calls.Checking s loaded) found = Unit {0}
-IsFoundAt shape (record_calls.Storing s i) found = Unit {0}
-IsFoundAt shape (record_calls.Releasing s r) found = Unit {0}
+IsFoundAt shape (places.Reading s loaded) found = Unit {0}
+IsFoundAt shape (places.Checking s loaded) found = Unit {0}
+IsFoundAt shape (places.Storing s i) found = Unit {0}
+IsFoundAt shape (places.Releasing s r) found = Unit {0}
 
 abbrev pub IsFoundIn : Shape → Phase → ℕ → Type 0
 IsFoundIn shape (OnLock seen) found = IsAdmittedAt shape.limits found

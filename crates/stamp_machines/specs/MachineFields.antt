@@ -8,8 +8,8 @@ use Rattle.stamp_core.specs.declared.reply.Reply.TheVariants.{No}
 use Rattle.stamp_machines.specs.LockNumber.{IsAdmittedAt}
 use Rattle.stamp_machines.specs.PhaseNext.{IsChanging}
 use Rattle.stamp_machines.specs.Job.{Job, Getting, job_in, is_get, new_words, stored_reply}
-use Rattle.stamp_machines.specs.RecordPhase as places
-use Rattle.stamp_machines.specs.RecordPhase.{call_for}
+use Rattle.stamp_machines.specs.Place as places
+use Rattle.stamp_machines.specs.Place.{call_for}
 use Rattle.stamp_machines.specs.MachineState.{MachineState, Phase, OnLock, OnRecord, record_limits}
 use Rattle.stamp_machines.specs.declared.shape.Shape.{Shape}
 use Rattle.stamp_machines.specs.declared.stage.Stage.{Stage}
@@ -114,5 +114,5 @@ abbrev pub IsStageNext : Shape → Call → List ℕ → List ℕ → StageNext 
 IsStageNext shape call before loaded (next.Going stage) = IsStage shape call loaded stage
 IsStageNext shape call before loaded next.Done = loaded ≡ before
 
-abbrev pub IsSound : Inside → Type 0
-IsSound m = IsStage m.shape m.call m.loaded m.stage
+abbrev pub IsAtStage : Inside → Type 0
+IsAtStage m = IsStage m.shape m.call m.loaded m.stage

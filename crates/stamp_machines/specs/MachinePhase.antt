@@ -6,7 +6,7 @@ use Rattle.stamp_machines.specs.LockPhase.{PhaseTurn}
 use Rattle.stamp_machines.specs.Machine.{lock_turn, record_turn}
 use Rattle.stamp_machines.specs.MachineState.{MachineState, Phase, OnLock, OnRecord, record_limits}
 use Rattle.stamp_machines.specs.PhaseState.{PhaseState}
-use Rattle.stamp_machines.specs.RecordPhase.{LockStep, Locking, call_for, passed}
+use Rattle.stamp_machines.specs.Place.{LockStep, Locking, call_for, passed}
 use Rattle.stamp_machines.specs.declared.machine.Turn.{Turn}
 use Rattle.stamp_machines.specs.declared.shape.Shape.{Shape}
 

@@ -3,7 +3,7 @@ use Rattle.std.specs.Prelude.{ℕ, Option, Some, None}
 use Rattle.stamp_core.specs.Limits.{Bounds, widest}
 use Rattle.stamp_core.specs.declared.call.Call.{Call}
 use Rattle.stamp_machines.specs.Job.{Job, job_in}
-use Rattle.stamp_machines.specs.RecordPhase.{Place, opening}
+use Rattle.stamp_machines.specs.Place.{Place, first_place}
 use Rattle.stamp_machines.specs.declared.shape.Shape.{Shape}
 
 pub data Phase : Type 0 where
@@ -17,7 +17,7 @@ pub record MachineState : Type 0 where
 
 abbrev pub first_phase : Option Job → Phase
 first_phase None = OnLock None
-first_phase (Some job) = OnRecord job (opening job)
+first_phase (Some job) = OnRecord job (first_place job)
 
 abbrev pub start : Shape → Call → MachineState
 start shape call = record { shape = shape; call = call; phase = first_phase (job_in call) }

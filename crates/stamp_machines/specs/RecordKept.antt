@@ -7,10 +7,10 @@ use Rattle.stamp_core.specs.Limits.{Bounds, units, AreInRange}
 use Rattle.stamp_core.specs.Stamp.{write_stamp, read_stamp}
 use Rattle.stamp_machines.specs.LockNumber.{IsAdmittedAt, counts_at}
 use Rattle.stamp_machines.specs.Job.{Job, content_with, reply_to, new_words, expects, is_get}
-use Rattle.stamp_machines.specs.RecordPhase.{Going, Done, Place, LoadingLock, Copying, Locking}
-use Rattle.stamp_machines.specs.RecordPhase.{Reading, Checking, Storing, Releasing, ToShare}
-use Rattle.stamp_machines.specs.RecordPhase.{ToLeave, ToRefuse, ToUpgrade, ToReleaseFirst, ToClaim}
-use Rattle.stamp_machines.specs.RecordPhase.{PlaceTurn}
+use Rattle.stamp_machines.specs.Place.{Going, Done, Place, LoadingLock, Copying, Locking}
+use Rattle.stamp_machines.specs.Place.{Reading, Checking, Storing, Releasing, ToShare}
+use Rattle.stamp_machines.specs.Place.{ToLeave, ToRefuse, ToUpgrade, ToReleaseFirst, ToClaim}
+use Rattle.stamp_machines.specs.Place.{PlaceTurn}
 
 -- how many read and write locks a call at this place holds
 abbrev pub read_by : Place → ℕ

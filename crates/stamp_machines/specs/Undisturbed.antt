@@ -15,11 +15,11 @@ use Rattle.stamp_machines.specs.MachineState.{start}
 use Rattle.stamp_machines.specs.Machine.{next_access, after_access}
 
 -- the words and the turn after this many accesses, or after fewer where it has ended
-abbrev pub alone : ℕ → List ℕ → Turn → List ℕ × Turn
-alone zero words turn = (words, turn)
-alone (suc n) words (Done reply) = (words, Done reply)
-alone (suc n) words (Going m) =
-    alone n (words_after (next_access m) words) (after_access m (seen_by (next_access m) words))
+abbrev pub left_alone : ℕ → List ℕ → Turn → List ℕ × Turn
+left_alone zero words turn = (words, turn)
+left_alone (suc n) words (Done reply) = (words, Done reply)
+left_alone (suc n) words (Going m) =
+    left_alone n (words_after (next_access m) words) (after_access m (seen_by (next_access m) words))
 
 -- the call has ended with its transition's reply, and word 0 represents the events with those
 -- appended
@@ -38,4 +38,4 @@ EndsWithinTwo =
     AreInRange shape.limits → IsTrue (is_lock_call call) → 0 < length words →
     Represents shape.limits (word_at shape.limits (slice_index words 0)) events →
     transition shape.limits events call ≢ None →
-    HasEnded shape.limits events call (alone 2 words (Going (start shape call)))
+    HasEnded shape.limits events call (left_alone 2 words (Going (start shape call)))

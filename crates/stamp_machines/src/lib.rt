@@ -5,7 +5,7 @@
 mod access;
 mod completions;
 pub mod laws;
-mod loaded;
+mod loaded_words;
 mod lock_phase;
 mod machine;
 mod run_whole;

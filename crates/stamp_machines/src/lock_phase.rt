@@ -65,7 +65,7 @@ fn tried(
     requires seen { IsChanging limits call.now seen }
     requires word { IsAdmitted limits (word_at limits found) }
     ensures word { result.0 ≡ lock_after (phase_next limits call.now seen) found }
-    ensures passage { phase_turn result.1 answer.new ≡ phase_after limits call.now seen found }
+    ensures turn { phase_turn result.1 answer.new ≡ phase_after limits call.now seen found }
     ensures changing { IsPhaseNext limits call.now result.1 answer.new }
     ensures leads { (at : ℕ) →
         LeadsOn (record { at = at; limits = limits; call = call.now; seen = seen }) found result.1
@@ -101,14 +101,14 @@ pub(crate) fn passed(
     requires lock_call { IsTrue (is_lock_call call.now) }
     requires seen { IsChanging limits call.now seen }
     requires word { IsAdmitted limits (word_at limits found) }
-    ensures passage { phase_turn result answer.new ≡ phase_after limits call.now seen found }
+    ensures turn { phase_turn result answer.new ≡ phase_after limits call.now seen found }
     ensures changing { IsPhaseNext limits call.now result answer.new }
     ensures leads { (at : ℕ) →
         LeadsOn (record { at = at; limits = limits; call = call.now; seen = seen }) found result
         answer.new }
 {
-    let (_, passage) = tried(limits, call, seen, found, answer);
-    passage
+    let (_, next) = tried(limits, call, seen, found, answer);
+    next
 }
 
 /// Makes the next access of a lock call to the word `at`, and goes on after it: as `planned`, the
@@ -128,13 +128,13 @@ pub(crate) fn accessed(
     requires word { IsAdmitted limits (word_at limits (slice_index words.old at)) }
     ensures words { words.new
         ≡ words_after (with_lock at (phase_next limits call.now seen)) words.old }
-    ensures passage { phase_turn result answer.new
+    ensures turn { phase_turn result answer.new
         ≡ phase_after limits call.now seen (slice_index words.old at) }
     ensures changing { IsPhaseNext limits call.now result answer.new }
 {
-    let (word, passage) = tried(limits, call, seen, words[at], answer);
+    let (word, next) = tried(limits, call, seen, words[at], answer);
     words[at] = word;
-    passage
+    next
 }
 
 /// Whether this word is the one that was seen.

@@ -13,10 +13,10 @@ ghost use Rattle.stamp_machines.specs.MachineTurn.{turn_of};
 ghost use Rattle.stamp_machines.specs.MachineFields.{phase_at, turn_in, lock_step_in, IsStage};
 ghost use Rattle.stamp_machines.specs.MachineFields.{IsLockStep, IsStageNext};
 ghost use Rattle.stamp_machines.specs.PhaseNext.{IsChanging};
-ghost use Rattle.stamp_machines.specs.RecordPhase.{call_for};
+ghost use Rattle.stamp_machines.specs.Place.{call_for};
 
 use crate::access::{Access, make};
-use crate::loaded::Loaded;
+use crate::loaded_words::LoadedWords;
 use crate::lock_phase::{PhaseNext, accessed, passed, planned};
 use crate::shape::Shape;
 use crate::stage::{
@@ -31,7 +31,7 @@ use std::marker::Model;
 pub struct Machine {
     shape: Shape,
     call: Call,
-    loaded: Loaded,
+    loaded: LoadedWords,
     stage: Stage,
 }
 
@@ -49,11 +49,11 @@ impl Model for Machine {
 
     ghost Value = { MachineState };
 
-    ghost use Rattle.stamp_machines.specs.MachineFields.{state_in, IsSound};
+    ghost use Rattle.stamp_machines.specs.MachineFields.{state_in, IsAtStage};
 
     ghost view = { state_in };
 
-    ghost invariant = { IsSound };
+    ghost invariant = { IsAtStage };
 }
 
 /// A lock call on the public lock goes on.
@@ -61,7 +61,7 @@ impl Model for Machine {
 fn after_public(
     shape: &Shape,
     call: &Call,
-    loaded: &Loaded,
+    loaded: &LoadedWords,
     seen: Option<u64>,
     found: u64,
     answer: &mut Reply,
@@ -95,7 +95,7 @@ fn after_locking(
     call: &Call,
     lock_step: LockStep,
     seen: Option<u64>,
-    loaded: &mut Loaded,
+    loaded: &mut LoadedWords,
     found: u64,
     answer: &mut Reply,
 ) -> StageNext
@@ -127,7 +127,7 @@ fn after_locking(
 fn next(
     shape: &Shape,
     call: &Call,
-    loaded: &mut Loaded,
+    loaded: &mut LoadedWords,
     stage: Stage,
     found: u64,
     answer: &mut Reply,
@@ -179,7 +179,7 @@ impl Machine {
         Machine {
             shape,
             call,
-            loaded: Loaded::none(),
+            loaded: LoadedWords::none(),
             stage,
         }
     }

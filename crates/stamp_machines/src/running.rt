@@ -1,5 +1,5 @@
 //! A script that is being run.
-ghost use Rattle.std.specs.Prelude.{◌≡◌, ◌<◌, ◌≤◌, ◌↔◌, ◌++◌, ◌∷◌, [], length, IfOk, OnOk, OnErr};
+ghost use Rattle.std.specs.Prelude.{◌≡◌, ◌<◌, ◌≤◌, ◌↔◌, [], length, IfOk, OnOk, OnErr};
 ghost use Rattle.std.specs.Prelude.{slice_index, All};
 
 use crate::script::Script;
@@ -83,6 +83,7 @@ impl<'a> Run<'a> {
     ghost use Rattle.stamp_core.specs.History.{events_of};
     ghost use Rattle.stamp_core.specs.Linearized.{history_of, AreLinearized};
     ghost use Rattle.stamp_machines.specs.Script.{IsSound};
+    ghost use Rattle.stamp_machines.specs.RunView.{with_step, HasNoStepLeft};
     ghost use Rattle.stamp_machines.specs.Stepped.{Reports};
     ghost use Rattle.stamp_machines.specs.StepKind.{IsOfKind, told_by};
     ghost use Rattle.stamp_machines.specs.Tally.{tally_of, IsTallied};
@@ -105,12 +106,11 @@ impl<'a> Run<'a> {
     /// again.
     pub fn step(&mut self, thread: u64) -> Result<Stepped, RunError>
         requires { thread < length self.old.script.threads }
-        ensures ok { OnOk result
-            (self.new ≡ record self.old { names = self.old.names ++ thread ∷ [] }) }
+        ensures ok { OnOk result (self.new ≡ with_step self.old thread) }
         ensures report { IfOk result
             (Reports self.old.script (execution_of self.old.script self.old.names) thread) }
         ensures err { OnErr result (self.new ≡ self.old) }
-        ensures full { (result ≡ Err RunError.TooManySteps) ↔ (length self.old.names ≡ 1000000) }
+        ensures full { (result ≡ Err RunError.TooManySteps) ↔ HasNoStepLeft self.old }
     {
         let kind = self.moved(thread)?;
         Ok(self.told(kind))
@@ -121,12 +121,11 @@ impl<'a> Run<'a> {
     #[inline(always)]
     fn moved(&mut self, thread: u64) -> Result<StepKind, RunError>
         requires { thread < length self.old.script.threads }
-        ensures ok { OnOk result
-            (self.new ≡ record self.old { names = self.old.names ++ thread ∷ [] }) }
+        ensures ok { OnOk result (self.new ≡ with_step self.old thread) }
         ensures report { IfOk result
             (IsOfKind self.old.script (execution_of self.old.script self.old.names) thread) }
         ensures err { OnErr result (self.new ≡ self.old) }
-        ensures full { (result ≡ Err RunError.TooManySteps) ↔ (length self.old.names ≡ 1000000) }
+        ensures full { (result ≡ Err RunError.TooManySteps) ↔ HasNoStepLeft self.old }
     {
         if self.steps.len() == MOST_STEPS {
             return Err(RunError::TooManySteps);
@@ -150,9 +149,8 @@ impl<'a> Run<'a> {
     #[inline(always)]
     pub(crate) fn advance(&mut self, thread: u64) -> Result<(), RunError>
         requires { thread < length self.old.script.threads }
-        ensures ok { OnOk result
-            (self.new ≡ record self.old { names = self.old.names ++ thread ∷ [] }) }
-        ensures full { (result ≡ Err RunError.TooManySteps) ↔ (length self.old.names ≡ 1000000) }
+        ensures ok { OnOk result (self.new ≡ with_step self.old thread) }
+        ensures full { (result ≡ Err RunError.TooManySteps) ↔ HasNoStepLeft self.old }
     {
         self.moved(thread)?;
         Ok(())
@@ -170,17 +168,16 @@ impl<'a> Run<'a> {
     pub(crate) fn step_counted(&mut self, thread: u64, tally: &mut Tally) -> Result<(), RunError>
         requires thread { thread < length self.old.script.threads }
         requires tallied { IsTallied self.old.script self.old.names (tally_of tally.old) }
-        ensures ok { OnOk result
-            (self.new ≡ record self.old { names = self.old.names ++ thread ∷ [] }) }
+        ensures ok { OnOk result (self.new ≡ with_step self.old thread) }
         ensures tallied { OnOk result
             (IsTallied self.new.script self.new.names (tally_of tally.new)) }
-        ensures full { (result ≡ Err RunError.TooManySteps) → (length self.old.names ≡ 1000000) }
+        ensures full { (result ≡ Err RunError.TooManySteps) → HasNoStepLeft self.old }
     {
         self.known();
         let before = self.word().bits();
         match self.step(thread) {
             Ok(stepped) => {
-                let _ = told(&stepped);
+                let _ = ended_call(&stepped);
                 let is_changed = self.word().bits() != before;
                 tally.count(thread as usize, is_changed, &stepped)?;
                 Ok(())
@@ -270,7 +267,7 @@ impl<'a> Run<'a> {
 }
 
 /// The call that ended, if one did.
-fn told(stepped: &Stepped) -> Option<Call> {
+fn ended_call(stepped: &Stepped) -> Option<Call> {
     match stepped {
         Stepped::Ended(entry) => Some(entry.call),
         _ => None,

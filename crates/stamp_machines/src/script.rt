@@ -26,25 +26,49 @@ pub enum Arg {
 /// come.
 #[derive(Clone, Copy)]
 pub enum ScriptCall {
+    /// Acquires write mode if nobody holds the lock and a version is left (`tryWriteLock`).
     TryWrite,
+    /// Acquires read mode if there is no writer and room for a reader (`tryReadLock`).
     TryRead,
+    /// Acquires write mode, and waits while anybody holds the lock (`writeLock`). Where no version is
+    /// left it answers 0.
     WriteLock,
+    /// Acquires read mode, and waits while there is a writer or no room (`readLock`).
     ReadLock,
+    /// Asks for a stamp to be validated later; 0 while there is a writer (`tryOptimisticRead`).
     Optimistic,
+    /// Asks whether write mode was not acquired since the stamp was issued (`validate`).
     Validate(Arg),
+    /// Releases write mode, if the stamp matches it (`unlockWrite`).
     UnlockWrite(Arg),
+    /// Releases one hold of read mode, if the stamp matches it (`unlockRead`).
     UnlockRead(Arg),
+    /// Releases the mode that the stamp matches (`unlock`).
     Unlock(Arg),
+    /// Converts to write mode (`tryConvertToWriteLock`): from write mode, from read mode with no other
+    /// reader, or from a valid optimistic stamp if nobody holds the lock. Otherwise it answers 0.
     ToWrite(Arg),
+    /// Converts to read mode (`tryConvertToReadLock`): from write mode, from read mode, or from a valid
+    /// optimistic stamp if there is room. Otherwise it answers 0.
     ToRead(Arg),
+    /// Releases what the stamp holds, and answers an optimistic stamp (`tryConvertToOptimisticRead`); a
+    /// valid optimistic stamp is answered itself. Otherwise it answers 0.
     ToOptimistic(Arg),
+    /// Releases write mode without a stamp, if it is held (`tryUnlockWrite`).
     TryUnlockWrite,
+    /// Releases one hold of read mode without a stamp, if there is one (`tryUnlockRead`).
     TryUnlockRead,
+    /// Asks whether write mode is held (`isWriteLocked`).
     IsWriteLocked,
+    /// Asks whether read mode is held (`isReadLocked`).
     IsReadLocked,
+    /// Asks how many hold read mode (`getReadLockCount`).
     ReadCount,
+    /// Reads the words of the record.
     Get,
+    /// Writes the words of the record.
     Put(Words),
+    /// Writes the second words if the record holds the first; `No` and no change otherwise.
     PutIf(Words, Words),
 }
 

@@ -6,16 +6,16 @@ ghost use Rattle.stamp_core.specs.Decision.{stamp_in};
 ghost use Rattle.stamp_core.specs.Word.{IsAdmitted, word_at};
 ghost use Rattle.stamp_machines.specs.LockNumber.{counts_at};
 ghost use Rattle.stamp_machines.specs.Job.{job_in, new_words, is_get, expects, stored_reply};
-ghost use Rattle.stamp_machines.specs.RecordPhase.{after, unchanged, all_read, lock_step_done};
-ghost use Rattle.stamp_machines.specs.RecordPhase.{claimed, call_for};
-ghost use Rattle.stamp_machines.specs.RecordPhase as places;
+ghost use Rattle.stamp_machines.specs.Place.{after, unchanged, all_read, lock_step_done};
+ghost use Rattle.stamp_machines.specs.Place.{claimed, call_for};
+ghost use Rattle.stamp_machines.specs.Place as places;
 ghost use Rattle.stamp_machines.specs.MachineState.{first_phase, record_limits};
 ghost use Rattle.stamp_machines.specs.Machine.{record_turn};
 ghost use Rattle.stamp_machines.specs.MachineFields.{phase_at, going_at, turn_in, lock_step_in};
 ghost use Rattle.stamp_machines.specs.MachineFields.{job_of, released_reply, IsStage, IsStageNext};
 ghost use Rattle.stamp_machines.specs.MachineFields.{IsRecordCall, IsWriter, IsLockStep};
 
-use crate::loaded::Loaded;
+use crate::loaded_words::LoadedWords;
 use crate::shape::Shape;
 use stamp_core::{Call, Limits, Reply, Words};
 
@@ -161,7 +161,7 @@ fn is_unchanged(limits: Limits, first: u64, found: u64) -> bool
 }
 
 /// A lock call on the record's lock, before its first access.
-fn locking(shape: &Shape, call: &Call, loaded: &Loaded, lock_step: LockStep) -> Stage
+fn locking(shape: &Shape, call: &Call, loaded: &LoadedWords, lock_step: LockStep) -> Stage
     requires { IsLockStep shape.now call.now loaded.now lock_step }
     ensures next { going_at shape.now call.now loaded.now result
         ≡ record_turn shape.now call.now (job_of call.now)
@@ -175,7 +175,7 @@ fn locking(shape: &Shape, call: &Call, loaded: &Loaded, lock_step: LockStep) -> 
 }
 
 #[inline(always)]
-pub(crate) fn lock_loaded(shape: &Shape, call: &Call, loaded: &mut Loaded, found: u64) -> Stage
+pub(crate) fn lock_loaded(shape: &Shape, call: &Call, loaded: &mut LoadedWords, found: u64) -> Stage
     requires call { IsRecordCall shape.now call.now }
     requires word { IsAdmitted (record_limits shape.now) (word_at (record_limits shape.now) found) }
     ensures next { going_at shape.now call.now loaded.new result
@@ -197,7 +197,7 @@ pub(crate) fn copied(
     shape: &Shape,
     call: &Call,
     first: u64,
-    loaded: &mut Loaded,
+    loaded: &mut LoadedWords,
     found: u64,
     answer: &mut Reply,
 ) -> StageNext
@@ -225,7 +225,13 @@ pub(crate) fn copied(
 }
 
 #[inline(always)]
-pub(crate) fn read(shape: &Shape, call: &Call, stamp: u64, loaded: &mut Loaded, found: u64) -> Stage
+pub(crate) fn read(
+    shape: &Shape,
+    call: &Call,
+    stamp: u64,
+    loaded: &mut LoadedWords,
+    found: u64,
+) -> Stage
     requires call { IsRecordCall shape.now call.now }
     requires length { length loaded.old < shape.now.width }
     ensures next { going_at shape.now call.now loaded.new result
@@ -242,7 +248,7 @@ pub(crate) fn read(shape: &Shape, call: &Call, stamp: u64, loaded: &mut Loaded, 
     }
 }
 
-fn all_read(shape: &Shape, call: &Call, stamp: u64, loaded: &Loaded) -> Stage
+fn all_read(shape: &Shape, call: &Call, stamp: u64, loaded: &LoadedWords) -> Stage
     requires call { IsRecordCall shape.now call.now }
     requires some { 1 ≤ length loaded.now }
     ensures next { going_at shape.now call.now loaded.now result
@@ -264,7 +270,7 @@ pub(crate) fn checked(
     shape: &Shape,
     call: &Call,
     stamp: u64,
-    loaded: &mut Loaded,
+    loaded: &mut LoadedWords,
     found: u64,
 ) -> Stage
     requires call { IsWriter shape.now call.now }
@@ -316,7 +322,7 @@ pub(crate) fn stored(
     call: &Call,
     stamp: u64,
     stored: usize,
-    loaded: &Loaded,
+    loaded: &LoadedWords,
     found: u64,
 ) -> Stage
     requires call { IsWriter shape.now call.now }
@@ -341,7 +347,7 @@ pub(crate) fn stored(
     }
 }
 
-fn claimed(shape: &Shape, call: &Call, stamp: u64, loaded: &mut Loaded) -> Stage
+fn claimed(shape: &Shape, call: &Call, stamp: u64, loaded: &mut LoadedWords) -> Stage
     requires call { IsWriter shape.now call.now }
     requires fits { stamp < 2 ^ 63 }
     ensures next { going_at shape.now call.now loaded.new result
@@ -356,7 +362,7 @@ fn claimed(shape: &Shape, call: &Call, stamp: u64, loaded: &mut Loaded) -> Stage
 }
 
 /// The conversion answered this stamp, 0 where it could not be.
-fn upgraded(shape: &Shape, call: &Call, stamp: u64, loaded: &Loaded, got: u64) -> Stage
+fn upgraded(shape: &Shape, call: &Call, stamp: u64, loaded: &LoadedWords, got: u64) -> Stage
     requires call { IsWriter shape.now call.now }
     requires fits { got < 2 ^ 63 }
     ensures next { going_at shape.now call.now loaded.now result
@@ -375,7 +381,7 @@ fn upgraded(shape: &Shape, call: &Call, stamp: u64, loaded: &Loaded, got: u64) -
 }
 
 /// Words are to be loaded under the read lock of this stamp.
-fn shared(shape: &Shape, call: &Call, stamp: u64, loaded: &mut Loaded) -> Stage
+fn shared(shape: &Shape, call: &Call, stamp: u64, loaded: &mut LoadedWords) -> Stage
     requires { IsRecordCall shape.now call.now }
     ensures next { going_at shape.now call.now loaded.new result
         ≡ record_turn shape.now call.now (job_of call.now)
@@ -391,7 +397,7 @@ pub(crate) fn ended(
     shape: &Shape,
     call: &Call,
     lock_step: LockStep,
-    loaded: &mut Loaded,
+    loaded: &mut LoadedWords,
     answer: &mut Reply,
 ) -> StageNext
     requires lock_step { IsLockStep shape.now call.now loaded.old lock_step }

@@ -23,10 +23,10 @@ use Rattle.stamp_core.specs.declared.call.Call.TheVariants.{PutIf}
 use Rattle.stamp_core.specs.declared.reply.Reply.{Reply}
 use Rattle.stamp_core.specs.declared.entry.Entry.{Entry}
 use Rattle.stamp_core.proofs.Linearizing.{events_push, linearized_more}
-use Rattle.stamp_threads.specs.Book.{Booked, past_of, transition_in, entry_at, with_call, StandsAt}
-use Rattle.stamp_threads.specs.Book.{AreInPlace, IsBook, IsKept}
+use Rattle.stamp_threads.specs.Book.{Booked, past_of, transition_in, entry_at, with_call, IsEntryAt}
+use Rattle.stamp_threads.specs.Book.{AreInPlace, IsBook, HasWord}
 
-pub admitted : (b : Booked) (word : LockWord) → IsKept b word → IsAdmitted b.limits word
+pub admitted : (b : Booked) (word : LockWord) → HasWord b word → IsAdmitted b.limits word
 admitted b word kept = record { events = past_of b; represented = kept.represented }
 
 -- a call of the lock needs no record
@@ -52,19 +52,19 @@ lock_suits IsWriteLocked lock = lock
 lock_suits IsReadLocked lock = lock
 lock_suits ReadCount lock = lock
 
-placed_more : (xs : List Entry) (e : Entry) → AreInPlace xs → StandsAt (length xs) e → AreInPlace (xs ++ e ∷ [])
+placed_more : (xs : List Entry) (e : Entry) → AreInPlace xs → IsEntryAt (length xs) e → AreInPlace (xs ++ e ∷ [])
 placed_more xs e placed stands k d lt = by (either k (length xs))
   where
     either : (n m : ℕ) → (n < m) ⊎ (m ≤ n)
     either n m = grind arith
 
-    by : (k < length xs) ⊎ (length xs ≤ k) → StandsAt k (get_or (xs ++ e ∷ []) k d)
-    by (inl before) = subst (λ (x : Entry). StandsAt k x) (sym (get_or_append_left xs (e ∷ []) d k before))
+    by : (k < length xs) ⊎ (length xs ≤ k) → IsEntryAt k (get_or (xs ++ e ∷ []) k d)
+    by (inl before) = subst (λ (x : Entry). IsEntryAt k x) (sym (get_or_append_left xs (e ∷ []) d k before))
         (placed k d before)
     by (inr end) =
         let here : length xs ≡ k = omega (arith, length-append xs (e ∷ [])) in
-        subst (λ (n : ℕ). StandsAt n (get_or (xs ++ e ∷ []) n d)) here
-        (subst (λ (x : Entry). StandsAt (length xs) x) (sym (get_or-append_seam xs e [] d)) stands)
+        subst (λ (n : ℕ). IsEntryAt n (get_or (xs ++ e ∷ []) n d)) here
+        (subst (λ (x : Entry). IsEntryAt (length xs) x) (sym (get_or-append_seam xs e [] d)) stands)
 
 -- the book with one more call, and the word that it leaves
 module _ (b : Booked) (thread : ℕ) (call : Call) (is_book : IsBook b) (lock : IsTrue (is_lock_call call)) where
@@ -86,7 +86,7 @@ module _ (b : Booked) (thread : ℕ) (call : Call) (is_book : IsBook b) (lock : 
 
   pub kept_more : (word : LockWord) (found : LockWord × Reply) → thread < 64 → length b.entries < b.most →
       Represents b.limits word (past_of b) → Steps b.limits word call (Some found) →
-      IsKept (with_call b thread call found.1) found.0
+      HasWord (with_call b thread call found.1) found.0
   kept_more word found small room represented steps =
       let s = steps.after (past_of b) represented in
       let e : Entry = entry_at (length b.entries) thread call found.1 in

@@ -14,12 +14,12 @@ use Rattle.stamp_core.specs.declared.reply.Reply.{Reply}
 use Rattle.stamp_core.proofs.Deciding.{only_locking_waits}
 use Rattle.stamp_threads.specs.PassView.{observing, adding, finding}
 use Rattle.stamp_threads.specs.LockLog.{LockLog, events_after}
-use Rattle.stamp_threads.specs.LockPass.{LockPass, IsConsistentWith, LeavesWord}
+use Rattle.stamp_threads.specs.LockPass.{LockPassView, IsConsistentWith, LeavesWord}
 use Rattle.stamp_threads.specs.LockRule.{Loaded, Won, Exchanged, making, reading, answering}
 use Rattle.stamp_threads.specs.Underway.{WentOn}
 use Rattle.stamp_threads.specs.Answered.{Answered, IsWaiting}
 
-module _ (limits : Bounds) (call : Call) (v : LockPass) (found : ℕ) (w : LockPass) where
+module _ (limits : Bounds) (call : Call) (v : LockPassView) (found : ℕ) (w : LockPassView) where
   answered_at : (log : LockLog) (reply : Reply) → LeavesWord limits v found log →
       w ≡ adding (finding v found) log (call, reply) → IsConsistentWith limits w →
       Answered limits call reply v w
@@ -28,21 +28,21 @@ module _ (limits : Bounds) (call : Call) (v : LockPass) (found : ℕ) (w : LockP
     word = found;
     left = left;
     earlier = [];
-    last = ap (λ (u : LockPass). u.found) is;
-    observed = ap (λ (u : LockPass). u.observed) is;
-    own = ap (λ (u : LockPass). u.own) is;
-    name = ap (λ (u : LockPass). u.name) is;
-    splits = ap (λ (u : LockPass). u.splits) is;
+    last = ap (λ (u : LockPassView). u.found) is;
+    observed = ap (λ (u : LockPassView). u.observed) is;
+    own = ap (λ (u : LockPassView). u.own) is;
+    name = ap (λ (u : LockPassView). u.name) is;
+    splits = ap (λ (u : LockPassView). u.splits) is;
     consistent = consistent;
   }
 
   went_at : (log : LockLog) → LeavesWord limits v found log → w ≡ observing (finding v found) log →
       IsConsistentWith limits w → WentOn limits v found w
   went_at log left is consistent = record {
-    left = subst (LeavesWord limits v found) (sym (ap (λ (u : LockPass). u.observed) is)) left;
-    own = ap (λ (u : LockPass). u.own) is;
-    name = ap (λ (u : LockPass). u.name) is;
-    splits = ap (λ (u : LockPass). u.splits) is;
+    left = subst (LeavesWord limits v found) (sym (ap (λ (u : LockPassView). u.observed) is)) left;
+    own = ap (λ (u : LockPassView). u.own) is;
+    name = ap (λ (u : LockPassView). u.name) is;
+    splits = ap (λ (u : LockPassView). u.splits) is;
     consistent = consistent;
   }
 
@@ -99,8 +99,8 @@ module _ (limits : Bounds) (call : Call) (v : LockPass) (found : ℕ) (w : LockP
       (none (events_after limits l.log) l.left.represents))
 
 -- an exchange that found the old word
-pub exchange_won : (limits : Bounds) (call : Call) (old : ℕ) (v : LockPass) (found : ℕ)
-    (w : LockPass) → found ≡ old → Exchanged limits call old v found w → Won limits call v old w
+pub exchange_won : (limits : Bounds) (call : Call) (old : ℕ) (v : LockPassView) (found : ℕ)
+    (w : LockPassView) → found ≡ old → Exchanged limits call old v found w → Won limits call v old w
 exchange_won limits call old v found w same told =
     let yes : (found == old) ≡ true = grind (arith, nat_tests) in
     let won : Won limits call v found w =
@@ -108,8 +108,8 @@ exchange_won limits call old v found w same told =
     told in subst (λ (n : ℕ). Won limits call v n w) same won
 
 -- an exchange that found another word
-pub exchange_lost : (limits : Bounds) (call : Call) (old : ℕ) (v : LockPass) (found : ℕ)
-    (w : LockPass) → found ≢ old → Exchanged limits call old v found w →
+pub exchange_lost : (limits : Bounds) (call : Call) (old : ℕ) (v : LockPassView) (found : ℕ)
+    (w : LockPassView) → found ≢ old → Exchanged limits call old v found w →
     ((found == old) ≡ false) × Loaded limits call v found w
 exchange_lost limits call old v found w other told =
     let no : (found == old) ≡ false = grind (arith, nat_tests) in (

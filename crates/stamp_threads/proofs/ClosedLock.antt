@@ -6,7 +6,7 @@ use Rattle.atomic_table.specs.Table.{Final, Seen}
 use Rattle.stamp_machines.specs.LockNumber.{RepresentsAt}
 use Rattle.stamp_threads.specs.Seats.{alone}
 use Rattle.stamp_threads.specs.LockLog.{events_after}
-use Rattle.stamp_threads.specs.LockPass.{LockPass, Seated, LockView}
+use Rattle.stamp_threads.specs.LockPass.{LockPassView, Seated, LockView}
 use Rattle.stamp_threads.specs.LockRule.{IsKept}
 use Rattle.stamp_threads.specs.Closes.{Closes}
 
@@ -14,7 +14,7 @@ word_there : (words : List ℕ) (n : ℕ) → get_elem? words 0 ≡ some n → g
 word_there [] n e = absurd (some-ne-none n (sym e))
 word_there (x ∷ words) n e = some-injective x n e
 
-pub closes : (lock : LockView) (id : ℕ) (v : LockPass) (me : Seated)
+pub closes : (lock : LockView) (id : ℕ) (v : LockPassView) (me : Seated)
     (words : List ℕ) (slots : List (Unit {0})) (word : ℕ) → me ≡ alone v →
     Final (Seen (IsKept lock.enterable lock.limits) id me.0) words slots → get_elem? words 0 ≡ some word →
     Closes lock v word

@@ -8,31 +8,31 @@ use Rattle.stamp_core.specs.declared.call.Call.{Call}
 use Rattle.stamp_core.specs.declared.reply.Reply.{Reply}
 use Rattle.stamp_threads.specs.PassView.{HasFound, finding}
 use Rattle.stamp_threads.specs.LockLog.{LockLog, transition_after}
-use Rattle.stamp_threads.specs.LockPass.{LockPass}
+use Rattle.stamp_threads.specs.LockPass.{LockPassView}
 use Rattle.stamp_threads.specs.LockRule.{Loaded, Won, Exchanged, making, answering, reading}
 
-found-making : (o : Option Transition) (call : Call) (v : LockPass) (log : LockLog) →
+found-making : (o : Option Transition) (call : Call) (v : LockPassView) (log : LockLog) →
     (making o call v log).found ≡ v.found
 found-making None call v log = refl
 found-making (Some t) call v log = refl
 
-found-answering : (appended : List LockEvent) (reply : Reply) (call : Call) (v : LockPass)
+found-answering : (appended : List LockEvent) (reply : Reply) (call : Call) (v : LockPassView)
     (log : LockLog) → (answering appended reply call v log).found ≡ v.found
 found-answering [] reply call v log = refl
 found-answering (event ∷ appended) reply call v log = refl
 
-found-reading : (o : Option Transition) (call : Call) (v : LockPass) (log : LockLog) →
+found-reading : (o : Option Transition) (call : Call) (v : LockPassView) (log : LockLog) →
     (reading o call v log).found ≡ v.found
 found-reading None call v log = refl
 found-reading (Some t) call v log = found-answering t.appended t.reply call v log
 
-module _ (limits : Bounds) (call : Call) (v : LockPass) (found : ℕ) (w : LockPass) where
+module _ (limits : Bounds) (call : Call) (v : LockPassView) (found : ℕ) (w : LockPassView) where
   pub looks_by_load : Loaded limits call v found w → HasFound v (found ∷ []) w
-  looks_by_load l = ap (λ (u : LockPass). u.found) l.after ∙
+  looks_by_load l = ap (λ (u : LockPassView). u.found) l.after ∙
       found-reading (transition_after limits l.log call) call (finding v found) l.log
 
   pub looks_by_win : Won limits call v found w → HasFound v (found ∷ []) w
-  looks_by_win l = ap (λ (u : LockPass). u.found) l.after ∙
+  looks_by_win l = ap (λ (u : LockPassView). u.found) l.after ∙
       found-making (transition_after limits l.log call) call (finding v found) l.log
 
   by_test : (b : Bool) →
@@ -46,7 +46,7 @@ module _ (limits : Bounds) (call : Call) (v : LockPass) (found : ℕ) (w : LockP
   looks_by_exchange old e = by_test (found == old) e
 
 -- two accesses, one after the other
-pub looks_twice : (v u w : LockPass) (loaded found : ℕ) → HasFound v (loaded ∷ []) u →
+pub looks_twice : (v u w : LockPassView) (loaded found : ℕ) → HasFound v (loaded ∷ []) u →
     HasFound u (found ∷ []) w → HasFound v (loaded ∷ found ∷ []) w
 looks_twice v u w loaded found first second =
     second ∙ (λ i. first i ++ found ∷ []) ∙ append_assoc v.found (loaded ∷ []) (found ∷ [])

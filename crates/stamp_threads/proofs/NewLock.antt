@@ -9,17 +9,17 @@ use Rattle.stamp_machines.specs.LockNumber.{RepresentsAt}
 use Rattle.stamp_threads.specs.PassName.{IsRooted}
 use Rattle.stamp_threads.specs.PassView.{IsPart, every}
 use Rattle.stamp_threads.specs.Seats.{StandsAt}
-use Rattle.stamp_threads.specs.LockPass.{LockPass, first_pass}
+use Rattle.stamp_threads.specs.LockPass.{LockPassView, first_pass}
 use Rattle.stamp_threads.specs.LockRule.{IsKept}
 use Rattle.stamp_threads.proofs.Beginnings.{begins_all}
 use Rattle.stamp_threads.proofs.ListElements.{only_one}
 use Rattle.stamp_threads.proofs.GivenNames.{regiven, not_longer}
 
 -- it stands at the one place
-only_place : (i k : ℕ) (v : LockPass) → StandsAt ((first_pass ∷ []) ∷ []) i k v →
+only_place : (i k : ℕ) (v : LockPassView) → StandsAt ((first_pass ∷ []) ∷ []) i k v →
     (i ≡ 0) × (k ≡ 0) × (v ≡ first_pass)
 only_place zero k v st = only_one (λ l u. (zero ≡ 0) × (l ≡ 0) × (u ≡ first_pass)) first_pass
-    (refl, refl, refl) k v (subst (λ (l : List LockPass). get_elem? l k ≡ some v)
+    (refl, refl, refl) k v (subst (λ (l : List LockPassView). get_elem? l k ≡ some v)
     (sym (some-injective _ _ st.1)) st.2)
 only_place (suc i) k v st = absurd (some-ne-none st.0 (sym st.1))
 
@@ -42,11 +42,11 @@ opens limits word represents = record {
     given = λ i k j l v w a b.
         let p = only_place i k v a in
         let q = only_place j l w b in
-        regiven v.name (0 ∷ []) v.splits 0 w.name (0 ∷ []) (ap (λ (u : LockPass). u.name) p.2)
-        (ap (λ (u : LockPass). u.splits) p.2) (ap (λ (u : LockPass). u.name) q.2)
+        regiven v.name (0 ∷ []) v.splits 0 w.name (0 ∷ []) (ap (λ (u : LockPassView). u.name) p.2)
+        (ap (λ (u : LockPassView). u.splits) p.2) (ap (λ (u : LockPassView). u.name) q.2)
         (not_longer (0 ∷ []) 0);
     rooted = λ i k v st. subst (IsRooted 1)
-        (sym (ap (λ (u : LockPass). u.name) (only_place i k v st).2)) (omega arith);
+        (sym (ap (λ (u : LockPassView). u.name) (only_place i k v st).2)) (omega arith);
     entries = tt;
   };
 }

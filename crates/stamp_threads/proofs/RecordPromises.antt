@@ -17,7 +17,7 @@ use Rattle.stamp_threads.specs.RecordPass.{RecordPassView, Seated, LeavesLockWor
 use Rattle.stamp_threads.specs.RecordRule.{with_phase, opening, acquiring, Looked, Acquired, Opened, Released}
 use Rattle.stamp_threads.specs.RecordRule.{Confirmed, Overtaken, word_to_confirm, Met}
 use Rattle.stamp_threads.specs.RecordCall.{RecordAnswered, SawWord, WasBusy, WasLost, WasSpent}
-use Rattle.stamp_threads.specs.RecordCall.{HaveMet}
+use Rattle.stamp_threads.specs.RecordCall.{RecordPassesMet}
 use Rattle.stamp_threads.proofs.Beginnings.{begins_further, begins_more}
 use Rattle.stamp_threads.proofs.RecordLogs.{puts_get}
 use Rattle.stamp_threads.proofs.RecordWords.{held_test, writes_in, puts_of, held_is, same_word, word_small, word_large}
@@ -25,11 +25,11 @@ use Rattle.stamp_threads.proofs.RecordWords.{held_test, writes_in, puts_of, held
 -- two seats after a meeting
 pub have_met : (shape : RecordShape) (v u : RecordPassView) (me : Seated)
     (v' u' : RecordPassView) → Met shape v u me → v' ≡ first_of me.0 → u' ≡ second_of me.0 →
-    HaveMet shape.width v u v' u'
+    RecordPassesMet shape.width v u v' u'
 have_met shape v u me v' u' m first second =
     let a : v' ≡ observing v m.log = first ∙ ap (λ (n : Seated). first_of n.0) m.after in
     let b : u' ≡ observing u m.log = second ∙ ap (λ (n : Seated). second_of n.0) m.after in
-    subst (λ (p : RecordPassView × RecordPassView). HaveMet shape.width v u p.0 p.1)
+    subst (λ (p : RecordPassView × RecordPassView). RecordPassesMet shape.width v u p.0 p.1)
     (λ i. (sym a i, sym b i)) (record {
       first_begins = m.first_begins;
       second_begins = m.second_begins;

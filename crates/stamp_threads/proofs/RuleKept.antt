@@ -24,7 +24,7 @@ use Rattle.stamp_threads.specs.PassView.{entry, every, made_by, IsPart, observin
 use Rattle.stamp_threads.specs.PassView.{finding}
 use Rattle.stamp_threads.specs.Seats.{alone, both}
 use Rattle.stamp_threads.specs.LockLog.{LockLog, events_after, transition_after, IsLegalLog}
-use Rattle.stamp_threads.specs.LockPass.{LockPass, Seated, IsConsistentWith, LeavesWord, first_of}
+use Rattle.stamp_threads.specs.LockPass.{LockPassView, Seated, IsConsistentWith, LeavesWord, first_of}
 use Rattle.stamp_threads.specs.LockPass.{second_of}
 use Rattle.stamp_threads.specs.LockRule.{IsKept, making, after_win, answering, reading, after_load}
 use Rattle.stamp_threads.specs.LockRule.{Loaded, Won, LoadTells, ExchangeTells, MeetTells}
@@ -35,13 +35,13 @@ use Rattle.stamp_threads.proofs.SeatSteps.{Same, same_one, same_two, stands_on, 
 use Rattle.stamp_threads.proofs.SeatSteps.{other_part}
 use Rattle.stamp_threads.proofs.LockLogs.{legal_longer, represents_unchanged, represents_changed}
 
-module _ {enterable : Bool} (limits : Bounds) (s : State (Unit {0}) (List LockPass)) (r : IsKept enterable limits s)
+module _ {enterable : Bool} (limits : Bounds) (s : State (Unit {0}) (List LockPassView)) (r : IsKept enterable limits s)
     (id : ℕ)
-    (vs ws : List LockPass) (log' : LockLog) (at : get_elem? s.views id ≡ some vs)
+    (vs ws : List LockPassView) (log' : LockLog) (at : get_elem? s.views id ≡ some vs)
     (same : Same vs ws) (grows : Grows vs r.log log')
-    (all : (k : ℕ) (w : LockPass) → get_elem? ws k ≡ some w →
+    (all : (k : ℕ) (w : LockPassView) → get_elem? ws k ≡ some w →
     (w.observed ≡ log') × (made_by every w.name log' ≡ w.own)) where
-  own_parts : (k : ℕ) (w : LockPass) → get_elem? ws k ≡ some w → IsPart every log' w
+  own_parts : (k : ℕ) (w : LockPassView) → get_elem? ws k ≡ some w → IsPart every log' w
   own_parts k w h = let a = all k w h in
       record {
         observed = subst (λ (l : LockLog). IsPrefix l log') (sym a.0) (begins_all log');
@@ -50,7 +50,7 @@ module _ {enterable : Bool} (limits : Bounds) (s : State (Unit {0}) (List LockPa
             grows (λ _ f. f) k w h;
       }
 
-  pub consistent_after : IsLegalLog limits log' → (k : ℕ) (w : LockPass) → get_elem? ws k ≡ some w →
+  pub consistent_after : IsLegalLog limits log' → (k : ℕ) (w : LockPassView) → get_elem? ws k ≡ some w →
       IsConsistentWith limits w
   consistent_after legal k w h =
       let f = own_parts k w h in
@@ -79,15 +79,15 @@ module _ {enterable : Bool} (limits : Bounds) (s : State (Unit {0}) (List LockPa
   }
 
 -- the rule, and what the pass knows, after a step of a seat that holds one
-abbrev Steps : Bool → (limits : Bounds) (s : State (Unit {0}) (List LockPass)) → ℕ → ℕ →
-    List (Option (Unit {0})) → LockPass → Type 0
+abbrev Steps : Bool → (limits : Bounds) (s : State (Unit {0}) (List LockPassView)) → ℕ → ℕ →
+    List (Option (Unit {0})) → LockPassView → Type 0
 Steps enterable limits s id word homes w = IsKept enterable limits
     record { words = set s.words 0 word; homes = homes; views = set s.views id (w ∷ []) } ×
     IsConsistentWith limits w
 
-module _ {enterable : Bool} (limits : Bounds) (s : State (Unit {0}) (List LockPass)) (r : IsKept enterable limits s)
+module _ {enterable : Bool} (limits : Bounds) (s : State (Unit {0}) (List LockPassView)) (r : IsKept enterable limits s)
     (id : ℕ)
-    (v : LockPass) (homes : List (Option (Unit {0}))) (at : get_elem? s.views id ≡ some (v ∷ []))
+    (v : LockPassView) (homes : List (Option (Unit {0}))) (at : get_elem? s.views id ≡ some (v ∷ []))
   where
     part_now : IsPart every r.log v
     part_now = r.passes.fits id 0 v (v ∷ [], at, refl)
@@ -96,12 +96,12 @@ module _ {enterable : Bool} (limits : Bounds) (s : State (Unit {0}) (List LockPa
     leaves_now = record { begins = part_now.observed; legal = r.legal; represents = r.represents }
 
     -- the pass once it has found the word that stands there
-    abbrev looked : LockPass
+    abbrev looked : LockPassView
     looked = finding v (get_or s.words 0 0)
 
     pub observes_all : Steps enterable limits s id (get_or s.words 0 0) homes (observing looked r.log)
     observes_all =
-        let w : LockPass = observing looked r.log in
+        let w : LockPassView = observing looked r.log in
         let same = same_one v w refl refl in
         let grows = grows_none (v ∷ []) r.log in
         let all = only_one (λ k u. (u.observed ≡ r.log) × (made_by every u.name r.log ≡ u.own)) w
@@ -122,7 +122,7 @@ module _ {enterable : Bool} (limits : Bounds) (s : State (Unit {0}) (List LockPa
       makes_call t word is represents =
           let m : Call × Reply = (call, t.reply) in
           let log' : LockLog = r.log ++ entry v.name m ∷ [] in
-          let w : LockPass = adding looked r.log m in
+          let w : LockPassView = adding looked r.log m in
           let same = same_one v w refl refl in
           let grows = grows_one v r.log m in
           let own = made_by-same every v.name r.log m ∙
@@ -164,7 +164,7 @@ module _ {enterable : Bool} (limits : Bounds) (s : State (Unit {0}) (List LockPa
           let t : Transition = record { appended = m.appended; reply = reply } in
           let made = makes_call t new m.transition_is
           (represents_changed limits r.log call v.name t m.transition_is new m.represented) in
-          subst (λ (w : LockPass). Steps enterable limits s id new homes w)
+          subst (λ (w : LockPassView). Steps enterable limits s id new homes w)
           (sym (ap (λ (o : Rattle.std.proofs.Common.Option Transition). making o call looked r.log)
           m.transition_is)) made
 
@@ -173,10 +173,10 @@ pub allows_load : {enterable : Bool} (limits : Bounds) (call : Call) (slots id :
     (me : Seated) → IsTrue (is_lock_call call) → me ≡ alone (first_of me.0) →
     Allows (IsKept enterable limits) slots id me 0 (λ n. n) (LoadTells limits call (step slots 0 0 0 none) me)
 allows_load limits call slots id me lock is s r _ at _ =
-    let v : LockPass = first_of me.0 in
+    let v : LockPassView = first_of me.0 in
     let here : get_elem? s.views id ≡ some (v ∷ []) =
     at ∙ ap (λ (m : Seated). some m.0) is in
-    let w : LockPass = after_load limits call (finding v (get_or s.words 0 0)) r.log in
+    let w : LockPassView = after_load limits call (finding v (get_or s.words 0 0)) r.log in
     let t = loads limits s r id v s.homes here call lock in (
       w ∷ [],
       keeps,
@@ -195,23 +195,23 @@ allows_load limits call slots id me lock is s r _ at _ =
     )
 
 -- by whether the word found is the old one
-abbrev TellsBy : Bool → Bounds → Call → LockPass → ℕ → Seated → Type 0
+abbrev TellsBy : Bool → Bounds → Call → LockPassView → ℕ → Seated → Type 0
 TellsBy b limits call v found n = (n ≡ alone (first_of n.0)) ×
     MatchBool b (Won limits call v found (first_of n.0)) (Loaded limits call v found (first_of n.0))
 
-exchange_at : {enterable : Bool} (limits : Bounds) (s : State (Unit {0}) (List LockPass))
+exchange_at : {enterable : Bool} (limits : Bounds) (s : State (Unit {0}) (List LockPassView))
     (r : IsKept enterable limits s)
     (id : ℕ) (me : Seated) (call : Call) (old new : ℕ) (reply : Reply) →
     IsTrue (is_lock_call call) → me ≡ alone (first_of me.0) →
     get_elem? s.views id ≡ some (first_of me.0 ∷ [])
     → Changes limits (word_at limits old) call (word_at limits new) reply → (b : Bool) →
     eqb (get_or s.words 0 0) old ≡ b
-    → (w : List LockPass) × (a : Act (Unit {0})) × Valid s.homes me.1 a ×
+    → (w : List LockPassView) × (a : Act (Unit {0})) × Valid s.homes me.1 a ×
     IsKept enterable limits (stepped s 0 (either b new (get_or s.words 0 0)) id me.1 w a)
     × TellsBy b limits call (first_of me.0) (get_or s.words 0 0) (w, carried_after me.1 a)
 exchange_at limits s r id me call old new reply lock is here changes true e =
-    let v : LockPass = first_of me.0 in
-    let w : LockPass = after_win limits call (finding v (get_or s.words 0 0)) r.log in
+    let v : LockPassView = first_of me.0 in
+    let w : LockPassView = after_win limits call (finding v (get_or s.words 0 0)) r.log in
     let t = wins limits s r id v s.homes here call lock old new reply (eqb-true _ _ e) changes in (
       w ∷ [],
       keeps,
@@ -229,8 +229,8 @@ exchange_at limits s r id me call old new reply lock is here changes true e =
       ),
     )
 exchange_at limits s r id me call old new reply lock is here changes false e =
-    let v : LockPass = first_of me.0 in
-    let w : LockPass = after_load limits call (finding v (get_or s.words 0 0)) r.log in
+    let v : LockPassView = first_of me.0 in
+    let w : LockPassView = after_load limits call (finding v (get_or s.words 0 0)) r.log in
     let t = loads limits s r id v s.homes here call lock in (
       w ∷ [],
       keeps,
@@ -265,14 +265,14 @@ pub allows_meet : {enterable : Bool} (limits : Bounds) (slots id : ℕ) (me : Se
     me ≡ both (first_of me.0) (second_of me.0) →
     Allows (IsKept enterable limits) slots id me 0 (λ n. n) (MeetTells limits (step slots 0 0 0 none) me)
 allows_meet limits slots id me is s r _ at _ =
-    let v : LockPass = first_of me.0 in
-    let u : LockPass = second_of me.0 in
+    let v : LockPassView = first_of me.0 in
+    let u : LockPassView = second_of me.0 in
     let here : get_elem? s.views id ≡ some (v ∷ u ∷ []) =
     at ∙ ap (λ (m : Seated). some m.0) is in
-    let vs : List LockPass = v ∷ u ∷ [] in
-    let v' : LockPass = observing v r.log in
-    let u' : LockPass = observing u r.log in
-    let ws : List LockPass = v' ∷ u' ∷ [] in
+    let vs : List LockPassView = v ∷ u ∷ [] in
+    let v' : LockPassView = observing v r.log in
+    let u' : LockPassView = observing u r.log in
+    let ws : List LockPassView = v' ∷ u' ∷ [] in
     let first = r.passes.fits id 0 v (vs, here, refl) in
     let second = r.passes.fits id 1 u (vs, here, refl) in
     let same = same_two v u v' u' (record { name = refl; splits = refl })

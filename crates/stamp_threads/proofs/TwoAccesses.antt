@@ -7,7 +7,7 @@ use Rattle.stamp_core.specs.declared.call.Call.{Call}
 use Rattle.stamp_core.specs.declared.reply.Reply.{Reply}
 use Rattle.stamp_machines.specs.LockNumber.{RepresentsAt}
 use Rattle.stamp_threads.specs.LockLog.{LockLog, events_after, Appends}
-use Rattle.stamp_threads.specs.LockPass.{LockPass}
+use Rattle.stamp_threads.specs.LockPass.{LockPassView}
 use Rattle.stamp_threads.specs.LockRule.{Loaded, Won}
 use Rattle.stamp_threads.specs.PassView.{entry, HasFound}
 use Rattle.stamp_threads.specs.Answered.{Answered, LooksTwice}
@@ -26,7 +26,7 @@ appends limits call word new reply changes log represents =
     record { appended = m.appended; some = m.some; reply = reply; transition_is = m.transition_is }
 
 -- the load found a word that the call is to change
-module _ (limits : Bounds) (call : Call) (v : LockPass) (loaded : ℕ) (u : LockPass) (new : LockWord)
+module _ (limits : Bounds) (call : Call) (v : LockPassView) (loaded : ℕ) (u : LockPassView) (new : LockWord)
     (reply : Reply) (load : Loaded limits call v loaded u)
     (changes : Changes limits (word_at limits loaded) call new reply) where
   went : WentOn limits v loaded u
@@ -35,7 +35,7 @@ module _ (limits : Bounds) (call : Call) (v : LockPass) (loaded : ℕ) (u : Lock
   first : HasFound v (loaded ∷ []) u
   first = looks_by_load limits call v loaded u load
 
-  twice : (found : ℕ) (w : LockPass) (reply' : Reply) → HasFound u (found ∷ []) w →
+  twice : (found : ℕ) (w : LockPassView) (reply' : Reply) → HasFound u (found ∷ []) w →
       Answered limits call reply' u w → LooksTwice limits v w
   twice found w reply' second a = record {
     loaded = loaded;
@@ -49,18 +49,18 @@ module _ (limits : Bounds) (call : Call) (v : LockPass) (loaded : ℕ) (u : Lock
     observed = a.observed;
   }
 
-  pub twice_by_win : (w : LockPass) → Won limits call u loaded w → LooksTwice limits v w
+  pub twice_by_win : (w : LockPassView) → Won limits call u loaded w → LooksTwice limits v w
   twice_by_win w won = twice loaded w reply (looks_by_win limits call u loaded w won)
       (by_change_made limits call u loaded w new reply won changes)
 
-  pub twice_by_answer : (found : ℕ) (w : LockPass) (reply' : Reply) → Loaded limits call u found w →
+  pub twice_by_answer : (found : ℕ) (w : LockPassView) (reply' : Reply) → Loaded limits call u found w →
       Answers limits (word_at limits found) call reply' → LooksTwice limits v w
   twice_by_answer found w reply' load' answers =
       twice found w reply' (looks_by_load limits call u found w load')
       (by_answer limits call u found w reply' load' answers)
 
   -- the exchange found another word, which the call is to change too
-  pub loses : (found : ℕ) (w : LockPass) (new' : LockWord) (reply' : Reply) → loaded ≢ found →
+  pub loses : (found : ℕ) (w : LockPassView) (new' : LockWord) (reply' : Reply) → loaded ≢ found →
       Loaded limits call u found w → Changes limits (word_at limits found) call new' reply' →
       LostExchange limits call loaded found v w
   loses found w new' reply' differ load' changes' =

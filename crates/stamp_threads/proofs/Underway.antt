@@ -22,7 +22,7 @@ use Rattle.stamp_machines.specs.MachineState.{lock_alone, on_lock_alone}
 use Rattle.stamp_machines.specs.declared.machine.Turn.{Turn}
 use Rattle.stamp_machines.specs.declared.machine.Turn.TheVariants.{Going, Done}
 use Rattle.stamp_machines.proofs.TwoKindsOfCall.{lock_none}
-use Rattle.stamp_threads.specs.LockPass.{LockPass}
+use Rattle.stamp_threads.specs.LockPass.{LockPassView}
 use Rattle.stamp_threads.specs.LockRule.{Loaded, Won}
 use Rattle.stamp_threads.specs.PassView.{entry, HasFound}
 use Rattle.stamp_threads.specs.Answered.{Answered}
@@ -41,7 +41,7 @@ finds_more (first ∷ words) (Going s) m word after is next =
 finds_more (first ∷ words) (Done reply) m word after is next = absurd is
 
 -- a pass that waited, and one more access
-waits_more : (limits : Bounds) (v u : LockPass) (words : List ℕ) (found : ℕ) (w : LockPass) →
+waits_more : (limits : Bounds) (v u : LockPassView) (words : List ℕ) (found : ℕ) (w : LockPassView) →
     Waited v words u → WentOn limits u found w → HasFound u (found ∷ []) w →
     Waited v (words ++ found ∷ []) w
 waits_more limits v u words found w waited went looks = record {
@@ -54,8 +54,8 @@ waits_more limits v u words found w waited went looks = record {
 }
 
 -- a call that has waited, and is answered by the next access
-answered_after : (limits : Bounds) (call : Call) (reply : Reply) (v u : LockPass) (words : List ℕ)
-    (w : LockPass) → Waited v words u → Answered limits call reply u w →
+answered_after : (limits : Bounds) (call : Call) (reply : Reply) (v u : LockPassView) (words : List ℕ)
+    (w : LockPassView) → Waited v words u → Answered limits call reply u w →
     Answered limits call reply v w
 answered_after limits call reply v u words w waited a = record {
   log = a.log;
@@ -77,7 +77,7 @@ answered_after limits call reply v u words w waited a = record {
 }
 
 -- the first load of a call
-pub begins : (limits : Bounds) (call : Call) (v : LockPass) (found : ℕ) (w : LockPass) →
+pub begins : (limits : Bounds) (call : Call) (v : LockPassView) (found : ℕ) (w : LockPassView) →
     IsTrue (is_lock_call call) → Loaded limits call v found w → Underway limits call v found w
 begins limits call v found w lock loaded = record {
   before = v;
@@ -97,7 +97,7 @@ begins limits call v found w lock loaded = record {
   }) found) (lock_none call lock);
 }
 
-module _ (limits : Bounds) (call : Call) (v : LockPass) (found : ℕ) (w : LockPass)
+module _ (limits : Bounds) (call : Call) (v : LockPassView) (found : ℕ) (w : LockPassView)
     (underway : Underway limits call v found w) where
   looks_so_far : HasFound v (underway.words ++ found ∷ []) w
   looks_so_far =
@@ -144,11 +144,11 @@ module _ (limits : Bounds) (call : Call) (v : LockPass) (found : ℕ) (w : LockP
         (if c then phases.Ended reply else judged word (decision limits word call))) same
 
     -- the exchange found the same word
-    pub is_made : (u : LockPass) → Won limits call w found u → Answered limits call reply v u
+    pub is_made : (u : LockPassView) → Won limits call w found u → Answered limits call reply v u
     is_made u won = answered_after limits call reply v w (underway.words ++ found ∷ []) u waited
         (by_change_made limits call w found u new reply won changes)
 
-    pub ends_by_change : (u : LockPass) → Won limits call w found u →
+    pub ends_by_change : (u : LockPassView) → Won limits call w found u →
         GoesAsMachine limits call v u (Done reply)
     ends_by_change u won = (
       (underway.words ++ found ∷ []) ++ found ∷ [],
@@ -161,7 +161,7 @@ module _ (limits : Bounds) (call : Call) (v : LockPass) (found : ℕ) (w : LockP
     )
 
     -- the exchange found another word
-    pub loses_exchange : (word : ℕ) (u : LockPass) → (word == found) ≡ false →
+    pub loses_exchange : (word : ℕ) (u : LockPassView) → (word == found) ≡ false →
         Loaded limits call w word u → Underway limits call v word u
     loses_exchange word u other loaded = record {
       before = w;
@@ -176,7 +176,7 @@ module _ (limits : Bounds) (call : Call) (v : LockPass) (found : ℕ) (w : LockP
 
   -- the call waits, and loads the word again
   pub loads_again : HasNone limits (word_at limits found) call → Wait ≡ decision limits found call →
-      (word : ℕ) (u : LockPass) → Loaded limits call w word u → Underway limits call v word u
+      (word : ℕ) (u : LockPassView) → Loaded limits call w word u → Underway limits call v word u
   loads_again none is word u loaded = record {
     before = w;
     words = underway.words ++ found ∷ [];
@@ -191,7 +191,7 @@ module _ (limits : Bounds) (call : Call) (v : LockPass) (found : ℕ) (w : LockP
   }
 
 -- the call is to change the word found
-pub goes_to_change : (limits : Bounds) (call : Call) (v : LockPass) (found : ℕ) (w : LockPass)
+pub goes_to_change : (limits : Bounds) (call : Call) (v : LockPassView) (found : ℕ) (w : LockPassView)
     (new : LockWord) (reply : Reply) → Underway limits call v found w →
     Change new reply ≡ decision limits found call →
     GoesAsMachine limits call v w (Going (on_lock_alone limits call (Some found)))

@@ -8,7 +8,7 @@ use Rattle.stamp_core.specs.declared.reply.Reply.{Reply}
 use Rattle.stamp_threads.specs.declared.pass_view.LogEntry.{LogEntry}
 use Rattle.stamp_threads.specs.PassView.{entry, HasFound}
 use Rattle.stamp_threads.specs.LockLog.{LockLog}
-use Rattle.stamp_threads.specs.LockPass.{LockPass, IsConsistentWith, LeavesWord}
+use Rattle.stamp_threads.specs.LockPass.{LockPassView, IsConsistentWith, LeavesWord}
 
 -- the call that doesn't wait, where there is one that does
 abbrev pub try_form : Call → Call
@@ -23,7 +23,7 @@ IsWaiting call = (call ≡ WriteLock) ⊎ (call ≡ ReadLock)
 -- the history goes on from what the pass v had observed, and leaves the word that the last access
 -- found; then comes this call with its reply, which is one more of the pass's own. w is the pass
 -- after it
-pub record Answered (limits : Bounds) (call : Call) (reply : Reply) (v w : LockPass) : Type 0 where
+pub record Answered (limits : Bounds) (call : Call) (reply : Reply) (v w : LockPassView) : Type 0 where
   pub log : LockLog
   pub word : ℕ
   pub left : LeavesWord limits v word log
@@ -37,7 +37,7 @@ pub record Answered (limits : Bounds) (call : Call) (reply : Reply) (v w : LockP
 
 -- two accesses of the word were made. The word that the first found is the one that a history left,
 -- and what came before the last entry goes on from that history
-pub record LooksTwice (limits : Bounds) (v w : LockPass) : Type 0 where
+pub record LooksTwice (limits : Bounds) (v w : LockPassView) : Type 0 where
   pub loaded : ℕ
   pub found : ℕ
   pub looks : HasFound v (loaded ∷ found ∷ []) w
@@ -49,5 +49,5 @@ pub record LooksTwice (limits : Bounds) (v w : LockPass) : Type 0 where
   pub observed : w.observed ≡ log ++ made ∷ []
 
 -- one access of the word was made, or two
-abbrev pub LooksOnceOrTwice : Bounds → LockPass → LockPass → Type 0
+abbrev pub LooksOnceOrTwice : Bounds → LockPassView → LockPassView → Type 0
 LooksOnceOrTwice limits v w = ((word : ℕ) × HasFound v (word ∷ []) w) ⊎ LooksTwice limits v w

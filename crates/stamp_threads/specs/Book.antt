@@ -56,14 +56,14 @@ IsDue b call (Err Full) = IsSome (transition_in b call) × (length b.entries ≡
 IsDue b call (Err Memory) = IsSome (transition_in b call) × (length b.entries < b.most)
 
 -- the entry begins, takes effect and ends at this number
-pub record StandsAt (k : ℕ) (e : Entry) : Type 0 where
+pub record IsEntryAt (k : ℕ) (e : Entry) : Type 0 where
   pub first : e.first ≡ k
   pub point : e.point ≡ k
   pub last : e.last ≡ k
 
 -- each at the number of entries before it
 abbrev pub AreInPlace : List Entry → Type 0
-AreInPlace entries = (k : ℕ) (d : Entry) → k < length entries → StandsAt k (slice_index_or entries k d)
+AreInPlace entries = (k : ℕ) (d : Entry) → k < length entries → IsEntryAt k (slice_index_or entries k d)
 
 -- calls of a lock by 64 threads, each in its place, and linearized
 pub record AreBooked (limits : Bounds) (entries : List Entry) : Type 0 where
@@ -79,7 +79,7 @@ pub record IsBook (b : Booked) : Type 0 where
   pub entries : AreBooked b.limits b.entries
 
 -- the word that is kept beside it represents the events of its history
-pub record IsKept (b : Booked) (word : LockWord) : Type 0 where
+pub record HasWord (b : Booked) (word : LockWord) : Type 0 where
   pub book : IsBook b
   pub represented : Represents b.limits word (past_of b)
 

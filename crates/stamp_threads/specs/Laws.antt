@@ -3,19 +3,19 @@ use Rattle.std.specs.Prelude.{ℕ}
 use Rattle.stamp_core.specs.Limits.{Bounds}
 use Rattle.stamp_threads.specs.PassView.{every}
 use Rattle.stamp_threads.specs.LockLog.{IsLegalLog}
-use Rattle.stamp_threads.specs.LockPass.{LockPass}
-use Rattle.stamp_threads.specs.HaveMet as locks
+use Rattle.stamp_threads.specs.LockPass.{LockPassView}
+use Rattle.stamp_threads.specs.LockPassesMet.{LockPassesMet}
 use Rattle.stamp_threads.specs.RecordLog.{IsLegalRecord, is_own}
 use Rattle.stamp_threads.specs.RecordPass.{RecordPassView}
-use Rattle.stamp_threads.specs.RecordCall as records
+use Rattle.stamp_threads.specs.RecordCall.{RecordPassesMet}
 use Rattle.stamp_threads.specs.OneHistory.{Agree}
 
 -- Passes of a lock that meet agreed before they met.
 abbrev pub LockPassesAgree : Type 0
-LockPassesAgree = (limits : Bounds) (v w v' w' : LockPass) →
-    locks.HaveMet limits v w v' w' → Agree every (IsLegalLog limits) v w
+LockPassesAgree = (limits : Bounds) (v w v' w' : LockPassView) →
+    LockPassesMet limits v w v' w' → Agree every (IsLegalLog limits) v w
 
 -- And so did passes of a record.
 abbrev pub RecordPassesAgree : Type 0
 RecordPassesAgree = (width : ℕ) (v w v' w' : RecordPassView) →
-    records.HaveMet width v w v' w' → Agree is_own (IsLegalRecord width) v w
+    RecordPassesMet width v w v' w' → Agree is_own (IsLegalRecord width) v w

@@ -5,7 +5,7 @@ pub mod LockLog
 pub mod LockPass
 pub mod Answered
 pub mod LostExchange
-pub mod HaveMet
+pub mod LockPassesMet
 pub mod Closes
 pub mod LockRule
 pub mod Underway

@@ -14,8 +14,8 @@ use Rattle.stamp_threads.specs.PassView.{made_by, every}
 use Rattle.stamp_threads.specs.Seats as seats
 use Rattle.stamp_threads.specs.LockLog.{LockLog, events_after, IsLegalLog}
 
-abbrev pub LockPass : Type 0
-LockPass = PassView (Call × Reply) (Unit {0})
+abbrev pub LockPassView : Type 0
+LockPassView = PassView (Call × Reply) (Unit {0})
 
 -- a lock is seen as which one it is, its limits, and whether passes may enter
 pub record LockView : Type 0 where
@@ -24,22 +24,22 @@ pub record LockView : Type 0 where
   pub enterable : Bool
 
 -- a pass is seen as the lock that gave it, and what it knows
-pub record Token : Type 0 where
+pub record LockToken : Type 0 where
   pub table : TableId
-  pub view : LockPass
+  pub view : LockPassView
 
-abbrev pub first_pass : LockPass
+abbrev pub first_pass : LockPassView
 first_pass = passes.first_pass tt
 
-abbrev pub first_of : List LockPass → LockPass
+abbrev pub first_of : List LockPassView → LockPassView
 first_of vs = seats.first_of tt vs
 
-abbrev pub second_of : List LockPass → LockPass
+abbrev pub second_of : List LockPassView → LockPassView
 second_of vs = seats.second_of tt vs
 
 -- the view of a seat, and the slots that it holds: none here
 abbrev pub Seated : Type 0
-Seated = Me (Unit {0}) (List LockPass)
+Seated = Me (Unit {0}) (List LockPassView)
 
 -- one pass stands at a seat of a lock's table, which has one word; and two, which meet there
 abbrev pub IsAtSeat : TableId → TableId → Seated → Type 0
@@ -50,13 +50,13 @@ AreAtSeat table seat me = seats.AreAtSeat tt table 1 seat me
 
 -- what the pass has observed is legal, its entries there are its own calls, and no entry has a name
 -- that it may still give
-pub record IsConsistentWith (limits : Bounds) (v : LockPass) : Type 0 where
+pub record IsConsistentWith (limits : Bounds) (v : LockPassView) : Type 0 where
   pub legal : IsLegalLog limits v.observed
   pub own : made_by every v.name v.observed ≡ v.own
   pub given : HasGivenAll v.name v.splits v.observed
 
 -- a new lock, and its first pass, which has made no call
-pub record IsNew (limits : Bounds) (enterable : Bool) (lock : LockView) (pass : Token) : Type 0 where
+pub record IsNew (limits : Bounds) (enterable : Bool) (lock : LockView) (pass : LockToken) : Type 0 where
   pub has_limits : lock.limits ≡ limits
   pub opens : lock.enterable ≡ enterable
   pub table : pass.table ≡ lock.table
@@ -65,14 +65,14 @@ pub record IsNew (limits : Bounds) (enterable : Bool) (lock : LockView) (pass : 
 
 -- a legal history that begins with what the pass has observed, and whose events this word
 -- represents
-pub record LeavesWord (limits : Bounds) (v : LockPass) (word : ℕ) (log : LockLog) : Type 0 where
+pub record LeavesWord (limits : Bounds) (v : LockPassView) (word : ℕ) (log : LockLog) : Type 0 where
   pub begins : IsPrefix v.observed log
   pub legal : IsLegalLog limits log
   pub represents : RepresentsAt limits word (events_after limits log)
 
 -- a pass that entered: its path is empty, it has observed a legal history, which left the word that
 -- its load found, and it has made no call
-pub record HasEntered (limits : Bounds) (v : LockPass) : Type 0 where
+pub record HasEntered (limits : Bounds) (v : LockPassView) : Type 0 where
   pub root : ℕ
   pub word : ℕ
   pub name : v.name ≡ root ∷ []

@@ -11,14 +11,14 @@ use Rattle.stamp_machines.specs.LockNumber.{RepresentsAt}
 use Rattle.stamp_threads.specs.PassView.{IsPart, every, observing, adding, finding}
 use Rattle.stamp_threads.specs.Seats.{AreSeated, alone, both}
 use Rattle.stamp_threads.specs.LockLog.{LockLog, events_after, transition_after, IsLegalLog}
-use Rattle.stamp_threads.specs.LockPass.{LockPass, Seated, IsConsistentWith, LeavesWord, first_of}
+use Rattle.stamp_threads.specs.LockPass.{LockPassView, Seated, IsConsistentWith, LeavesWord, first_of}
 use Rattle.stamp_threads.specs.LockPass.{HasEntered}
 use Rattle.stamp_threads.specs.LockPass.{second_of}
-use Rattle.stamp_threads.specs.HaveMet.{HaveMet}
+use Rattle.stamp_threads.specs.LockPassesMet.{LockPassesMet}
 
 -- there is one legal history, whose events the word represents; each pass that stands knows a part
 -- of it, and their names are apart. Where passes may not enter, the first root is the only one
-pub record IsKept (enterable : Bool) (limits : Bounds) (s : State (Unit {0}) (List LockPass)) : Type 0 where
+pub record IsKept (enterable : Bool) (limits : Bounds) (s : State (Unit {0}) (List LockPassView)) : Type 0 where
   pub log : LockLog
   pub roots : ℕ
   pub closed : enterable ≡ false → roots ≡ 1
@@ -28,28 +28,28 @@ pub record IsKept (enterable : Bool) (limits : Bounds) (s : State (Unit {0}) (Li
   pub passes : AreSeated (IsPart every log) roots log s.views
 
 -- the pass after the call's transition: the call is made where there is one
-abbrev pub making : Option Transition → Call → LockPass → LockLog → LockPass
+abbrev pub making : Option Transition → Call → LockPassView → LockLog → LockPassView
 making None call v log = observing v log
 making (Some t) call v log = adding v log (call, t.reply)
 
-abbrev pub after_win : Bounds → Call → LockPass → LockLog → LockPass
+abbrev pub after_win : Bounds → Call → LockPassView → LockLog → LockPassView
 after_win limits call v log = making (transition_after limits log call) call v log
 
 -- a call whose transition appends nothing is made, and no other
-abbrev pub answering : List LockEvent → Reply → Call → LockPass → LockLog → LockPass
+abbrev pub answering : List LockEvent → Reply → Call → LockPassView → LockLog → LockPassView
 answering [] reply call v log = adding v log (call, reply)
 answering (event ∷ appended) reply call v log = observing v log
 
-abbrev pub reading : Option Transition → Call → LockPass → LockLog → LockPass
+abbrev pub reading : Option Transition → Call → LockPassView → LockLog → LockPassView
 reading None call v log = observing v log
 reading (Some t) call v log = answering t.appended t.reply call v log
 
 -- the pass after it has found the word
-abbrev pub after_load : Bounds → Call → LockPass → LockLog → LockPass
+abbrev pub after_load : Bounds → Call → LockPassView → LockLog → LockPassView
 after_load limits call v log = reading (transition_after limits log call) call v log
 
 -- v is the pass before a step that has found this word, and w the pass after it
-module _ (limits : Bounds) (call : Call) (v : LockPass) (found : ℕ) (w : LockPass) where
+module _ (limits : Bounds) (call : Call) (v : LockPassView) (found : ℕ) (w : LockPassView) where
   pub record Loaded : Type 0 where
     pub log : LockLog
     pub left : LeavesWord limits v found log
@@ -63,7 +63,7 @@ module _ (limits : Bounds) (call : Call) (v : LockPass) (found : ℕ) (w : LockP
     pub consistent : IsConsistentWith limits w
 
 -- an exchange that finds another word than the old one is as a load
-abbrev pub Exchanged : Bounds → Call → ℕ → LockPass → ℕ → LockPass → Type 0
+abbrev pub Exchanged : Bounds → Call → ℕ → LockPassView → ℕ → LockPassView → Type 0
 Exchanged limits call old v found w = MatchBool (found == old) (Won limits call v found w)
     (Loaded limits call v found w)
 
@@ -79,7 +79,7 @@ ExchangeTells limits call st m found n =
 -- and the seat of two passes: both have observed the whole history
 abbrev pub MeetTells : Bounds → Step (Unit {0}) → Seated → ℕ → Seated → Type 0
 MeetTells limits st m found n = (n ≡ both (first_of n.0) (second_of n.0)) ×
-    HaveMet limits (first_of m.0) (second_of m.0) (first_of n.0) (second_of n.0)
+    LockPassesMet limits (first_of m.0) (second_of m.0) (first_of n.0) (second_of n.0)
 
 -- and a seat that is made by a load
 abbrev pub EnterTells : Bounds → Step (Unit {0}) → Seated → ℕ → Seated → Type 0

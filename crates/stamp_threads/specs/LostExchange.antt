@@ -5,12 +5,12 @@ use Rattle.stamp_core.specs.Limits.{Bounds}
 use Rattle.stamp_core.specs.declared.call.Call.{Call}
 use Rattle.stamp_threads.specs.PassView.{HasFound}
 use Rattle.stamp_threads.specs.LockLog.{LockLog, Appends}
-use Rattle.stamp_threads.specs.LockPass.{LockPass, IsConsistentWith, LeavesWord}
+use Rattle.stamp_threads.specs.LockPass.{LockPassView, IsConsistentWith, LeavesWord}
 
 -- The load of the call and its exchange found the two words. Two legal histories, of which the second
 -- begins with the first, left them, and after each the call changes the lock. The pass v has observed
 -- the second, and made no call: it is w then.
-pub record LostExchange (limits : Bounds) (call : Call) (loaded found : ℕ) (v w : LockPass) : Type 0
+pub record LostExchange (limits : Bounds) (call : Call) (loaded found : ℕ) (v w : LockPassView) : Type 0
   where
     pub differ : loaded ≢ found
     pub looks : HasFound v (loaded ∷ found ∷ []) w

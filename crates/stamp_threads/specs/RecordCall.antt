@@ -1,5 +1,6 @@
 -- What the calls of a running record promise. v is the pass before the call, and w after it.
 use Rattle.std.specs.Prelude.{◌≡◌, ◌≢◌, ℕ, ◌+◌, ◌≤◌, true, false, List, [], ◌∷◌, ◌++◌, length}
+use Rattle.std.specs.Prelude.{Result, Ok, Err}
 use mathlib.Core.List.{IsPrefix}
 use Rattle.stamp_core.specs.Content.{RecordReplies}
 use Rattle.stamp_core.specs.declared.call.Call.{Call}
@@ -106,8 +107,14 @@ pub record WasGot (P : List ℕ → Type 0) (shape : RecordShape) (words : List 
   pub long : length words ≡ shape.width
   pub obeys : P words
 
+-- a get gave these words, or was refused
+abbrev pub GotOrRefused : (List ℕ → Type 0) → RecordShape → Result (List ℕ) GetFault →
+    RecordPassView → RecordPassView → Type 0
+GotOrRefused P shape (Ok words) v w = WasGot P shape words v w
+GotOrRefused P shape (Err fault) v w = GetRefused shape v fault w
+
 -- v' and w' are v and w after they met
-pub record HaveMet (width : ℕ) (v w v' w' : RecordPassView) : Type 0 where
+pub record RecordPassesMet (width : ℕ) (v w v' w' : RecordPassView) : Type 0 where
   pub first_begins : IsPrefix v.observed v'.observed
   pub second_begins : IsPrefix w.observed v'.observed
   pub alike : w'.observed ≡ v'.observed

@@ -12,12 +12,12 @@ use Rattle.stamp_machines.specs.declared.machine.Turn.{Turn}
 use Rattle.stamp_machines.specs.declared.machine.Turn.TheVariants.{Going, Done}
 use Rattle.stamp_threads.specs.declared.lost.Lost.{Lost}
 use Rattle.stamp_threads.specs.PassView.{HasFound}
-use Rattle.stamp_threads.specs.LockPass.{LockPass, IsConsistentWith, LeavesWord}
+use Rattle.stamp_threads.specs.LockPass.{LockPassView, IsConsistentWith, LeavesWord}
 use Rattle.stamp_threads.specs.LockRule.{Loaded}
 
 -- the accesses of the call's machine found the words that the pass found between v and w, and the
 -- machine stands here after them
-abbrev pub GoesAsMachine : Bounds → Call → LockPass → LockPass → Turn → Type 0
+abbrev pub GoesAsMachine : Bounds → Call → LockPassView → LockPassView → Turn → Type 0
 GoesAsMachine limits call v w turn = (words : List ℕ) × HasFound v words w ×
     Finds words (Going (start (lock_alone limits) call)) turn
 
@@ -28,7 +28,7 @@ turn_once limits call (Ok reply) = Done reply
 turn_once limits call (Err lost) = Going (on_lock_alone limits call (Some lost.found))
 
 -- the pass has observed more, found these words, and made no call
-pub record Waited (v : LockPass) (words : List ℕ) (w : LockPass) : Type 0 where
+pub record Waited (v : LockPassView) (words : List ℕ) (w : LockPassView) : Type 0 where
   pub begins : IsPrefix v.observed w.observed
   pub found : HasFound v words w
   pub own : w.own ≡ v.own
@@ -36,7 +36,7 @@ pub record Waited (v : LockPass) (words : List ℕ) (w : LockPass) : Type 0 wher
   pub splits : w.splits ≡ v.splits
 
 -- the pass had observed the whole history when the access found this word, and made no call
-pub record WentOn (limits : Bounds) (v : LockPass) (word : ℕ) (w : LockPass) : Type 0 where
+pub record WentOn (limits : Bounds) (v : LockPassView) (word : ℕ) (w : LockPassView) : Type 0 where
   pub left : LeavesWord limits v word w.observed
   pub own : w.own ≡ v.own
   pub name : w.name ≡ v.name
@@ -45,9 +45,9 @@ pub record WentOn (limits : Bounds) (v : LockPass) (word : ℕ) (w : LockPass) :
 
 -- the last access of the call has found this word, on which it isn't decided yet. The pass, which was
 -- v when the call began, was `before` until then
-pub record Underway (limits : Bounds) (call : Call) (v : LockPass) (found : ℕ) (w : LockPass) :
+pub record Underway (limits : Bounds) (call : Call) (v : LockPassView) (found : ℕ) (w : LockPassView) :
     Type 0 where
-  pub before : LockPass
+  pub before : LockPassView
   pub words : List ℕ
   pub waited : Waited v words before
   pub loaded : Loaded limits call before found w

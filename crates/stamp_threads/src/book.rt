@@ -22,13 +22,13 @@ pub struct Book {
 }
 
 impl Model for Book {
-    ghost use Rattle.stamp_threads.specs.Book.{Booked, booked, IsKept};
+    ghost use Rattle.stamp_threads.specs.Book.{Booked, booked, HasWord};
 
     ghost Value = { Booked };
 
     ghost view = { λ b. booked b.limits b.most b.entries.items };
 
-    ghost invariant = { λ b. IsKept (booked b.limits b.most b.entries.items) b.word };
+    ghost invariant = { λ b. HasWord (booked b.limits b.most b.entries.items) b.word };
 }
 
 /// The entry of a call that begins, takes effect and ends at this position.
@@ -63,7 +63,7 @@ impl Book {
     /// 1 `Full`, 2 `Memory`; the book is as before then. The thread is the caller's number for whoever
     /// calls, and only stands in the entry.
     pub fn act(&mut self, thread: u64, call: Call) -> Result<Reply, BookError>
-        requires call { IsTrue (is_lock_call call) }
+        requires lock_call { IsTrue (is_lock_call call) }
         requires thread { thread < 64 }
         ensures due { IsDue self.old call result }
         ensures ok { IfOk result (λ reply. self.new ≡ with_call self.old thread call reply) }
@@ -74,7 +74,7 @@ impl Book {
 
     /// `act` of a call by reference, of which the proof can speak more than once.
     fn enter(&mut self, thread: u64, call: &Call) -> Result<Reply, BookError>
-        requires call { IsTrue (is_lock_call call.now) }
+        requires lock_call { IsTrue (is_lock_call call.now) }
         requires thread { thread < 64 }
         ensures due { IsDue self.old call.now result }
         ensures ok { IfOk result (λ reply. self.new ≡ with_call self.old thread call.now reply) }

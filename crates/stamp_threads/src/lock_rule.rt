@@ -6,7 +6,7 @@ use std::collections::LinkedList;
 use std::marker::{Brand, PhantomData};
 
 /// The passes that a seat of the table holds: one, and two while they meet.
-pub type Passes = LinkedList<PassView<(Call, Reply), ()>>;
+pub type LockPasses = LinkedList<PassView<(Call, Reply), ()>>;
 
 /// What the rule of a lock reads: its limits, and whether passes may enter.
 #[derive(Clone, Copy)]
@@ -20,7 +20,7 @@ pub struct LockKey {
 /// The rule: one legal history, whose events the word represents, and passes that know parts of it.
 pub struct LockRule;
 
-impl TableRule<(), Passes, LockKey> for LockRule {
+impl TableRule<(), LockPasses, LockKey> for LockRule {
     ghost use Rattle.std.specs.Prelude.{[], ◌∷◌};
     ghost use Rattle.stamp_threads.specs.LockPass.{first_pass};
     ghost use Rattle.stamp_threads.specs.LockRule.{IsKept};
@@ -31,7 +31,7 @@ impl TableRule<(), Passes, LockKey> for LockRule {
 }
 
 /// The limits of the lock, and the call that a step is made for. Each step picks its own.
-pub trait StepFor {
+pub trait CallStep {
     ghost use Rattle.stamp_core.specs.Limits.{Bounds};
     ghost use Rattle.stamp_core.specs.declared.call.Call.{Call};
 
@@ -40,7 +40,7 @@ pub trait StepFor {
     ghost call: { Call };
 }
 
-impl StepFor for Brand {
+impl CallStep for Brand {
     ghost use Rattle.stamp_core.specs.Limits.{bounds};
     ghost use Rattle.stamp_core.specs.declared.layout.Layout.TheVariants.{One};
     ghost use Rattle.stamp_core.specs.declared.call.Call.TheVariants.{IsWriteLocked};
@@ -55,7 +55,7 @@ pub struct LoadStep<C> {
     of: PhantomData<C>,
 }
 
-impl<C: StepFor> Play<(), Passes> for LoadStep<C> {
+impl<C: CallStep> Play<(), LockPasses> for LoadStep<C> {
     ghost use Rattle.stamp_threads.specs.LockRule.{LoadTells};
 
     ghost then = { LoadTells C.limits C.call };
@@ -66,7 +66,7 @@ pub struct ExchangeStep<C> {
     of: PhantomData<C>,
 }
 
-impl<C: StepFor> Play<(), Passes> for ExchangeStep<C> {
+impl<C: CallStep> Play<(), LockPasses> for ExchangeStep<C> {
     ghost use Rattle.stamp_threads.specs.LockRule.{ExchangeTells};
 
     ghost then = { ExchangeTells C.limits C.call };
@@ -77,7 +77,7 @@ pub struct MeetStep<C> {
     of: PhantomData<C>,
 }
 
-impl<C: StepFor> Play<(), Passes> for MeetStep<C> {
+impl<C: CallStep> Play<(), LockPasses> for MeetStep<C> {
     ghost use Rattle.stamp_threads.specs.LockRule.{MeetTells};
 
     ghost then = { MeetTells C.limits };
@@ -88,7 +88,7 @@ pub struct EnterStep<C> {
     of: PhantomData<C>,
 }
 
-impl<C: StepFor> Play<(), Passes> for EnterStep<C> {
+impl<C: CallStep> Play<(), LockPasses> for EnterStep<C> {
     ghost use Rattle.stamp_threads.specs.LockRule.{EnterTells};
 
     ghost then = { EnterTells C.limits };
@@ -97,7 +97,7 @@ impl<C: StepFor> Play<(), Passes> for EnterStep<C> {
 /// A pass gives a new one.
 pub struct GivePass;
 
-impl Split<Passes> for GivePass {
+impl Split<LockPasses> for GivePass {
     ghost use Rattle.std.specs.Prelude.{map};
     ghost use Rattle.stamp_threads.specs.PassView.{after_split, split_off};
 
@@ -109,7 +109,7 @@ impl Split<Passes> for GivePass {
 /// Two passes go on one seat.
 pub struct ShareSeat;
 
-impl Join<Passes> for ShareSeat {
+impl Join<LockPasses> for ShareSeat {
     ghost use Rattle.std.specs.Prelude.{[], ◌++◌};
 
     ghost both = { λ vs ws. vs ++ ws };
@@ -120,7 +120,7 @@ impl Join<Passes> for ShareSeat {
 /// And each on one of its own again.
 pub struct PartSeats;
 
-impl Split<Passes> for PartSeats {
+impl Split<LockPasses> for PartSeats {
     ghost use Rattle.std.specs.Prelude.{take, drop};
 
     ghost left = { take 1 };

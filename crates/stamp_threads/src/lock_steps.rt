@@ -7,24 +7,24 @@ ghost use Rattle.stamp_threads.specs.PassView.{after_split, split_off};
 ghost use Rattle.stamp_threads.specs.Seats.{alone, both};
 ghost use Rattle.stamp_threads.specs.LockPass.{first_of, second_of, HasEntered, IsAtSeat, AreAtSeat};
 ghost use Rattle.stamp_threads.specs.LockRule.{Loaded, Exchanged};
-ghost use Rattle.stamp_threads.specs.HaveMet.{HaveMet};
+ghost use Rattle.stamp_threads.specs.LockPassesMet.{LockPassesMet};
 
 use crate::lock_rule::{
-    EnterStep, ExchangeStep, GivePass, LoadStep, LockKey, LockRule, MeetStep, PartSeats, Passes,
-    ShareSeat, StepFor,
+    CallStep, EnterStep, ExchangeStep, GivePass, LoadStep, LockKey, LockPasses, LockRule, MeetStep,
+    PartSeats, ShareSeat,
 };
 use atomic_table::{Seat, Shared};
 use stamp_core::{Call, Reply};
 
 /// The table of a running lock: one word.
-pub type LockTable = Shared<(), Passes, LockKey, LockRule>;
+pub type LockTable = Shared<(), LockPasses, LockKey, LockRule>;
 
 /// A seat of it, which a pass has.
-pub type LockSeat = Seat<(), Passes>;
+pub type LockSeat = Seat<(), LockPasses>;
 
 /// Loads the word. The call is made by it where it changes nothing.
 #[inline(always)]
-pub fn load<C: StepFor>(table: &LockTable, seat: &mut LockSeat, call: &Call) -> u64
+pub fn load<C: CallStep>(table: &LockTable, seat: &mut LockSeat, call: &Call) -> u64
     requires step { (C.limits ≡ table.now.key.limits) × (C.call ≡ call.now) }
     requires lock_call { IsTrue (is_lock_call call.now) }
     requires seat { IsAtSeat table.now.table_id seat.old.table_id seat.old.me }
@@ -38,7 +38,7 @@ pub fn load<C: StepFor>(table: &LockTable, seat: &mut LockSeat, call: &Call) -> 
 
 /// Makes the call by an exchange. One that finds another word is as a load.
 #[inline(always)]
-pub fn exchange<C: StepFor>(
+pub fn exchange<C: CallStep>(
     table: &LockTable,
     seat: &mut LockSeat,
     call: &Call,
@@ -59,7 +59,7 @@ pub fn exchange<C: StepFor>(
 }
 
 /// A new seat, made by a load: its pass has the next root.
-pub fn enter<C: StepFor>(table: &LockTable) -> LockSeat
+pub fn enter<C: CallStep>(table: &LockTable) -> LockSeat
     requires step { C.limits ≡ table.now.key.limits }
     requires enterable { table.now.key.enterable ≡ true }
     requires table { table.now.table_id.words ≡ 1 }
@@ -83,12 +83,12 @@ pub fn split(table: &LockTable, seat: &mut LockSeat) -> LockSeat
 
 /// A load by a seat that holds two passes: it shows that both had observed beginnings of one
 /// history.
-pub fn load_both<C: StepFor>(table: &LockTable, seat: &mut LockSeat)
+pub fn load_both<C: CallStep>(table: &LockTable, seat: &mut LockSeat)
     requires step { C.limits ≡ table.now.key.limits }
     requires seat { AreAtSeat table.now.table_id seat.old.table_id seat.old.me }
     ensures seat { AreAtSeat table.now.table_id seat.new.table_id seat.new.me }
     ensures met { let old = seat.old.me.0 in let new = seat.new.me.0 in
-        HaveMet table.now.key.limits (first_of old) (second_of old) (first_of new) (second_of new) }
+        LockPassesMet table.now.key.limits (first_of old) (second_of old) (first_of new) (second_of new) }
 {
     table.load::<MeetStep<C>>(seat, 0);
 }

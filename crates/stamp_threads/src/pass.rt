@@ -12,9 +12,9 @@ pub struct Pass {
 impl Model for Pass {
     ghost use Rattle.std.specs.Prelude.{◌≡◌};
     ghost use Rattle.stamp_threads.specs.Seats.{alone};
-    ghost use Rattle.stamp_threads.specs.LockPass.{Token, first_of};
+    ghost use Rattle.stamp_threads.specs.LockPass.{LockToken, first_of};
 
-    ghost Value = { Token };
+    ghost Value = { LockToken };
 
     ghost view = { λ p. record { table = p.seat.table_id; view = first_of p.seat.me.0 } };
 

@@ -37,15 +37,20 @@ pub enum RecordEvent {
 pub enum RecordPhase {
     /// Between two calls.
     Idle,
-    /// It has write mode after this many puts, and has stored this many of the words.
+    /// It has write mode, and stores its words.
     Writing {
+        /// How many puts were made before it got write mode.
         version: u64,
+        /// The words that it puts.
         words: LinkedList<u64>,
+        /// How many of them it has stored, from the first on.
         stored: u64,
     },
-    /// It began to read after this many puts, and has loaded these words.
+    /// It found nobody in write mode, and loads the words.
     Reading {
+        /// How many puts were made when its first load found the lock word.
         version: u64,
+        /// The words that it has loaded so far, in their order.
         words: LinkedList<u64>,
     },
 }

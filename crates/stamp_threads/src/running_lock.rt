@@ -12,10 +12,10 @@ ghost use Rattle.stamp_threads.specs.Answered.{Answered, IsWaiting, LooksOnceOrT
 ghost use Rattle.stamp_threads.specs.LostExchange.{LostExchange};
 ghost use Rattle.stamp_threads.specs.LockRule.{Loaded, Exchanged};
 ghost use Rattle.stamp_threads.specs.Underway.{GoesAsMachine, turn_once};
-ghost use Rattle.stamp_threads.specs.HaveMet.{HaveMet};
+ghost use Rattle.stamp_threads.specs.LockPassesMet.{LockPassesMet};
 ghost use Rattle.stamp_threads.specs.Closes.{Closes};
 
-use crate::lock_rule::{LockKey, LockRule, Passes};
+use crate::lock_rule::{LockKey, LockPasses, LockRule};
 use crate::lock_steps;
 use crate::lost::Lost;
 use crate::pass::Pass;
@@ -62,7 +62,7 @@ fn try_form(call: &Call) -> Call
 /// A lock in one word that threads share by reference, each with a pass of its own.
 #[derive(Drop)]
 pub struct RunningLock {
-    pub(crate) table: Table<(), Passes, LockKey, LockRule, Global>,
+    pub(crate) table: Table<(), LockPasses, LockKey, LockRule, Global>,
     pub(crate) limits: Limits,
 }
 
@@ -124,9 +124,9 @@ impl RunningLock {
     /// Loads the word. The call is made by it where it changes nothing.
     #[inline(always)]
     fn load(&self, pass: &mut Pass, call: &Call) -> u64
-        requires call { IsTrue (is_lock_call call.now) }
-        requires lock { pass.old.table ≡ self.now.table }
-        ensures lock { pass.new.table ≡ self.now.table }
+        requires lock_call { IsTrue (is_lock_call call.now) }
+        requires table { pass.old.table ≡ self.now.table }
+        ensures table { pass.new.table ≡ self.now.table }
         ensures told { Loaded self.now.limits call.now pass.old.view result pass.new.view }
     {
         lock_steps::load::<Brand>(&self.table.shared, &mut pass.seat, call)
@@ -135,11 +135,11 @@ impl RunningLock {
     /// Makes the call by an exchange. One that finds another word is as a load.
     #[inline(always)]
     fn exchange(&self, pass: &mut Pass, call: &Call, old: u64, new: Word) -> u64
-        requires call { IsTrue (is_lock_call call.now) }
-        requires lock { pass.old.table ≡ self.now.table }
+        requires lock_call { IsTrue (is_lock_call call.now) }
+        requires table { pass.old.table ≡ self.now.table }
         requires changes { let limits = self.now.limits in
             (reply : Reply) × Changes limits (word_at limits old) call.now new reply }
-        ensures lock { pass.new.table ≡ self.now.table }
+        ensures table { pass.new.table ≡ self.now.table }
         ensures told { Exchanged self.now.limits call.now old pass.old.view result pass.new.view }
     {
         lock_steps::exchange::<Brand>(&self.table.shared, &mut pass.seat, call, old, new.bits())
@@ -148,7 +148,7 @@ impl RunningLock {
     /// Decides the call on this word. Each layout has its own code, where the masks are constants.
     #[inline(always)]
     fn decide(&self, call: &Call, word: u64) -> LockDecision
-        requires call { IsTrue (is_lock_call call.now) }
+        requires lock_call { IsTrue (is_lock_call call.now) }
         requires admitted { IsAdmitted self.now.limits (word_at self.now.limits word) }
         ensures decides { let limits = self.now.limits in
             Decides limits (word_at limits word) call.now (decision_as result) }
@@ -166,9 +166,9 @@ impl RunningLock {
     /// changed nothing, and can be made again.
     #[inline(always)]
     pub fn once(&self, pass: &mut Pass, call: Call) -> Result<Reply, Lost>
-        requires call { IsTrue (is_lock_call call) }
-        requires lock { pass.old.table ≡ self.now.table }
-        ensures lock { pass.new.table ≡ self.now.table }
+        requires lock_call { IsTrue (is_lock_call call) }
+        requires table { pass.old.table ≡ self.now.table }
+        ensures table { pass.new.table ≡ self.now.table }
         ensures ok { let v = pass.old.view in let w = pass.new.view in
             IfOk result (λ r. Answered self.now.limits (try_form call) r v w) }
         ensures looks { OnOk result (LooksOnceOrTwice self.now.limits pass.old.view pass.new.view) }
@@ -202,9 +202,9 @@ impl RunningLock {
     /// threads run; after that, where it waits, it sleeps 100 microseconds at most each time. It may
     /// go on for ever.
     pub fn call<R: Wait>(&self, rt: &R, pass: &mut Pass, call: Call) -> Reply
-        requires call { IsTrue (is_lock_call call) }
-        requires lock { pass.old.table ≡ self.now.table }
-        ensures lock { pass.new.table ≡ self.now.table }
+        requires lock_call { IsTrue (is_lock_call call) }
+        requires table { pass.old.table ≡ self.now.table }
+        ensures table { pass.new.table ≡ self.now.table }
         ensures made { Answered self.now.limits call result pass.old.view pass.new.view }
         ensures machine { GoesAsMachine self.now.limits call pass.old.view pass.new.view
             (Turn.Done result) }
@@ -235,7 +235,7 @@ impl RunningLock {
     /// lock, and made no call. It makes one load and takes no memory.
     pub fn enter(&self) -> Pass
         requires { self.now.enterable ≡ true }
-        ensures lock { result.table ≡ self.now.table }
+        ensures table { result.table ≡ self.now.table }
         ensures entered { HasEntered self.now.limits result.view }
     {
         let seat = lock_steps::enter::<Brand>(&self.table.shared);
@@ -246,7 +246,7 @@ impl RunningLock {
     /// takes no memory.
     pub fn split_off(&self, pass: &mut Pass) -> Pass
         requires { pass.old.table ≡ self.now.table }
-        ensures lock { (pass.new.table ≡ self.now.table) × (result.table ≡ self.now.table) }
+        ensures table { (pass.new.table ≡ self.now.table) × (result.table ≡ self.now.table) }
         ensures given { pass.new.view ≡ after_split pass.old.view }
         ensures new { result.view ≡ split_off pass.old.view }
         ensures all_consistent { let limits = self.now.limits in
@@ -261,7 +261,7 @@ impl RunningLock {
     /// makes one load and takes no memory.
     pub fn split(&self, mut pass: Pass) -> (Pass, Pass)
         requires { pass.table ≡ self.now.table }
-        ensures lock { (result.0.table ≡ self.now.table) × (result.1.table ≡ self.now.table) }
+        ensures table { (result.0.table ≡ self.now.table) × (result.1.table ≡ self.now.table) }
         ensures given { result.0.view ≡ after_split pass.view }
         ensures new { result.1.view ≡ split_off pass.view }
         ensures all_consistent { let limits = self.now.limits in
@@ -275,8 +275,8 @@ impl RunningLock {
     /// Both passes, each of which has then observed what either had. It makes three loads.
     pub fn meet(&self, mut first: Pass, second: Pass) -> (Pass, Pass)
         requires { (first.table ≡ self.now.table) × (second.table ≡ self.now.table) }
-        ensures lock { (result.0.table ≡ self.now.table) × (result.1.table ≡ self.now.table) }
-        ensures met { HaveMet self.now.limits first.view second.view result.0.view result.1.view }
+        ensures table { (result.0.table ≡ self.now.table) × (result.1.table ≡ self.now.table) }
+        ensures met { LockPassesMet self.now.limits first.view second.view result.0.view result.1.view }
     {
         let Pass { seat } = second;
         let table = &self.table.shared;

@@ -6,7 +6,7 @@ ghost use Rattle.stamp_core.specs.declared.reply.Reply.TheVariants.{Done};
 ghost use Rattle.stamp_threads.specs.PassView.{after_split, split_off};
 ghost use Rattle.stamp_threads.specs.RecordPass.{HasEntered, IsConsistentWith, first_pass};
 ghost use Rattle.stamp_threads.specs.RecordCall.{RecordAnswered, PutRefused};
-ghost use Rattle.stamp_threads.specs.RecordCall.{WasGot, GetRefused, HaveMet};
+ghost use Rattle.stamp_threads.specs.RecordCall.{WasGot, GetRefused, GotOrRefused, RecordPassesMet};
 ghost use Rattle.stamp_threads.specs.RecordRule.{opening_pass, IsKept, IsHolding};
 ghost use Rattle.atomic_table.specs.Table.{opening};
 
@@ -206,10 +206,7 @@ impl<P: ContentRule> RuledRecord<P> {
     pub fn get_once(&self, pass: &mut RecordPass) -> Result<Words, GetFault>
         requires { pass.old.table ≡ self.now.table }
         ensures table { pass.new.table ≡ self.now.table }
-        ensures ok { let v = pass.old.view in let w = pass.new.view in
-            IfOk result (λ words. WasGot P.holds self.now.shape words v w) }
-        ensures err { let v = pass.old.view in let w = pass.new.view in
-            IfErr result (λ fault. GetRefused self.now.shape v fault w) }
+        ensures got { GotOrRefused P.holds self.now.shape result pass.old.view pass.new.view }
     {
         match self.shape.width {
             1 => self.get_fixed::<1>(pass),
@@ -226,10 +223,7 @@ impl<P: ContentRule> RuledRecord<P> {
         requires table { pass.old.table ≡ self.now.table }
         requires width { (N ≡ self.now.shape.width) × (1 ≤ N) × (N ≤ 16) }
         ensures table { pass.new.table ≡ self.now.table }
-        ensures ok { let v = pass.old.view in let w = pass.new.view in
-            IfOk result (λ words. WasGot P.holds self.now.shape words v w) }
-        ensures err { let v = pass.old.view in let w = pass.new.view in
-            IfErr result (λ fault. GetRefused self.now.shape v fault w) }
+        ensures got { GotOrRefused P.holds self.now.shape result pass.old.view pass.new.view }
     {
         let mut row = [0u64; N];
         self.get_into(pass, &mut row)?;
@@ -244,10 +238,7 @@ impl<P: ContentRule> RuledRecord<P> {
     fn get_any(&self, pass: &mut RecordPass) -> Result<Words, GetFault>
         requires { pass.old.table ≡ self.now.table }
         ensures table { pass.new.table ≡ self.now.table }
-        ensures ok { let v = pass.old.view in let w = pass.new.view in
-            IfOk result (λ words. WasGot P.holds self.now.shape words v w) }
-        ensures err { let v = pass.old.view in let w = pass.new.view in
-            IfErr result (λ fault. GetRefused self.now.shape v fault w) }
+        ensures got { GotOrRefused P.holds self.now.shape result pass.old.view pass.new.view }
     {
         let width = self.shape.width;
         let mut row = [0u64; 16];
@@ -320,7 +311,7 @@ impl<P: ContentRule> RuledRecord<P> {
         requires { (first.table ≡ self.now.table) × (second.table ≡ self.now.table) }
         ensures table { (result.0.table ≡ self.now.table) × (result.1.table ≡ self.now.table) }
         ensures met { let width = self.now.shape.width in
-            HaveMet width first.view second.view result.0.view result.1.view }
+            RecordPassesMet width first.view second.view result.0.view result.1.view }
     {
         let RecordPass { seat } = second;
         let table = &self.table.shared;

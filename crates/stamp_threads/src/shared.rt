@@ -30,7 +30,7 @@ impl Shared {
     /// again whenever others have changed the word. It may wait for ever, as it does where the book is
     /// full by then. Refuses as 1 `Full` and 2 `Memory`, and has entered nothing then.
     pub fn call<R: Wait>(&self, rt: &R, thread: u64, call: Call) -> Result<Reply, BookError>
-        requires call { IsTrue (is_lock_call call) }
+        requires lock_call { IsTrue (is_lock_call call) }
         requires thread { thread < 64 }
         ensures { IsAnswer call result }
     {
@@ -46,7 +46,7 @@ impl Shared {
 
     /// Makes the call if it needn't wait, and wakes all that wait where it has changed the word.
     fn act_on(&self, book: &mut Book, thread: u64, call: &Call) -> Result<Reply, BookError>
-        requires call { IsTrue (is_lock_call call.now) }
+        requires lock_call { IsTrue (is_lock_call call.now) }
         requires thread { thread < 64 }
         ensures due { IsDue book.old call.now result }
         ensures ok { IfOk result (λ reply. book.new ≡ with_call book.old thread call.now reply) }

@@ -18,7 +18,7 @@ pub fn opened(alloc: Global, most: u64) -> Result<Book, Fail>
 
 /// Whether a call by this thread is answered so.
 pub fn acts(book: &mut Book, thread: u64, call: Call, answer: Result<Reply, BookError>) -> bool
-    requires call { IsTrue (is_lock_call call) }
+    requires lock_call { IsTrue (is_lock_call call) }
     requires thread { thread < 64 }
 {
     book.act(thread, call) == answer

@@ -22,8 +22,8 @@ pub fn made(alloc: Global, layout: Layout, readers: u64) -> Result<(RunningLock,
 
 /// Whether a call by this pass is answered so at once.
 pub fn answers(lock: &RunningLock, pass: &mut Pass, call: Call, reply: Reply) -> bool
-    requires call { IsTrue (is_lock_call call) }
-    requires lock { pass.old.table ≡ lock.now.table }
+    requires lock_call { IsTrue (is_lock_call call) }
+    requires table { pass.old.table ≡ lock.now.table }
     ensures { pass.new.table ≡ lock.now.table }
 {
     lock.once(pass, call) == Ok(reply)

@@ -19,7 +19,7 @@ pub fn tells<R: Wait>(
     call: Call,
     answer: Result<Reply, BookError>,
 ) -> bool
-    requires call { IsTrue (is_lock_call call) }
+    requires lock_call { IsTrue (is_lock_call call) }
     requires thread { thread < 64 }
 {
     shared.call(rt, thread, call) == answer

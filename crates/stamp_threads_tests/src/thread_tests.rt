@@ -42,8 +42,8 @@ fn two_threads_write_in_turns(rt: HostRuntime) -> Result<(), Fail> {
 
 /// Makes the call again while its exchange loses, and gives the stamp, 0 for none.
 fn stamp_by(lock: &RunningLock, pass: &mut Pass, call: &Call) -> u64
-    requires call { IsTrue (is_lock_call call.now) }
-    requires lock { pass.old.table ≡ lock.now.table }
+    requires lock_call { IsTrue (is_lock_call call.now) }
+    requires table { pass.old.table ≡ lock.now.table }
     ensures { pass.new.table ≡ lock.now.table }
 {
     for _ in 0..1_000u64 {

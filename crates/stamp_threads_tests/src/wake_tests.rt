@@ -37,7 +37,7 @@ impl Waiter {
         call: Call,
     ) -> Result<Waiter, Fail>
         requires thread { thread < 64 }
-        requires call { IsTrue (is_lock_call call) }
+        requires lock_call { IsTrue (is_lock_call call) }
     {
         let stamp = Arc::new(alloc, AtomicU64::new(u64::MAX))?;
         let (theirs, told) = (Arc::try_clone(shared)?, Arc::try_clone(&stamp)?);
@@ -68,7 +68,7 @@ impl Waiter {
 /// Makes the call, tells the stamp, and releases.
 fn acquire_once<R: Wait>(rt: &R, shared: &Shared, thread: u64, call: Call, told: &AtomicU64)
     requires thread { thread < 64 }
-    requires call { IsTrue (is_lock_call call) }
+    requires lock_call { IsTrue (is_lock_call call) }
 {
     if let Ok(Reply::Stamp(stamp)) = shared.call(rt, thread, call) {
         told.store(stamp, Ordering::SeqCst);

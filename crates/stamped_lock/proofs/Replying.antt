@@ -26,7 +26,7 @@ use Rattle.stamp_core.specs.declared.reply.Reply.TheVariants.{Stamp, Yes, No, Do
 use Rattle.stamp_core.proofs.StampValidity.{legal_rest}
 use Rattle.stamp_threads.specs.PassView.{entry}
 use Rattle.stamp_threads.specs.LockLog.{LockLog, history_in, events_after, transition_after, Appends}
-use Rattle.stamp_threads.specs.LockPass.{LockPass, LeavesWord}
+use Rattle.stamp_threads.specs.LockPass.{LockPassView, LeavesWord}
 use Rattle.stamp_threads.specs.Answered.{Answered, try_form}
 use Rattle.stamp_threads.specs.LostExchange.{LostExchange}
 use Rattle.stamp_threads.specs.declared.lost.Lost.{Lost}
@@ -41,7 +41,7 @@ at_true P Q true is p = p
 at_true P Q false is q = cc
 
 -- the reply is the call's after the history before it
-pub replies_of : (limits : Bounds) (call : Call) (reply : Reply) (v w : LockPass) →
+pub replies_of : (limits : Bounds) (call : Call) (reply : Reply) (v w : LockPassView) →
     IsTrue (is_lock_call call) → (a : Answered limits call reply v w) →
     Replies (transition limits (events_after limits a.log) call) reply
 replies_of limits call reply v w lock a =
@@ -173,21 +173,21 @@ row_kind l c (Put words) reply e = absurd e
 row_kind l c (PutIf expected words) reply e = absurd e
 
 -- a call of the lock that was made has a reply of its kind
-pub may_reply : (limits : Bounds) (call : Call) (reply : Reply) (v w : LockPass) →
+pub may_reply : (limits : Bounds) (call : Call) (reply : Reply) (v w : LockPassView) →
     IsTrue (is_lock_call call) → Answered limits call reply v w → MayReply call reply
 may_reply limits call reply v w lock a =
     row_kind limits (counts (events_after limits a.log)) call reply
     (replies_of limits call reply v w lock a)
 
 -- so has one that was made as a call which doesn't wait, and is that itself
-pub may_reply_tried : (limits : Bounds) (call : Call) (reply : Reply) (v w : LockPass) →
+pub may_reply_tried : (limits : Bounds) (call : Call) (reply : Reply) (v w : LockPassView) →
     IsTrue (is_lock_call call) → try_form call ≡ call →
     Answered limits (try_form call) reply v w → MayReply call reply
 may_reply_tried limits call reply v w lock tried a =
     may_reply limits call reply v w lock
     (subst (λ (c : Call). Answered limits c reply v w) tried a)
 
-pub may_reply_once : (limits : Bounds) (call : Call) (result : Result Reply Lost) (v w : LockPass) →
+pub may_reply_once : (limits : Bounds) (call : Call) (result : Result Reply Lost) (v w : LockPassView) →
     IsTrue (is_lock_call call) → try_form call ≡ call →
     IfOk result (λ reply. Answered limits (try_form call) reply v w) →
     IfOk result (λ reply. MayReply call reply)
@@ -220,18 +220,18 @@ asks_only limits log call none appends =
     appends.some (sym (ap appended_by appends.transition_is) ∙ none)
 
 -- the word of a lock that the stamp can release from write mode is the stamp
-held_word : (limits : Bounds) (s word : ℕ) (v : LockPass) (log : LockLog) →
+held_word : (limits : Bounds) (s word : ℕ) (v : LockPassView) (log : LockLog) →
     LeavesWord limits v word log → Appends limits log (UnlockWrite s) → word ≡ s
 held_word limits s word v log leaves appends = search rules
 
 -- so it can't be that one word and then another
-unlock_write_wins : (limits : Bounds) (s loaded found : ℕ) (v w : LockPass) →
+unlock_write_wins : (limits : Bounds) (s loaded found : ℕ) (v w : LockPassView) →
     LostExchange limits (UnlockWrite s) loaded found v w → ⊥
 unlock_write_wins limits s loaded found v w lost =
     lost.differ (held_word limits s loaded v lost.first lost.at_first lost.first_appends ∙
     sym (held_word limits s found v w.observed lost.at_second lost.second_appends))
 
-pub never_loses : (limits : Bounds) (call : Call) (loaded found : ℕ) (v w : LockPass) →
+pub never_loses : (limits : Bounds) (call : Call) (loaded found : ℕ) (v w : LockPassView) →
     NeverLoses call → LostExchange limits (try_form call) loaded found v w → ⊥
 never_loses limits Optimistic loaded found v w is lost =
     asks_only limits lost.first Optimistic refl lost.first_appends

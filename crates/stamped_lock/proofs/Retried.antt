@@ -3,17 +3,17 @@ use Rattle.std.proofs.Common.{ℕ, List, [], ◌∷◌, ◌++◌, ap, ◌∙◌,
 use Rattle.stamp_core.specs.Limits.{Bounds}
 use Rattle.stamp_core.specs.declared.call.Call.{Call}
 use Rattle.stamp_core.specs.declared.reply.Reply.{Reply}
-use Rattle.stamp_threads.specs.LockPass.{LockPass, LockView}
+use Rattle.stamp_threads.specs.LockPass.{LockPassView, LockView}
 use Rattle.stamp_threads.specs.PassView.{entry}
 use Rattle.stamp_threads.specs.Answered.{Answered}
 use Rattle.stamp_threads.specs.LostExchange.{LostExchange}
 use Rattle.stamp_threads.specs.declared.lost.Lost.{Lost}
 use Rattle.stamp_threads.proofs.Beginnings.{begins_further}
-use Rattle.stamped_lock.specs.HandleView.{HandleView}
+use Rattle.stamped_lock.specs.LockHandleView.{LockHandleView}
 use Rattle.stamped_lock.specs.Made.{Made, HasLost}
 
 pub made_after_loss : (limits : Bounds) (call : Call) (reply : Reply) (loaded found : ℕ)
-    (v u w : LockPass) → LostExchange limits call loaded found v u →
+    (v u w : LockPassView) → LostExchange limits call loaded found v u →
     Answered limits call reply u w → Answered limits call reply v w
 made_after_loss limits call reply loaded found v u w l a = record {
   log = a.log;
@@ -33,7 +33,7 @@ made_after_loss limits call reply loaded found v u w l a = record {
   consistent = a.consistent;
 }
 
-pub made_again : (call : Call) (reply : Reply) (lost : Lost) (h u h' : HandleView) →
+pub made_again : (call : Call) (reply : Reply) (lost : Lost) (h u h' : LockHandleView) →
     HasLost call lost h u → Made call reply u h' → Made call reply h h'
 made_again call reply lost h u h' l m = record {
   lock = m.lock ∙ l.lock;

@@ -16,11 +16,11 @@ use Rattle.stamp_core.proofs.TwoLayouts.{either_layout}
 use Rattle.stamp_core.proofs.StampValidity.{events_from-append}
 use Rattle.stamp_threads.specs.declared.pass_view.LogEntry.{LogEntry}
 use Rattle.stamp_threads.specs.LockLog.{LockLog, history_in, events_after, transition_after}
-use Rattle.stamp_threads.specs.LockPass.{LockPass}
+use Rattle.stamp_threads.specs.LockPass.{LockPassView}
 use Rattle.stamp_threads.specs.PassView.{entry}
 use Rattle.stamp_threads.specs.Answered.{Answered}
 use Rattle.stamp_threads.proofs.Beginnings.{begins_more, begins_further}
-use Rattle.stamped_lock.specs.HandleView.{HandleView}
+use Rattle.stamped_lock.specs.LockHandleView.{LockHandleView}
 use Rattle.stamped_lock.specs.Made.{Made}
 use Rattle.stamped_lock.specs.Sections.{IsUnwritten}
 use Rattle.stamped_lock.proofs.Replying.{history-append, replies_of}
@@ -48,7 +48,7 @@ events_after-push limits log e =
     events_from-append limits [] (history_in log) (e.made ∷ [])
 
 -- a call that appends nothing leaves the version
-version_kept : (limits : Bounds) (call : Call) (reply : Reply) (v w : LockPass)
+version_kept : (limits : Bounds) (call : Call) (reply : Reply) (v w : LockPassView)
     (a : Answered limits call reply v w) → appended_by (transition_after limits a.log call) ≡ [] →
     write_count (events_after limits w.observed) ≡ write_count (events_after limits a.log)
 version_kept limits call reply v w a none =
@@ -56,7 +56,7 @@ version_kept limits call reply v w a none =
     ap write_count (events_after-push limits a.log (entry v.name (call, reply))) ∙
     rw (none, append-nil)
 
-versions_same : (limits : Bounds) (s : ℕ) (h m n : LockPass) → 0 < s →
+versions_same : (limits : Bounds) (s : ℕ) (h m n : LockPassView) → 0 < s →
     Answered limits Optimistic (Stamp s) h m → Answered limits (Validate s) Yes m n →
     write_count (events_after limits n.observed) ≡ write_count (events_after limits m.observed)
 versions_same limits s h m n some a b =
@@ -67,7 +67,7 @@ versions_same limits s h m n some a b =
     version_kept limits (Validate s) Yes m n b refl ∙ same_version limits c c' s issued valid ∙
     sym (version_kept limits Optimistic (Stamp s) h m a refl)
 
-pub unwritten : (s : ℕ) (h m n : HandleView) → 0 < s → Made Optimistic (Stamp s) h m →
+pub unwritten : (s : ℕ) (h m n : LockHandleView) → 0 < s → Made Optimistic (Stamp s) h m →
     Made (Validate s) Yes m n → IsUnwritten m n
 unwritten s h m n some issued valid =
     let a = subst (λ (l : Bounds). Answered l Optimistic (Stamp s) h.pass m.pass)

@@ -1,4 +1,4 @@
-pub mod HandleView
+pub mod LockHandleView
 pub mod Replies
 pub mod Made
 pub mod Sections

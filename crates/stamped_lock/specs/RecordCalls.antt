@@ -17,9 +17,9 @@ pub record RecordHandleView : Type 0 where
 
 -- the call was made with this reply: one legal history that begins with all that the handle had
 -- observed, and ends with this call; h' is the handle after it
-pub record Recording (call : Call) (reply : Reply) (h h' : RecordHandleView) : Type 0 where
+pub record MadeOnRecord (call : Call) (reply : Reply) (h h' : RecordHandleView) : Type 0 where
   pub same : h'.shared ≡ h.shared
-  pub recorded : RecordAnswered h.shared.shape call reply h.pass h'.pass
+  pub answered : RecordAnswered h.shared.shape call reply h.pass h'.pass
 
 -- the put was refused, and changed nothing
 pub record RefusesPut (fault : PutFault) (h h' : RecordHandleView) : Type 0 where
@@ -39,10 +39,10 @@ pub record Tried (h h' : RecordHandleView) : Type 0 where
   pub same_pass : IsSamePass h.pass h'.pass
 
 -- after some tries the call was made
-pub record RecordingAtLast (call : Call) (reply : Reply) (h h' : RecordHandleView) : Type 0 where
+pub record MadeAtLast (call : Call) (reply : Reply) (h h' : RecordHandleView) : Type 0 where
   pub between : RecordHandleView
   pub tried : Tried h between
-  pub made : Recording call reply between h'
+  pub made : MadeOnRecord call reply between h'
 
 -- after some tries no version was left
 pub record SpentAtLast (h h' : RecordHandleView) : Type 0 where

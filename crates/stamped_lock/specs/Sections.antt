@@ -9,7 +9,7 @@ use Rattle.stamp_core.specs.declared.reply.Reply.{Reply}
 use Rattle.stamp_core.specs.declared.reply.Reply.TheVariants.{Stamp, Yes, No, Done}
 use Rattle.stamp_core.specs.declared.reply.Reply.TheVariants as reply
 use Rattle.stamp_threads.specs.LockLog.{events_after}
-use Rattle.stamped_lock.specs.HandleView.{HandleView}
+use Rattle.stamped_lock.specs.LockHandleView.{LockHandleView}
 use Rattle.stamped_lock.specs.Made.{Made}
 use Rattle.stamped_lock.specs.declared.write_error.WriteError.{WriteError}
 use Rattle.stamped_lock.specs.declared.write_error.WriteError.TheVariants as write
@@ -18,50 +18,50 @@ use Rattle.stamped_lock.specs.declared.mismatch.Mismatch.{Mismatch}
 -- the first call answered a stamp, then the closure ran, of which Ran is known, and then the second
 -- call was made with that stamp, and had this reply
 pub record RanBetween (first : Call) (second : ℕ → Call) (reply : Reply)
-    (Ran : HandleView → Type 0) (h h' : HandleView) : Type 0 where
+    (Ran : LockHandleView → Type 0) (h h' : LockHandleView) : Type 0 where
   pub stamp : ℕ
   pub some : 0 < stamp
-  pub between : HandleView
+  pub between : LockHandleView
   pub began : Made first (Stamp stamp) h between
   pub ran : Ran between
   pub ended : Made (second stamp) reply between h'
 
 -- a section in write mode: it answered what the closure did; or it was no longer held at the
 -- release; or no version was left, and the closure hasn't run
-abbrev pub WriteSection : {T : Type 0} → (T → HandleView → Type 0) → Result T WriteError →
-    HandleView → HandleView → Type 0
+abbrev pub WriteSection : {T : Type 0} → (T → LockHandleView → Type 0) → Result T WriteError →
+    LockHandleView → LockHandleView → Type 0
 WriteSection Ran (Ok t) h h' = RanBetween WriteLock UnlockWrite Done (Ran t) h h'
 WriteSection {T} Ran (Err write.Mismatch) h h' =
     (t : T) × RanBetween WriteLock UnlockWrite reply.Mismatch (Ran t) h h'
 WriteSection Ran (Err write.Spent) h h' = Made WriteLock (Stamp 0) h h'
 
 -- a section in read mode: it answered what the closure did, or it was no longer held at the release
-abbrev pub ReadSection : {T : Type 0} → (T → HandleView → Type 0) → Result T Mismatch →
-    HandleView → HandleView → Type 0
+abbrev pub ReadSection : {T : Type 0} → (T → LockHandleView → Type 0) → Result T Mismatch →
+    LockHandleView → LockHandleView → Type 0
 ReadSection Ran (Ok t) h h' = RanBetween ReadLock UnlockRead Done (Ran t) h h'
 ReadSection {T} Ran (Err _) h h' =
     (t : T) × RanBetween ReadLock UnlockRead reply.Mismatch (Ran t) h h'
 
 -- the one history goes on from the earlier handle to the later, and nobody acquired write mode
 -- meanwhile
-pub record IsUnwritten (h h' : HandleView) : Type 0 where
+pub record IsUnwritten (h h' : LockHandleView) : Type 0 where
   pub goes_on : IsPrefix h.pass.observed h'.pass.observed
   pub version : let limits = h.lock.limits in
       write_count (events_after limits h'.pass.observed) ≡ write_count (events_after limits h.pass.observed)
 
 -- the closure ran between an optimistic stamp and a validation that said yes
-pub record ReadUnwritten (Ran : HandleView → Type 0) (h h' : HandleView) : Type 0 where
+pub record ReadUnwritten (Ran : LockHandleView → Type 0) (h h' : LockHandleView) : Type 0 where
   pub read : RanBetween Optimistic Validate Yes Ran h h'
   pub unwritten : IsUnwritten read.between h'
 
 -- no optimistic stamp was issued, or it didn't validate
-abbrev pub NotValid : HandleView → HandleView → Type 0
+abbrev pub NotValid : LockHandleView → LockHandleView → Type 0
 NotValid h h' = Made Optimistic (Stamp 0) h h' ⊎
-    ((s : ℕ) × (m : HandleView) × Made Optimistic (Stamp s) h m × Made (Validate s) No m h')
+    ((s : ℕ) × (m : LockHandleView) × Made Optimistic (Stamp s) h m × Made (Validate s) No m h')
 
 -- a section that answered what the closure did between an optimistic stamp and its validation; or
 -- one in read mode, after these failed
-abbrev pub OptimisticSection : {T : Type 0} → (T → HandleView → Type 0) → Result T Mismatch →
-    HandleView → HandleView → Type 0
+abbrev pub OptimisticSection : {T : Type 0} → (T → LockHandleView → Type 0) → Result T Mismatch →
+    LockHandleView → LockHandleView → Type 0
 OptimisticSection Ran r h h' = IsOkAnd r (λ t. ReadUnwritten (Ran t) h h') ⊎
-    ((m : HandleView) × NotValid h m × ReadSection Ran r m h')
+    ((m : LockHandleView) × NotValid h m × ReadSection Ran r m h')

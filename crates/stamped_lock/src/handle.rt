@@ -31,14 +31,14 @@ use std::sync::Wait;
 pub struct LockHandle<'a> {
     lock: &'a RunningLock,
     pass: Pass,
-    ghost own: { pass.table ≡ lock.now.table },
+    ghost table: { pass.table ≡ lock.now.table },
 }
 
 impl<'a> Model for LockHandle<'a> {
     ghost use Rattle.std.specs.Prelude.{◌≡◌};
-    ghost use Rattle.stamped_lock.specs.HandleView.{HandleView};
+    ghost use Rattle.stamped_lock.specs.LockHandleView.{LockHandleView};
 
-    ghost Value = { HandleView };
+    ghost Value = { LockHandleView };
 
     ghost view = { λ h. record { lock = h.lock.now; pass = h.pass.view } };
 }
@@ -56,7 +56,7 @@ impl<'a> LockHandle<'a> {
     /// Makes a call that waits for nobody. Where its exchange loses, it is made again until it wins.
     #[inline(always)]
     fn make<R: Wait>(&mut self, rt: &R, call: Call) -> Reply
-        requires call { IsTrue (is_lock_call call) }
+        requires lock_call { IsTrue (is_lock_call call) }
         requires at_once { try_form call ≡ call }
         ensures made { Made call result self.old self.new }
         ensures reply { MayReply call result }
@@ -81,7 +81,7 @@ impl<'a> LockHandle<'a> {
     /// Makes a call that doesn't wait, by one load and at most one exchange.
     #[inline(always)]
     pub(crate) fn make_once(&mut self, call: Call) -> Result<Reply, Lost>
-        requires call { IsTrue (is_lock_call call) }
+        requires lock_call { IsTrue (is_lock_call call) }
         requires at_once { try_form call ≡ call }
         ensures made { MadeOrLost call (λ r. r) result self.old self.new }
         ensures reply { IfOk result (λ r. MayReply call r) }

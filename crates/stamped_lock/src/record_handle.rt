@@ -3,8 +3,8 @@ ghost use Rattle.std.specs.Prelude.{◌≡◌, ◌≤◌, IfOk, IfErr, OnOk, OnE
 ghost use Rattle.stamp_core.specs.declared.call.Call.TheVariants.{Get, Put};
 ghost use Rattle.stamp_core.specs.declared.reply.Reply.TheVariants.{Done, Content};
 ghost use Rattle.stamp_threads.specs.PassView.{after_split, split_off};
-ghost use Rattle.stamped_lock.specs.RecordCalls.{Recording, RefusesPut, RefusesGet};
-ghost use Rattle.stamped_lock.specs.RecordCalls.{RecordingAtLast, SpentAtLast};
+ghost use Rattle.stamped_lock.specs.RecordCalls.{MadeOnRecord, RefusesPut, RefusesGet};
+ghost use Rattle.stamped_lock.specs.RecordCalls.{MadeAtLast, SpentAtLast};
 
 use crate::spent::Spent;
 use stamp_core::Words;
@@ -19,7 +19,7 @@ use std::thread;
 pub struct RecordHandle<'a, const N: usize, P: ContentRule> {
     shared: &'a RuledRecord<P>,
     pass: RecordPass,
-    ghost own: { pass.table ≡ shared.now.table },
+    ghost table: { pass.table ≡ shared.now.table },
     ghost width: { (shared.now.shape.width ≡ N) × (1 ≤ N) × (N ≤ 16) },
 }
 
@@ -35,7 +35,7 @@ impl<'a, const N: usize, P: ContentRule> Model for RecordHandle<'a, N, P> {
 impl<'a, const N: usize, P: ContentRule> RecordHandle<'a, N, P> {
     /// The handle of a record and a pass of it.
     pub(crate) fn new(shared: &'a RuledRecord<P>, pass: RecordPass) -> RecordHandle<'a, N, P>
-        requires own { pass.table ≡ shared.now.table }
+        requires table { pass.table ≡ shared.now.table }
         requires width { (shared.now.shape.width ≡ N) × (1 ≤ N) × (N ≤ 16) }
         ensures shared { result.shared ≡ shared.now }
         ensures pass { result.pass ≡ pass.view }
@@ -49,7 +49,7 @@ impl<'a, const N: usize, P: ContentRule> RecordHandle<'a, N, P> {
     pub fn put_once(&mut self, row: [u64; N]) -> Result<(), PutFault>
         requires { P.holds row }
         ensures ok { let h = self.old in let w = self.new in
-            OnOk result (Recording (Put row.entry) Done h w) }
+            OnOk result (MadeOnRecord (Put row.entry) Done h w) }
         ensures err { let h = self.old in let w = self.new in
             IfErr result (λ fault. RefusesPut fault h w) }
     {
@@ -66,7 +66,7 @@ impl<'a, const N: usize, P: ContentRule> RecordHandle<'a, N, P> {
     pub fn get_once(&mut self) -> Result<[u64; N], GetFault>
         ensures rule { IfOk result (λ row. P.holds row) }
         ensures ok { let h = self.old in let w = self.new in
-            IfOk result (λ row. Recording Get (Content row) h w) }
+            IfOk result (λ row. MadeOnRecord Get (Content row) h w) }
         ensures err { let h = self.old in let w = self.new in
             IfErr result (λ fault. RefusesGet fault h w) }
     {
@@ -78,7 +78,7 @@ impl<'a, const N: usize, P: ContentRule> RecordHandle<'a, N, P> {
     /// Gets the words. While somebody is putting it lets other threads run and tries again.
     pub fn get<R: Wait>(&mut self, rt: &R) -> [u64; N]
         ensures rule { P.holds result }
-        ensures made { RecordingAtLast Get (Content result) self.old self.new }
+        ensures made { MadeAtLast Get (Content result) self.old self.new }
     {
         for _ in rt.forever() {
             if let Ok(row) = self.get_once() {
@@ -94,7 +94,7 @@ impl<'a, const N: usize, P: ContentRule> RecordHandle<'a, N, P> {
     pub fn put<R: Wait>(&mut self, rt: &R, row: [u64; N]) -> Result<(), Spent>
         requires { P.holds row }
         ensures made { let h = self.old in let w = self.new in
-            OnOk result (RecordingAtLast (Put row.entry) Done h w) }
+            OnOk result (MadeAtLast (Put row.entry) Done h w) }
         ensures spent { let h = self.old in let w = self.new in
             OnErr result (SpentAtLast h w) }
     {

@@ -37,11 +37,17 @@ struct Numbers {
 /// What to time.
 #[derive(Clone, Copy)]
 enum What {
+    /// Decisions on a word.
     Decide,
+    /// The steps of a run.
     Steps,
+    /// The judging of a record.
     Check,
+    /// Calls on a lock.
     Lock,
+    /// Puts and gets on a record.
     Record,
+    /// Threads that wait for this mode.
     Waits(Mode),
 }
 

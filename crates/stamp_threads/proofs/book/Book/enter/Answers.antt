@@ -13,5 +13,5 @@ invariant_of-self-2 c =
     let room : length c.self.inside.entries.items < c.self.inside.most =
     grind (arith, common_steps) in
     rw (c.in_ok-push.ensures.items, c.entry_at.ensures, here)
-    (kept_more _ c.args.thread c.args.call.now c.self.invariant.book c.requires.call
+    (kept_more _ c.args.thread c.args.call.now c.self.invariant.book c.requires.lock_call
     c.self.inside.word _ c.requires.thread room c.self.invariant.represented c.in-Some.ensures)

@@ -6,8 +6,8 @@ use Rattle.stamp_threads.proofs.running_lock.RunningLock.call.Goals as goal
 
 pub loop-init : goal.loop-init
 loop-init g c = record {
-  lock = c.load-found.ensures.lock ∙ sym c.requires.lock;
-  underway = begins _ _ _ _ _ c.requires.call c.load-found.ensures.told;
+  table = c.load-found.ensures.table ∙ sym c.requires.table;
+  underway = begins _ _ _ _ _ c.requires.lock_call c.load-found.ensures.told;
 }
 
 pub returns-in-Answer-clause-made : goal.returns-in-Answer-clause-made
@@ -38,14 +38,14 @@ pub loop-preserved-in-Change : goal.loop-preserved-in-Change
 loop-preserved-in-Change g c =
     let lost = exchange_lost _ _ _ _ _ _ c.if-found-old.false c.exchange-found.ensures.told in
     record {
-      lock = c.exchange-found.ensures.lock ∙ sym c.requires.lock;
+      table = c.exchange-found.ensures.table ∙ sym c.requires.table;
       underway = loses_exchange _ _ _ _ _ c.loop.invariant.underway _ _ c.in-Change.ensures.decides
           c.in-Change.ensures.number _ _ lost.0 lost.1;
     }
 
 pub loop-preserved : goal.loop-preserved
 loop-preserved g c = record {
-  lock = c.load-found-in-Wait.ensures.lock ∙ sym c.requires.lock;
+  table = c.load-found-in-Wait.ensures.table ∙ sym c.requires.table;
   underway = loads_again _ _ _ _ _ c.loop.invariant.underway c.in-Wait.ensures.decides
       c.in-Wait.ensures.number _ _ c.load-found-in-Wait.ensures.told;
 }

@@ -4,6 +4,6 @@ use Rattle.stamp_threads.proofs.running_lock.RunningLock.call.Given as goal
 
 abbrev pub invariant-loop : goal.invariant-loop
 invariant-loop g l = record {
-  lock : l.pass.table ≡ l.fn.pass.table;
+  table : l.pass.table ≡ l.fn.pass.table;
   underway : Underway l.self.limits l.call l.fn.pass.view l.found l.pass.view;
 }

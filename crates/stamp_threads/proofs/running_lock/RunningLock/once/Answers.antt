@@ -9,7 +9,7 @@ pub returns-then-found-loaded-clause-ok : goal.returns-then-found-loaded-clause-
 returns-then-found-loaded-clause-ok c =
     rw (← c.try_form-call.ensures.form, c.as_reply-then-found-loaded.ensures)
     (is_made _ _ _ _ _
-    (begins _ _ _ _ _ (c.try_form-call.ensures.lock_call c.requires.call) c.load-loaded.ensures.told) _ _
+    (begins _ _ _ _ _ (c.try_form-call.ensures.lock_call c.requires.lock_call) c.load-loaded.ensures.told) _ _
     c.in-Change.ensures.decides c.in-Change.ensures.number _
     (exchange_won _ _ _ _ _ _ c.if-found-loaded.true c.exchange-found.ensures.told))
 
@@ -22,20 +22,20 @@ pub returns-then-found-loaded-clause-machine : goal.returns-then-found-loaded-cl
 returns-then-found-loaded-clause-machine c =
     rw (← c.try_form-call.ensures.form, c.as_reply-then-found-loaded.ensures)
     (ends_by_change _ _ _ _ _
-    (begins _ _ _ _ _ (c.try_form-call.ensures.lock_call c.requires.call) c.load-loaded.ensures.told) _ _
+    (begins _ _ _ _ _ (c.try_form-call.ensures.lock_call c.requires.lock_call) c.load-loaded.ensures.told) _ _
     c.in-Change.ensures.decides c.in-Change.ensures.number _
     (exchange_won _ _ _ _ _ _ c.if-found-loaded.true c.exchange-found.ensures.told))
 
 pub unreachable-requires : goal.unreachable-requires
 unreachable-requires c =
-    never_waits _ _ _ _ _ (c.try_form-call.ensures.lock_call c.requires.call)
+    never_waits _ _ _ _ _ (c.try_form-call.ensures.lock_call c.requires.lock_call)
     c.try_form-call.ensures.never
     (exchange_lost _ _ _ _ _ _ c.if-found-loaded.false c.exchange-found.ensures.told).1
     c.in-Wait-decide.ensures.decides
 
 pub unreachable-requires-in-Wait : goal.unreachable-requires-in-Wait
 unreachable-requires-in-Wait c =
-    never_waits _ _ _ _ _ (c.try_form-call.ensures.lock_call c.requires.call)
+    never_waits _ _ _ _ _ (c.try_form-call.ensures.lock_call c.requires.lock_call)
     c.try_form-call.ensures.never c.load-loaded.ensures.told c.in-Wait.ensures.decides
 
 pub returns-in-Answer-decide-clause-ok : goal.returns-in-Answer-decide-clause-ok
@@ -44,7 +44,7 @@ returns-in-Answer-decide-clause-ok c =
     rw (← c.try_form-call.ensures.form, c.as_reply-in-Answer-decide.ensures)
     (is_answered _ _ _ _ _
     (loses_exchange _ _ _ _ _
-    (begins _ _ _ _ _ (c.try_form-call.ensures.lock_call c.requires.call) c.load-loaded.ensures.told) _ _
+    (begins _ _ _ _ _ (c.try_form-call.ensures.lock_call c.requires.lock_call) c.load-loaded.ensures.told) _ _
     c.in-Change.ensures.decides c.in-Change.ensures.number _ _ lost.0 lost.1) _
     c.in-Answer-decide.ensures.decides)
 
@@ -60,7 +60,7 @@ returns-in-Answer-decide-clause-machine c =
     rw (← c.try_form-call.ensures.form, c.as_reply-in-Answer-decide.ensures)
     (ends_by_answer _ _ _ _ _
     (loses_exchange _ _ _ _ _
-    (begins _ _ _ _ _ (c.try_form-call.ensures.lock_call c.requires.call) c.load-loaded.ensures.told) _ _
+    (begins _ _ _ _ _ (c.try_form-call.ensures.lock_call c.requires.lock_call) c.load-loaded.ensures.told) _ _
     c.in-Change.ensures.decides c.in-Change.ensures.number _ _ lost.0 lost.1) _
     c.in-Answer-decide.ensures.number)
 
@@ -77,6 +77,6 @@ returns-in-Change-decide-clause-machine c =
     rw (← c.try_form-call.ensures.form)
     (goes_to_change _ _ _ _ _ _ _
     (loses_exchange _ _ _ _ _
-    (begins _ _ _ _ _ (c.try_form-call.ensures.lock_call c.requires.call) c.load-loaded.ensures.told) _ _
+    (begins _ _ _ _ _ (c.try_form-call.ensures.lock_call c.requires.lock_call) c.load-loaded.ensures.told) _ _
     c.in-Change.ensures.decides c.in-Change.ensures.number _ _ lost.0 lost.1)
     c.in-Change-decide.ensures.number)

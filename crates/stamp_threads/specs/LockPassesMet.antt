@@ -2,11 +2,11 @@
 use Rattle.std.specs.Prelude.{◌≡◌, ◌≢◌}
 use mathlib.Core.List.{IsPrefix}
 use Rattle.stamp_core.specs.Limits.{Bounds}
-use Rattle.stamp_threads.specs.LockPass.{LockPass, IsConsistentWith}
+use Rattle.stamp_threads.specs.LockPass.{LockPassView, IsConsistentWith}
 
 -- v' and w' are v and w after they met: both have observed one legal history, which begins with
 -- what either had observed, and where the entries of either are just its own calls
-pub record HaveMet (limits : Bounds) (v w v' w' : LockPass) : Type 0 where
+pub record LockPassesMet (limits : Bounds) (v w v' w' : LockPassView) : Type 0 where
   pub first_begins : IsPrefix v.observed v'.observed
   pub second_begins : IsPrefix w.observed v'.observed
   pub same : w'.observed ≡ v'.observed

@@ -7,12 +7,12 @@ use std::marker::Model;
 
 /// None to sixteen words, in the order in which they were loaded.
 #[derive(Drop)]
-pub(crate) struct Loaded {
+pub(crate) struct LoadedWords {
     len: usize,
     words: [u64; MOST_WORDS],
 }
 
-impl Model for Loaded {
+impl Model for LoadedWords {
     ghost use Rattle.std.specs.Prelude.{List, ℕ};
 
     ghost Value = { List ℕ };
@@ -24,11 +24,11 @@ impl Model for Loaded {
     ghost invariant = { λ l. (l.len ≤ 16) × (length l.words ≡ 16) };
 }
 
-impl Loaded {
-    pub(crate) fn none() -> Loaded
+impl LoadedWords {
+    pub(crate) fn none() -> LoadedWords
         ensures { result ≡ [] }
     {
-        Loaded {
+        LoadedWords {
             len: 0,
             words: [0; MOST_WORDS],
         }

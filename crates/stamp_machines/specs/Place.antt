@@ -44,10 +44,10 @@ call_for (ToUpgrade s) = ToWrite s
 call_for (ToReleaseFirst s) = UnlockRead s
 call_for ToClaim = WriteLock
 
-abbrev pub opening : Job → Place
-opening Getting = LoadingLock
-opening (Putting a) = Locking ToClaim None
-opening (PuttingIf a b) = Locking ToShare None
+abbrev pub first_place : Job → Place
+first_place Getting = LoadingLock
+first_place (Putting a) = Locking ToClaim None
+first_place (PuttingIf a b) = Locking ToShare None
 
 abbrev pub next : Bounds → ℕ → Job → Place → LocalAccess
 next limits n job LoadingLock = LoadLock
