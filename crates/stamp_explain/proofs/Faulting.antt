@@ -17,7 +17,7 @@ use Rattle.stamp_explain.specs.TimelineKeys.{IsSooner, AreEnds, EndsAt}
 use Rattle.stamp_explain.specs.Configuration.{IsGivenUp}
 use Rattle.stamp_explain.specs.Order.{IsOrderOf}
 use Rattle.stamp_explain.specs.Expand.{IsFound}
-use Rattle.stamp_explain.specs.Verdict.{IsUndecided, IsUndecidedAt, IsNotFound, IsWithoutOrder}
+use Rattle.stamp_explain.specs.Verdict.{IsUndecided, IsUndecidedAt, IsUnexplained, IsNotFound}
 use Rattle.stamp_explain.proofs.Lists.{pairs_none, none_in_empty}
 use Rattle.stamp_explain.proofs.Cutting.{IsLessKnown, less_known, back}
 use Rattle.stamp_explain.proofs.Seeing.{seen_explains_as_much}
@@ -309,46 +309,46 @@ known_at_last h ends m p are at last = ap (λ (es : List Observation). record h 
         by (n, lt, same) = known_after ends n m k p r are.in_order at same (omega (arith, lt, last))
 
 -- no order was found after this return
-abbrev pub IsAbove : ObservedHistory → ℕ → ℕ × ℕ → Bool → Type 0
-IsAbove h most p true = ¬ IsExplained (cut p.0 (p.1 + 1) h)
-IsAbove h most p false = IsUndecidedAt h most p.0 (p.1 + 1)
+abbrev pub IsAbove : ObservedHistory → ℕ → ℕ × ℕ → Bool → Bool → Type 0
+IsAbove h most p unexplained true = ¬ IsExplained (cut p.0 (p.1 + 1) h)
+IsAbove h most p true false = IsGivenUp (seen_at p.0 (p.1 + 1) h) most
+IsAbove h most p false false = IsUndecidedAt h most p.0 (p.1 + 1)
 
 contained : (ends : List (ℕ × ℕ)) (k : ℕ) (p : ℕ × ℕ) → slice_get ends k ≡ Some p → Contains ends p
 contained ends k p at = (k, slice_get_within ends k p at, get_or_from_slice_get ends k p p at)
 
--- the history is explained until the return at `low`, and no order was found after that at `high`
-pub record IsBetween (h : ObservedHistory) (most : ℕ) (ends : List (ℕ × ℕ)) (low high : ℕ) (stuck : Bool) : Type 0
+-- the history is explained until the return at `low`, and no order was found after that at `high`; it is known to be
+-- unexplained, or the search of the whole gave up
+pub record IsBetween (h : ObservedHistory) (most : ℕ) (unexplained : Bool) (ends : List (ℕ × ℕ)) (low high : ℕ)
+    (stuck : Bool) : Type 0
   where
     pub order : low ≤ high
     pub inside : high < length ends
     pub below : (p : ℕ × ℕ) → slice_get ends low ≡ Some p → IsExplained (cut p.0 p.1 h)
-    pub above : (p : ℕ × ℕ) → slice_get ends high ≡ Some p → IsAbove h most p stuck
-    pub whole : IsWithoutOrder h most
+    pub above : (p : ℕ × ℕ) → slice_get ends high ≡ Some p → IsAbove h most p unexplained stuck
+    pub whole : IsNotFound h most unexplained
 
 pub between_at_first : (h : ObservedHistory) (most : ℕ) (ends : List (ℕ × ℕ)) (high : ℕ) (stuck : Bool) →
-    AreEnds h.entries ends → IsNotFound h most stuck → high + 1 ≡ length ends → IsBetween h most ends 0 high stuck
+    AreEnds h.entries ends → IsNotFound h most stuck → high + 1 ≡ length ends →
+    IsBetween h most stuck ends 0 high stuck
 between_at_first h most ends high stuck are not_found last = record {
   order = omega arith;
   inside = omega (arith, last);
   below = λ p at. explained_at_first h ends p are at;
   above = λ p at. by p at stuck not_found;
-  whole = without stuck not_found;
+  whole = not_found;
 }
   where
-    without : (b : Bool) → IsNotFound h most b → IsWithoutOrder h most
-    without true unexplained = inr unexplained
-    without false given_up = inl given_up
-
-    by : (p : ℕ × ℕ) → slice_get ends high ≡ Some p → (b : Bool) → IsNotFound h most b → IsAbove h most p b
+    by : (p : ℕ × ℕ) → slice_get ends high ≡ Some p → (b : Bool) → IsNotFound h most b → IsAbove h most p b b
     by p at true none = λ explained. none (subst IsExplained (known_at_last h ends high p are at (omega (arith, last)))
         explained)
-    by p at false many = inl (known_at_last h ends high p are at (omega (arith, last)), many)
+    by p at false many = inl (known_at_last h ends high p are at (omega (arith, last)))
 
-pub between_above : (h : ObservedHistory) (most : ℕ) (ends : List (ℕ × ℕ)) (low high middle : ℕ) (stuck : Bool)
-    (p : ℕ × ℕ) → IsObserved h → AreEnds h.entries ends → IsBetween h most ends low high stuck → middle < high →
+pub between_above : (h : ObservedHistory) (most : ℕ) (unexplained : Bool) (ends : List (ℕ × ℕ)) (low high middle : ℕ) (stuck : Bool)
+    (p : ℕ × ℕ) → IsObserved h → AreEnds h.entries ends → IsBetween h most unexplained ends low high stuck → middle < high →
     slice_get ends middle ≡ Some p → IsExplained (seen_at p.0 (p.1 + 1) h) →
-    IsBetween h most ends (middle + 1) high stuck
-between_above h most ends low high middle stuck p observed are is less at explained = record {
+    IsBetween h most unexplained ends (middle + 1) high stuck
+between_above h most unexplained ends low high middle stuck p observed are is less at explained = record {
   order = omega (arith, less);
   inside = is.inside;
   below = λ q next. explained_at_next h ends middle p q are at next
@@ -357,11 +357,11 @@ between_above h most ends low high middle stuck p observed are is less at explai
   whole = is.whole;
 }
 
-pub between_below : (h : ObservedHistory) (most : ℕ) (ends : List (ℕ × ℕ)) (low high middle : ℕ) (stuck : Bool)
-    (p : ℕ × ℕ) → IsObserved h → IsBetween h most ends low high stuck → low ≤ middle → middle < high →
+pub between_below : (h : ObservedHistory) (most : ℕ) (unexplained : Bool) (ends : List (ℕ × ℕ)) (low high middle : ℕ) (stuck : Bool)
+    (p : ℕ × ℕ) → IsObserved h → IsBetween h most unexplained ends low high stuck → low ≤ middle → middle < high →
     slice_get ends middle ≡ Some p → ¬ IsExplained (seen_at p.0 (p.1 + 1) h) →
-    IsBetween h most ends low middle true
-between_below h most ends low high middle stuck p observed is le less at none = record {
+    IsBetween h most unexplained ends low middle true
+between_below h most unexplained ends low high middle stuck p observed is le less at none = record {
   order = le;
   inside = omega (arith, less, is.inside);
   below = is.below;
@@ -373,29 +373,30 @@ between_below h most ends low high middle stuck p observed is le less at none = 
     same : (x y : ℕ × ℕ) → Some x ≡ Some y → x ≡ y
     same x y h = cc
 
-pub between_undecided : (h : ObservedHistory) (most : ℕ) (ends : List (ℕ × ℕ)) (low high middle : ℕ) (stuck : Bool)
-    (p : ℕ × ℕ) → IsBetween h most ends low high stuck → low ≤ middle → middle < high →
+pub between_undecided : (h : ObservedHistory) (most : ℕ) (unexplained : Bool) (ends : List (ℕ × ℕ)) (low high middle : ℕ) (stuck : Bool)
+    (p : ℕ × ℕ) → IsBetween h most unexplained ends low high stuck → low ≤ middle → middle < high →
     slice_get ends middle ≡ Some p → IsGivenUp (seen_at p.0 (p.1 + 1) h) most →
-    IsBetween h most ends low middle false
-between_undecided h most ends low high middle stuck p is le less at given_up = record {
+    IsBetween h most unexplained ends low middle false
+between_undecided h most unexplained ends low high middle stuck p is le less at given_up = record {
   order = le;
   inside = omega (arith, less, is.inside);
   below = is.below;
-  above = λ q here. inr (
-    is.whole,
-    subst (λ (x : ℕ × ℕ). IsGivenUp (seen_at x.0 (x.1 + 1) h) most)
-        (same p q (sym at ∙ here)) given_up,
-  );
+  above = λ q here. by q unexplained (subst (λ (x : ℕ × ℕ). IsGivenUp (seen_at x.0 (x.1 + 1) h) most)
+      (same p q (sym at ∙ here)) given_up);
   whole = is.whole;
 }
   where
+    by : (q : ℕ × ℕ) (b : Bool) → IsGivenUp (seen_at q.0 (q.1 + 1) h) most → IsAbove h most q b false
+    by q true given_up = given_up
+    by q false given_up = inr given_up
+
     same : (x y : ℕ × ℕ) → Some x ≡ Some y → x ≡ y
     same x y h = cc
 
-pub stuck_between : (h : ObservedHistory) (most : ℕ) (ends : List (ℕ × ℕ)) (low high : ℕ) (p : ℕ × ℕ) →
-    AreEnds h.entries ends → IsBetween h most ends low high true → high ≤ low → slice_get ends low ≡ Some p →
+pub stuck_between : (h : ObservedHistory) (most : ℕ) (unexplained : Bool) (ends : List (ℕ × ℕ)) (low high : ℕ) (p : ℕ × ℕ) →
+    AreEnds h.entries ends → IsBetween h most unexplained ends low high true → high ≤ low → slice_get ends low ≡ Some p →
     IsStuck h p.1
-stuck_between h most ends low high p are is le at =
+stuck_between h most unexplained ends low high p are is le at =
     let found : (e : Observation) × ((slice_get h.entries p.1 ≡ Some e) × EndsAt e p.0) =
     are.each p (contained ends low p at) in
     let last : found.1.1.0.last ≡ p.0 = found.1.1.1.1 in
@@ -411,7 +412,7 @@ stuck_between h most ends low high p are is le at =
     }
 
 pub undecided_between : (h : ObservedHistory) (most : ℕ) (ends : List (ℕ × ℕ)) (low high : ℕ) (p : ℕ × ℕ) →
-    AreEnds h.entries ends → IsBetween h most ends low high false → high ≤ low → slice_get ends low ≡ Some p →
+    AreEnds h.entries ends → IsBetween h most false ends low high false → high ≤ low → slice_get ends low ≡ Some p →
     IsUndecided h most p.1
 undecided_between h most ends low high p are is le at =
     let found : (e : Observation) × ((slice_get h.entries p.1 ≡ Some e) × EndsAt e p.0) =
@@ -424,7 +425,27 @@ undecided_between h most ends low high p are is le at =
       is_entry = found.1.0;
       returned = found.1.1.1.0;
       explained = subst (λ (n : ℕ). IsExplained (cut n p.1 h)) (sym last) (is.below p at);
+      whole = is.whole;
       undecided = subst (λ (n : ℕ). IsUndecidedAt h most n (p.1 + 1)) (sym last)
+          (is.above p (subst (λ (n : ℕ). slice_get ends n ≡ Some p) same at));
+    }
+
+pub unexplained_between : (h : ObservedHistory) (most : ℕ) (ends : List (ℕ × ℕ)) (low high : ℕ) (p : ℕ × ℕ) →
+    AreEnds h.entries ends → IsBetween h most true ends low high false → high ≤ low → slice_get ends low ≡ Some p →
+    IsUnexplained h most p.1
+unexplained_between h most ends low high p are is le at =
+    let found : (e : Observation) × ((slice_get h.entries p.1 ≡ Some e) × EndsAt e p.0) =
+    are.each p (contained ends low p at) in
+    let last : found.1.1.0.last ≡ p.0 = found.1.1.1.1 in
+    let same : low ≡ high = omega (arith, le, is.order) in
+    record {
+      entry = found.0;
+      return = found.1.1.0;
+      is_entry = found.1.0;
+      returned = found.1.1.1.0;
+      explained = subst (λ (n : ℕ). IsExplained (cut n p.1 h)) (sym last) (is.below p at);
+      unexplained = is.whole;
+      gives_up = subst (λ (n : ℕ). IsGivenUp (seen_at n (p.1 + 1) h) most) (sym last)
           (is.above p (subst (λ (n : ℕ). slice_get ends n ≡ Some p) same at));
     }
 
@@ -449,27 +470,27 @@ end_is_entry entries ends k are lt =
     are.each p (contained ends k p (end_at ends k lt)) in
     slice_get_within entries p.1 found.0 found.1.0
 
-same : (h : ObservedHistory) (most : ℕ) (ends : List (ℕ × ℕ)) (low high : ℕ) (stuck : Bool) (l u : ℕ) (s : Bool) →
-    l ≡ low → u ≡ high → s ≡ stuck → IsBetween h most ends low high stuck → IsBetween h most ends l u s
-same h most ends low high stuck l u s l_is u_is s_is is =
-    subst (λ (n : ℕ). IsBetween h most ends n u s) (sym l_is)
-    (subst (λ (n : ℕ). IsBetween h most ends low n s) (sym u_is)
-    (subst (λ (b : Bool). IsBetween h most ends low high b) (sym s_is) is))
+same : (h : ObservedHistory) (most : ℕ) (unexplained : Bool) (ends : List (ℕ × ℕ)) (low high : ℕ) (stuck : Bool) (l u : ℕ) (s : Bool) →
+    l ≡ low → u ≡ high → s ≡ stuck → IsBetween h most unexplained ends low high stuck → IsBetween h most unexplained ends l u s
+same h most unexplained ends low high stuck l u s l_is u_is s_is is =
+    subst (λ (n : ℕ). IsBetween h most unexplained ends n u s) (sym l_is)
+    (subst (λ (n : ℕ). IsBetween h most unexplained ends low n s) (sym u_is)
+    (subst (λ (b : Bool). IsBetween h most unexplained ends low high b) (sym s_is) is))
 
-pub narrowed : (h : ObservedHistory) (most : ℕ) (ends : List (ℕ × ℕ)) (low high middle : ℕ) (stuck : Bool)
+pub narrowed : (h : ObservedHistory) (most : ℕ) (unexplained : Bool) (ends : List (ℕ × ℕ)) (low high middle : ℕ) (stuck : Bool)
     (found : Found) (l u : ℕ) (s : Bool) → IsObserved h → AreEnds h.entries ends →
-    IsBetween h most ends low high stuck → low ≤ middle → middle < high →
+    IsBetween h most unexplained ends low high stuck → low ≤ middle → middle < high →
     IsFound (seen_at (get_or ends middle (0, 0)).0 ((get_or ends middle (0, 0)).1 + 1) h) most found →
-    Narrows found low high stuck middle l u s → IsBetween h most ends l u s
-narrowed h most ends low high middle stuck (Order order) l u s observed are is le less found (l_is, (u_is, s_is)) =
-    same h most ends (middle + 1) high stuck l u s l_is u_is s_is
-    (between_above h most ends low high middle stuck (get_or ends middle (0, 0)) observed are is less
+    Narrows found low high stuck middle l u s → IsBetween h most unexplained ends l u s
+narrowed h most unexplained ends low high middle stuck (Order order) l u s observed are is le less found (l_is, (u_is, s_is)) =
+    same h most unexplained ends (middle + 1) high stuck l u s l_is u_is s_is
+    (between_above h most unexplained ends low high middle stuck (get_or ends middle (0, 0)) observed are is less
     (end_at ends middle (omega (arith, less, is.inside))) (record { order = found.order; by = found.explains }))
-narrowed h most ends low high middle stuck Nothing l u s observed are is le less found (l_is, (u_is, s_is)) =
-    same h most ends low middle true l u s l_is u_is s_is
-    (between_below h most ends low high middle stuck (get_or ends middle (0, 0)) observed is le less
+narrowed h most unexplained ends low high middle stuck Nothing l u s observed are is le less found (l_is, (u_is, s_is)) =
+    same h most unexplained ends low middle true l u s l_is u_is s_is
+    (between_below h most unexplained ends low high middle stuck (get_or ends middle (0, 0)) observed is le less
     (end_at ends middle (omega (arith, less, is.inside))) found)
-narrowed h most ends low high middle stuck Undecided l u s observed are is le less found (l_is, (u_is, s_is)) =
-    same h most ends low middle false l u s l_is u_is s_is
-    (between_undecided h most ends low high middle stuck (get_or ends middle (0, 0)) is le less
+narrowed h most unexplained ends low high middle stuck Undecided l u s observed are is le less found (l_is, (u_is, s_is)) =
+    same h most unexplained ends low middle false l u s l_is u_is s_is
+    (between_undecided h most unexplained ends low high middle stuck (get_or ends middle (0, 0)) is le less
     (end_at ends middle (omega (arith, less, is.inside))) found)

@@ -5,40 +5,46 @@ use Rattle.stamp_core.specs.Record.{Recorded}
 use Rattle.stamp_explain.specs.declared.observed.Observation.{Observation}
 use Rattle.stamp_explain.specs.declared.observed.Returned.{Returned}
 use Rattle.stamp_explain.specs.declared.explaining.ExplainError.{ExplainError}
-use Rattle.stamp_explain.specs.declared.explaining.ExplainError.TheVariants.{Stuck, Undecided, Memory}
+use Rattle.stamp_explain.specs.declared.explaining.ExplainError.TheVariants.{Stuck, Unexplained, Undecided, Memory}
 use Rattle.stamp_explain.specs.Observed.{ObservedHistory}
 use Rattle.stamp_explain.specs.Explained.{IsExplained}
 use Rattle.stamp_explain.specs.Cut.{IsStuck, cut, cut_before, seen_at}
 use Rattle.stamp_explain.specs.Points.{HasPoints}
 use Rattle.stamp_explain.specs.Configuration.{IsGivenUp}
 
--- no order was found of the whole: the search gives up, or there is none
-abbrev pub IsWithoutOrder : ObservedHistory → ℕ → Type 0
-IsWithoutOrder h most = IsGivenUp h most ⊎ (¬ IsExplained h)
-
--- no order was found of the whole, and a search of what is seen then gives up; or that of the whole does, and all of
--- its returns are known then
+-- a search of what is seen then gives up; or all returns are known then
 abbrev pub IsUndecidedAt : ObservedHistory → ℕ → ℕ → ℕ → Type 0
-IsUndecidedAt h most last bound = ((cut last bound h ≡ h) × IsGivenUp h most) ⊎
-    (IsWithoutOrder h most × IsGivenUp (seen_at last bound h) most)
+IsUndecidedAt h most last bound = (cut last bound h ≡ h) ⊎ IsGivenUp (seen_at last bound h) most
 
--- it is explained until this entry returns, and undecided then
+-- it is explained until this entry returns; the search of the whole gives up, and so does one of what is seen then
 pub record IsUndecided (h : ObservedHistory) (most i : ℕ) : Type 0 where
   pub entry : Observation
   pub return : Returned
   pub is_entry : slice_get h.entries i ≡ Some entry
   pub returned : entry.returned ≡ Some return
   pub explained : IsExplained (cut_before return i h)
+  pub whole : IsGivenUp h most
   pub undecided : IsUndecidedAt h most return.last (i + 1)
+
+-- no order explains it; it is explained until this entry returns, and a search of what is seen then gives up
+pub record IsUnexplained (h : ObservedHistory) (most i : ℕ) : Type 0 where
+  pub entry : Observation
+  pub return : Returned
+  pub is_entry : slice_get h.entries i ≡ Some entry
+  pub returned : entry.returned ≡ Some return
+  pub explained : IsExplained (cut_before return i h)
+  pub unexplained : ¬ IsExplained h
+  pub gives_up : IsGivenUp (seen_at return.last (i + 1) h) most
 
 -- no order was found: since none explains it, or since the search gave up
 abbrev pub IsNotFound : ObservedHistory → ℕ → Bool → Type 0
 IsNotFound h most true = ¬ IsExplained h
 IsNotFound h most false = IsGivenUp h most
 
--- the entry at whose return the history is stuck, or undecided
+-- the entry at whose return the history is stuck, or undecided, whether or not it is known to be unexplained
 abbrev pub IsFault : ObservedHistory → ℕ → ExplainError → Type 0
 IsFault h most (Stuck i) = IsStuck h i
+IsFault h most (Unexplained i) = IsUnexplained h most i
 IsFault h most (Undecided i) = IsUndecided h most i
 IsFault h most Memory = ⊥
 
@@ -47,11 +53,14 @@ IsFault h most Memory = ⊥
 abbrev pub IsAnswer : ObservedHistory → ℕ → Result Recorded ExplainError → Type 0
 IsAnswer h most (Ok made) = HasPoints h made
 IsAnswer h most (Err (Stuck i)) = IsStuck h i
+IsAnswer h most (Err (Unexplained i)) = IsUnexplained h most i
 IsAnswer h most (Err (Undecided i)) = IsUndecided h most i
 IsAnswer h most (Err Memory) = Unit {0}
 
 -- why there is no record, in words
 abbrev pub error_text : ExplainError → List ℕ
 error_text (Stuck i) = codes "no order explains the return of entry " ++ decimal i
+error_text (Unexplained i) =
+    codes "no order explains the history, from the return of entry " ++ decimal i ++ codes " or a later one on"
 error_text (Undecided i) = codes "undecided at the return of entry " ++ decimal i
 error_text Memory = codes "out of memory"

@@ -18,10 +18,13 @@ use std::fmt;
 pub enum ExplainError {
     /// 1: it is explained until this entry returns, and no longer: no order explains it.
     Stuck(usize),
-    /// 2: it is explained until this entry returns, and then more than the most configurations are
-    /// reached, so that the rest isn't known.
+    /// 2: no order explains it. It is explained until this entry returns, and there the search gives up,
+    /// so the first return that no order explains is this one or a later one.
+    Unexplained(usize),
+    /// 3: whether an order explains it isn't known, since the search of it gives up. It is explained until
+    /// this entry returns, and there the search gives up, too.
     Undecided(usize),
-    /// 3: an allocation was refused.
+    /// 4: an allocation was refused.
     Memory,
 }
 
@@ -36,6 +39,11 @@ impl fmt::Display for ExplainError {
             ExplainError::Stuck(entry) => write!(
                 f,
                 "no order explains the return of entry {}",
+                entry
+            ),
+            ExplainError::Unexplained(entry) => write!(
+                f,
+                "no order explains the history, from the return of entry {} or a later one on",
                 entry
             ),
             ExplainError::Undecided(entry) => {
@@ -60,8 +68,9 @@ impl From<AllocError> for ExplainError {
 
 /// A record of an order that explains the history, with a point for each call. Position p becomes the
 /// moments 64 p to 64 p + 63; a call under way that took effect ends with the history, and one that
-/// didn't is left out. Each search looks at `most` configurations at most. Refuses as 1 `Stuck`, where no
-/// order explains the history, 2 `Undecided` or 3 `Memory`.
+/// didn't is left out. A search gives up once it has looked at more than `most` configurations. Refuses as
+/// 1 `Stuck` or 2 `Unexplained`, where no order explains the history, 3 `Undecided` or 4 `Memory`. Where no
+/// search gives up it is no 2 and no 3.
 pub fn explain(alloc: Global, observed: &Observed, most: u64) -> Result<Record, ExplainError>
     requires { IsObserved observed.now }
     ensures { IsAnswer observed.now most result }

@@ -30,23 +30,24 @@ fn found_at(
 }
 
 /// The first return at which no order was found, where none was found for the whole history: since
-/// there is none, or since the search gave up. It halves the returns again and again.
+/// there is none, or since the search gave up. It halves the returns again and again. A return at which
+/// the search gives up ends what is looked at.
 pub(crate) fn first_fault(
     alloc: Global,
     observed: &Observed,
     ends: &[(u64, usize)],
     most: u64,
-    stuck: bool,
+    unexplained: bool,
 ) -> Result<ExplainError, AllocError>
     requires observed { IsObserved observed.now }
     requires ends { AreEnds observed.now.entries ends.now }
     requires some { 0 < length ends.now }
-    requires found { IsNotFound observed.now most stuck }
+    requires found { IsNotFound observed.now most unexplained }
     ensures { IfOk result (λ fault. IsFault observed.now most fault) }
 {
     let mut low = 0;
     let mut high = ends.len() - 1;
-    let mut stuck = stuck;
+    let mut stuck = unexplained;
     while low < high {
         let middle = low + (high - low) / 2;
         match found_at(alloc, observed, ends[middle], most)? {
@@ -64,6 +65,8 @@ pub(crate) fn first_fault(
     let entry = ends[low].1;
     if stuck {
         Ok(ExplainError::Stuck(entry))
+    } else if unexplained {
+        Ok(ExplainError::Unexplained(entry))
     } else {
         Ok(ExplainError::Undecided(entry))
     }

@@ -3,15 +3,16 @@ use Rattle.std.specs.Prelude.{ℕ}
 use Rattle.stamp_explain.specs.Cut.{IsStuck}
 use Rattle.stamp_explain.specs.Observed.{ObservedHistory, IsObserved}
 use Rattle.stamp_explain.specs.Points.{HasPoints}
-use Rattle.stamp_explain.specs.Verdict.{IsUndecided}
+use Rattle.stamp_explain.specs.Verdict.{IsUndecided, IsUnexplained}
 use Rattle.stamp_observed.specs.ObservedFault.{IsFirstFault}
 use Rattle.stamp_explain_cli.specs.declared.finding.Finding.{Finding}
-use Rattle.stamp_explain_cli.specs.declared.finding.Finding.TheVariants.{Unseen, Explained, Stuck, Undecided}
+use Rattle.stamp_explain_cli.specs.declared.finding.Finding.TheVariants.{Unseen, Explained, Stuck, Unexplained, Undecided}
 
 -- its first fault. Or it may be observed, and: this record is of it and linearized by its points; or it is stuck
--- at the return of this entry; or undecided there
+-- at the return of this entry; or undecided there, whether or not it is known to be unexplained
 abbrev pub IsFound : ObservedHistory → ℕ → Finding → Type 0
 IsFound h most (Unseen fault) = IsFirstFault h fault.entry fault.cause
 IsFound h most (Explained made) = IsObserved h × HasPoints h made
 IsFound h most (Stuck i) = IsObserved h × IsStuck h i
+IsFound h most (Unexplained i) = IsObserved h × IsUnexplained h most i
 IsFound h most (Undecided i) = IsObserved h × IsUndecided h most i

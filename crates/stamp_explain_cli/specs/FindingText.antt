@@ -7,7 +7,7 @@ use Rattle.stamp_observed.specs.declared.judging.Cause.{Cause}
 use Rattle.stamp_observed.specs.declared.judging.Cause.TheVariants.{Interval, Overlap}
 use Rattle.stamp_observed.specs.declared.judging.ObservedFault.{ObservedFault}
 use Rattle.stamp_explain_cli.specs.declared.finding.Finding.{Finding}
-use Rattle.stamp_explain_cli.specs.declared.finding.Finding.TheVariants.{Unseen, Explained, Stuck, Undecided}
+use Rattle.stamp_explain_cli.specs.declared.finding.Finding.TheVariants.{Unseen, Explained, Stuck, Unexplained, Undecided}
 
 abbrev pub cause_text : Cause → List ℕ
 cause_text Interval = codes "interval"
@@ -21,10 +21,12 @@ abbrev pub finding_text : Finding → List ℕ
 finding_text (Unseen fault) = fault_text fault
 finding_text (Explained made) = history_text made
 finding_text (Stuck i) = codes "stuck " ++ decimal i
+finding_text (Unexplained i) = codes "undecided " ++ decimal i
 finding_text (Undecided i) = codes "undecided " ++ decimal i
 
 abbrev pub finding_verdict : Finding → Verdict
 finding_verdict (Unseen fault) = Bad
 finding_verdict (Explained made) = Accepted
 finding_verdict (Stuck i) = Bad
+finding_verdict (Unexplained i) = Bad
 finding_verdict (Undecided i) = Bad

@@ -1,4 +1,4 @@
--- What is said of a history that is stuck.
+-- What is said of a history that no order explains.
 use Rattle.std.specs.Prelude.{ℕ, ◌≡◌, ◌++◌, List, [], ◌∷◌, slice_get, Option, Some, None, Result, Ok, Err, Vec, String}
 use Rattle.std.specs.Prelude.{codes, decimal, string_bytes}
 use Rattle.std.specs.List.{flat_map}
@@ -12,7 +12,7 @@ use Rattle.stamp_explain.specs.declared.observed.Returned.{Returned}
 use Rattle.stamp_explain.specs.Observed.{ObservedHistory}
 use Rattle.stamp_explain.specs.Possible.{AreAllPossible, IsUndecidedAtAny}
 use Rattle.stamp_explain_cli.specs.declared.finding.Finding.{Finding}
-use Rattle.stamp_explain_cli.specs.declared.finding.Finding.TheVariants.{Stuck}
+use Rattle.stamp_explain_cli.specs.declared.finding.Finding.TheVariants.{Stuck, Unexplained}
 
 abbrev pub replies_in : Option (Vec Reply Global) → Option (List Reply)
 replies_in None = None
@@ -53,10 +53,16 @@ pub record IsStuckNote (h : ObservedHistory) (most i : ℕ) (text : List ℕ) : 
   pub possible : ArePossibleAt h most i replies
   pub says : text ≡ stuck_text i entry return.reply replies
 
--- what is said of what was found: nothing, unless it is stuck; or memory was refused
+-- what is said where it is undecided from which return on
+abbrev pub unexplained_text : List ℕ
+unexplained_text = codes "stamped: no order explains the history; from which return on is undecided"
+
+-- what is said of what was found: nothing, unless no order explains it; or memory was refused
 abbrev pub IsNote : ObservedHistory → ℕ → Finding → Result (Option (String Global)) AllocError → Type 0
 IsNote h most (Stuck i) (Ok (Some text)) = IsStuckNote h most i (string_bytes text)
 IsNote h most (Stuck i) (Ok None) = ⊥
+IsNote h most (Unexplained i) (Ok (Some text)) = string_bytes text ≡ unexplained_text
+IsNote h most (Unexplained i) (Ok None) = ⊥
 IsNote h most found (Ok (Some text)) = ⊥
 IsNote h most found (Ok None) = Unit {0}
 IsNote h most found (Err e) = Unit {0}

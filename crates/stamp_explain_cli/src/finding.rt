@@ -19,7 +19,9 @@ pub(crate) enum Finding {
     Explained(Record),
     /// It is explained until this entry returns, and no longer.
     Stuck(usize),
-    /// It is explained until this entry returns, and then more than so many configurations are reached.
+    /// No order explains it; it is explained until this entry returns, and there the search gives up.
+    Unexplained(usize),
+    /// The search of it gives up; it is explained until this entry returns.
     Undecided(usize),
 }
 
@@ -31,13 +33,14 @@ fn searched(alloc: Global, observed: &Observed, most: u64) -> Result<Finding, Al
     match explain(alloc, observed, most) {
         Ok(record) => Ok(Finding::Explained(record)),
         Err(ExplainError::Stuck(entry)) => Ok(Finding::Stuck(entry)),
+        Err(ExplainError::Unexplained(entry)) => Ok(Finding::Unexplained(entry)),
         Err(ExplainError::Undecided(entry)) => Ok(Finding::Undecided(entry)),
         Err(ExplainError::Memory) => Err(AllocError),
     }
 }
 
-/// What is found: a fault of the observation, or else what the search finds. Each search looks at `most`
-/// configurations at most.
+/// What is found: a fault of the observation, or else what the search finds. A search gives up once it has
+/// looked at more than `most` configurations.
 pub(crate) fn finding_of(
     alloc: Global,
     observed: &Observed,

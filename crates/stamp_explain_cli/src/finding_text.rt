@@ -56,6 +56,8 @@ pub(crate) fn line_of_finding(alloc: Global, finding: &Finding) -> Result<Line, 
         Finding::Explained(record) => Ok(accepted(write_history(alloc, record)?)),
         Finding::Unseen(fault) => Ok(refused(FaultText(*fault).to_string(alloc)?)),
         Finding::Stuck(entry) => Ok(refused(format!(in alloc; "stuck {entry}")?)),
-        Finding::Undecided(entry) => Ok(refused(format!(in alloc; "undecided {entry}")?)),
+        Finding::Unexplained(entry) | Finding::Undecided(entry) => {
+            Ok(refused(format!(in alloc; "undecided {entry}")?))
+        }
     }
 }

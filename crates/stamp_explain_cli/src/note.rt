@@ -1,10 +1,11 @@
-//! What is said of a history that is stuck: what the call answered, and what it could have answered.
+//! What is said of a history that no order explains: where it is stuck, what the call answered, and what it
+//! could have answered.
 
 ghost use Rattle.std.specs.Prelude.{◌≡◌, ◌++◌, IfOk, Some, slice_get, string_bytes};
 ghost use Rattle.stamp_explain.specs.Observed.{IsObserved};
 ghost use Rattle.stamp_explain.specs.Search.{IsReturnAt};
 ghost use Rattle.stamp_explain_cli.specs.Finding.{IsFound};
-ghost use Rattle.stamp_explain_cli.specs.Note.{IsNote, IsStuckNote, ArePossibleAt, answer_text, others_text, place_text, possible_text, told_text, stuck_text, replies_in};
+ghost use Rattle.stamp_explain_cli.specs.Note.{IsNote, IsStuckNote, ArePossibleAt, answer_text, others_text, place_text, possible_text, told_text, stuck_text, replies_in, unexplained_text};
 
 use crate::finding::Finding;
 use stamp_core::{Call, Reply};
@@ -125,8 +126,18 @@ fn stuck_note(
     stuck_text(alloc, entry, observation, returned.reply, &replies)
 }
 
-/// What is said of what was found, on standard error: nothing, unless the history is stuck. Each search
-/// looks at `most` configurations at most.
+/// What is said of a history that no order explains, where it is undecided from which return on.
+fn unexplained_text(alloc: Global) -> Result<String, AllocError>
+    ensures { IfOk result (λ text. string_bytes text ≡ unexplained_text) }
+{
+    String::from_str(
+        alloc,
+        "stamped: no order explains the history; from which return on is undecided",
+    )
+}
+
+/// What is said of what was found, on standard error: nothing, unless no order explains the history. A
+/// search gives up once it has looked at more than `most` configurations.
 pub(crate) fn note_of(
     alloc: Global,
     observed: &Observed,
@@ -138,6 +149,7 @@ pub(crate) fn note_of(
 {
     match finding {
         Finding::Stuck(entry) => Ok(Some(stuck_note(alloc, observed, *entry, most)?)),
+        Finding::Unexplained(_) => Ok(Some(unexplained_text(alloc)?)),
         _ => Ok(None),
     }
 }

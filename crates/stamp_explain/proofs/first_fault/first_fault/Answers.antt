@@ -1,13 +1,14 @@
-use Rattle.std.proofs.Common.{◌<◌, ◌+◌, ◌-◌, ◌/◌, ℕ, Bool, sym, subst, arith, length}
+use Rattle.std.proofs.Common.{◌<◌, ◌+◌, ◌-◌, ◌/◌, ℕ, Bool, false, sym, subst, arith, length}
 use Rattle.stamp_explain.specs.declared.found.Found.{Found}
 use Rattle.stamp_explain.proofs.Faulting.{IsBetween, Narrows, between_at_first, stuck_between, undecided_between}
+use Rattle.stamp_explain.proofs.Faulting.{unexplained_between}
 use Rattle.stamp_explain.proofs.Faulting.{middle_inside, end_at, end_is_entry, narrowed}
 use Rattle.stamp_explain.proofs.first_fault.first_fault.Goals as goal
 use Rattle.stamp_explain.proofs.first_fault.first_fault.Goals.{in-Order, in-Nothing, in-Undecided}
 
 pub loop-low-init : goal.loop-low-init
 loop-low-init c = between_at_first c.args.observed.now c.args.most c.args.ends.now (length c.args.ends.now - 1)
-    c.args.stuck c.requires.ends c.requires.found (omega (arith, c.requires.some))
+    c.args.unexplained c.requires.ends c.requires.found (omega (arith, c.requires.some))
 
 pub found_at-requires-clause-end : goal.found_at-requires-clause-end
 found_at-requires-clause-end c =
@@ -22,7 +23,7 @@ loop-low-preserved-after-branch-2 c =
     let middle : ℕ = c.loop-low.low + (c.loop-low.high - c.loop-low.low) / 2 in
     let Now : Found → Type 0 = λ (f : Found). Narrows f c.loop-low.low c.loop-low.high c.loop-low.stuck middle
     c.match-branch-2.low c.match-branch-2.high c.match-branch-2.stuck in
-    narrowed c.args.observed.now c.args.most c.args.ends.now c.loop-low.low c.loop-low.high middle c.loop-low.stuck
+    narrowed c.args.observed.now c.args.most c.args.unexplained c.args.ends.now c.loop-low.low c.loop-low.high middle c.loop-low.stuck
     c.in_ok-found_at.field-0 c.match-branch-2.low c.match-branch-2.high c.match-branch-2.stuck
     c.requires.observed c.requires.ends c.loop-low.invariant (omega arith)
     (middle_inside c.loop-low.low c.loop-low.high c.loop-low-test.true) c.in_ok-found_at.ensures
@@ -37,7 +38,7 @@ loop-low-preserved c =
     let middle : ℕ = c.loop-low.low + (c.loop-low.high - c.loop-low.low) / 2 in
     let Now : Found → Type 0 = λ (f : Found). Narrows f c.loop-low.low c.loop-low.high c.loop-low.stuck middle
     c.match-branch-2.low c.match-branch-2.high c.match-branch-2.stuck in
-    narrowed c.args.observed.now c.args.most c.args.ends.now c.loop-low.low c.loop-low.high middle c.loop-low.stuck
+    narrowed c.args.observed.now c.args.most c.args.unexplained c.args.ends.now c.loop-low.low c.loop-low.high middle c.loop-low.stuck
     c.in_ok-found_at.field-0 c.match-branch-2.low c.match-branch-2.high c.match-branch-2.stuck
     c.requires.observed c.requires.ends c.loop-low.invariant (omega arith)
     (middle_inside c.loop-low.low c.loop-low.high c.loop-low-test.true) c.in_ok-found_at.ensures
@@ -48,17 +49,29 @@ loop-low-preserved c =
     ])
 
 pub returns-then-stuck : goal.returns-then-stuck
-returns-then-stuck c = stuck_between c.args.observed.now c.args.most c.args.ends.now c.loop-low.low c.loop-low.high _
+returns-then-stuck c = stuck_between c.args.observed.now c.args.most c.args.unexplained c.args.ends.now c.loop-low.low c.loop-low.high _
     c.requires.ends
-    (subst (λ (b : Bool). IsBetween c.args.observed.now c.args.most c.args.ends.now c.loop-low.low c.loop-low.high b)
+    (subst (λ (b : Bool). IsBetween c.args.observed.now c.args.most c.args.unexplained c.args.ends.now c.loop-low.low c.loop-low.high b)
     c.if-stuck.true c.loop-low.invariant) (omega (arith, c.loop-low-test.false))
     (end_at c.args.ends.now c.loop-low.low
     (omega (arith, c.loop-low.invariant.order, c.loop-low.invariant.inside)))
 
-pub returns-else-stuck : goal.returns-else-stuck
-returns-else-stuck c = undecided_between c.args.observed.now c.args.most c.args.ends.now c.loop-low.low
+pub returns-then-unexplained : goal.returns-then-unexplained
+returns-then-unexplained c = unexplained_between c.args.observed.now c.args.most c.args.ends.now c.loop-low.low
     c.loop-low.high _ c.requires.ends
-    (subst (λ (b : Bool). IsBetween c.args.observed.now c.args.most c.args.ends.now c.loop-low.low c.loop-low.high b)
-    c.if-stuck.false c.loop-low.invariant) (omega (arith, c.loop-low-test.false))
+    (subst (λ (b : Bool). IsBetween c.args.observed.now c.args.most b c.args.ends.now c.loop-low.low c.loop-low.high
+    false) c.if-unexplained.true
+    (subst (λ (b : Bool). IsBetween c.args.observed.now c.args.most c.args.unexplained c.args.ends.now c.loop-low.low
+    c.loop-low.high b) c.if-stuck.false c.loop-low.invariant)) (omega (arith, c.loop-low-test.false))
+    (end_at c.args.ends.now c.loop-low.low
+    (omega (arith, c.loop-low.invariant.order, c.loop-low.invariant.inside)))
+
+pub returns-else-unexplained : goal.returns-else-unexplained
+returns-else-unexplained c = undecided_between c.args.observed.now c.args.most c.args.ends.now c.loop-low.low
+    c.loop-low.high _ c.requires.ends
+    (subst (λ (b : Bool). IsBetween c.args.observed.now c.args.most b c.args.ends.now c.loop-low.low c.loop-low.high
+    false) c.if-unexplained.false
+    (subst (λ (b : Bool). IsBetween c.args.observed.now c.args.most c.args.unexplained c.args.ends.now c.loop-low.low
+    c.loop-low.high b) c.if-stuck.false c.loop-low.invariant)) (omega (arith, c.loop-low-test.false))
     (end_at c.args.ends.now c.loop-low.low
     (omega (arith, c.loop-low.invariant.order, c.loop-low.invariant.inside)))
