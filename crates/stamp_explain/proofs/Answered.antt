@@ -14,7 +14,8 @@ use Rattle.stamp_explain.specs.Observed.{ObservedHistory, IsObserved, IsInterval
 use Rattle.stamp_explain.specs.Explained.{IsExplained}
 use Rattle.stamp_explain.specs.Cut.{returned_by, known_of, known_from, begun_by, seen_at, place_of}
 use Rattle.stamp_core.specs.declared.call.Call.{Call}
-use Rattle.stamp_explain.specs.Possible.{ArePossible, AreAllPossible, GetsBeside, IsUndecidedAtGotten, IsUndecidedAtReply}
+use Rattle.stamp_explain.specs.Possible.{ArePossible, AreAllPossible, GetsBeside, IsUndecidedAtGotten}
+use Rattle.stamp_explain.specs.Possible.{IsUndecidedAtReply}
 use Rattle.stamp_explain.specs.Possible.{IsUndecidedAtSome, answering, with_reply, without_return}
 use Rattle.stamp_explain.specs.Timeline.{IsTimeline}
 use Rattle.stamp_explain.specs.Asking.{AreReplies, Gets, IsAskingAt}
@@ -150,20 +151,21 @@ pub asked_at : (h seen before : ObservedHistory) (timeline : Timeline) (i place 
     read ≡ h.entries → place ≡ place_of r.last i read → seen ≡ seen_at r.last (i + 1) h →
     before ≡ without_return place e seen → IsTimeline seen timeline →
     IsAskingAt h i e r (record { seen = seen; before = before; timeline = timeline; place = place })
-asked_at h seen before timeline i place e r read observed at returned same is_place is_seen is_before timelines = record {
-  is = record {
-    entry = e;
-    return = r;
-    observed = subst IsObserved (sym is_seen) (seen_explains_as_much h r.last (i + 1) observed).0;
-    timeline = timelines;
-    is_entry = asked_as_seen h seen i place e r read observed at returned same is_place is_seen;
-    returned = returned;
-    before = is_before;
-  };
-  seen = is_seen;
-  place = is_place ∙ ap (λ (es : List Observation). place_of r.last i es) same;
-  is_entry = asked_as_seen h seen i place e r read observed at returned same is_place is_seen;
-}
+asked_at h seen before timeline i place e r read observed at returned same is_place is_seen is_before timelines =
+    record {
+      is = record {
+        entry = e;
+        return = r;
+        observed = subst IsObserved (sym is_seen) (seen_explains_as_much h r.last (i + 1) observed).0;
+        timeline = timelines;
+        is_entry = asked_as_seen h seen i place e r read observed at returned same is_place is_seen;
+        returned = returned;
+        before = is_before;
+      };
+      seen = is_seen;
+      place = is_place ∙ ap (λ (es : List Observation). place_of r.last i es) same;
+      is_entry = asked_as_seen h seen i place e r read observed at returned same is_place is_seen;
+    }
 
 -- so the replies that were tried and are possible are all the possible ones
 pub all_possible : (h : ObservedHistory) (i : ℕ) (e : Observation) (r : Returned) (asking : Asking)

@@ -21,7 +21,8 @@ use Rattle.stamp_explain.specs.declared.timeline.Timeline.{Timeline}
 use Rattle.stamp_explain.specs.Observed.{ObservedHistory, HasReturned}
 use Rattle.stamp_explain.specs.Explained.{Effect}
 use Rattle.stamp_explain.specs.Search.{LockState, LockSteps, MayTake, IsReturnAt, AreReturns, ReturnsNoLater}
-use Rattle.stamp_explain.specs.Node.{IsNext, HasNext, AreTaken, IsAt, StandsFor, words_put, words_put_at, content_by, IsOpening}
+use Rattle.stamp_explain.specs.Node.{IsNext, HasNext, AreTaken, IsAt, StandsFor, words_put, words_put_at, content_by}
+use Rattle.stamp_explain.specs.Node.{IsOpening}
 use Rattle.stamp_explain.specs.Timeline.{IsTimeline, IsOpenAt, AreOpen}
 use Rattle.stamp_explain.specs.Expand.{Took, Takes}
 use Rattle.stamp_explain.specs.Possible.{with_reply, without_return, answering}
@@ -290,7 +291,8 @@ returns_alike h g i returns is are = record {
       (are.in_order p q d lt within x.0 y.0 x.1.0 y.1.0);
 }
 
-pub timeline_alike : (h g : ObservedHistory) (i : ℕ) (timeline : Timeline) → AreAlike h g i → IsTimeline h timeline → IsTimeline g timeline
+pub timeline_alike : (h g : ObservedHistory) (i : ℕ) (timeline : Timeline) → AreAlike h g i → IsTimeline h timeline
+    → IsTimeline g timeline
 timeline_alike h g i timeline is timelines = record {
   are = returns_alike h g i timeline.returns.items is timelines.are;
   once = timelines.once;

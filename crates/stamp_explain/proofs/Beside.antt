@@ -11,9 +11,11 @@ use Rattle.std.specs.Int.{bit_at}
 use Rattle.std.specs.List.{All, AllPairs, Contains}
 use Rattle.std.proofs.lemmas.List.Elements.{Contains-append_left, Contains-push, Contains-push_cases, Contains-get_or}
 use Rattle.std.proofs.lemmas.List.Quantifiers.{all_pairs_push}
-use Rattle.std.proofs.lemmas.Option.{none-some, same_Some, slice_get_within, slice_get-get_or, slice_get_read, get_or_from_slice_get}
+use Rattle.std.proofs.lemmas.Option.{none-some, same_Some, slice_get_within, slice_get-get_or, slice_get_read}
+use Rattle.std.proofs.lemmas.Option.{get_or_from_slice_get}
 use Rattle.std.proofs.lemmas.List.{get_or-set_same, length-set, length-append, length-map, take_all}
-use Rattle.std.proofs.lemmas.List.Elements.{All-append, All-weaker, All-contains, All-contains_itself, Contains-append_cases}
+use Rattle.std.proofs.lemmas.List.Elements.{All-append, All-weaker, All-contains, All-contains_itself}
+use Rattle.std.proofs.lemmas.List.Elements.{Contains-append_cases}
 use Rattle.stamp_core.specs.Limits.{Bounds}
 use Rattle.stamp_core.specs.declared.reply.Reply.{Reply}
 use Rattle.stamp_explain.specs.declared.observed.Observation.{Observation}
@@ -37,7 +39,8 @@ use Rattle.stamp_explain.specs.Asking.{Adds, AreAsked, AreLed, AreMore, AreRepli
 use Rattle.stamp_explain.specs.Asking.{IsAnswered, IsAsking, IsReachedBeside, LeadsBeside}
 use Rattle.stamp_explain.proofs.Lists.{none_in_empty, contains_cases, contains_first, pairs_none}
 use Rattle.stamp_explain.proofs.Replying.{IsAlike, alike_before, replied_is_observed}
-use Rattle.stamp_explain.proofs.Answering.{AreAlike, alike_with_reply, timeline_alike, there, other_there, took_alike, turned}
+use Rattle.stamp_explain.proofs.Answering.{AreAlike, alike_with_reply, timeline_alike, there, other_there, took_alike}
+use Rattle.stamp_explain.proofs.Answering.{turned}
 use Rattle.stamp_explain.proofs.Answering.{same_calls_before, at_same, at_alike, opening_alike}
 use Rattle.stamp_explain.proofs.Expanding.{one_reply, at_place}
 use Rattle.stamp_explain.proofs.Leading.{way_past, way_by}
@@ -150,7 +153,8 @@ past_of node threads = record {
 }
 
 pub past_leads : (asking : Asking) (node : Node) (a : Observation) (threads : ℕ) →
-    Awaits asking.seen asking.timeline node a → bit_at node.threads a.thread ≡ 1 → ClearsBit node.threads threads a.thread →
+    Awaits asking.seen asking.timeline node a → bit_at node.threads a.thread ≡ 1 → ClearsBit node.threads threads
+    a.thread →
     LeadsBeside asking node (past_of node threads)
 past_leads asking node a threads awaits bit clears = record {
   leads = (expands_past asking.seen asking.timeline node a threads awaits bit clears).each (past_of node threads)
@@ -208,7 +212,8 @@ took_leads h timeline node a i w is bit took alike = record {
 }
   where
     to : (s : LockState) (taken : List ℕ) → StandsFor h timeline.returns.items node s taken →
-        IsTakenTo h timeline.returns.items node a i s taken w → LeadsBy h timeline.returns.items node w.node s taken w.took
+        IsTakenTo h timeline.returns.items node a i s taken w → LeadsBy h timeline.returns.items node w.node s taken
+        w.took
     to s taken stands it = leads_by_call h timeline node a i s taken w is bit stands it (inl (alike it.effect.entry
         (ap (λ (j : ℕ). slice_get h.entries j) (sym it.index) ∙ it.may.effect.is_entry)))
 
@@ -218,7 +223,8 @@ pub record AwaitsThere (asking : Asking) (node : Node) : Type 0 where
   pub awaits : Awaits asking.seen asking.timeline node entry
   pub bit : bit_at node.threads entry.thread ≢ 1
 
-pub awaits_there : (asking : Asking) (node : Node) → IsAsking asking → node.past < length asking.timeline.returns.items →
+pub awaits_there : (asking : Asking) (node : Node) → IsAsking asking → node.past < length
+    asking.timeline.returns.items →
     IsNotInEffect asking.seen asking.timeline.returns.items node → AwaitsThere asking node
 awaits_there asking node asks inside awaited =
     let there : IsReturnAt asking.seen.entries (get_or asking.timeline.returns.items node.past 0) =
@@ -356,7 +362,8 @@ expands_beside asking node calls k nexts reply h asks inside awaited are all is 
     (record {
       awaited = λ b it bit.
           let a : (a : Observation) ×
-          ((slice_get asking.seen.entries (slice_index asking.timeline.returns.items node.past) ≡ Some a) × IsAlike b a) =
+          ((slice_get asking.seen.entries (slice_index asking.timeline.returns.items node.past) ≡ Some a) × IsAlike
+          b a) =
           there h asking.seen asking.place (slice_index asking.timeline.returns.items node.past) b
           (turned asking.seen h asking.place alike) it.is_entry in
           awaited.awaited a.0 (record { inside = inside; is_entry = a.1.0 })
@@ -408,7 +415,8 @@ WentBefore asking node found = (e : Observation) (s : LockState) →
 -- it gets no other reply
 pub asked_takes : (asking : Asking) (node : Node) (found : Option Step) (reply : Reply) (h : ObservedHistory) →
     IsAsking asking → IsAnswered asking reply h → WentBefore asking node found →
-    ((step : Step) → found ≡ Some step → step.reply ≢ reply) → Took h asking.timeline.returns.items node asking.place None
+    ((step : Step) → found ≡ Some step → step.reply ≢ reply) → Took h asking.timeline.returns.items node
+    asking.place None
 asked_takes asking node found reply h asks is went others = record {
   takes = λ b s taken awaited stands x u may same.
       let alike : AreAlike asking.seen h asking.place = alike_of asking reply h is in
@@ -425,7 +433,8 @@ asked_takes asking node found reply h asks is went others = record {
       subst (λ (o : Observation). LockSteps asking.seen.limits s (o.call, x.reply) u) is_x
       (subst (λ (l : Bounds). LockSteps l s (x.entry.call, x.reply) u) alike.limits may.steps) in
       by found refl s u x.reply replied steps
-      (subst (λ (g : ObservedHistory). HasGone g asking.place y node.writer s found) before (went y s here (subst (λ (g : ObservedHistory).
+      (subst (λ (g : ObservedHistory). HasGone g asking.place y node.writer s found) before (went y s here (subst (λ
+      (g : ObservedHistory).
       IsAt g node.bits node.writer s) (sym before) at)));
 }
   where
@@ -485,7 +494,8 @@ asked_gets asking node step asks is went = record {
     reached = configuration_of asking.seen asking.timeline.returns.items node is.reached;
     still = is.still;
     next = after_call asking.seen.limits is.reached.state (asks.entry.call, step.reply);
-    steps = (subst (λ (g : ObservedHistory). HasGone g asking.place y node.writer is.reached.state (Some step)) asks.before
+    steps = (subst (λ (g : ObservedHistory). HasGone g asking.place y node.writer is.reached.state (Some step))
+        asks.before
         (went y is.reached.state here (subst (λ (g : ObservedHistory). IsAt g node.bits node.writer is.reached.state)
         (sym asks.before) (at_same asking.seen (without_return asking.place asks.entry asking.seen) node.bits
         node.writer is.reached.state (same_calls_before asking.seen asking.place asks.entry asks.is_entry)
@@ -689,7 +699,8 @@ walks_more asking looked old new before popped after nexts replies more place v 
       );
       once = grows.once is.once;
       gets = λ reply has. gotten reply (gets reply has);
-      searches = λ reply h answered misses. searches_more h asking.timeline.returns.items looked old new before popped after
+      searches = λ reply h answered misses. searches_more h asking.timeline.returns.items looked old new before
+          popped after
           nexts place v (is.searches reply h answered (λ has. misses (grows.kept reply has))) split at
           (expands.expands reply h answered misses) enters;
     }

@@ -55,7 +55,8 @@ more : (replies : List Reply) (k : ℕ) (reply : Reply) → k < length replies �
 more replies k reply lt at = take_more replies k reply lt ∙ ap (λ (x : Reply). take k replies ++ x ∷ []) (sym at)
 
 pub one_chosen : (P : Reply → Type 0) (replies : List Reply) (k : ℕ) (reply : Reply) (found next : List Reply) →
-    k < length replies → reply ≡ get_or replies k reply → AreChosen P replies k found → P reply → next ≡ found ++ reply ∷ [] → AreChosen P replies (k + 1) next
+    k < length replies → reply ≡ get_or replies k reply → AreChosen P replies k found → P reply → next ≡ found ++
+    reply ∷ [] → AreChosen P replies (k + 1) next
 one_chosen P replies k reply found next lt at chosen is same = record {
   each = λ r. (
     λ has. to r (subst (λ (xs : List Reply). Contains xs r) same has),

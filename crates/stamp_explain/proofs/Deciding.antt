@@ -77,8 +77,10 @@ one_decides h returns a s t put taken x may before begins same =
 one_decides h returns a s t put taken x may before (goes_past way has) same =
     one_decides h returns a s t put taken x may before way same
 one_decides h returns a s t put taken x may before
-    (goes_on_by {i} {to_come} {s = v} {put = other} {taken = also} way awaited y u is_awaited not_yet tried might) same =
-    let was : IsSame s put v other = before (i ∷ to_come) v other also way (cons_rest x.index y.index taken also same) in
+    (goes_on_by {i} {to_come} {s = v} {put = other} {taken = also} way awaited y u is_awaited not_yet tried might)
+    same =
+    let was : IsSame s put v other = before (i ∷ to_come) v other also way (cons_rest x.index y.index taken also
+    same) in
     let then : MayTake (LockSteps h.limits) h.entries awaited s taken y u =
     subst (λ (w : LockState). MayTake (LockSteps h.limits) h.entries awaited w taken y u) (sym was.0)
     (subst (λ (l : List ℕ). MayTake (LockSteps h.limits) h.entries awaited v l y u)

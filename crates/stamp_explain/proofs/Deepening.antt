@@ -1,5 +1,6 @@
 -- The search in depth: of the nodes that it has looked at, those that an order completes lie on one way.
-use Rattle.std.proofs.Common.{◌≡◌, ◌≢◌, ◌⊎◌, ℕ, ◌+◌, ◌-◌, ◌<◌, ◌≤◌, zero, suc, true, List, [], ◌∷◌, ◌++◌, length, get_or}
+use Rattle.std.proofs.Common.{◌≡◌, ◌≢◌, ◌⊎◌, ℕ, ◌+◌, ◌-◌, ◌<◌, ◌≤◌, zero, suc, true, List, [], ◌∷◌, ◌++◌, length}
+use Rattle.std.proofs.Common.{get_or}
 use Rattle.std.proofs.Common.{refl, sym, ◌∙◌, ap, subst, inl, inr, arith, Option, None, Some}
 use Rattle.std.specs.Prelude.{take, drop, slice_get, slice_index}
 use Rattle.std.specs.Option.{option_map}
@@ -787,7 +788,8 @@ deepens_on h returns old new waited waiting expanded before all looks = record {
 
             inside : (w : Waiting) (i : ℕ) → slice_get waiting i ≡ Some w → w.origin.from < length was.configurations
             inside w i at_i =
-                let led : IsLedFrom h returns old.nodes.items w = was.led i w (read_left waiting (last ∷ []) i w at_i) in
+                let led : IsLedFrom h returns old.nodes.items w = was.led i w (read_left waiting (last ∷ []) i w
+                at_i) in
                 omega (arith, was.are.many, slice_get_within old.nodes.items w.origin.from led.node led.is_node)
 
             old_place : (f : Configuration h returns) (k : ℕ) → k < length was.configurations →

@@ -100,7 +100,8 @@ opening_way h returns node is =
     (sym is.writer) (subst (λ (n : ℕ). Reaches h returns (drop n returns) (opening h.width) None []) (sym is.past)
     begins)
 
-abbrev pub opening_reached : (h : ObservedHistory) (returns : List ℕ) (node : Node) → IsOpening h node → IsReached h returns node
+abbrev pub opening_reached : (h : ObservedHistory) (returns : List ℕ) (node : Node) → IsOpening h node → IsReached h
+    returns node
 opening_reached h returns node is = record {
   state = opening h.width;
   taken = [];

@@ -344,8 +344,10 @@ between_at_first h most ends high stuck are not_found last = record {
         explained)
     by p at false many = inl (known_at_last h ends high p are at (omega (arith, last)))
 
-pub between_above : (h : ObservedHistory) (most : ℕ) (unexplained : Bool) (ends : List (ℕ × ℕ)) (low high middle : ℕ) (stuck : Bool)
-    (p : ℕ × ℕ) → IsObserved h → AreEnds h.entries ends → IsBetween h most unexplained ends low high stuck → middle < high →
+pub between_above : (h : ObservedHistory) (most : ℕ) (unexplained : Bool) (ends : List (ℕ × ℕ)) (low high middle :
+    ℕ) (stuck : Bool)
+    (p : ℕ × ℕ) → IsObserved h → AreEnds h.entries ends → IsBetween h most unexplained ends low high stuck → middle
+    < high →
     slice_get ends middle ≡ Some p → IsExplained (seen_at p.0 (p.1 + 1) h) →
     IsBetween h most unexplained ends (middle + 1) high stuck
 between_above h most unexplained ends low high middle stuck p observed are is less at explained = record {
@@ -357,7 +359,8 @@ between_above h most unexplained ends low high middle stuck p observed are is le
   whole = is.whole;
 }
 
-pub between_below : (h : ObservedHistory) (most : ℕ) (unexplained : Bool) (ends : List (ℕ × ℕ)) (low high middle : ℕ) (stuck : Bool)
+pub between_below : (h : ObservedHistory) (most : ℕ) (unexplained : Bool) (ends : List (ℕ × ℕ)) (low high middle :
+    ℕ) (stuck : Bool)
     (p : ℕ × ℕ) → IsObserved h → IsBetween h most unexplained ends low high stuck → low ≤ middle → middle < high →
     slice_get ends middle ≡ Some p → ¬ IsExplained (seen_at p.0 (p.1 + 1) h) →
     IsBetween h most unexplained ends low middle true
@@ -373,7 +376,8 @@ between_below h most unexplained ends low high middle stuck p observed is le les
     same : (x y : ℕ × ℕ) → Some x ≡ Some y → x ≡ y
     same x y h = cc
 
-pub between_undecided : (h : ObservedHistory) (most : ℕ) (unexplained : Bool) (ends : List (ℕ × ℕ)) (low high middle : ℕ) (stuck : Bool)
+pub between_undecided : (h : ObservedHistory) (most : ℕ) (unexplained : Bool) (ends : List (ℕ × ℕ)) (low high middle
+    : ℕ) (stuck : Bool)
     (p : ℕ × ℕ) → IsBetween h most unexplained ends low high stuck → low ≤ middle → middle < high →
     slice_get ends middle ≡ Some p → IsGivenUp (seen_at p.0 (p.1 + 1) h) most →
     IsBetween h most unexplained ends low middle false
@@ -393,8 +397,10 @@ between_undecided h most unexplained ends low high middle stuck p is le less at 
     same : (x y : ℕ × ℕ) → Some x ≡ Some y → x ≡ y
     same x y h = cc
 
-pub stuck_between : (h : ObservedHistory) (most : ℕ) (unexplained : Bool) (ends : List (ℕ × ℕ)) (low high : ℕ) (p : ℕ × ℕ) →
-    AreEnds h.entries ends → IsBetween h most unexplained ends low high true → high ≤ low → slice_get ends low ≡ Some p →
+pub stuck_between : (h : ObservedHistory) (most : ℕ) (unexplained : Bool) (ends : List (ℕ × ℕ)) (low high : ℕ) (p :
+    ℕ × ℕ) →
+    AreEnds h.entries ends → IsBetween h most unexplained ends low high true → high ≤ low → slice_get ends low ≡
+    Some p →
     IsStuck h p.1
 stuck_between h most unexplained ends low high p are is le at =
     let found : (e : Observation) × ((slice_get h.entries p.1 ≡ Some e) × EndsAt e p.0) =
@@ -470,27 +476,45 @@ end_is_entry entries ends k are lt =
     are.each p (contained ends k p (end_at ends k lt)) in
     slice_get_within entries p.1 found.0 found.1.0
 
-same : (h : ObservedHistory) (most : ℕ) (unexplained : Bool) (ends : List (ℕ × ℕ)) (low high : ℕ) (stuck : Bool) (l u : ℕ) (s : Bool) →
-    l ≡ low → u ≡ high → s ≡ stuck → IsBetween h most unexplained ends low high stuck → IsBetween h most unexplained ends l u s
+same : (h : ObservedHistory) (most : ℕ) (unexplained : Bool) (ends : List (ℕ × ℕ)) (low high : ℕ) (stuck : Bool) (l
+    u : ℕ) (s : Bool) →
+    l ≡ low → u ≡ high → s ≡ stuck → IsBetween h most unexplained ends low high stuck → IsBetween h most unexplained
+    ends l u s
 same h most unexplained ends low high stuck l u s l_is u_is s_is is =
     subst (λ (n : ℕ). IsBetween h most unexplained ends n u s) (sym l_is)
     (subst (λ (n : ℕ). IsBetween h most unexplained ends low n s) (sym u_is)
     (subst (λ (b : Bool). IsBetween h most unexplained ends low high b) (sym s_is) is))
 
-pub narrowed : (h : ObservedHistory) (most : ℕ) (unexplained : Bool) (ends : List (ℕ × ℕ)) (low high middle : ℕ) (stuck : Bool)
+pub narrowed : (h : ObservedHistory) (most : ℕ) (unexplained : Bool) (ends : List (ℕ × ℕ)) (low high middle : ℕ)
+    (stuck : Bool)
     (found : Found) (l u : ℕ) (s : Bool) → IsObserved h → AreEnds h.entries ends →
     IsBetween h most unexplained ends low high stuck → low ≤ middle → middle < high →
     IsFound (seen_at (get_or ends middle (0, 0)).0 ((get_or ends middle (0, 0)).1 + 1) h) most found →
     Narrows found low high stuck middle l u s → IsBetween h most unexplained ends l u s
-narrowed h most unexplained ends low high middle stuck (Order order) l u s observed are is le less found (l_is, (u_is, s_is)) =
+narrowed h most unexplained ends low high middle stuck (Order order) l u s observed are is le less found (
+  l_is,
+  (u_is, s_is),
+) =
     same h most unexplained ends (middle + 1) high stuck l u s l_is u_is s_is
     (between_above h most unexplained ends low high middle stuck (get_or ends middle (0, 0)) observed are is less
     (end_at ends middle (omega (arith, less, is.inside))) (record { order = found.order; by = found.explains }))
-narrowed h most unexplained ends low high middle stuck Nothing l u s observed are is le less found (l_is, (u_is, s_is)) =
+narrowed h most unexplained ends low high middle stuck Nothing l u s observed are is le less found (
+  l_is,
+  (
+    u_is,
+    s_is,
+  ),
+) =
     same h most unexplained ends low middle true l u s l_is u_is s_is
     (between_below h most unexplained ends low high middle stuck (get_or ends middle (0, 0)) observed is le less
     (end_at ends middle (omega (arith, less, is.inside))) found)
-narrowed h most unexplained ends low high middle stuck Undecided l u s observed are is le less found (l_is, (u_is, s_is)) =
+narrowed h most unexplained ends low high middle stuck Undecided l u s observed are is le less found (
+  l_is,
+  (
+    u_is,
+    s_is,
+  ),
+) =
     same h most unexplained ends low middle false l u s l_is u_is s_is
     (between_undecided h most unexplained ends low high middle stuck (get_or ends middle (0, 0)) is le less
     (end_at ends middle (omega (arith, less, is.inside))) found)

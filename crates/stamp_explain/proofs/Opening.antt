@@ -16,7 +16,8 @@ use Rattle.stamp_explain.specs.declared.timeline.Timeline.{Timeline}
 use Rattle.stamp_explain.specs.Observed.{ObservedHistory, IsBefore}
 use Rattle.stamp_explain.specs.Search.{AreReturns, AreInOrder, ReturnsNoLater, IsReturnAt}
 use Rattle.stamp_explain.specs.Timeline.{IsOpenAt, AreOpen, IsTimeline}
-use Rattle.stamp_explain.specs.TimelineKeys.{AreKeys, AreRising, AreRanked, AreRanks, AreTimelineKeys, AreOpens, IsKept, AreKept}
+use Rattle.stamp_explain.specs.TimelineKeys.{AreKeys, AreRising, AreRanked, AreRanks, AreTimelineKeys, AreOpens}
+use Rattle.stamp_explain.specs.TimelineKeys.{IsKept, AreKept}
 use Rattle.stamp_explain.specs.TimelineKeys.{IsBegun, BeginsMore, EndsAt, BeginsAt, places_of}
 use Rattle.stamp_explain.proofs.Lists.{none_in_empty, contains_cases, contains_first, contains_rest}
 use Rattle.stamp_explain.proofs.Entering.{read_last}

@@ -239,7 +239,8 @@ HasReturnsOf h p order = (i : ℕ) (e : Observation) → slice_get h.entries i �
 pub parted : (h : ObservedHistory) (p : Observation → Bool) (order : List Effect) → IsPartOf h order →
     AllPass p order → HasReturnsOf h p order → IsExplained (record h { entries = kept p h.entries })
 unfolding WasReturned
-parted h p order by passes returned = reindexed h (kept p h.entries) (rank_of p h.entries) (place_in_whole p h.entries) order
+parted h p order by passes returned = reindexed h (kept p h.entries) (rank_of p h.entries) (place_in_whole p
+    h.entries) order
     by (λ k d lt. moves (get_or order k d) (by.effects k d lt) (passes k d lt)) was
   where
     moves : (x : Effect) → IsEffectOf h.entries x → p x.entry ≡ true →
@@ -321,7 +322,8 @@ places_at p n (x ∷ es) k e at = by (p x) refl k at (λ m here. places_at p (n 
         slice_get (cond b (n ∷ places_where p (n + 1) es) (places_where p (n + 1) es)) m ≡
         Some (n + place_in_whole p (x ∷ es) m)
     by true is zero here later =
-        let first : place_in_whole p (x ∷ es) zero ≡ 0 = ap (λ (b : Bool). cond b 0 (suc (place_in_whole p es zero))) is in
+        let first : place_in_whole p (x ∷ es) zero ≡ 0 = ap (λ (b : Bool). cond b 0 (suc (place_in_whole p es
+        zero))) is in
         ap (λ (i : ℕ). Some i) (omega (arith, first))
     by true is (suc m) here later =
         let next : place_in_whole p (x ∷ es) (suc m) ≡ suc (place_in_whole p es m) =

@@ -107,7 +107,8 @@ places_rise h lock sub is = subst (AllPairs (λ (i j : ℕ). i < j)) (sym is.pla
     (rising (is_of_object lock) 0 h.entries)
 
 -- all calls are of the lock where there is no record
-all_pass : (p : Observation → Bool) (es : List Observation) → All (λ (e : Observation). p e ≡ true) es → filter p es ≡ es
+all_pass : (p : Observation → Bool) (es : List Observation) → All (λ (e : Observation). p e ≡ true) es → filter p es
+    ≡ es
 all_pass p [] passes = refl
 all_pass p (e ∷ es) passes =
     ap (λ (b : Bool). if b then (e ∷ filter p es) else filter p es)

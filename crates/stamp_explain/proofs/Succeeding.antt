@@ -143,13 +143,15 @@ pub record Awaits (h : ObservedHistory) (timeline : Timeline) (node : Node) (a :
   pub inside : node.past < length timeline.returns.items
   pub at : slice_get h.entries (get_or timeline.returns.items node.past 0) ≡ Some a
 
-pub awaited_at : (h : ObservedHistory) (timeline : Timeline) (node : Node) (a : Observation) → Awaits h timeline node a →
+pub awaited_at : (h : ObservedHistory) (timeline : Timeline) (node : Node) (a : Observation) → Awaits h timeline
+    node a →
     IsAwaitedAt h timeline.returns.items node.past a
 awaited_at h timeline node a is = record { inside = is.inside; is_entry = is.at }
 
 pub the_next : (h : ObservedHistory) (timeline : Timeline) (node : Node) (a : Observation) → Awaits h timeline node a →
     IsNext h.entries (take node.past timeline.returns.items) (get_or timeline.returns.items node.past 0) a
-the_next h timeline node a is = next_awaited h timeline.returns.items node.past a is.observed is.timeline_is.are is.timeline_is.once
+the_next h timeline node a is = next_awaited h timeline.returns.items node.past a is.observed is.timeline_is.are
+    is.timeline_is.once
     is.inside is.at
 
 left_of : (h : ObservedHistory) (timeline : Timeline) (node : Node) (a : Observation) → Awaits h timeline node a →
@@ -349,7 +351,8 @@ in_drop xs n k j le lt is =
 
 -- a call that returned and is not in effect is yet to return
 due : (h : ObservedHistory) (timeline : Timeline) (node : Node) (s : LockState) (taken : List ℕ) (x : Effect) →
-    IsTimeline h timeline → StandsFor h timeline.returns.items node s taken → IsEffectOf h.entries x → HasReturned x.entry →
+    IsTimeline h timeline → StandsFor h timeline.returns.items node s taken → IsEffectOf h.entries x → HasReturned
+    x.entry →
     ¬ Contains taken x.index → Contains (drop node.past timeline.returns.items) x.index
 due h timeline node s taken x is stands effect returned misses =
     by (is.are.whole x.index x.entry effect.is_entry returned)
@@ -426,7 +429,8 @@ expands_at_once h timeline node a i w is bit observer takes = record {
         took.state tells.1 took.may.steps in
         let P : List ℕ → Type 0 = λ (to_come : List ℕ). CompletesIn (LockSteps h.limits) h.entries to_come hope.state
         (x.index ∷ hope.taken) once.left in
-        goes_on_to h timeline.returns.items (w ∷ []) w hope.state (x.index ∷ hope.taken) once.left n (alone w) once.fewer
+        goes_on_to h timeline.returns.items (w ∷ []) w hope.state (x.index ∷ hope.taken) once.left n (alone w)
+        once.fewer
         (subst (λ (t : LockState). StandsFor h timeline.returns.items w.node t (x.index ∷ hope.taken)) same took.stands)
         (subst P (ap (λ (m : ℕ). drop m timeline.returns.items) (sym took.past)) once.completes)
 
@@ -465,7 +469,8 @@ awaits_of h timeline node i read d observed is inside index same = record {
         (get_or timeline.returns.items node.past 0) there.entry there.is_entry)
 
 -- the calls that are open are read
-pub opens_read : (h : ObservedHistory) (timeline : Timeline) (past : ℕ) (v : Vec ℕ Global) (slice : List ℕ) → IsTimeline h timeline →
+pub opens_read : (h : ObservedHistory) (timeline : Timeline) (past : ℕ) (v : Vec ℕ Global) (slice : List ℕ) →
+    IsTimeline h timeline →
     past < length timeline.returns.items → v ≡ get_or timeline.opens.items past v → slice ≡ v.items →
     AreOpen h timeline.returns.items past slice
 opens_read h timeline past v slice is lt read same = subst (AreOpen h timeline.returns.items past) (sym same)
@@ -473,13 +478,15 @@ opens_read h timeline past v slice is lt read same = subst (AreOpen h timeline.r
     (omega (arith, lt, is.many)) read))
 
 pub open_read : (h : ObservedHistory) (timeline : Timeline) (past : ℕ) (v : Vec ℕ Global) (slice : List ℕ) (k : ℕ) →
-    IsTimeline h timeline → past < length timeline.returns.items → v ≡ get_or timeline.opens.items past v → slice ≡ v.items →
+    IsTimeline h timeline → past < length timeline.returns.items → v ≡ get_or timeline.opens.items past v → slice ≡
+    v.items →
     k < length slice → IsOpenAt h timeline.returns.items past (get_or slice k 0)
 open_read h timeline past v slice k is lt read same within =
     (opens_read h timeline past v slice is lt read same).each (get_or slice k 0) (Contains-get_or slice k 0 within)
 
 pub open_within : (h : ObservedHistory) (timeline : Timeline) (past : ℕ) (v : Vec ℕ Global) (slice : List ℕ) (k : ℕ) →
-    IsTimeline h timeline → past < length timeline.returns.items → v ≡ get_or timeline.opens.items past v → slice ≡ v.items →
+    IsTimeline h timeline → past < length timeline.returns.items → v ≡ get_or timeline.opens.items past v → slice ≡
+    v.items →
     k < length slice → get_or slice k 0 < length h.entries
 open_within h timeline past v slice k is lt read same within =
     let it : IsOpenAt h timeline.returns.items past (get_or slice k 0) =
@@ -487,7 +494,8 @@ open_within h timeline past v slice k is lt read same within =
     slice_get_within h.entries (get_or slice k 0) it.entry it.is_entry
 
 -- where the awaited call is not in effect an open call takes effect
-pub expands_open : (h : ObservedHistory) (timeline : Timeline) (node : Node) (calls : List ℕ) (k : ℕ) (nexts : List Next) →
+pub expands_open : (h : ObservedHistory) (timeline : Timeline) (node : Node) (calls : List ℕ) (k : ℕ) (nexts : List
+    Next) →
     IsObserved h → IsTimeline h timeline → node.past < length timeline.returns.items →
     IsNotInEffect h timeline.returns.items node → AreOpen h timeline.returns.items node.past calls → length calls ≤ k →
     Tries h timeline.returns.items node calls k nexts → Expands h timeline.returns.items node nexts

@@ -372,7 +372,9 @@ found_alone h most Undecided observed without found = inl (subst (λ (g : Observ
 -- where no order explains one of them, none explains the whole
 pub none_of_one : (h : ObservedHistory) (lock : Bool) (sub : Subhistory) → IsObserved h → IsSubhistoryOf h lock sub →
     ¬ IsExplained sub.history → ¬ IsExplained h
-none_of_one h true sub observed is misses = not_by_part h observed (inl (subst (λ (g : ObservedHistory). ¬ IsExplained g)
+none_of_one h true sub observed is misses = not_by_part h observed (inl (subst (λ (g : ObservedHistory). ¬
+    IsExplained g)
     is.history misses))
-none_of_one h false sub observed is misses = not_by_part h observed (inr (subst (λ (g : ObservedHistory). ¬ IsExplained g)
+none_of_one h false sub observed is misses = not_by_part h observed (inr (subst (λ (g : ObservedHistory). ¬
+    IsExplained g)
     is.history misses))

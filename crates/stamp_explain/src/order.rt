@@ -17,7 +17,9 @@ use std::alloc::{AllocError, Global};
 /// A call that took effect: its entry in the history, and its reply.
 #[derive(Clone, Copy, Debug, PartialEq, Eq)]
 pub struct Taken {
+    /// Where it stands among the entries of the history.
     pub entry: usize,
+    /// What it was answered.
     pub reply: Reply,
 }
 

@@ -164,7 +164,9 @@ pub(crate) fn search(
     ensures { IfOk result (λ found. IsSearched observed.now most found) }
 {
     let returns = timeline.returns.as_slice();
-    let mut store = Store::beginning(alloc, opening(observed))?;
+    // Where there is no choice, each return takes two steps: its call takes effect, and the return is past.
+    let room = returns.len().saturating_mul(2).saturating_add(2);
+    let mut store = Store::beginning(alloc, opening(observed), room)?;
     let mut waiting = Vec::new(alloc);
     let mut nexts = Vec::new(alloc);
     for _ in 0..=most {

@@ -33,11 +33,15 @@ impl Store {
         }
     }
 
-    /// With the node at which a search begins.
-    pub(crate) fn beginning(alloc: Global, node: Node) -> Result<Store, AllocError>
+    /// With the node at which a search begins, and room for so many.
+    pub(crate) fn beginning(alloc: Global, node: Node, room: usize) -> Result<Store, AllocError>
         ensures { IfOk result (λ store. BeginsWith store node) }
     {
-        let mut store = Store::new(alloc);
+        let mut store = Store {
+            nodes: Vec::with_capacity(alloc, room)?,
+            origins: Vec::with_capacity(alloc, room)?,
+            known: HashSet::with_capacity(alloc, room)?,
+        };
         let origin = Origin {
             from: 0,
             took: None,

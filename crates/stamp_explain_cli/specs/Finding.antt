@@ -6,7 +6,8 @@ use Rattle.stamp_explain.specs.Points.{HasPoints}
 use Rattle.stamp_explain.specs.Verdict.{IsUndecided, IsUnexplained}
 use Rattle.stamp_observed.specs.ObservedFault.{IsFirstFault}
 use Rattle.stamp_explain_cli.specs.declared.finding.Finding.{Finding}
-use Rattle.stamp_explain_cli.specs.declared.finding.Finding.TheVariants.{Unseen, Explained, Stuck, Unexplained, Undecided}
+use Rattle.stamp_explain_cli.specs.declared.finding.Finding.TheVariants.{Unseen, Explained, Stuck, Unexplained}
+use Rattle.stamp_explain_cli.specs.declared.finding.Finding.TheVariants.{Undecided}
 
 -- its first fault. Or it may be observed, and: this record is of it and linearized by its points; or it is stuck
 -- at the return of this entry; or undecided there, whether or not it is known to be unexplained

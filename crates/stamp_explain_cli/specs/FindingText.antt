@@ -7,7 +7,8 @@ use Rattle.stamp_observed.specs.declared.judging.Cause.{Cause}
 use Rattle.stamp_observed.specs.declared.judging.Cause.TheVariants.{Interval, Overlap}
 use Rattle.stamp_observed.specs.declared.judging.ObservedFault.{ObservedFault}
 use Rattle.stamp_explain_cli.specs.declared.finding.Finding.{Finding}
-use Rattle.stamp_explain_cli.specs.declared.finding.Finding.TheVariants.{Unseen, Explained, Stuck, Unexplained, Undecided}
+use Rattle.stamp_explain_cli.specs.declared.finding.Finding.TheVariants.{Unseen, Explained, Stuck, Unexplained}
+use Rattle.stamp_explain_cli.specs.declared.finding.Finding.TheVariants.{Undecided}
 
 abbrev pub cause_text : Cause → List ℕ
 cause_text Interval = codes "interval"

@@ -2,7 +2,8 @@ use Rattle.std.proofs.Common.{get_or, subst}
 use Rattle.stamp_explain.specs.declared.observed.Observation.{Observation}
 use Rattle.stamp_explain.specs.Observed.{IsBefore}
 use Rattle.stamp_explain.proofs.Succeeding.{awaits_of}
-use Rattle.stamp_explain.proofs.Beside.{asked_not_begun, asked_waits, asked_replies, asked_inside, asked_suits, asked_read}
+use Rattle.stamp_explain.proofs.Beside.{asked_not_begun, asked_waits, asked_replies, asked_inside, asked_suits}
+use Rattle.stamp_explain.proofs.Beside.{asked_read}
 use Rattle.stamp_explain.proofs.asking.ask.Goals as goal
 
 pub returns-then-is_before : goal.returns-then-is_before
@@ -12,7 +13,8 @@ returns-then-is_before c =
     (get_or c.entries-entries.result.now c.args.asking.now.place c.index-entries-asking.result)
     c.args.replies.now.items c.requires.asks
     (awaits_of c.args.asking.now.seen c.args.asking.now.timeline c.args.node.now c.index.result.now
-    c.entries-entries.result.now c.index-entries-index.result c.requires.asks.observed c.requires.asks.timeline c.requires.past c.index.ensures
+    c.entries-entries.result.now c.index-entries-index.result c.requires.asks.observed c.requires.asks.timeline
+    c.requires.past c.index.ensures
     c.entries-entries.ensures.entries)
     (asked_read c.args.asking.now c.entries-entries.result.now c.index-entries-asking.result c.requires.asks
     c.entries-entries.ensures.entries)

@@ -1,15 +1,18 @@
-use Rattle.std.proofs.Common.{◌≡◌, ◌≢◌, ◌<◌, ◌+◌, ◌-◌, ℕ, List, [], ◌∷◌, ◌++◌, length, get_or, sym, ◌∙◌, ap, subst, arith}
+use Rattle.std.proofs.Common.{◌≡◌, ◌≢◌, ◌<◌, ◌+◌, ◌-◌, ℕ, List, [], ◌∷◌, ◌++◌, length, get_or, sym, ◌∙◌, ap, subst}
+use Rattle.std.proofs.Common.{arith}
 use Rattle.std.proofs.Common.{Vec, Global, true, false}
 use Rattle.std.proofs.lemmas.Option.{slice_get_within}
 use Rattle.stamp_explain.specs.declared.node.Next.{Next}
 use Rattle.stamp_explain.specs.Timeline.{IsOpenAt}
 use Rattle.stamp_explain.proofs.Succeeding.{open_read, opens_read, open_within, awaited_read}
 use Rattle.stamp_explain.proofs.Answering.{timeline_alike}
-use Rattle.stamp_explain.proofs.Beside.{awaited_inside, TriesBeside, AwaitsThere, awaits_there, beside_some, beside_none, beside_asked, beside_other}
+use Rattle.stamp_explain.proofs.Beside.{awaited_inside, TriesBeside, AwaitsThere, awaits_there, beside_some}
+use Rattle.stamp_explain.proofs.Beside.{beside_none, beside_asked, beside_other}
 use Rattle.stamp_explain.proofs.Beside.{expands_beside, alike_of}
 use Rattle.stamp_explain.proofs.asking.choices_beside.Goals as goal
 use Rattle.stamp_explain.proofs.asking.choices_beside.Goals.{then-i-asking+then-are_of_one_object+in-Some+in_ok-push}
-use Rattle.stamp_explain.proofs.asking.choices_beside.Goals.{then-i-asking+then-are_of_one_object+in_default, else-i-asking}
+use Rattle.stamp_explain.proofs.asking.choices_beside.Goals.{then-i-asking+then-are_of_one_object+in_default}
+use Rattle.stamp_explain.proofs.asking.choices_beside.Goals.{else-i-asking}
 use Rattle.stamp_explain.proofs.asking.choices_beside.Goals.{else-i-asking-via-then-i-asking+else-are_of_one_object}
 use Rattle.stamp_explain.proofs.asking.choices_beside.Goals.{else-i-asking-via-else-i-asking}
 

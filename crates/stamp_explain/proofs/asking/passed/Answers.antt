@@ -45,7 +45,8 @@ returns-else-has_bit-clause-none c = record {
   awaited = λ a it bit.
       let is : Awaits c.args.asking.now.seen c.args.asking.now.timeline c.args.node.now
       (get_or c.entries.result.now c.index.result.now c.index-entries-index.result) =
-      awaits_of c.args.asking.now.seen c.args.asking.now.timeline c.args.node.now c.index.result.now c.entries.result.now
+      awaits_of c.args.asking.now.seen c.args.asking.now.timeline c.args.node.now c.index.result.now
+      c.entries.result.now
       c.index-entries-index.result c.requires.asks.observed c.requires.asks.timeline c.requires.past c.index.ensures
       c.entries.ensures.entries in
       let same : get_or c.entries.result.now c.index.result.now c.index-entries-index.result ≡ a =

@@ -23,7 +23,8 @@ loop-low-preserved-after-branch-2 c =
     let middle : ℕ = c.loop-low.low + (c.loop-low.high - c.loop-low.low) / 2 in
     let Now : Found → Type 0 = λ (f : Found). Narrows f c.loop-low.low c.loop-low.high c.loop-low.stuck middle
     c.match-branch-2.low c.match-branch-2.high c.match-branch-2.stuck in
-    narrowed c.args.observed.now c.args.most c.args.unexplained c.args.ends.now c.loop-low.low c.loop-low.high middle c.loop-low.stuck
+    narrowed c.args.observed.now c.args.most c.args.unexplained c.args.ends.now c.loop-low.low c.loop-low.high
+    middle c.loop-low.stuck
     c.in_ok-found_at.field-0 c.match-branch-2.low c.match-branch-2.high c.match-branch-2.stuck
     c.requires.observed c.requires.ends c.loop-low.invariant (omega arith)
     (middle_inside c.loop-low.low c.loop-low.high c.loop-low-test.true) c.in_ok-found_at.ensures
@@ -38,7 +39,8 @@ loop-low-preserved c =
     let middle : ℕ = c.loop-low.low + (c.loop-low.high - c.loop-low.low) / 2 in
     let Now : Found → Type 0 = λ (f : Found). Narrows f c.loop-low.low c.loop-low.high c.loop-low.stuck middle
     c.match-branch-2.low c.match-branch-2.high c.match-branch-2.stuck in
-    narrowed c.args.observed.now c.args.most c.args.unexplained c.args.ends.now c.loop-low.low c.loop-low.high middle c.loop-low.stuck
+    narrowed c.args.observed.now c.args.most c.args.unexplained c.args.ends.now c.loop-low.low c.loop-low.high
+    middle c.loop-low.stuck
     c.in_ok-found_at.field-0 c.match-branch-2.low c.match-branch-2.high c.match-branch-2.stuck
     c.requires.observed c.requires.ends c.loop-low.invariant (omega arith)
     (middle_inside c.loop-low.low c.loop-low.high c.loop-low-test.true) c.in_ok-found_at.ensures
@@ -49,9 +51,11 @@ loop-low-preserved c =
     ])
 
 pub returns-then-stuck : goal.returns-then-stuck
-returns-then-stuck c = stuck_between c.args.observed.now c.args.most c.args.unexplained c.args.ends.now c.loop-low.low c.loop-low.high _
+returns-then-stuck c = stuck_between c.args.observed.now c.args.most c.args.unexplained c.args.ends.now
+    c.loop-low.low c.loop-low.high _
     c.requires.ends
-    (subst (λ (b : Bool). IsBetween c.args.observed.now c.args.most c.args.unexplained c.args.ends.now c.loop-low.low c.loop-low.high b)
+    (subst (λ (b : Bool). IsBetween c.args.observed.now c.args.most c.args.unexplained c.args.ends.now
+    c.loop-low.low c.loop-low.high b)
     c.if-stuck.true c.loop-low.invariant) (omega (arith, c.loop-low-test.false))
     (end_at c.args.ends.now c.loop-low.low
     (omega (arith, c.loop-low.invariant.order, c.loop-low.invariant.inside)))

@@ -13,7 +13,8 @@ returns-then-width-eq0 c = IfOk-weaker c.find_alone.result (λ found. IsSearched
     (sym c.width.ensures.width ∙ c.if-width-eq0.true) is) c.find_alone.ensures
 
 pub find_alone-requires-2 : goal.find_alone-requires-2
-find_alone-requires-2 c = subhistory_observed c.args.observed.now true c.in_ok-locks.locks c.requires c.in_ok-locks.ensures
+find_alone-requires-2 c = subhistory_observed c.args.observed.now true c.in_ok-locks.locks c.requires
+    c.in_ok-locks.ensures
 
 pub find_alone-requires-3 : goal.find_alone-requires-3
 find_alone-requires-3 c = subhistory_observed c.args.observed.now false c.in_ok-records.records c.requires
@@ -21,7 +22,8 @@ find_alone-requires-3 c = subhistory_observed c.args.observed.now false c.in_ok-
 
 pub returns-in-Nothing : goal.returns-in-Nothing
 returns-in-Nothing c = none_of_one c.args.observed.now true c.in_ok-locks.locks c.requires c.in_ok-locks.ensures
-    (subst (λ (f : Found). IsSearched c.in_ok-locks.locks.history c.args.most f) c.in-Nothing.is c.in_ok-of_locks.ensures)
+    (subst (λ (f : Found). IsSearched c.in_ok-locks.locks.history c.args.most f) c.in-Nothing.is
+    c.in_ok-of_locks.ensures)
 
 pub returns-in-Nothing-of_records : goal.returns-in-Nothing-of_records
 returns-in-Nothing-of_records c = none_of_one c.args.observed.now false c.in_ok-records.records c.requires

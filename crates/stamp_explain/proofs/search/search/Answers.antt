@@ -10,7 +10,8 @@ use Rattle.stamp_explain.proofs.search.search.Goals.{else-loop-test}
 use Rattle.stamp_explain.proofs.search.search.Goals.{then-loop-test+else-node-returns+in_ok-successors+in_ok-leave+in_ok-look+else-not-branch+else-counter-most}
 
 pub loop-init : goal.loop-init
-loop-init c = subst (λ (ws : List Waiting). IsAtLast c.args.observed.now c.args.timeline.now.returns.items c.in_ok-store.store
+loop-init c = subst (λ (ws : List Waiting). IsAtLast c.args.observed.now c.args.timeline.now.returns.items
+    c.in_ok-store.store
     ws 0) (sym c.new-waiting.ensures.items)
     (deepens_first c.args.observed.now c.args.timeline.now.returns.items c.in_ok-store.store c.opening.result
     c.in_ok-store.ensures c.opening.ensures)
@@ -22,7 +23,8 @@ order_to-requires-clause-end c =
     record {
       node = c.index.result.now;
       is_node = ap (λ (n : ℕ). slice_get c.loop.store.nodes.items n) place ∙
-          last_read c.args.observed.now c.args.timeline.now.returns.items c.loop.store c.loop.waiting.items c.loop.counter
+          last_read c.args.observed.now c.args.timeline.now.returns.items c.loop.store c.loop.waiting.items
+          c.loop.counter
           (c.len-place.result - 1) c.index.result.now c.loop.invariant place c.index.ensures;
       all_past = omega (
         arith,

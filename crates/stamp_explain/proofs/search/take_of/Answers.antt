@@ -11,7 +11,8 @@ use Rattle.stamp_explain.proofs.search.take_of.Goals as goal
 pub returns-then-has_bit : goal.returns-then-has_bit
 returns-then-has_bit c returns are it = record {
   takes = λ a s taken awaited stands.
-      let same : it.entry ≡ get_or c.entries.result.now c.args.i c.index-entries-i.result = entry_is c.args.observed.now.entries c.entries.result.now
+      let same : it.entry ≡ get_or c.entries.result.now c.args.i c.index-entries-i.result = entry_is
+      c.args.observed.now.entries c.entries.result.now
       c.args.i it.entry c.index-entries-i.result it.is_entry c.entries.ensures.entries in
       none_by_bit c.args.observed.now returns c.args.node.now a c.args.i s taken
       (record {
@@ -48,7 +49,8 @@ returns-in-None c returns are it = record {
 pub returns-in-Some : goal.returns-in-Some
 returns-in-Some c returns are it = record {
   takes = λ a s taken awaited stands.
-      let same : it.entry ≡ get_or c.entries.result.now c.args.i c.index-entries-i.result = entry_is c.args.observed.now.entries c.entries.result.now
+      let same : it.entry ≡ get_or c.entries.result.now c.args.i c.index-entries-i.result = entry_is
+      c.args.observed.now.entries c.entries.result.now
       c.args.i it.entry c.index-entries-i.result it.is_entry c.entries.ensures.entries in
       taken_to c.args.observed.now returns c.args.node.now a c.args.i s taken c.with_bit.result c.in-Some.step
       (record {

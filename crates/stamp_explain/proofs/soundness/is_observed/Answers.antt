@@ -5,7 +5,8 @@ use Rattle.stamp_explain.specs.declared.observed.Observation.{Observation}
 use Rattle.stamp_explain.specs.Observed.{IsSound, DoNotOverlap}
 use Rattle.stamp_explain.proofs.Observers.{one_below, not_alone, not_apart}
 use Rattle.stamp_explain.proofs.soundness.is_observed.Goals as goal
-use Rattle.stamp_explain.proofs.soundness.is_observed.Goals.{then-not-is_sound_alone-via-then-not-is_sound_alone, then-not-is_sound_alone-via-else-not-is_sound_alone+then-not-is_apart_from}
+use Rattle.stamp_explain.proofs.soundness.is_observed.Goals.{then-not-is_sound_alone-via-then-not-is_sound_alone}
+use Rattle.stamp_explain.proofs.soundness.is_observed.Goals.{then-not-is_sound_alone-via-else-not-is_sound_alone+then-not-is_apart_from}
 
 differ : false ≡ true → ⊥
 differ h = cc
@@ -15,14 +16,19 @@ returns-then-not-is_sound_alone c =
     let h = c.args.observed.now in
     let e = c.index-entries-i.result in
     let same = c.entries-entries.ensures.entries in
-    let within : c.loop-i.i < length h.entries = subst (λ (xs : List Observation). c.loop-i.i < length xs) same c.loop-i-test.true in
-    let read : e ≡ get_or h.entries c.loop-i.i e = c.index-entries-i.is ∙ ap (λ (xs : List Observation). get_or xs c.loop-i.i e) same in (
+    let within : c.loop-i.i < length h.entries = subst (λ (xs : List Observation). c.loop-i.i < length xs) same
+    c.loop-i-test.true in
+    let read : e ≡ get_or h.entries c.loop-i.i e = c.index-entries-i.is ∙ ap (λ (xs : List Observation). get_or xs
+    c.loop-i.i e) same in (
       λ no. absurd (differ no),
       λ is. absurd (elim c.then-not-is_sound_alone.branch [
         | then-not-is_sound_alone-via-then-not-is_sound_alone w ↦
-            not_alone h c.loop-i.i e within read (λ sound. differ (sym w.if-not-is_sound_alone.true ∙ c.is_sound_alone.ensures.1 (subst (λ (n : ℕ). IsSound n e) (sym c.width.ensures.width) sound))) is
+            not_alone h c.loop-i.i e within read (λ sound. differ (sym w.if-not-is_sound_alone.true ∙
+            c.is_sound_alone.ensures.1 (subst (λ (n : ℕ). IsSound n e) (sym c.width.ensures.width) sound))) is
         | then-not-is_sound_alone-via-else-not-is_sound_alone+then-not-is_apart_from w ↦
-            not_apart h c.loop-i.i e within read (λ apart. differ (sym w.if-not-is_apart_from.true ∙ w.is_apart_from.ensures.1 (subst (λ (xs : List Observation). All (λ (other : Observation). DoNotOverlap other e) (take c.loop-i.i xs)) (sym same) apart))) is
+            not_apart h c.loop-i.i e within read (λ apart. differ (sym w.if-not-is_apart_from.true ∙
+            w.is_apart_from.ensures.1 (subst (λ (xs : List Observation). All (λ (other : Observation).
+            DoNotOverlap other e) (take c.loop-i.i xs)) (sym same) apart))) is
       ]),
     )
 
@@ -34,4 +40,5 @@ loop-i-preserved c =
     one_below h c.loop-i.i e (subst (λ (xs : List Observation). c.loop-i.i < length xs) same c.loop-i-test.true)
     (c.index-entries-i.is ∙ ap (λ (xs : List Observation). get_or xs c.loop-i.i e) same) c.loop-i.invariant
     (subst (λ (n : ℕ). IsSound n e) c.width.ensures.width (c.is_sound_alone.ensures.0 c.if-not-is_sound_alone.false))
-    (subst (λ (xs : List Observation). All (λ (other : Observation). DoNotOverlap other e) (take c.loop-i.i xs)) same (c.is_apart_from.ensures.0 c.if-not-is_apart_from.false))
+    (subst (λ (xs : List Observation). All (λ (other : Observation). DoNotOverlap other e) (take c.loop-i.i xs))
+    same (c.is_apart_from.ensures.0 c.if-not-is_apart_from.false))
