@@ -1,5 +1,6 @@
 -- The laws of observed histories, over the definitions alone.
-use Rattle.std.specs.Prelude.{ℕ, ◌≡◌, ◌≢◌, ◌<◌, ◌↔◌, true, false, List, [], ◌∷◌, length, drop, slice_get, Some}
+use Rattle.std.specs.Prelude.{ℕ, ◌≡◌, ◌≢◌, ◌<◌, ◌≤◌, ◌*◌, ◌↔◌, true, false, Some}
+use Rattle.std.specs.Prelude.{List, [], ◌∷◌, length, drop, slice_get}
 use Rattle.std.specs.List.{All, AllPairs, Contains}
 use Rattle.stamp_core.specs.Limits.{Bounds}
 use Rattle.stamp_core.specs.declared.call.Call.{Call}
@@ -14,7 +15,7 @@ use Rattle.stamp_explain.specs.Points.{IsRecordOf}
 use Rattle.stamp_explain.specs.Cut.{cut, seen_at, IsStuck}
 use Rattle.stamp_explain.specs.Search.{LockState, FindsOrder, CanComplete, MayTake, AreReturns, AreReturnsOf}
 use Rattle.stamp_explain.specs.Search.{LockSteps, LockAlone, RecordAlone, opening, IsFirstReturn, IsAlikeSooner}
-use Rattle.stamp_explain.specs.Configuration.{Configuration}
+use Rattle.stamp_explain.specs.Configuration.{Configuration, IsAlive, GivesUp}
 use Rattle.stamp_core.specs.Content.{zeros}
 use Rattle.stamp_explain.specs.Observer.{changes_nothing}
 
@@ -128,3 +129,14 @@ pub record AreDecided (h : ObservedHistory) (returns : List ℕ) : Type 0 where
 -- So there are as many configurations at most as there are orders of some of the calls, at each of the returns.
 abbrev pub TheOrderDecides : Type 0
 TheOrderDecides = (h : ObservedHistory) (returns : List ℕ) → AreDecided h returns
+
+-- each configuration that a search reaches is alive
+abbrev pub MeetsNoDeadEnd : ObservedHistory → Type 0
+MeetsNoDeadEnd h = (returns : List ℕ) → AreReturns h.entries returns → (c : Configuration h returns) →
+    IsAlive h returns c
+
+-- So where each configuration that a search reaches is alive, it does not give up before it has looked at twice as
+-- many as there are calls.
+abbrev pub NoDeadEndIsDecided : Type 0
+NoDeadEndIsDecided = (h : ObservedHistory) (most : ℕ) → MeetsNoDeadEnd h → 2 * length h.entries ≤ most →
+    ¬ GivesUp h most
