@@ -17,7 +17,7 @@ use Rattle.stamp_explain.specs.TimelineKeys.{IsSooner, AreEnds, EndsAt}
 use Rattle.stamp_explain.specs.Configuration.{IsGivenUp}
 use Rattle.stamp_explain.specs.Order.{IsOrderOf}
 use Rattle.stamp_explain.specs.Expand.{IsFound}
-use Rattle.stamp_explain.specs.Verdict.{IsUndecided, IsUndecidedAt, IsUnexplained, IsNotFound}
+use Rattle.stamp_explain.specs.Verdict.{IsUndecided, IsLastOrGivesUp, IsUnexplained, IsNotFound}
 use Rattle.stamp_explain.proofs.Lists.{pairs_none, none_in_empty}
 use Rattle.stamp_explain.proofs.Cutting.{IsLessKnown, less_known, back}
 use Rattle.stamp_explain.proofs.Seeing.{seen_explains_as_much}
@@ -312,7 +312,7 @@ known_at_last h ends m p are at last = ap (λ (es : List Observation). record h 
 abbrev pub IsAbove : ObservedHistory → ℕ → ℕ × ℕ → Bool → Bool → Type 0
 IsAbove h most p unexplained true = ¬ IsExplained (cut p.0 (p.1 + 1) h)
 IsAbove h most p true false = IsGivenUp (seen_at p.0 (p.1 + 1) h) most
-IsAbove h most p false false = IsUndecidedAt h most p.0 (p.1 + 1)
+IsAbove h most p false false = IsLastOrGivesUp h most p.0 (p.1 + 1)
 
 contained : (ends : List (ℕ × ℕ)) (k : ℕ) (p : ℕ × ℕ) → slice_get ends k ≡ Some p → Contains ends p
 contained ends k p at = (k, slice_get_within ends k p at, get_or_from_slice_get ends k p p at)
@@ -432,7 +432,7 @@ undecided_between h most ends low high p are is le at =
       returned = found.1.1.1.0;
       explained = subst (λ (n : ℕ). IsExplained (cut n p.1 h)) (sym last) (is.below p at);
       whole = is.whole;
-      undecided = subst (λ (n : ℕ). IsUndecidedAt h most n (p.1 + 1)) (sym last)
+      undecided = subst (λ (n : ℕ). IsLastOrGivesUp h most n (p.1 + 1)) (sym last)
           (is.above p (subst (λ (n : ℕ). slice_get ends n ≡ Some p) same at));
     }
 

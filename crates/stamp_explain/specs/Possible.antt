@@ -65,7 +65,7 @@ pub record GetsBeside (h : ObservedHistory) (i : ℕ) (call : Call) (reply : Rep
   pub steps : LockSteps h.limits reached.state (call, reply) next
 
 -- a search of what is seen when the call at this place has returned reaches more than so many configurations without it
-pub record IsUndecidedAtOwn (h : ObservedHistory) (i most : ℕ) : Type 0 where
+pub record IsUndecidedWithout (h : ObservedHistory) (i most : ℕ) : Type 0 where
   pub entry : Observation
   pub return : Returned
   pub is_entry : slice_get h.entries i ≡ Some entry
@@ -80,7 +80,7 @@ pub record IsUndecidedAtGotten (h : ObservedHistory) (i most : ℕ) : Type 0 whe
       undecided.entry.call reply
 
 abbrev pub IsUndecidedAtAny : ObservedHistory → ℕ → ℕ → Type 0
-IsUndecidedAtAny h i most = IsUndecidedAtOwn h i most ⊎ IsUndecidedAtGotten h i most
+IsUndecidedAtAny h i most = IsUndecidedWithout h i most ⊎ IsUndecidedAtGotten h i most
 
 -- why the possible replies are not known, in words
 abbrev pub possible_error_text : PossibleError → List ℕ

@@ -12,9 +12,9 @@ use Rattle.stamp_explain.specs.Cut.{IsStuck, cut, cut_before, seen_at}
 use Rattle.stamp_explain.specs.Points.{HasPoints}
 use Rattle.stamp_explain.specs.Configuration.{IsGivenUp}
 
--- a search of what is seen then gives up; or all returns are known then
-abbrev pub IsUndecidedAt : ObservedHistory → ℕ → ℕ → ℕ → Type 0
-IsUndecidedAt h most last bound = (cut last bound h ≡ h) ⊎ IsGivenUp (seen_at last bound h) most
+-- all returns are known then, or a search of what is seen then gives up
+abbrev pub IsLastOrGivesUp : ObservedHistory → ℕ → ℕ → ℕ → Type 0
+IsLastOrGivesUp h most last bound = (cut last bound h ≡ h) ⊎ IsGivenUp (seen_at last bound h) most
 
 -- it is explained until this entry returns; the search of the whole gives up, and so does one of what is seen then
 pub record IsUndecided (h : ObservedHistory) (most i : ℕ) : Type 0 where
@@ -24,7 +24,7 @@ pub record IsUndecided (h : ObservedHistory) (most i : ℕ) : Type 0 where
   pub returned : entry.returned ≡ Some return
   pub explained : IsExplained (cut_before return i h)
   pub whole : IsGivenUp h most
-  pub undecided : IsUndecidedAt h most return.last (i + 1)
+  pub undecided : IsLastOrGivesUp h most return.last (i + 1)
 
 -- no order explains it; it is explained until this entry returns, and a search of what is seen then gives up
 pub record IsUnexplained (h : ObservedHistory) (most i : ℕ) : Type 0 where
@@ -58,9 +58,9 @@ IsAnswer h most (Err (Undecided i)) = IsUndecided h most i
 IsAnswer h most (Err Memory) = Unit {0}
 
 -- why there is no record, in words
-abbrev pub error_text : ExplainError → List ℕ
-error_text (Stuck i) = codes "no order explains the return of entry " ++ decimal i
-error_text (Unexplained i) =
+abbrev pub explain_error_text : ExplainError → List ℕ
+explain_error_text (Stuck i) = codes "no order explains the return of entry " ++ decimal i
+explain_error_text (Unexplained i) =
     codes "no order explains the history, from the return of entry " ++ decimal i ++ codes " or a later one on"
-error_text (Undecided i) = codes "undecided at the return of entry " ++ decimal i
-error_text Memory = codes "out of memory"
+explain_error_text (Undecided i) = codes "undecided at the return of entry " ++ decimal i
+explain_error_text Memory = codes "out of memory"

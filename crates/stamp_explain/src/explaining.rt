@@ -30,9 +30,9 @@ pub enum ExplainError {
 
 impl fmt::Display for ExplainError {
     ghost use Rattle.std.specs.Prelude.{Some};
-    ghost use Rattle.stamp_explain.specs.Verdict.{error_text};
+    ghost use Rattle.stamp_explain.specs.Verdict.{explain_error_text};
 
-    ghost output = { λ e. Some (error_text e) };
+    ghost output = { λ e. Some (explain_error_text e) };
 
     fn fmt<W: fmt::Write>(&self, f: &mut fmt::Formatter<W>) -> fmt::Result {
         match self {

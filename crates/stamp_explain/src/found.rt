@@ -17,7 +17,7 @@ pub(crate) enum Found {
     Order(Vec<Taken>),
     /// None does.
     Nothing,
-    /// More configurations were looked at than the search may look at.
+    /// A search gave up: it had looked at more than `most` configurations.
     Undecided,
 }
 

@@ -63,6 +63,23 @@ fn of_a_stuck_history_all_possible_replies_are_told(rt: HostRuntime) -> Result<(
     Ok(())
 }
 
+/// Three readers at once, of which the first to return has a stamp of no reader.
+const UNEXPLAINED: &str = r#"{"entries":[
+    {"call":["try_read"],"first":0,"last":10,"reply":600,"thread":0},
+    {"call":["try_read"],"first":0,"last":11,"reply":257,"thread":1},
+    {"call":["try_read"],"first":0,"last":12,"reply":258,"thread":2}],
+    "format":1,"readers":3,"versions":1,"width":0}"#;
+
+#[test]
+fn that_no_order_explains_is_told_where_it_is_undecided_from_which_return_on(
+    rt: HostRuntime,
+) -> Result<(), Fail> {
+    let (line, _, note) = told(rt.alloc(), 2, UNEXPLAINED)?;
+    let wanted = "stamped: no order explains the history; from which return on is undecided";
+    assert!(rt; (line.as_str(), note.as_deref()) == ("undecided 0\n", Some(wanted)));
+    Ok(())
+}
+
 #[test]
 fn no_word_and_a_number_are_the_forms_of_the_command_line(rt: HostRuntime) {
     let table: [(&[&str], Result<u64, CommandFault>); 7] = [

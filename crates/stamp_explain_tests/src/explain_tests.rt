@@ -238,6 +238,31 @@ fn a_search_that_has_not_ended_is_undecided(rt: HostRuntime) -> Result<(), Fail>
 }
 
 #[test]
+fn a_history_without_an_order_is_told_so_before_its_wrong_return_is_known(
+    rt: HostRuntime,
+) -> Result<(), Fail> {
+    let answers = [
+        (1, ExplainError::Undecided(0)),
+        (2, ExplainError::Unexplained(0)),
+        (3, ExplainError::Stuck(0)),
+    ];
+    for (most, fault) in answers {
+        let case = Case {
+            name: "three readers, of which the first to return has a stamp of no reader",
+            calls: [
+                (0, Call::TryRead, 0, Some((10, Reply::Stamp(600)))),
+                (1, Call::TryRead, 0, Some((11, Reply::Stamp(257)))),
+                (2, Call::TryRead, 0, Some((12, Reply::Stamp(258)))),
+            ],
+            count: 3,
+            fault: Some(fault),
+        };
+        assert!(rt; is_right(&rt, 0, most, &case)?, "{most}");
+    }
+    Ok(())
+}
+
+#[test]
 fn calls_of_a_thread_do_not_overlap(rt: HostRuntime) -> Result<(), Fail> {
     let zero = words(0)?;
     let calls = [
