@@ -13,7 +13,6 @@ use Rattle.stamp_explain.specs.declared.asking.Asking.{Asking}
 use Rattle.stamp_explain.specs.Observed.{ObservedHistory, IsObserved, IsInterval}
 use Rattle.stamp_explain.specs.Explained.{IsExplained}
 use Rattle.stamp_explain.specs.Cut.{returned_by, known_of, known_from, begun_by, seen_at, place_of}
-use Rattle.stamp_core.specs.declared.call.Call.{Call}
 use Rattle.stamp_explain.specs.Possible.{ArePossible, AreAllPossible, GetsBeside, IsUndecidedAtGotten}
 use Rattle.stamp_explain.specs.Possible.{IsUndecidedAtReply}
 use Rattle.stamp_explain.specs.Possible.{IsUndecidedAtSome, answering, with_reply, without_return}
@@ -194,17 +193,16 @@ undecided_by h i most e r asking replies at returned asks are some =
     let is_entry : e ≡ one.entry = same_Some e one.entry (sym at ∙ one.is_entry) in
     let is_return : r ≡ one.return = same_Some r one.return (sym returned ∙
     ap (λ (o : Observation). o.returned) is_entry ∙ one.returned) in
-    let call : gets.entry.call ≡ e.call = ap (λ (o : Observation). o.call)
-    (same_Some gets.entry e (sym gets.is_entry ∙ asks.is_entry)) in
-    let seen : GetsBeside (seen_at r.last (i + 1) h) (place_of r.last i h.entries) e.call some.0 =
-    subst (λ (c : Call). GetsBeside (seen_at r.last (i + 1) h) (place_of r.last i h.entries) c some.0) call
-    (subst (λ (k : ℕ). GetsBeside (seen_at r.last (i + 1) h) k gets.entry.call some.0) asks.place
-    (subst (λ (g : ObservedHistory). GetsBeside g asking.place gets.entry.call some.0) asks.seen gets.gets)) in
+    let is_asked : gets.entry ≡ e = same_Some gets.entry e (sym gets.is_entry ∙ asks.is_entry) in
+    let seen : GetsBeside (seen_at r.last (i + 1) h) (place_of r.last i h.entries) e some.0 =
+    subst (λ (o : Observation). GetsBeside (seen_at r.last (i + 1) h) (place_of r.last i h.entries) o some.0) is_asked
+    (subst (λ (k : ℕ). GetsBeside (seen_at r.last (i + 1) h) k gets.entry some.0) asks.place
+    (subst (λ (g : ObservedHistory). GetsBeside g asking.place gets.entry some.0) asks.seen gets.gets)) in
     record {
       reply = some.0;
       undecided = one;
       gets = subst (λ (o : Observation). GetsBeside (seen_at one.return.last (i + 1) h)
-          (place_of one.return.last i h.entries) o.call some.0) is_entry
-          (subst (λ (q : Returned). GetsBeside (seen_at q.last (i + 1) h) (place_of q.last i h.entries) e.call some.0)
+          (place_of one.return.last i h.entries) o some.0) is_entry
+          (subst (λ (q : Returned). GetsBeside (seen_at q.last (i + 1) h) (place_of q.last i h.entries) e some.0)
           is_return seen);
     }

@@ -1,12 +1,12 @@
 -- The search for the replies that one call could get.
 use Rattle.std.proofs.Common.{◌≡◌, ◌≢◌, ◌⊎◌, ℕ, ◌+◌, ◌-◌, ◌<◌, ◌≤◌, List, [], ◌∷◌, ◌++◌, length, get_or, set, refl, sym}
-use Rattle.std.proofs.Common.{◌∙◌, ap, subst, inl, inr, arith, Option, None, Some, Bool, true, false}
+use Rattle.std.proofs.Common.{◌∙◌, ap, subst, inl, inr, arith, Option, None, Some, Bool, true, false, suc}
 use Rattle.std.specs.Prelude.{not, nat_lt, cond, IsTrue}
 use Rattle.stamp_core.specs.Call.{call_suits, is_lock_call}
 use Rattle.std.proofs.lemmas.List.Filters.{length-filter_more}
 use Rattle.std.proofs.lemmas.Bool.Decides.{nat_tests}
 use Rattle.stamp_explain.specs.Cut.{begun_by}
-use Rattle.std.specs.Prelude.{slice_get, slice_index, take, ◌↔◌}
+use Rattle.std.specs.Prelude.{slice_get, slice_index, drop, take, ◌↔◌}
 use Rattle.std.specs.Int.{bit_at}
 use Rattle.std.specs.List.{All, AllPairs, Contains}
 use Rattle.std.proofs.lemmas.List.Elements.{Contains-append_left, Contains-push, Contains-push_cases, Contains-get_or}
@@ -43,7 +43,7 @@ use Rattle.stamp_explain.proofs.Answering.{AreAlike, alike_with_reply, timeline_
 use Rattle.stamp_explain.proofs.Answering.{turned}
 use Rattle.stamp_explain.proofs.Answering.{same_calls_before, at_same, at_alike, opening_alike}
 use Rattle.stamp_explain.proofs.Expanding.{one_reply, at_place}
-use Rattle.stamp_explain.proofs.Leading.{way_past, way_by}
+use Rattle.stamp_explain.proofs.Leading.{come, way_past, way_by}
 use Rattle.stamp_explain.proofs.Counting.{all_differ, as_many, configuration_of, configurations_of, each_has}
 use Rattle.stamp_explain.proofs.Exploring.{Searches, searches_first, searches_more, found_nothing, opening_reached}
 use Rattle.stamp_explain.proofs.Exploring.{named, contains_at}
@@ -483,16 +483,27 @@ asked_waits asking node replies asks went = record {
 }
 
 -- the reply that it gets at a node
-asked_gets : (asking : Asking) (node : Node) (step : Step) → IsAsking asking → IsReachedBeside asking node →
+asked_gets : (asking : Asking) (node : Node) (step : Step) (a : Observation) → IsAsking asking →
+    IsReachedBeside asking node → Awaits asking.seen asking.timeline node a →
+    ((e : Observation) → slice_get asking.seen.entries asking.place ≡ Some e → ¬ IsBefore a e) →
     WentBefore asking node (Some step) → Gets asking step.reply
-asked_gets asking node step asks is went = record {
+asked_gets asking node step a asks is awaits begun went = record {
   entry = asks.entry;
   is_entry = asks.is_entry;
   gets = record {
     returns = asking.timeline.returns.items;
     are = asks.timeline.are;
+    once = asks.timeline.once;
     reached = configuration_of asking.seen asking.timeline.returns.items node is.reached;
     still = is.still;
+    awaits = record {
+      first = slice_index asking.timeline.returns.items node.past;
+      rest = drop (suc node.past) asking.timeline.returns.items;
+      are = come asking.timeline.returns.items node.past awaits.inside;
+      awaited = a;
+      is_awaited = awaits.at;
+      begun = begun asks.entry asks.is_entry;
+    };
     next = after_call asking.seen.limits is.reached.state (asks.entry.call, step.reply);
     steps = (subst (λ (g : ObservedHistory). HasGone g asking.place y node.writer is.reached.state (Some step))
         asks.before
@@ -515,10 +526,11 @@ asked_gets asking node step asks is went = record {
         (omega (arith, within, length-set asking.seen.entries asking.place y)) ∙
         ap (λ (o : Observation). Some o) (get_or-set_same asking.seen.entries asking.place y y within)
 
-pub asked_replies : (asking : Asking) (node : Node) (step : Step) (old new : List Reply) → IsAsking asking →
-    IsReachedBeside asking node → WentBefore asking node (Some step) → Adds old step.reply new →
-    AreAsked asking node old new
-asked_replies asking node step old new asks is went adds = record {
+pub asked_replies : (asking : Asking) (node : Node) (step : Step) (a : Observation) (old new : List Reply) →
+    IsAsking asking → IsReachedBeside asking node → Awaits asking.seen asking.timeline node a →
+    ((e : Observation) → slice_get asking.seen.entries asking.place ≡ Some e → ¬ IsBefore a e) →
+    WentBefore asking node (Some step) → Adds old step.reply new → AreAsked asking node old new
+asked_replies asking node step a old new asks is awaits begun went adds = record {
   more = adds.more;
   gets = λ reply has. new_one reply (adds.only reply has);
   asked = λ reply h is misses. asked_takes asking node (Some step) reply h asks is went (λ other at same.
@@ -527,7 +539,7 @@ asked_replies asking node step old new asks is went adds = record {
   where
     new_one : (reply : Reply) → Contains old reply ⊎ (step.reply ≡ reply) → Contains old reply ⊎ Gets asking reply
     new_one reply (inl has) = inl has
-    new_one reply (inr same) = inr (subst (Gets asking) same (asked_gets asking node step asks is went))
+    new_one reply (inr same) = inr (subst (Gets asking) same (asked_gets asking node step a asks is awaits begun went))
 
 -- the entry that is asked, as it is read, and with its call under way
 pub asked_read : (asking : Asking) (read : List Observation) (d : Observation) → IsAsking asking →

@@ -873,6 +873,8 @@ deepened_more h returns store waiting expanded most is enough = record {
   unended = λ k d inside. open_end k d (omega (arith, inside, many));
   in_depth = λ i j d lt inside alive. deep i j d lt (omega (arith, inside, many)) alive;
   many = many;
+  further = get_or cs (most + 1) first_one;
+  is_further = λ k d inside one. past_all k d (omega (arith, inside, many)) one;
 }
   where
     was : Deepens h returns store waiting expanded (Hope h returns is.last)
@@ -911,6 +913,20 @@ deepened_more h returns store waiting expanded most is enough = record {
         was.keeps.different i j none lt (omega (arith, inside, is.count, enough))
         (one_node h returns (get_or nodes i none) (get_or nodes j none) (get_or (take (most + 1) cs) i d)
         (get_or (take (most + 1) cs) j d) (for_it i d (omega (arith, lt, inside))) (for_it j d inside) one)
+
+    first_one : Configuration h returns
+    first_one = (some_inside cs 0 (omega (arith, counted))).0
+
+    past_all : (k : ℕ) (d : Configuration h returns) → k < most + 1 →
+        AreOne h returns (get_or (take (most + 1) cs) k d) (get_or cs (most + 1) first_one) → ⊥
+    past_all k d lt one =
+        let last : most + 1 < length nodes = omega (arith, is.count, enough) in
+        was.keeps.different k (most + 1) none lt last
+        (one_node h returns (get_or nodes k none) (get_or nodes (most + 1) none) (get_or (take (most + 1) cs) k d)
+        (get_or cs (most + 1) first_one) (for_it k d lt)
+        (was.are.each (most + 1) (get_or nodes (most + 1) none) (get_or cs (most + 1) first_one)
+        (slice_get-get_or nodes (most + 1) none last)
+        (slice_get-get_or cs (most + 1) first_one (omega (arith, counted)))) one)
 
     open_end : (k : ℕ) (d : Configuration h returns) → k < most + 1 → (get_or (take (most + 1) cs) k d).to_come ≢ []
     open_end k d lt ended =

@@ -19,7 +19,7 @@ use Rattle.stamp_explain.specs.Order.{IsOrderOf}
 use Rattle.stamp_explain.specs.Expand.{IsFound}
 use Rattle.stamp_explain.specs.Verdict.{IsUndecided, IsLastOrGivesUp, IsUnexplained, IsNotFound}
 use Rattle.stamp_explain.proofs.Lists.{pairs_none, none_in_empty}
-use Rattle.stamp_explain.proofs.Cutting.{IsLessKnown, less_known, back}
+use Rattle.stamp_explain.proofs.Cutting.{IsLessKnown, cuts_stay_explained, less_known, back}
 use Rattle.stamp_explain.proofs.Seeing.{seen_explains_as_much}
 
 false_true : false ≡ true → ⊥
@@ -363,14 +363,15 @@ pub between_below : (h : ObservedHistory) (most : ℕ) (unexplained : Bool) (end
     ℕ) (stuck : Bool)
     (p : ℕ × ℕ) → IsObserved h → IsBetween h most unexplained ends low high stuck → low ≤ middle → middle < high →
     slice_get ends middle ≡ Some p → ¬ IsExplained (seen_at p.0 (p.1 + 1) h) →
-    IsBetween h most unexplained ends low middle true
+    IsBetween h most true ends low middle true
 between_below h most unexplained ends low high middle stuck p observed is le less at none = record {
   order = le;
   inside = omega (arith, less, is.inside);
   below = is.below;
   above = λ q here explained. none ((seen_explains_as_much h p.0 (p.1 + 1) observed).1.0
       (subst (λ (x : ℕ × ℕ). IsExplained (cut x.0 (x.1 + 1) h)) (same q p (sym here ∙ at)) explained));
-  whole = is.whole;
+  whole = λ explained. none ((seen_explains_as_much h p.0 (p.1 + 1) observed).1.0
+      (cuts_stay_explained h p.0 (p.1 + 1) explained));
 }
   where
     same : (x y : ℕ × ℕ) → Some x ≡ Some y → x ≡ y
@@ -456,10 +457,13 @@ unexplained_between h most ends low high p are is le at =
     }
 
 -- what becomes of the two by what was found between them
-abbrev pub Narrows : Found → ℕ → ℕ → Bool → ℕ → ℕ → ℕ → Bool → Type 0
-Narrows (Order order) low high stuck middle l u s = (l ≡ middle + 1) × ((u ≡ high) × (s ≡ stuck))
-Narrows Nothing low high stuck middle l u s = (l ≡ low) × ((u ≡ middle) × (s ≡ true))
-Narrows Undecided low high stuck middle l u s = (l ≡ low) × ((u ≡ middle) × (s ≡ false))
+abbrev pub Narrows : Found → ℕ → ℕ → Bool → Bool → ℕ → ℕ → ℕ → Bool → Bool → Type 0
+Narrows (Order order) low high unexplained stuck middle l u x s =
+    (l ≡ middle + 1) × (u ≡ high) × (x ≡ unexplained) × (s ≡ stuck)
+Narrows Nothing low high unexplained stuck middle l u x s =
+    (l ≡ low) × (u ≡ middle) × (x ≡ true) × (s ≡ true)
+Narrows Undecided low high unexplained stuck middle l u x s =
+    (l ≡ low) × (u ≡ middle) × (x ≡ unexplained) × (s ≡ false)
 
 pub middle_inside : (low high : ℕ) → low < high → low + (high - low) / 2 < high
 middle_inside low high less = omega (arith, less)
@@ -476,45 +480,32 @@ end_is_entry entries ends k are lt =
     are.each p (contained ends k p (end_at ends k lt)) in
     slice_get_within entries p.1 found.0 found.1.0
 
-same : (h : ObservedHistory) (most : ℕ) (unexplained : Bool) (ends : List (ℕ × ℕ)) (low high : ℕ) (stuck : Bool) (l
-    u : ℕ) (s : Bool) →
-    l ≡ low → u ≡ high → s ≡ stuck → IsBetween h most unexplained ends low high stuck → IsBetween h most unexplained
-    ends l u s
-same h most unexplained ends low high stuck l u s l_is u_is s_is is =
-    subst (λ (n : ℕ). IsBetween h most unexplained ends n u s) (sym l_is)
-    (subst (λ (n : ℕ). IsBetween h most unexplained ends low n s) (sym u_is)
-    (subst (λ (b : Bool). IsBetween h most unexplained ends low high b) (sym s_is) is))
+same : (h : ObservedHistory) (most : ℕ) (unexplained : Bool) (ends : List (ℕ × ℕ)) (low high : ℕ) (stuck : Bool)
+    (l u : ℕ) (x s : Bool) → l ≡ low → u ≡ high → x ≡ unexplained → s ≡ stuck →
+    IsBetween h most unexplained ends low high stuck → IsBetween h most x ends l u s
+same h most unexplained ends low high stuck l u x s l_is u_is x_is s_is is =
+    subst (λ (n : ℕ). IsBetween h most x ends n u s) (sym l_is)
+    (subst (λ (n : ℕ). IsBetween h most x ends low n s) (sym u_is)
+    (subst (λ (b : Bool). IsBetween h most b ends low high s) (sym x_is)
+    (subst (λ (b : Bool). IsBetween h most unexplained ends low high b) (sym s_is) is)))
 
 pub narrowed : (h : ObservedHistory) (most : ℕ) (unexplained : Bool) (ends : List (ℕ × ℕ)) (low high middle : ℕ)
-    (stuck : Bool)
-    (found : Found) (l u : ℕ) (s : Bool) → IsObserved h → AreEnds h.entries ends →
+    (stuck : Bool) (found : Found) (l u : ℕ) (x s : Bool) → IsObserved h → AreEnds h.entries ends →
     IsBetween h most unexplained ends low high stuck → low ≤ middle → middle < high →
     IsFound (seen_at (get_or ends middle (0, 0)).0 ((get_or ends middle (0, 0)).1 + 1) h) most found →
-    Narrows found low high stuck middle l u s → IsBetween h most unexplained ends l u s
-narrowed h most unexplained ends low high middle stuck (Order order) l u s observed are is le less found (
-  l_is,
-  (u_is, s_is),
-) =
-    same h most unexplained ends (middle + 1) high stuck l u s l_is u_is s_is
+    Narrows found low high unexplained stuck middle l u x s → IsBetween h most x ends l u s
+narrowed h most unexplained ends low high middle stuck (Order order) l u x s observed are is le less found
+    (l_is, u_is, x_is, s_is) =
+    same h most unexplained ends (middle + 1) high stuck l u x s l_is u_is x_is s_is
     (between_above h most unexplained ends low high middle stuck (get_or ends middle (0, 0)) observed are is less
     (end_at ends middle (omega (arith, less, is.inside))) (record { order = found.order; by = found.explains }))
-narrowed h most unexplained ends low high middle stuck Nothing l u s observed are is le less found (
-  l_is,
-  (
-    u_is,
-    s_is,
-  ),
-) =
-    same h most unexplained ends low middle true l u s l_is u_is s_is
+narrowed h most unexplained ends low high middle stuck Nothing l u x s observed are is le less found
+    (l_is, u_is, x_is, s_is) =
+    same h most true ends low middle true l u x s l_is u_is x_is s_is
     (between_below h most unexplained ends low high middle stuck (get_or ends middle (0, 0)) observed is le less
     (end_at ends middle (omega (arith, less, is.inside))) found)
-narrowed h most unexplained ends low high middle stuck Undecided l u s observed are is le less found (
-  l_is,
-  (
-    u_is,
-    s_is,
-  ),
-) =
-    same h most unexplained ends low middle false l u s l_is u_is s_is
+narrowed h most unexplained ends low high middle stuck Undecided l u x s observed are is le less found
+    (l_is, u_is, x_is, s_is) =
+    same h most unexplained ends low middle false l u x s l_is u_is x_is s_is
     (between_undecided h most unexplained ends low high middle stuck (get_or ends middle (0, 0)) is le less
     (end_at ends middle (omega (arith, less, is.inside))) found)

@@ -1,7 +1,7 @@
 -- A subhistory is read off the calls one by one, and each of its calls stands at its place in the whole.
 use Rattle.std.proofs.Common.{◌≡◌, ℕ, ◌+◌, ◌<◌, ◌≤◌, Bool, true, false, List, [], ◌∷◌, ◌++◌, length, refl, sym, ◌∙◌, ap}
 use Rattle.std.proofs.Common.{subst, arith, Some}
-use Rattle.std.specs.Prelude.{slice_get, drop, filter, cond, if◌then◌else◌, IsTrue}
+use Rattle.std.specs.Prelude.{slice_get, drop, filter, cond, if◌then◌else◌, IsTrue, not}
 use Rattle.stamp_core.specs.Call.{call_suits, is_lock_call}
 use Rattle.std.specs.List.{All, AllPairs}
 use Rattle.std.proofs.lemmas.List.{append-nil}
@@ -9,7 +9,9 @@ use Rattle.std.proofs.lemmas.List.Elements.{All-nil, All-cons, All-filter, All-h
 use Rattle.std.proofs.Math.ListN.{drop_of_length-le}
 use Rattle.stamp_explain.specs.declared.observed.Observation.{Observation}
 use Rattle.stamp_explain.specs.declared.apart.Subhistory.{Subhistory}
-use Rattle.stamp_explain.specs.Observed.{ObservedHistory, IsObserved, IsSmall, IsLow, is_of_lock, of_lock}
+use Rattle.stamp_explain.specs.Observed.{ObservedHistory, IsObserved, IsSmall, IsLow, is_of_lock, is_of_record, of_lock, of_record}
+use Rattle.stamp_explain.specs.Explained.{AreApart, IsEffectOf, IsExplained, RespectsBefore}
+use Rattle.std.proofs.lemmas.Option.{slice_get_within}
 use Rattle.stamp_explain.specs.Apart.{is_of_object, of_object, places_where, IsSubhistoryOf}
 use Rattle.stamp_explain.proofs.Lists.{pairs_none, pairs_cons}
 use Rattle.stamp_explain.proofs.Parting.{part_observed}
@@ -125,3 +127,39 @@ all_of_lock h observed none = ap (λ (es : List Observation). record h { entries
         is_lock_call e.call ≡ true
     by e true same suits = same
     by e false same suits = absurd (omega (arith, suits_some h.width e.call same suits, none))
+
+none_pass : (p : Observation → Bool) (es : List Observation) → All (λ (e : Observation). p e ≡ false) es →
+    filter p es ≡ []
+none_pass p [] fails = refl
+none_pass p (e ∷ es) fails =
+    ap (λ (b : Bool). if b then (e ∷ filter p es) else filter p es)
+    (All-head (λ (e : Observation). p e ≡ false) e es fails) ∙
+    none_pass p es (All-tail (λ (e : Observation). p e ≡ false) e es fails)
+
+-- and none of the record
+pub none_of_record : (h : ObservedHistory) → IsObserved h → h.width ≡ 0 → (of_record h).entries ≡ []
+none_of_record h observed none =
+    none_pass is_of_record h.entries (All-weaker (λ (e : Observation). IsTrue (call_suits h.width e.call))
+    (λ (e : Observation). is_of_record e ≡ false) (λ e suits. by e (is_lock_call e.call) refl suits) h.entries
+    observed.suit)
+  where
+    by : (e : Observation) (b : Bool) → is_lock_call e.call ≡ b → IsTrue (call_suits h.width e.call) →
+        is_of_record e ≡ false
+    by e true same suits = ap not same
+    by e false same suits = absurd (omega (arith, suits_some h.width e.call same suits, none))
+
+-- no calls are explained
+pub no_calls_explained : (h : ObservedHistory) → h.entries ≡ [] → IsExplained h
+no_calls_explained h none = record {
+  order = [];
+  by = record {
+    effects = All-nil (IsEffectOf h.entries);
+    once = pairs_none AreApart;
+    returned = λ i e at back. absurd (omega (
+      arith,
+      slice_get_within [] i e (subst (λ (es : List Observation). slice_get es i ≡ Some e) none at),
+    ));
+    ordered = pairs_none RespectsBefore;
+    legal = tt;
+  };
+}

@@ -1,5 +1,5 @@
 -- Orders of the subhistories of lock and record, merged.
-use Rattle.std.proofs.Common.{◌≡◌, ◌⊎◌, ℕ, ◌+◌, ◌<◌, ◌≤◌, Bool, List, [], ◌∷◌, ◌++◌, length, get_or, refl, sym, ◌∙◌}
+use Rattle.std.proofs.Common.{◌≡◌, ◌≢◌, ◌⊎◌, ℕ, ◌+◌, ◌<◌, ◌≤◌, Bool, List, [], ◌∷◌, ◌++◌, length, get_or, refl, sym, ◌∙◌}
 use Rattle.std.proofs.Common.{ap, subst, inl, inr, arith, Option, None, Some}
 use Rattle.std.proofs.Common.{true, false, zero, suc}
 use Rattle.std.specs.Prelude.{slice_get, drop, filter, option_map}
@@ -17,15 +17,15 @@ use Rattle.stamp_explain.specs.Observed.{ObservedHistory, IsObserved, of_lock, o
 use Rattle.stamp_explain.specs.Explained.{Effect, IsEffectOf, RespectsBefore, IsExplained}
 use Rattle.stamp_explain.specs.declared.found.Found.{Found}
 use Rattle.stamp_explain.specs.declared.found.Found.TheVariants.{Order, Nothing, Undecided}
-use Rattle.stamp_explain.specs.Configuration.{GivesUp}
+use Rattle.stamp_explain.specs.Configuration.{GivesUp, IsGivenUp, IsNotRefused}
 use Rattle.stamp_explain.specs.Expand.{IsFound, IsSearched}
 use Rattle.stamp_explain.specs.Order.{IsOrderOf, taken_of}
-use Rattle.stamp_explain.specs.Apart.{places_where, is_of_object, IsSubhistoryOf}
+use Rattle.stamp_explain.specs.Apart.{places_where, is_of_object, of_object, IsSubhistoryOf}
 use Rattle.stamp_explain.proofs.Lists.{pairs_none, pairs_cons, pairs_head, pairs_tail}
 use Rattle.stamp_explain.proofs.Merging.IsMerge.{none, left, right}
 use Rattle.stamp_explain.proofs.Merging.{merge_all, Merges, IsSound, respects_all, sound_of}
 use Rattle.stamp_explain.proofs.Parting.{judged_apart, merged_explains}
-use Rattle.stamp_explain.proofs.Subhistories.{all_of_lock, subhistory_entries}
+use Rattle.stamp_explain.proofs.Subhistories.{all_of_lock, no_calls_explained, none_of_record, subhistory_entries}
 use Rattle.stamp_explain.proofs.Seeing.{place_in_whole, kept, Restored, restored, restored_at, restored_many, places_at}
 
 -- where lock or record isn't explained, the whole isn't
@@ -366,8 +366,41 @@ pub found_alone : (h : ObservedHistory) (most : ℕ) (found : Found) → IsObser
     IsSearched h most found → IsFound h most found
 found_alone h most (Order order) observed without found = found
 found_alone h most Nothing observed without found = found
-found_alone h most Undecided observed without found = inl (subst (λ (g : ObservedHistory). GivesUp g most)
-    (sym (all_of_lock h observed without)) found)
+found_alone h most Undecided observed without found =
+    let given_up : GivesUp (of_lock h) most =
+    subst (λ (g : ObservedHistory). GivesUp g most) (sym (all_of_lock h observed without)) found in
+    record {
+      lock = inl given_up;
+      guarded = inr (no_calls_explained (of_record h) (none_of_record h observed without));
+      one = inl given_up;
+    }
+
+-- of neither the search found that no order explains it
+not_refused : (h : ObservedHistory) (most : ℕ) (lock : Bool) (sub : Subhistory) (found : Found) →
+    IsSubhistoryOf h lock sub → IsSearched sub.history most found → found ≢ Nothing →
+    IsNotRefused (of_object lock h) most
+not_refused h most lock sub (Order order) is found some = inr (subst IsExplained is.history
+    (record { order = found.order; by = found.explains }))
+not_refused h most lock sub Nothing is found some = absurd (some refl)
+not_refused h most lock sub Undecided is found some = inl (subst (λ (g : ObservedHistory). GivesUp g most) is.history
+    found)
+
+-- one of the searches gave up, and none found that there is no order
+pub given_up_by : (h : ObservedHistory) (most : ℕ) (locks records : Subhistory) (a b : Found) →
+    IsSubhistoryOf h true locks → IsSubhistoryOf h false records → IsSearched locks.history most a →
+    IsSearched records.history most b → a ≢ Nothing → b ≢ Nothing → (a ≡ Undecided) ⊎ (b ≡ Undecided) →
+    IsGivenUp h most
+given_up_by h most locks records a b is also found too some any one = record {
+  lock = not_refused h most true locks a is found some;
+  guarded = not_refused h most false records b also too any;
+  one = by one;
+}
+  where
+    by : (a ≡ Undecided) ⊎ (b ≡ Undecided) → GivesUp (of_lock h) most ⊎ GivesUp (of_record h) most
+    by (inl same) = inl (subst (λ (g : ObservedHistory). GivesUp g most) is.history
+        (subst (λ (f : Found). IsSearched locks.history most f) same found))
+    by (inr same) = inr (subst (λ (g : ObservedHistory). GivesUp g most) also.history
+        (subst (λ (f : Found). IsSearched records.history most f) same too))
 
 -- where no order explains one of them, none explains the whole
 pub none_of_one : (h : ObservedHistory) (lock : Bool) (sub : Subhistory) → IsObserved h → IsSubhistoryOf h lock sub →

@@ -73,7 +73,7 @@ pub record Adds (old : List Reply) (reply : Reply) (new : List Reply) : Type 0 w
 pub record Gets (asking : Asking) (reply : Reply) : Type 0 where
   pub entry : Observation
   pub is_entry : slice_get asking.seen.entries asking.place ≡ Some entry
-  pub gets : GetsBeside asking.seen asking.place entry.call reply
+  pub gets : GetsBeside asking.seen asking.place entry reply
 
 -- each new reply is one that it gets
 abbrev pub GetsMore : Asking → List Reply → List Reply → Type 0

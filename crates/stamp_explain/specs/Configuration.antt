@@ -12,7 +12,7 @@ use Rattle.stamp_core.specs.declared.reply.Reply.TheVariants.{Yes}
 use Rattle.stamp_explain.specs.declared.observed.Observation.{Observation}
 use Rattle.stamp_explain.specs.Observed.{ObservedHistory, AreOfOneObject, of_lock, of_record}
 use Rattle.stamp_explain.specs.Observer.{observes}
-use Rattle.stamp_explain.specs.Explained.{Effect}
+use Rattle.stamp_explain.specs.Explained.{Effect, IsExplained}
 use Rattle.stamp_explain.specs.Search.{LockState, LockSteps, CanComplete, MayTake, AreReturns, opening}
 
 -- whose words the record holds after a call, which stands at this place of the history, and its reply
@@ -86,15 +86,17 @@ pub record GoesOnFrom (h : ObservedHistory) (returns : List ℕ) (c d : Configur
   pub passed : List ℕ
   pub to_come : c.to_come ≡ passed ++ d.to_come
 
--- a search has looked at more than so many configurations, no two of which are one: at each some return is to come,
--- and after one from which an order goes on to the end it has looked at such alone as go on from that one. So but
--- for those on one way it has looked at dead ends
+-- a search has looked at more than so many configurations, no two of which are one, and reached a further one: at each
+-- some return is to come, and after one from which an order goes on to the end it has looked at such alone as go on
+-- from that one. So but for those on one way it has looked at dead ends
 pub record LookedAtMore (h : ObservedHistory) (returns : List ℕ) (most : ℕ) : Type 0 where
   pub looked : List (Configuration h returns)
   pub different : AllPairs (λ (c d : Configuration h returns). ¬ AreOne h returns c d) looked
   pub unended : All (λ (c : Configuration h returns). c.to_come ≢ []) looked
   pub in_depth : AllPairs (λ (c d : Configuration h returns). IsAlive h returns c → GoesOnFrom h returns c d) looked
   pub many : length looked ≡ most + 1
+  pub further : Configuration h returns
+  pub is_further : All (λ (c : Configuration h returns). ¬ AreOne h returns c further) looked
 
 -- a search for an order gives up: it has looked at more than so many. The returns come in their order, each once
 pub record GivesUp (h : ObservedHistory) (most : ℕ) : Type 0 where
@@ -103,6 +105,13 @@ pub record GivesUp (h : ObservedHistory) (most : ℕ) : Type 0 where
   pub once : AllPairs (λ (i j : ℕ). i ≢ j) returns
   pub searched : LookedAtMore h returns most
 
--- lock and record are searched apart: the search of one of them gives up
-abbrev pub IsGivenUp : ObservedHistory → ℕ → Type 0
-IsGivenUp h most = GivesUp (of_lock h) most ⊎ GivesUp (of_record h) most
+-- the search gives up, or an order was found
+abbrev pub IsNotRefused : ObservedHistory → ℕ → Type 0
+IsNotRefused h most = GivesUp h most ⊎ IsExplained h
+
+-- lock and record are searched apart: the search of one of them gives up, and of neither it found that no order
+-- explains it
+pub record IsGivenUp (h : ObservedHistory) (most : ℕ) : Type 0 where
+  pub lock : IsNotRefused (of_lock h) most
+  pub guarded : IsNotRefused (of_record h) most
+  pub one : GivesUp (of_lock h) most ⊎ GivesUp (of_record h) most

@@ -1,13 +1,12 @@
 -- Which replies a call of an observed history could have had.
-use Rattle.std.specs.Prelude.{ℕ, ◌≡◌, ◌≢◌, ◌↔◌, ◌+◌, ◌⊎◌, List, slice_get, slice_set, Some, None, codes}
+use Rattle.std.specs.Prelude.{ℕ, ◌≡◌, ◌≢◌, ◌↔◌, ◌+◌, ◌⊎◌, List, ◌∷◌, slice_get, slice_set, Some, None, codes}
 use Rattle.std.specs.List.{All, AllPairs, Contains}
-use Rattle.stamp_core.specs.declared.call.Call.{Call}
 use Rattle.stamp_core.specs.declared.reply.Reply.{Reply}
 use Rattle.stamp_explain.specs.declared.observed.Observation.{Observation}
 use Rattle.stamp_explain.specs.declared.observed.Returned.{Returned}
 use Rattle.stamp_explain.specs.declared.possible.PossibleError.{PossibleError}
 use Rattle.stamp_explain.specs.declared.possible.PossibleError.TheVariants.{Undecided, Memory}
-use Rattle.stamp_explain.specs.Observed.{ObservedHistory}
+use Rattle.stamp_explain.specs.Observed.{ObservedHistory, IsBefore}
 use Rattle.stamp_explain.specs.Explained.{IsExplained}
 use Rattle.stamp_explain.specs.Cut.{cut_after, place_of, seen_at}
 use Rattle.stamp_explain.specs.Search.{AreReturns, LockState, LockSteps}
@@ -55,14 +54,26 @@ pub record AreAllPossible (h : ObservedHistory) (i : ℕ) (found : List Reply) :
   pub whole : (reply : Reply) → ¬ Contains found reply → ¬ IsPossible h i reply
   pub once : AllPairs (λ (a b : Reply). a ≢ b) found
 
--- on a way through a search on which the call at this place takes no effect, lock or record give it this reply
-pub record GetsBeside (h : ObservedHistory) (i : ℕ) (call : Call) (reply : Reply) : Type 0 where
+-- the next of these returns is of a call that had not returned before the other began
+pub record AwaitsNotBefore (h : ObservedHistory) (to_come : List ℕ) (e : Observation) : Type 0 where
+  pub first : ℕ
+  pub rest : List ℕ
+  pub are : to_come ≡ first ∷ rest
+  pub awaited : Observation
+  pub is_awaited : slice_get h.entries first ≡ Some awaited
+  pub begun : ¬ IsBefore awaited e
+
+-- on a way through a search on which the call at this place takes no effect, lock or record give it this reply: a
+-- return is awaited there, which is not before the call
+pub record GetsBeside (h : ObservedHistory) (i : ℕ) (e : Observation) (reply : Reply) : Type 0 where
   pub returns : List ℕ
   pub are : AreReturns h.entries returns
+  pub once : AllPairs (λ (i j : ℕ). i ≢ j) returns
   pub reached : Configuration h returns
   pub still : ¬ Contains reached.taken i
+  pub awaits : AwaitsNotBefore h reached.to_come e
   pub next : LockState
-  pub steps : LockSteps h.limits reached.state (call, reply) next
+  pub steps : LockSteps h.limits reached.state (e.call, reply) next
 
 -- a search of what is seen when the call at this place has returned reaches more than so many configurations without it
 pub record IsUndecidedWithout (h : ObservedHistory) (i most : ℕ) : Type 0 where
@@ -77,7 +88,7 @@ pub record IsUndecidedAtGotten (h : ObservedHistory) (i most : ℕ) : Type 0 whe
   pub reply : Reply
   pub undecided : IsUndecidedAtReply h i most reply
   pub gets : GetsBeside (seen_at undecided.return.last (i + 1) h) (place_of undecided.return.last i h.entries)
-      undecided.entry.call reply
+      undecided.entry reply
 
 abbrev pub IsUndecidedAtAny : ObservedHistory → ℕ → ℕ → Type 0
 IsUndecidedAtAny h i most = IsUndecidedWithout h i most ⊎ IsUndecidedAtGotten h i most

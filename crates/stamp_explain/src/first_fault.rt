@@ -47,6 +47,7 @@ pub(crate) fn first_fault(
 {
     let mut low = 0;
     let mut high = ends.len() - 1;
+    let mut unexplained = unexplained;
     let mut stuck = unexplained;
     while low < high {
         let middle = low + (high - low) / 2;
@@ -54,6 +55,7 @@ pub(crate) fn first_fault(
             Found::Order(_) => low = middle + 1,
             Found::Nothing => {
                 high = middle;
+                unexplained = true;
                 stuck = true;
             }
             Found::Undecided => {

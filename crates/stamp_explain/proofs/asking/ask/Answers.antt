@@ -1,4 +1,5 @@
-use Rattle.std.proofs.Common.{get_or, subst}
+use Rattle.std.proofs.Common.{◌≡◌, false, true, get_or, sym, ◌∙◌, subst}
+use Rattle.std.proofs.lemmas.Option.{same_Some}
 use Rattle.stamp_explain.specs.declared.observed.Observation.{Observation}
 use Rattle.stamp_explain.specs.Observed.{IsBefore}
 use Rattle.stamp_explain.proofs.Succeeding.{awaits_of}
@@ -29,10 +30,26 @@ step_of-requires-clause-inside c = asked_inside c.args.asking.now c.requires.ask
 pub step_of-requires-clause-suits : goal.step_of-requires-clause-suits
 step_of-requires-clause-suits c = asked_suits c.args.asking.now c.requires.asks
 
+false_true : false ≡ true → ⊥
+false_true h = cc
+
 pub returns-in_ok-add : goal.returns-in_ok-add
 returns-in_ok-add c =
-    asked_replies c.args.asking.now c.args.node.now c.in-Some.step c.args.replies.now.items c.add.new.replies.items
-    c.requires.asks c.requires.reached c.in-Some.ensures c.in_ok-add.ensures
+    let a : Observation = get_or c.entries-entries.result.now c.index.result.now c.index-entries-index.result in
+    let asked : Observation =
+    get_or c.entries-entries.result.now c.args.asking.now.place c.index-entries-asking.result in
+    asked_replies c.args.asking.now c.args.node.now c.in-Some.step a c.args.replies.now.items
+    c.add.new.replies.items c.requires.asks c.requires.reached
+    (awaits_of c.args.asking.now.seen c.args.asking.now.timeline c.args.node.now c.index.result.now
+    c.entries-entries.result.now c.index-entries-index.result c.requires.asks.observed c.requires.asks.timeline
+    c.requires.past c.index.ensures c.entries-entries.ensures.entries)
+    (λ e at before.
+    let is : e ≡ asked = same_Some e asked (sym at ∙ asked_read c.args.asking.now c.entries-entries.result.now
+    c.index-entries-asking.result c.requires.asks c.entries-entries.ensures.entries) in
+    false_true (sym c.if-is_before.false ∙ c.is_before.ensures.1
+    (subst (λ (o : Observation). IsBefore o c.index-entries-asking.result) (sym c.index-entries-index.is)
+    (subst (λ (o : Observation). IsBefore a o) (is ∙ sym c.index-entries-asking.is) before))))
+    c.in-Some.ensures c.in_ok-add.ensures
 
 pub returns-in_default : goal.returns-in_default
 returns-in_default c =
