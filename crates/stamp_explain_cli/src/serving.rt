@@ -14,11 +14,11 @@ use std::alloc::Global;
 
 /// Reads an observed history of the source, looks for an order that explains it, and writes one line: the
 /// record found, as a history; or the first fault of what can't have been observed; or the return at which
-/// no order explains it, or at which that isn't known. Or it says why there is no line. Of a history that is
-/// stuck it answers a line for standard error: what the call answered, and all that it could have answered,
-/// or that this is undecided. Each search looks at `most` configurations at most. What was read of the
-/// source is gone also after a refusal. An input has at most 16,777,216 bytes (one more may be taken, which
-/// shows that it is too long).
+/// no order explains it, or at which that isn't known. Or it says why there is no line. Of a history that no
+/// order explains it answers a line for standard error: where it is stuck, what the call answered, and all
+/// that it could have answered, or that this is undecided; elsewhere, that none explains it. A search gives
+/// up once it has looked at more than `most` configurations. What was read of the source is gone also after
+/// a refusal. An input has at most 16,777,216 bytes (one more may be taken, which shows that it is too long).
 pub fn serve_explanation<S: Source, K: Sink>(
     alloc: Global,
     most: u64,
