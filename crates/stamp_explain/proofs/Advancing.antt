@@ -14,8 +14,8 @@ use Rattle.stamp_explain.proofs.Deciding.{the_order_decides}
 use Rattle.stamp_explain.proofs.Threads.{few_threads}
 
 -- where no more calls are in effect, and no more returns are past, the two are one
-same_one : (h : ObservedHistory) (returns : List ℕ) (c d : Configuration h returns) →
-    (g : GoesOnFrom h returns c d) → length g.later + length g.passed ≡ 0 → AreOne h returns c d
+same_one : (h : ObservedHistory) (returns : List ℕ) (c d : Configuration h None returns) →
+    (g : GoesOnFrom h returns c d) → length g.later + length g.passed ≡ 0 → AreOne h None returns c d
 same_one h returns c d g none = record {
   to_come = g.to_come ∙ ap (λ (l : List ℕ). l ++ d.to_come) passed;
   word = ap (λ (s : LockState). number_after h.limits s.0) both.0;
@@ -36,14 +36,14 @@ same_one h returns c d g none = record {
     taken = sym (g.taken ∙ ap (λ (l : List ℕ). l ++ c.taken) later)
 
     both : (c.state ≡ d.state) × (c.put ≡ d.put)
-    both = (the_order_decides h returns).decided c d taken
+    both = (the_order_decides h None returns).decided c d taken
 
 -- at least so many calls are in effect and returns past, together
-abbrev HasCome : (h : ObservedHistory) (returns : List ℕ) → ℕ → Configuration h returns → Type 0
+abbrev HasCome : (h : ObservedHistory) (returns : List ℕ) → ℕ → Configuration h None returns → Type 0
 HasCome h returns k c = k + length c.to_come ≤ length c.taken + length returns
 
-one_further : (h : ObservedHistory) (returns : List ℕ) (k : ℕ) (c d : Configuration h returns) →
-    ¬ AreOne h returns c d → GoesOnFrom h returns c d → HasCome h returns k c → HasCome h returns (suc k) d
+one_further : (h : ObservedHistory) (returns : List ℕ) (k : ℕ) (c d : Configuration h None returns) →
+    ¬ AreOne h None returns c d → GoesOnFrom h returns c d → HasCome h returns k c → HasCome h returns (suc k) d
 one_further h returns k c d differ g before = by (moved (length g.later + length g.passed))
   where
     moved : (n : ℕ) → (n ≡ 0) ⊎ (1 ≤ n)
@@ -60,10 +60,10 @@ one_further h returns k c d differ g before = by (moved (length g.later + length
     by (inl none) = absurd (differ (same_one h returns c d g none))
     by (inr some) = omega (arith, before, taken, to_come, some)
 
-few_to_come : (h : ObservedHistory) (returns : List ℕ) (c : Configuration h returns) →
+few_to_come : (h : ObservedHistory) (returns : List ℕ) (c : Configuration h None returns) →
     length c.to_come ≤ length returns
 few_to_come h returns c =
-    let left : (n : ℕ) × (c.to_come ≡ drop n returns) = (the_order_decides h returns).suffix c in
+    let left : (n : ℕ) × (c.to_come ≡ drop n returns) = (the_order_decides h None returns).suffix c in
     omega (arith, ap (λ (l : List ℕ). length l) left.1, length-drop left.0 returns)
 
 few_returns : (h : ObservedHistory) (most : ℕ) → (g : GivesUp h most) → length g.returns ≤ length h.entries
@@ -76,10 +76,10 @@ pub no_dead_end_is_decided : NoDeadEndIsDecided
 no_dead_end_is_decided h most alive enough g =
     g.searched.unended most first (omega (arith, g.searched.many)) (nil_from_length last.to_come none_to_come)
   where
-    first : Configuration h g.returns
+    first : Configuration h None g.returns
     first = record { to_come = g.returns; state = opening h.width; put = None; taken = []; way = begins }
 
-    at : ℕ → Configuration h g.returns
+    at : ℕ → Configuration h None g.returns
     at k = get_or g.searched.looked k first
 
     come : (k : ℕ) → k < most + 1 → HasCome h g.returns k (at k)
@@ -89,12 +89,12 @@ no_dead_end_is_decided h most alive enough g =
         (g.searched.in_depth k (suc k) first (omega arith) (omega (arith, lt, g.searched.many))
         (alive g.returns g.are (at k))) (come k (omega (arith, lt)))
 
-    last : Configuration h g.returns
+    last : Configuration h None g.returns
     last = at most
 
     taken : length last.taken ≤ length h.entries
-    taken = few_threads last.taken (length h.entries) ((the_order_decides h g.returns).once last)
-        ((the_order_decides h g.returns).inside last)
+    taken = few_threads last.taken (length h.entries) ((the_order_decides h None g.returns).once last)
+        ((the_order_decides h None g.returns).inside last)
 
     none_to_come : length last.to_come ≡ 0
     none_to_come = omega (arith, come most (omega arith), taken, few_returns h most g, enough)

@@ -33,10 +33,11 @@ use Rattle.stamp_explain.specs.Node.{IsReached, IsAt, StandsFor, HasGone, IsOpen
 use Rattle.stamp_explain.specs.Store.{Keeps}
 use Rattle.stamp_explain.specs.Timeline.{AreOpen, IsAwaitedAt}
 use Rattle.stamp_explain.specs.Node.{ClearsBit}
-use Rattle.stamp_explain.specs.Expand.{Expands, Leads, LeadsBy, Took, IsNotInEffect, IsTakenTo, Enters, nodes_of}
+use Rattle.stamp_explain.specs.Expand.{Suffice, Leads, LeadsBy, Took, IsNotInEffect, IsTakenTo, Enters, nodes_of}
 use Rattle.stamp_explain.specs.Possible.{without_return, answering}
-use Rattle.stamp_explain.specs.Asking.{Adds, AreAsked, AreLed, AreMore, AreReplies, ExpandUnless, Gets, GetsMore}
-use Rattle.stamp_explain.specs.Asking.{IsAnswered, IsAsking, IsReachedBeside, LeadsBeside}
+use Rattle.stamp_explain.specs.Asking.{Adds, AreAsked, AreLed, AreMore, AreReplies, Gets, GetsMore}
+use Rattle.stamp_explain.specs.Asking.{IsAnswered, IsAsking, IsReachedBeside, LeadsBeside, NoneIsAtOnceBeside}
+use Rattle.stamp_explain.specs.Asking.{SufficeBeside, SufficeUnless}
 use Rattle.stamp_explain.proofs.Lists.{none_in_empty, contains_cases, contains_first, pairs_none}
 use Rattle.stamp_explain.proofs.Replying.{IsAlike, alike_before, replied_is_observed}
 use Rattle.stamp_explain.proofs.Answering.{AreAlike, alike_with_reply, timeline_alike, there, other_there, took_alike}
@@ -47,7 +48,8 @@ use Rattle.stamp_explain.proofs.Leading.{come, way_past, way_by}
 use Rattle.stamp_explain.proofs.Counting.{all_differ, as_many, configuration_of, configurations_of, each_has}
 use Rattle.stamp_explain.proofs.Exploring.{Searches, searches_first, searches_more, found_nothing, opening_reached}
 use Rattle.stamp_explain.proofs.Exploring.{named, contains_at}
-use Rattle.stamp_explain.proofs.Succeeding.{Awaits, Tries, awaited_at, expands_past, expands_at_once, expands_open}
+use Rattle.stamp_explain.proofs.Succeeding.{Awaits, Tries, awaited_at, past_of, leads_past, suffices_past}
+use Rattle.stamp_explain.proofs.Succeeding.{leads_at_once, suffices_at_once, suffice_open}
 use Rattle.stamp_explain.proofs.Succeeding.{none_tried, tried_none, tried_some, tried_other, leads_by_call}
 
 abbrev pub is_begun : ℕ → Observation → Bool
@@ -141,40 +143,28 @@ awaits_too asking reply h node a asks is awaits =
       thread = b.1.1.thread;
     }
 
--- a node that is the only one
-in_one : (next : Next) → Contains (next ∷ []) next
-in_one next = contains_first next [] next refl
-
--- a return is past
-abbrev pub past_of : Node → ℕ → Next
-past_of node threads = record {
-  node = record { past = node.past + 1; bits = node.bits; writer = node.writer; threads = threads };
-  took = None;
-}
-
 pub past_leads : (asking : Asking) (node : Node) (a : Observation) (threads : ℕ) →
     Awaits asking.seen asking.timeline node a → bit_at node.threads a.thread ≡ 1 → ClearsBit node.threads threads
     a.thread →
     LeadsBeside asking node (past_of node threads)
 past_leads asking node a threads awaits bit clears = record {
-  leads = (expands_past asking.seen asking.timeline node a threads awaits bit clears).each (past_of node threads)
-      (in_one (past_of node threads));
+  leads = leads_past asking.seen (Some asking.place) asking.timeline node a threads awaits bit clears;
   other = λ e. none-some asking.place e;
 }
 
-pub past_expands : (asking : Asking) (node : Node) (a : Observation) (threads : ℕ) (reply : Reply)
-    (h : ObservedHistory) → IsAsking asking → Awaits asking.seen asking.timeline node a →
-    bit_at node.threads a.thread ≡ 1 → ClearsBit node.threads threads a.thread → IsAnswered asking reply h →
-    Expands h asking.timeline.returns.items node (past_of node threads ∷ [])
-past_expands asking node a threads reply h asks awaits bit clears is =
+pub past_suffices : (asking : Asking) (node : Node) (a : Observation) (threads : ℕ) → IsAsking asking →
+    Awaits asking.seen asking.timeline node a → bit_at node.threads a.thread ≡ 1 →
+    ClearsBit node.threads threads a.thread → SufficeBeside asking node (past_of node threads ∷ [])
+past_suffices asking node a threads asks awaits bit clears reply h is =
     let too : AwaitsToo asking h node a = awaits_too asking reply h node a asks is awaits in
-    expands_past h asking.timeline node too.entry threads too.awaits
+    suffices_past h asking.timeline node too.entry threads too.awaits
     (ap (λ (t : ℕ). bit_at node.threads t) too.thread ∙ bit)
     (subst (λ (t : ℕ). ClearsBit node.threads threads t) (sym too.thread) clears)
 
 -- another call than the one asked takes effect
 pub took_other : (asking : Asking) (node : Node) (i : ℕ) (w : Next) (a : Observation) →
-    Awaits asking.seen asking.timeline node a → IsReached asking.seen asking.timeline.returns.items node →
+    Awaits asking.seen asking.timeline node a → IsReached asking.seen (Some asking.place)
+    asking.timeline.returns.items node →
     Took asking.seen asking.timeline.returns.items node i (Some w) → i ≢ asking.place → w.took ≢ Some asking.place
 took_other asking node i w a awaits reached took other same =
     let to : IsTakenTo asking.seen asking.timeline.returns.items node a i reached.state reached.taken w =
@@ -182,40 +172,48 @@ took_other asking node i w a awaits reached took other same =
     other (sym to.index ∙ same_Some to.effect.index asking.place (sym to.took ∙ same))
 
 pub at_once_leads : (asking : Asking) (node : Node) (a : Observation) (i : ℕ) (w : Next) →
-    Awaits asking.seen asking.timeline node a → IsReached asking.seen asking.timeline.returns.items node →
+    Awaits asking.seen asking.timeline node a → IsReached asking.seen (Some asking.place) asking.timeline.returns.items
+    node →
     bit_at node.threads a.thread ≢ 1 → observes_at asking.seen.entries i ≡ true →
     Took asking.seen asking.timeline.returns.items node i (Some w) → i ≢ asking.place → LeadsBeside asking node w
 at_once_leads asking node a i w awaits reached bit observes took other = record {
-  leads = (expands_at_once asking.seen asking.timeline node a i w awaits bit observes took).each w (in_one w);
+  leads = leads_at_once asking.seen (Some asking.place) asking.timeline node a i w awaits bit observes
+      (λ same. other (sym (same_Some asking.place i same))) took;
   other = took_other asking node i w a awaits reached took other;
 }
 
-pub at_once_expands : (asking : Asking) (node : Node) (a : Observation) (i : ℕ) (w : Next) (reply : Reply)
-    (h : ObservedHistory) → IsAsking asking → Awaits asking.seen asking.timeline node a →
-    bit_at node.threads a.thread ≢ 1 → (e : Observation) → slice_get asking.seen.entries i ≡ Some e →
+pub at_once_suffices : (asking : Asking) (node : Node) (a : Observation) (i : ℕ) (w : Next) → IsAsking asking →
+    Awaits asking.seen asking.timeline node a → (e : Observation) → slice_get asking.seen.entries i ≡ Some e →
     observes_at asking.seen.entries i ≡ true → Took asking.seen asking.timeline.returns.items node i (Some w) →
-    i ≢ asking.place → IsAnswered asking reply h → Expands h asking.timeline.returns.items node (w ∷ [])
-at_once_expands asking node a i w reply h asks awaits bit e at observes took other is =
+    i ≢ asking.place → SufficeBeside asking node (w ∷ [])
+at_once_suffices asking node a i w asks awaits e at observes took other reply h is =
     let alike : AreAlike asking.seen h asking.place = alike_of asking reply h is in
     let too : AwaitsToo asking h node a = awaits_too asking reply h node a asks is awaits in
-    expands_at_once h asking.timeline node too.entry i w too.awaits
-    (λ b. bit (sym (ap (λ (t : ℕ). bit_at node.threads t) too.thread) ∙ b))
+    suffices_at_once h asking.timeline node too.entry i w too.awaits
     (ap observes_in (other_there asking.seen h asking.place i e alike other at) ∙ sym (ap observes_in at) ∙ observes)
     (took_alike asking.seen h asking.place asking.timeline.returns.items node i (Some w) alike other took)
 
-took_leads : (h : ObservedHistory) (timeline : Timeline) (node : Node) (a : Observation) (i : ℕ) (w : Next) →
-    Awaits h timeline node a → bit_at node.threads a.thread ≢ 1 → Took h timeline.returns.items node i (Some w) →
-    ((e : Observation) → slice_get h.entries i ≡ Some e → AreOfOneObject a e) → Leads h timeline.returns.items node w
-took_leads h timeline node a i w is bit took alike = record {
+took_leads : (asking : Asking) (node : Node) (a : Observation) (i : ℕ) (w : Next) →
+    Awaits asking.seen asking.timeline node a → bit_at node.threads a.thread ≢ 1 → NoneIsAtOnceBeside asking node →
+    Took asking.seen asking.timeline.returns.items node i (Some w) →
+    ((e : Observation) → slice_get asking.seen.entries i ≡ Some e → AreOfOneObject a e) →
+    Leads asking.seen (Some asking.place) asking.timeline.returns.items node w
+took_leads asking node a i w is bit none took alike = record {
   inside = is.inside;
-  leads = λ s taken stands. to s taken stands (took.takes a s taken (awaited_at h timeline node a is) stands);
+  leads = λ s taken stands. to s taken stands
+      (took.takes a s taken (awaited_at asking.seen asking.timeline node a is) stands);
 }
   where
-    to : (s : LockState) (taken : List ℕ) → StandsFor h timeline.returns.items node s taken →
-        IsTakenTo h timeline.returns.items node a i s taken w → LeadsBy h timeline.returns.items node w.node s taken
-        w.took
-    to s taken stands it = leads_by_call h timeline node a i s taken w is bit stands it (inl (alike it.effect.entry
-        (ap (λ (j : ℕ). slice_get h.entries j) (sym it.index) ∙ it.may.effect.is_entry)))
+    to : (s : LockState) (taken : List ℕ) → StandsFor asking.seen asking.timeline.returns.items node s taken →
+        IsTakenTo asking.seen asking.timeline.returns.items node a i s taken w →
+        LeadsBy asking.seen (Some asking.place) asking.timeline.returns.items node w.node s taken w.took
+    to s taken stands it = leads_by_call asking.seen (Some asking.place) asking.timeline node a i s taken w is bit
+        stands it
+        (inr (
+          none.none a s taken (awaited_at asking.seen asking.timeline node a is) stands,
+          alike it.effect.entry
+              (ap (λ (j : ℕ). slice_get asking.seen.entries j) (sym it.index) ∙ it.may.effect.is_entry),
+        ))
 
 -- the awaited call, which is not in effect
 pub record AwaitsThere (asking : Asking) (node : Node) : Type 0 where
@@ -324,14 +322,16 @@ beside_other asking node calls k nexts is more other = record {
 }
 
 pub beside_some : (asking : Asking) (node : Node) (a : Observation) (calls : List ℕ) (k : ℕ) (nexts : List Next)
-    (w : Next) → Awaits asking.seen asking.timeline node a → IsReached asking.seen asking.timeline.returns.items node →
-    bit_at node.threads a.thread ≢ 1 → TriesBeside asking node calls k nexts → k < length calls →
+    (w : Next) → Awaits asking.seen asking.timeline node a → IsReached asking.seen (Some asking.place)
+    asking.timeline.returns.items node →
+    bit_at node.threads a.thread ≢ 1 → NoneIsAtOnceBeside asking node → TriesBeside asking node calls k nexts →
+    k < length calls →
     get_or calls (length calls - 1 - k) 0 ≢ asking.place →
     Took asking.seen asking.timeline.returns.items node (get_or calls (length calls - 1 - k) 0) (Some w) →
     ((b e : Observation) → IsAwaitedAt asking.seen asking.timeline.returns.items node.past b →
     slice_get asking.seen.entries (get_or calls (length calls - 1 - k) 0) ≡ Some e → AreOfOneObject b e) →
     TriesBeside asking node calls (k + 1) (nexts ++ w ∷ [])
-beside_some asking node a calls k nexts w awaits reached bit is more other took alike = record {
+beside_some asking node a calls k nexts w awaits reached bit none_at_once is more other took alike = record {
   led = record { each = λ v has. by v (Contains-push_cases nexts w v has) };
   tries = λ reply h answered none. tried_some h asking.timeline.returns.items node calls k nexts w
       (is.tries reply h answered none) more
@@ -345,19 +345,19 @@ beside_some asking node a calls k nexts w awaits reached bit is more other took 
     by : (v : Next) → Contains nexts v ⊎ (w ≡ v) → LeadsBeside asking node v
     by v (inl has) = is.led.each v has
     by v (inr same) = subst (LeadsBeside asking node) same (record {
-      leads = took_leads asking.seen asking.timeline node a (get_or calls (length calls - 1 - k) 0) w awaits bit took
+      leads = took_leads asking node a (get_or calls (length calls - 1 - k) 0) w awaits bit none_at_once took
           (λ e at. alike a e (awaited_at asking.seen asking.timeline node a awaits) at);
       other = took_other asking node (get_or calls (length calls - 1 - k) 0) w a awaits reached took other;
     })
 
-pub expands_beside : (asking : Asking) (node : Node) (calls : List ℕ) (k : ℕ) (nexts : List Next) (reply : Reply)
+pub suffice_beside : (asking : Asking) (node : Node) (calls : List ℕ) (k : ℕ) (nexts : List Next) (reply : Reply)
     (h : ObservedHistory) → IsAsking asking → node.past < length asking.timeline.returns.items →
     IsNotInEffect asking.seen asking.timeline.returns.items node →
     AreOpen h asking.timeline.returns.items node.past calls → length calls ≤ k → IsAnswered asking reply h →
-    Tries h asking.timeline.returns.items node calls k nexts → Expands h asking.timeline.returns.items node nexts
-expands_beside asking node calls k nexts reply h asks inside awaited are all is tries =
+    Tries h asking.timeline.returns.items node calls k nexts → Suffice h asking.timeline.returns.items node nexts
+suffice_beside asking node calls k nexts reply h asks inside awaited are all is tries =
     let alike : AreAlike asking.seen h asking.place = alike_of asking reply h is in
-    expands_open h asking.timeline node calls k nexts (observed_of asking reply h asks is)
+    suffice_open h asking.timeline node calls k nexts (observed_of asking reply h asks is)
     (timeline_alike asking.seen h asking.place asking.timeline alike asks.timeline) inside
     (record {
       awaited = λ b it bit.
@@ -494,7 +494,7 @@ asked_gets asking node step a asks is awaits begun went = record {
     returns = asking.timeline.returns.items;
     are = asks.timeline.are;
     once = asks.timeline.once;
-    reached = configuration_of asking.seen asking.timeline.returns.items node is.reached;
+    reached = configuration_of asking.seen (Some asking.place) asking.timeline.returns.items node is.reached;
     still = is.still;
     awaits = record {
       first = slice_index asking.timeline.returns.items node.past;
@@ -579,7 +579,7 @@ asked_suits asking asks e at = subst (λ (g : ObservedHistory). IsTrue (call_sui
 -- a search without the call begins at the opening
 opening_beside : (asking : Asking) (node : Node) → IsOpening asking.seen node → IsReachedBeside asking node
 opening_beside asking node is = record {
-  reached = opening_reached asking.seen asking.timeline.returns.items node is;
+  reached = opening_reached asking.seen (Some asking.place) asking.timeline.returns.items node is;
   still = none_in_empty asking.place;
 }
 
@@ -599,14 +599,15 @@ leads_beside asking node next is leads = by next.took refl (leads.leads.leads s 
     taken : List ℕ
     taken = is.reached.taken
 
-    by : (o : Option ℕ) → next.took ≡ o → LeadsBy h returns node next.node s taken o → IsReachedBeside asking next.node
+    by : (o : Option ℕ) → next.took ≡ o → LeadsBy h (Some asking.place) returns node next.node s taken o →
+        IsReachedBeside asking next.node
     by None at l = record {
       reached = record {
         state = s;
         taken = taken;
         inside = omega (arith, leads.leads.inside, l.past);
         stands = l.stands;
-        way = way_past h returns node next.node s taken leads.leads.inside is.reached.way l;
+        way = way_past h (Some asking.place) returns node next.node s taken leads.leads.inside is.reached.way l;
       };
       still = is.still;
     }
@@ -616,7 +617,7 @@ leads_beside asking node next is leads = by next.took refl (leads.leads.leads s 
         taken = l.effect.index ∷ taken;
         inside = omega (arith, leads.leads.inside, l.past);
         stands = l.stands;
-        way = way_by h returns node next.node s taken i leads.leads.inside is.reached.way l;
+        way = way_by h (Some asking.place) returns node next.node s taken i leads.leads.inside is.reached.way l;
       };
       still = λ has. cases (contains_cases l.effect.index taken asking.place has);
     }
@@ -687,9 +688,9 @@ walks_first asking old new waiting next empty is enters = record {
 pub walks_more : (asking : Asking) (looked : ℕ) (old new : Store) (before popped after : List ℕ) (nexts : List Next)
     (replies more : List Reply) (place : ℕ) (v : Node) → Walks asking looked old before replies →
     before ≡ popped ++ place ∷ [] → slice_get old.nodes.items place ≡ Some v → AreLed asking v nexts →
-    AreMore replies more → GetsMore asking replies more → ExpandUnless asking v nexts more →
+    AreMore replies more → GetsMore asking replies more → SufficeUnless asking v nexts more →
     Enters old new place popped after nexts → Walks asking (looked + 1) new after more
-walks_more asking looked old new before popped after nexts replies more place v is split at led grows gets expands
+walks_more asking looked old new before popped after nexts replies more place v is split at led grows gets suffice
     enters =
     record {
       keeps = enters.keeps;
@@ -714,7 +715,7 @@ walks_more asking looked old new before popped after nexts replies more place v 
       searches = λ reply h answered misses. searches_more h asking.timeline.returns.items looked old new before
           popped after
           nexts place v (is.searches reply h answered (λ has. misses (grows.kept reply has))) split at
-          (expands.expands reply h answered misses) enters;
+          (suffice.suffice reply h answered misses) enters;
     }
   where
     gotten : (reply : Reply) → Contains replies reply ⊎ Gets asking reply → Gets asking reply
@@ -760,20 +761,23 @@ walks_on asking most looked store waiting replies asks is all waits = record {
   are = asks.timeline.are;
   once = asks.timeline.once;
   reached = record {
-    configurations = configurations_of asking.seen asking.timeline.returns.items store.nodes.items
+    configurations = configurations_of asking.seen (Some asking.place) asking.timeline.returns.items store.nodes.items
         (λ v has. (is.reached v has).reached);
-    different = all_differ asking.seen asking.timeline.returns.items store.nodes.items
+    different = all_differ asking.seen (Some asking.place) asking.timeline.returns.items store.nodes.items
         (λ v has. (is.reached v has).reached) is.keeps.different;
     many = omega (
       arith,
       is.count,
       all,
       waits,
-      as_many asking.seen asking.timeline.returns.items store.nodes.items (λ v has. (is.reached v has).reached),
+      as_many asking.seen (Some asking.place) asking.timeline.returns.items store.nodes.items
+          (λ v has. (is.reached v has).reached),
     );
   };
-  beside = each_has asking.seen asking.timeline.returns.items store.nodes.items (λ v has. (is.reached v has).reached)
-      (λ (c : Configuration asking.seen asking.timeline.returns.items). ¬ Contains c.taken asking.place)
+  beside = each_has asking.seen (Some asking.place) asking.timeline.returns.items store.nodes.items
+      (λ v has. (is.reached v has).reached)
+      (λ (c : Configuration asking.seen (Some asking.place) asking.timeline.returns.items). ¬ Contains c.taken
+      asking.place)
       (λ v has. (is.reached v has).still);
 }
 

@@ -21,9 +21,9 @@ abbrev IsSame : LockState → Option ℕ → LockState → Option ℕ → Type 0
 IsSame s put t other = (s ≡ t) × (put ≡ other)
 
 -- whatever else is reached with these calls in effect, it is the same
-abbrev Decides : ObservedHistory → List ℕ → List ℕ → LockState → Option ℕ → Type 0
-Decides h returns taken s put = (ys : List ℕ) (t : LockState) (other : Option ℕ) (also : List ℕ) →
-    Reaches h returns ys t other also → taken ≡ also → IsSame s put t other
+abbrev Decides : ObservedHistory → Option ℕ → List ℕ → List ℕ → LockState → Option ℕ → Type 0
+Decides h asked returns taken s put = (ys : List ℕ) (t : LockState) (other : Option ℕ) (also : List ℕ) →
+    Reaches h asked returns ys t other also → taken ≡ also → IsSame s put t other
 
 cons_first : (x y : ℕ) (xs ys : List ℕ) → x ∷ xs ≡ y ∷ ys → x ≡ y
 cons_first x y xs ys same = ap (λ (l : List ℕ). get_or l 0 0) same
@@ -59,24 +59,25 @@ one_effect h a b s taken x y t u put may other same = (state, puts)
         ap (λ (c : Call). put_after put y.index c x.reply) call ∙
         ap (λ (r : Reply). put_after put y.index y.entry.call r) reply
 
-none_decides : (h : ObservedHistory) (returns : List ℕ) (s : LockState) {ys : List ℕ} {t : LockState}
-    {other : Option ℕ} {also : List ℕ} → s ≡ opening h.width → Reaches h returns ys t other also → [] ≡ also →
+none_decides : (h : ObservedHistory) (asked : Option ℕ) (returns : List ℕ) (s : LockState) {ys : List ℕ} {t : LockState}
+    {other : Option ℕ} {also : List ℕ} → s ≡ opening h.width → Reaches h asked returns ys t other also → [] ≡ also →
     IsSame s None t other
-none_decides h returns s is begins same = (is, refl)
-none_decides h returns s is (goes_past way has) same = none_decides h returns s is way same
-none_decides h returns s is (goes_on_by way awaited x t is_awaited not_yet tried may) same =
+none_decides h asked returns s is begins same = (is, refl)
+none_decides h asked returns s is (goes_past way has) same = none_decides h asked returns s is way same
+none_decides h asked returns s is (goes_on_by way awaited x t is_awaited not_yet tried may) same =
     absurd (omega (arith, ap (λ (l : List ℕ). length l) same))
 
-one_decides : (h : ObservedHistory) (returns : List ℕ) (a : Observation) (s t : LockState) (put : Option ℕ)
+one_decides : (h : ObservedHistory) (asked : Option ℕ) (returns : List ℕ) (a : Observation) (s t : LockState)
+    (put : Option ℕ)
     (taken : List ℕ) (x : Effect) → MayTake (LockSteps h.limits) h.entries a s taken x t →
-    Decides h returns taken s put → {ys : List ℕ} {u : LockState} {other : Option ℕ} {also : List ℕ} →
-    Reaches h returns ys u other also → x.index ∷ taken ≡ also →
+    Decides h asked returns taken s put → {ys : List ℕ} {u : LockState} {other : Option ℕ} {also : List ℕ} →
+    Reaches h asked returns ys u other also → x.index ∷ taken ≡ also →
     IsSame t (put_after put x.index x.entry.call x.reply) u other
-one_decides h returns a s t put taken x may before begins same =
+one_decides h asked returns a s t put taken x may before begins same =
     absurd (omega (arith, ap (λ (l : List ℕ). length l) same))
-one_decides h returns a s t put taken x may before (goes_past way has) same =
-    one_decides h returns a s t put taken x may before way same
-one_decides h returns a s t put taken x may before
+one_decides h asked returns a s t put taken x may before (goes_past way has) same =
+    one_decides h asked returns a s t put taken x may before way same
+one_decides h asked returns a s t put taken x may before
     (goes_on_by {i} {to_come} {s = v} {put = other} {taken = also} way awaited y u is_awaited not_yet tried might)
     same =
     let was : IsSame s put v other = before (i ∷ to_come) v other also way (cons_rest x.index y.index taken also
@@ -90,43 +91,45 @@ one_decides h returns a s t put taken x may before
     one_effect h a awaited s taken x y t u put may then (cons_first x.index y.index taken also same) in
     (both.0, both.1 ∙ ap (λ (o : Option ℕ). put_after o y.index y.entry.call y.reply) was.1)
 
-decides : (h : ObservedHistory) (returns : List ℕ) {xs : List ℕ} {s : LockState} {put : Option ℕ}
-    {taken : List ℕ} → Reaches h returns xs s put taken → Decides h returns taken s put
-decides h returns begins ys t other also way = none_decides h returns (opening h.width) refl way
-decides h returns (goes_past way has) ys t other also that = decides h returns way ys t other also that
-decides h returns (goes_on_by {i} {to_come} {s} {put} {taken} way awaited x t is_awaited not_yet tried may) ys u other
-    also that = one_decides h returns awaited s t put taken x may (decides h returns way) that
+decides : (h : ObservedHistory) (asked : Option ℕ) (returns : List ℕ) {xs : List ℕ} {s : LockState} {put : Option ℕ}
+    {taken : List ℕ} → Reaches h asked returns xs s put taken → Decides h asked returns taken s put
+decides h asked returns begins ys t other also way = none_decides h asked returns (opening h.width) refl way
+decides h asked returns (goes_past way has) ys t other also that = decides h asked returns way ys t other also that
+decides h asked returns (goes_on_by {i} {to_come} {s} {put} {taken} way awaited x t is_awaited not_yet tried may) ys u
+    other
+    also that = one_decides h asked returns awaited s t put taken x may (decides h asked returns way) that
 
 -- each takes effect once, and is a call of the history
-inside : (h : ObservedHistory) (returns : List ℕ) {xs : List ℕ} {s : LockState} {put : Option ℕ}
-    {taken : List ℕ} → Reaches h returns xs s put taken → All (λ (i : ℕ). i < length h.entries) taken
-inside h returns begins = λ k d lt. absurd (omega (arith, lt))
-inside h returns (goes_past way has) = inside h returns way
-inside h returns (goes_on_by {i} {to_come} {s} {put} {taken} way awaited x t is_awaited not_yet tried may) =
-    first (slice_get_within h.entries x.index x.entry may.effect.is_entry) (inside h returns way)
+inside : (h : ObservedHistory) (asked : Option ℕ) (returns : List ℕ) {xs : List ℕ} {s : LockState} {put : Option ℕ}
+    {taken : List ℕ} → Reaches h asked returns xs s put taken → All (λ (i : ℕ). i < length h.entries) taken
+inside h asked returns begins = λ k d lt. absurd (omega (arith, lt))
+inside h asked returns (goes_past way has) = inside h asked returns way
+inside h asked returns (goes_on_by {i} {to_come} {s} {put} {taken} way awaited x t is_awaited not_yet tried may) =
+    first (slice_get_within h.entries x.index x.entry may.effect.is_entry) (inside h asked returns way)
   where
     first : x.index < length h.entries → All (λ (k : ℕ). k < length h.entries) taken →
         All (λ (k : ℕ). k < length h.entries) (x.index ∷ taken)
     first lt all zero d within = lt
     first lt all (suc k) d within = all k d (omega (arith, within))
 
-once : (h : ObservedHistory) (returns : List ℕ) {xs : List ℕ} {s : LockState} {put : Option ℕ}
-    {taken : List ℕ} → Reaches h returns xs s put taken → AllPairs (λ (i j : ℕ). i ≢ j) taken
-once h returns begins = pairs_none (λ (i j : ℕ). i ≢ j)
-once h returns (goes_past way has) = once h returns way
-once h returns (goes_on_by {i} {to_come} {s} {put} {taken} way awaited x t is_awaited not_yet tried may) =
+once : (h : ObservedHistory) (asked : Option ℕ) (returns : List ℕ) {xs : List ℕ} {s : LockState} {put : Option ℕ}
+    {taken : List ℕ} → Reaches h asked returns xs s put taken → AllPairs (λ (i j : ℕ). i ≢ j) taken
+once h asked returns begins = pairs_none (λ (i j : ℕ). i ≢ j)
+once h asked returns (goes_past way has) = once h asked returns way
+once h asked returns (goes_on_by {i} {to_come} {s} {put} {taken} way awaited x t is_awaited not_yet tried may) =
     pairs_cons (λ (i j : ℕ). i ≢ j) x.index taken
-    (λ k d lt same. may.fresh (k, omega (arith, lt), get_at taken k d x.index lt ∙ sym same)) (once h returns way)
+    (λ k d lt same. may.fresh (k, omega (arith, lt), get_at taken k d x.index lt ∙ sym same)) (once h asked returns way)
   where
     get_at : (xs : List ℕ) (k d e : ℕ) → k < length xs → get_or xs k e ≡ get_or xs k d
     get_at xs k d e lt = same_read xs k e d lt
 
-left : (h : ObservedHistory) (returns : List ℕ) {xs : List ℕ} {s : LockState} {put : Option ℕ} {taken : List ℕ} →
-    Reaches h returns xs s put taken → (n : ℕ) × (xs ≡ drop n returns)
-left h returns begins = (0, refl)
-left h returns (goes_on_by way awaited x t is_awaited not_yet tried may) = left h returns way
-left h returns (goes_past {i} {to_come} way has) = let was : (n : ℕ) × (i ∷ to_come ≡ drop n returns) =
-    left h returns way in
+left : (h : ObservedHistory) (asked : Option ℕ) (returns : List ℕ) {xs : List ℕ} {s : LockState} {put : Option ℕ}
+    {taken : List ℕ} →
+    Reaches h asked returns xs s put taken → (n : ℕ) × (xs ≡ drop n returns)
+left h asked returns begins = (0, refl)
+left h asked returns (goes_on_by way awaited x t is_awaited not_yet tried may) = left h asked returns way
+left h asked returns (goes_past {i} {to_come} way has) = let was : (n : ℕ) × (i ∷ to_come ≡ drop n returns) =
+    left h asked returns way in
     (suc was.0, ap (λ (l : List ℕ). drop 1 l) was.1 ∙ drop_drop returns was.0)
   where
     drop_drop : (xs : List ℕ) (n : ℕ) → drop 1 (drop n xs) ≡ drop (suc n) xs
@@ -135,9 +138,9 @@ left h returns (goes_past {i} {to_come} way has) = let was : (n : ℕ) × (i ∷
     drop_drop (x ∷ xs) (suc n) = drop_drop xs n
 
 pub the_order_decides : TheOrderDecides
-the_order_decides h returns = record {
-  suffix = λ c. left h returns c.way;
-  inside = λ c. inside h returns c.way;
-  once = λ c. once h returns c.way;
-  decided = λ c d same. decides h returns c.way d.to_come d.state d.put d.taken d.way same;
+the_order_decides h asked returns = record {
+  suffix = λ c. left h asked returns c.way;
+  inside = λ c. inside h asked returns c.way;
+  once = λ c. once h asked returns c.way;
+  decided = λ c d same. decides h asked returns c.way d.to_come d.state d.put d.taken d.way same;
 }

@@ -69,10 +69,11 @@ at_contains : {X : Type 0} (xs : List X) (x : X) → Contains xs x → (k : ℕ)
 at_contains {X} xs x (k, lt, e) = (k, slice_get-get_or xs k x lt ∙ ap (λ (y : X). Some y) e)
 
 -- a configuration goes on from itself, and from what those before it go on from
-pub same_goes_on : (h : ObservedHistory) (returns : List ℕ) (c : Configuration h returns) → GoesOnFrom h returns c c
+pub same_goes_on : (h : ObservedHistory) (returns : List ℕ) (c : Configuration h None returns) →
+    GoesOnFrom h returns c c
 same_goes_on h returns c = record { later = []; taken = refl; passed = []; to_come = refl }
 
-pub goes_on_through : (h : ObservedHistory) (returns : List ℕ) (b c d : Configuration h returns) →
+pub goes_on_through : (h : ObservedHistory) (returns : List ℕ) (b c d : Configuration h None returns) →
     GoesOnFrom h returns b c → GoesOnFrom h returns c d → GoesOnFrom h returns b d
 goes_on_through h returns b c d one two = record {
   later = two.later ++ one.later;
@@ -85,11 +86,11 @@ goes_on_through h returns b c d one two = record {
 
 -- a node by which a search goes on, with a configuration that goes on from that of the node before. No
 -- configuration before it is of that node: more calls are in effect, or more returns past
-pub record StepsTo (h : ObservedHistory) (returns : List ℕ) (c : Configuration h returns) (w : Node) : Type 0 where
-  pub next : Configuration h returns
-  pub is_for : IsFor h returns w next
+pub record StepsTo (h : ObservedHistory) (returns : List ℕ) (c : Configuration h None returns) (w : Node) : Type 0 where
+  pub next : Configuration h None returns
+  pub is_for : IsFor h None returns w next
   pub goes_on : GoesOnFrom h returns c next
-  pub is_new : (b : Configuration h returns) → IsFor h returns w b → GoesOnFrom h returns b c → ⊥
+  pub is_new : (b : Configuration h None returns) → IsFor h None returns w b → GoesOnFrom h returns b c → ⊥
 
 same_effect : (h : ObservedHistory) (past : List ℕ) (threads : ℕ) (one other : List ℕ) (i : ℕ) (e : Observation) →
     AreTaken h.entries past threads one → AreTaken h.entries past threads other → slice_get h.entries i ≡ Some e →
@@ -100,22 +101,22 @@ same_effect h past threads one other i e are also at has = by (are.only i e at h
     by (inl is_past) = also.all_past i is_past
     by (inr both) = also.each_next i e both.1 both.0
 
-pub steps_to : (h : ObservedHistory) (returns : List ℕ) (v : Node) (next : Next) (c : Configuration h returns) →
-    IsFor h returns v c → Leads h returns v next → StepsTo h returns c next.node
+pub steps_to : (h : ObservedHistory) (returns : List ℕ) (v : Node) (next : Next) (c : Configuration h None returns) →
+    IsFor h None returns v c → Leads h None returns v next → StepsTo h returns c next.node
 steps_to h returns v next c is leads = by next.took (leads.leads c.state c.taken is.stands)
   where
-    way : Reaches h returns (drop v.past returns) c.state v.writer c.taken
-    way = subst (λ (rs : List ℕ). Reaches h returns rs c.state v.writer c.taken) is.to_come
-        (subst (λ (put : Option ℕ). Reaches h returns c.to_come c.state put c.taken) is.put c.way)
+    way : Reaches h None returns (drop v.past returns) c.state v.writer c.taken
+    way = subst (λ (rs : List ℕ). Reaches h None returns rs c.state v.writer c.taken) is.to_come
+        (subst (λ (put : Option ℕ). Reaches h None returns c.to_come c.state put c.taken) is.put c.way)
 
-    by : (o : Option ℕ) → LeadsBy h returns v next.node c.state c.taken o → StepsTo h returns c next.node
+    by : (o : Option ℕ) → LeadsBy h None returns v next.node c.state c.taken o → StepsTo h returns c next.node
     by None l = record {
       next = record {
         to_come = drop next.node.past returns;
         state = c.state;
         put = next.node.writer;
         taken = c.taken;
-        way = way_past h returns v next.node c.state c.taken leads.inside way l;
+        way = way_past h None returns v next.node c.state c.taken leads.inside way l;
       };
       is_for = record {
         inside = omega (arith, leads.inside, l.past);
@@ -148,7 +149,7 @@ steps_to h returns v next c is leads = by next.took (leads.leads c.state c.taken
         state = l.state;
         put = next.node.writer;
         taken = l.effect.index ∷ c.taken;
-        way = way_by h returns v next.node c.state c.taken i leads.inside way l;
+        way = way_by h None returns v next.node c.state c.taken i leads.inside way l;
       };
       is_for = record {
         inside = omega (arith, leads.inside, l.past);
@@ -169,29 +170,30 @@ steps_to h returns v next c is leads = by next.took (leads.leads c.state c.taken
           (contains_first l.effect.index c.taken l.effect.index refl))));
     }
 
-reached_of : (h : ObservedHistory) (returns : List ℕ) (v : Node) (c : Configuration h returns) →
-    IsFor h returns v c → IsReached h returns v
+reached_of : (h : ObservedHistory) (returns : List ℕ) (v : Node) (c : Configuration h None returns) →
+    IsFor h None returns v c → IsReached h None returns v
 reached_of h returns v c is = record {
   state = c.state;
   taken = c.taken;
   inside = is.inside;
   stands = is.stands;
-  way = subst (λ (rs : List ℕ). Reaches h returns rs c.state v.writer c.taken) is.to_come
-      (subst (λ (put : Option ℕ). Reaches h returns c.to_come c.state put c.taken) is.put c.way);
+  way = subst (λ (rs : List ℕ). Reaches h None returns rs c.state v.writer c.taken) is.to_come
+      (subst (λ (put : Option ℕ). Reaches h None returns c.to_come c.state put c.taken) is.put c.way);
 }
 
 -- each node stands for the configuration at its place
-pub record AreFor (h : ObservedHistory) (returns : List ℕ) (nodes : List Node) (cs : List (Configuration h returns)) :
+pub record AreFor (h : ObservedHistory) (returns : List ℕ) (nodes : List Node)
+    (cs : List (Configuration h None returns)) :
     Type 0 where
   pub many : length cs ≡ length nodes
-  pub each : (p : ℕ) (v : Node) (c : Configuration h returns) → slice_get nodes p ≡ Some v →
-      slice_get cs p ≡ Some c → IsFor h returns v c
+  pub each : (p : ℕ) (v : Node) (c : Configuration h None returns) → slice_get nodes p ≡ Some v →
+      slice_get cs p ≡ Some c → IsFor h None returns v c
 
 -- what waits comes from a node that was looked at
 pub record IsLedFrom (h : ObservedHistory) (returns : List ℕ) (nodes : List Node) (w : Waiting) : Type 0 where
   pub node : Node
   pub is_node : slice_get nodes w.origin.from ≡ Some node
-  pub leads : Leads h returns node (record { node = w.node; took = w.origin.took })
+  pub leads : Leads h None returns node (record { node = w.node; took = w.origin.took })
 
 -- from this height on something waits that can be completed in fewer steps
 pub record WaitsAbove (h : ObservedHistory) (returns : List ℕ) (waiting : List Waiting) (height n : ℕ) : Type 0 where
@@ -211,14 +213,14 @@ pub record GoesByNow (Now : ℕ → Type 0) (n : ℕ) : Type 0 where
 
 -- all that waits from this height on comes from what goes on from this configuration, and so does all that was looked
 -- at later; where the node can be completed, something of it can
-pub record IsOpen (h : ObservedHistory) (returns : List ℕ) (cs : List (Configuration h returns))
-    (waiting : List Waiting) (Now : ℕ → Type 0) (p : ℕ) (u : Node) (c : Configuration h returns) : Type 0 where
+pub record IsOpen (h : ObservedHistory) (returns : List ℕ) (cs : List (Configuration h None returns))
+    (waiting : List Waiting) (Now : ℕ → Type 0) (p : ℕ) (u : Node) (c : Configuration h None returns) : Type 0 where
   pub height : ℕ
   pub within : height ≤ length waiting
-  pub above : (i : ℕ) (w : Waiting) (f : Configuration h returns) → height ≤ i → slice_get waiting i ≡ Some w →
+  pub above : (i : ℕ) (w : Waiting) (f : Configuration h None returns) → height ≤ i → slice_get waiting i ≡ Some w →
       slice_get cs w.origin.from ≡ Some f → GoesOnFrom h returns c f
   pub goes_on : (n : ℕ) → Hope h returns u n → WaitsAbove h returns waiting height n ⊎ GoesByNow Now n
-  pub follow : (q : ℕ) (d : Configuration h returns) → p < q → slice_get cs q ≡ Some d → GoesOnFrom h returns c d
+  pub follow : (q : ℕ) (d : Configuration h None returns) → p < q → slice_get cs q ≡ Some d → GoesOnFrom h returns c d
 
 abbrev pub IsDead : (h : ObservedHistory) → List ℕ → Node → Type 0
 IsDead h returns u = (n : ℕ) → ¬ Hope h returns u n
@@ -228,11 +230,11 @@ pub record Deepens (h : ObservedHistory) (returns : List ℕ) (store : Store) (w
     (Now : ℕ → Type 0) : Type 0 where
   pub keeps : Keeps store
   pub linked : AreLinked h returns store
-  pub configurations : List (Configuration h returns)
+  pub configurations : List (Configuration h None returns)
   pub are : AreFor h returns store.nodes.items configurations
   pub led : (i : ℕ) (w : Waiting) → slice_get waiting i ≡ Some w → IsLedFrom h returns store.nodes.items w
   pub unended : (p : ℕ) (v : Node) → p < expanded → slice_get store.nodes.items p ≡ Some v → v.past < length returns
-  pub each : (p : ℕ) (u : Node) (c : Configuration h returns) → p < expanded →
+  pub each : (p : ℕ) (u : Node) (c : Configuration h None returns) → p < expanded →
       slice_get store.nodes.items p ≡ Some u → slice_get configurations p ≡ Some c →
       IsDead h returns u ⊎ IsOpen h returns configurations waiting Now p u c
 
@@ -253,17 +255,17 @@ some_inside (x ∷ xs) zero lt = (x, refl)
 some_inside (x ∷ xs) (suc p) lt = some_inside xs p (omega (arith, lt))
 
 -- the configuration of a node that was looked at
-record HasFor (h : ObservedHistory) (returns : List ℕ) (cs : List (Configuration h returns)) (p : ℕ) (v : Node) :
+record HasFor (h : ObservedHistory) (returns : List ℕ) (cs : List (Configuration h None returns)) (p : ℕ) (v : Node) :
     Type 0 where
-  configuration : Configuration h returns
+  configuration : Configuration h None returns
   is_at : slice_get cs p ≡ Some configuration
-  is_for : IsFor h returns v configuration
+  is_for : IsFor h None returns v configuration
 
-of_node : (h : ObservedHistory) (returns : List ℕ) (nodes : List Node) (cs : List (Configuration h returns))
+of_node : (h : ObservedHistory) (returns : List ℕ) (nodes : List Node) (cs : List (Configuration h None returns))
     (p : ℕ) (v : Node) → AreFor h returns nodes cs → slice_get nodes p ≡ Some v → HasFor h returns cs p v
 of_node h returns nodes cs p v are at =
     let inside : p < length cs = omega (arith, are.many, slice_get_within nodes p v at) in
-    let found : (c : Configuration h returns) × (slice_get cs p ≡ Some c) = some_inside cs p inside in
+    let found : (c : Configuration h None returns) × (slice_get cs p ≡ Some c) = some_inside cs p inside in
     record { configuration = found.0; is_at = found.1; is_for = are.each p v found.0 at found.1 }
 
 -- the search begins
@@ -297,13 +299,13 @@ deepens_first h returns store node begins is = record {
   };
 }
   where
-    first : Configuration h returns
+    first : Configuration h None returns
     first = record {
       to_come = drop node.past returns;
       state = opening h.width;
       put = node.writer;
       taken = [];
-      way = opening_way h returns node is;
+      way = opening_way h None returns node is;
     }
 
     at_first : slice_get store.nodes.items 0 ≡ Some node
@@ -312,7 +314,7 @@ deepens_first h returns store node begins is = record {
     none_waits : (i : ℕ) (w : Waiting) → slice_get [] i ≡ Some w → ⊥
     none_waits i w at = omega (arith, slice_get_within [] i w at)
 
-    first_for : IsFor h returns node first
+    first_for : IsFor h None returns node first
     first_for = record {
       inside = omega (arith, is.past);
       to_come = refl;
@@ -320,10 +322,10 @@ deepens_first h returns store node begins is = record {
       stands = opening_stands h returns node is;
     }
 
-    one : (p : ℕ) (v : Node) (c : Configuration h returns) → slice_get (node ∷ []) p ≡ Some v →
-        slice_get (first ∷ []) p ≡ Some c → IsFor h returns v c
-    one zero v c at here = subst (IsFor h returns v) (same_Some first c here)
-        (subst (λ (w : Node). IsFor h returns w first) (same_Some node v at) first_for)
+    one : (p : ℕ) (v : Node) (c : Configuration h None returns) → slice_get (node ∷ []) p ≡ Some v →
+        slice_get (first ∷ []) p ≡ Some c → IsFor h None returns v c
+    one zero v c at here = subst (IsFor h None returns v) (same_Some first c here)
+        (subst (λ (w : Node). IsFor h None returns w first) (same_Some node v at) first_for)
     one (suc p) v c at here = absurd (omega (arith, slice_get_within (node ∷ []) (suc p) v at))
 
 -- what waits on top of the list, where the nodes that come next are left
@@ -402,9 +404,9 @@ deepens_expanded h returns store waiting expanded nexts is inside expands = reco
         record {
           node = is.last;
           is_node = ap (λ (n : ℕ). slice_get store.nodes.items n) from.1.1.1.0 ∙ is.is_last;
-          leads = subst (λ (u : Node). Leads h returns is.last (record { node = u; took = w.origin.took }))
+          leads = subst (λ (u : Node). Leads h None returns is.last (record { node = u; took = w.origin.took }))
               (sym from.1.1.0)
-              (subst (λ (o : Option ℕ). Leads h returns is.last (record { node = from.0.node; took = o }))
+              (subst (λ (o : Option ℕ). Leads h None returns is.last (record { node = from.0.node; took = o }))
               (sym from.1.1.1.1) (expands.each from.0 from.1.0));
         }
 
@@ -415,10 +417,10 @@ deepens_expanded h returns store waiting expanded nexts is inside expands = reco
         (same_Some is.last v (sym is.is_last ∙ ap (λ (n : ℕ). slice_get store.nodes.items n) (sym same) ∙ at)) inside
 
     -- what waits comes from what goes on from this configuration, if the node that was expanded does
-    above : (c : Configuration h returns) (height : ℕ) → GoesOnFrom h returns c last.configuration →
-        ((i : ℕ) (w : Waiting) (f : Configuration h returns) → height ≤ i → slice_get waiting i ≡ Some w →
+    above : (c : Configuration h None returns) (height : ℕ) → GoesOnFrom h returns c last.configuration →
+        ((i : ℕ) (w : Waiting) (f : Configuration h None returns) → height ≤ i → slice_get waiting i ≡ Some w →
         slice_get was.configurations w.origin.from ≡ Some f → GoesOnFrom h returns c f) →
-        (i : ℕ) (w : Waiting) (f : Configuration h returns) → height ≤ i →
+        (i : ℕ) (w : Waiting) (f : Configuration h None returns) → height ≤ i →
         slice_get (waiting ++ waiting_from expanded nexts) i ≡ Some w →
         slice_get was.configurations w.origin.from ≡ Some f → GoesOnFrom h returns c f
     above c height on before i w f le at here = by (read_both waiting (waiting_from expanded nexts) w i at)
@@ -434,7 +436,7 @@ deepens_expanded h returns store waiting expanded nexts is inside expands = reco
     longer : length waiting ≤ length (waiting ++ waiting_from expanded nexts)
     longer = omega (arith, length-append waiting (waiting_from expanded nexts))
 
-    each : (p : ℕ) (u : Node) (c : Configuration h returns) → slice_get store.nodes.items p ≡ Some u →
+    each : (p : ℕ) (u : Node) (c : Configuration h None returns) → slice_get store.nodes.items p ≡ Some u →
         slice_get was.configurations p ≡ Some c → (p < expanded) ⊎ (p ≡ expanded) →
         IsDead h returns u ⊎ IsOpen h returns was.configurations (waiting ++ waiting_from expanded nexts) None_now p u c
     each p u c at here (inl lt) = by (was.each p u c lt at here)
@@ -478,7 +480,7 @@ deepens_expanded h returns store waiting expanded nexts is inside expands = reco
     each p u c at here (inr same) = inr (record {
       height = length waiting;
       within = longer;
-      above = above c (length waiting) (subst (λ (d : Configuration h returns). GoesOnFrom h returns d
+      above = above c (length waiting) (subst (λ (d : Configuration h None returns). GoesOnFrom h returns d
           last.configuration) is_last (same_goes_on h returns last.configuration))
           (λ i w f le at_i from. absurd (omega (arith, le, slice_get_within waiting i w at_i)));
       goes_on = λ n hope. inl (next_waits h returns waiting expanded (length waiting) nexts n (omega arith)
@@ -502,8 +504,9 @@ deepens_expanded h returns store waiting expanded nexts is inside expands = reco
             ap (λ (n : ℕ). slice_get store.nodes.items n) (sym same) ∙ at)
 
 -- a node from which nothing waits is dead
-all_passed : (h : ObservedHistory) (returns : List ℕ) (cs : List (Configuration h returns)) (waiting : List Waiting)
-    (p : ℕ) (u : Node) (c : Configuration h returns) (going : IsOpen h returns cs waiting None_now p u c) →
+all_passed : (h : ObservedHistory) (returns : List ℕ) (cs : List (Configuration h None returns))
+    (waiting : List Waiting)
+    (p : ℕ) (u : Node) (c : Configuration h None returns) (going : IsOpen h returns cs waiting None_now p u c) →
     length waiting ≤ going.height → IsDead h returns u
 all_passed h returns cs waiting p u c going none n hope = by (going.goes_on n hope)
   where
@@ -572,7 +575,7 @@ passed_over h returns store waiting last expanded was all has = record {
     order : (a b : ℕ) → (a ≤ b) ⊎ (b + 1 ≤ a)
     order a b = grind arith
 
-    by : (p : ℕ) (u : Node) (c : Configuration h returns) → IsDead h returns u ⊎
+    by : (p : ℕ) (u : Node) (c : Configuration h None returns) → IsDead h returns u ⊎
         IsOpen h returns was.configurations (waiting ++ last ∷ []) None_now p u c →
         IsDead h returns u ⊎ IsOpen h returns was.configurations waiting None_now p u c
     by p u c (inl gone) = inl gone
@@ -698,7 +701,7 @@ deepens_on h returns old new waited waiting expanded before all looks = record {
         ap (λ (n : ℕ). slice_get (old.nodes.items ++ last.node ∷ []) n) (sym all) ∙
         read_last old.nodes.items last.node
 
-    reached_from : IsReached h returns from.node
+    reached_from : IsReached h None returns from.node
     reached_from = reached_of h returns from.node origin.configuration origin.is_for
 
     linked : (k : ℕ) (v : Node) → 0 < k → (slice_get old.nodes.items k ≡ Some v) ⊎ ((k ≡ length old.nodes.items) ×
@@ -726,20 +729,21 @@ deepens_on h returns old new waited waiting expanded before all looks = record {
           node = from.node;
           is_node = more last.origin.from from.node from.is_node;
           reached = reached_from;
-          leads = subst (λ (u : Node). Leads h returns from.node (record { node = u; took = last.origin.took })) same
+          leads = subst (λ (u : Node). Leads h None returns from.node (record { node = u; took = last.origin.took }))
+              same
               from.leads;
         }
 
-    are : (p : ℕ) (v : Node) (c : Configuration h returns) → (slice_get old.nodes.items p ≡ Some v) ⊎
+    are : (p : ℕ) (v : Node) (c : Configuration h None returns) → (slice_get old.nodes.items p ≡ Some v) ⊎
         ((p ≡ length old.nodes.items) × (last.node ≡ v)) → (slice_get was.configurations p ≡ Some c) ⊎
-        ((p ≡ length was.configurations) × (step.next ≡ c)) → IsFor h returns v c
+        ((p ≡ length was.configurations) × (step.next ≡ c)) → IsFor h None returns v c
     are p v c (inl at) (inl here) = was.are.each p v c at here
     are p v c (inl at) (inr (end, same)) =
         absurd (omega (arith, end, was.are.many, slice_get_within old.nodes.items p v at))
     are p v c (inr (end, same)) (inl here) =
         absurd (omega (arith, end, was.are.many, slice_get_within was.configurations p c here))
-    are p v c (inr (end, same)) (inr (end_too, same_too)) = subst (IsFor h returns v) same_too
-        (subst (λ (u : Node). IsFor h returns u step.next) same step.is_for)
+    are p v c (inr (end, same)) (inr (end_too, same_too)) = subst (IsFor h None returns v) same_too
+        (subst (λ (u : Node). IsFor h None returns u step.next) same step.is_for)
 
     unended : (p : ℕ) (v : Node) → p < expanded → (slice_get old.nodes.items p ≡ Some v) ⊎
         ((p ≡ length old.nodes.items) × (last.node ≡ v)) → v.past < length returns
@@ -749,7 +753,8 @@ deepens_on h returns old new waited waiting expanded before all looks = record {
     order : (a b : ℕ) → (a ≤ b) ⊎ (b + 1 ≤ a)
     order a b = grind arith
 
-    each : (p : ℕ) (u : Node) (c : Configuration h returns) → p < expanded → (slice_get old.nodes.items p ≡ Some u) ⊎
+    each : (p : ℕ) (u : Node) (c : Configuration h None returns) → p < expanded →
+        (slice_get old.nodes.items p ≡ Some u) ⊎
         ((p ≡ length old.nodes.items) × (last.node ≡ u)) → (slice_get was.configurations p ≡ Some c) ⊎
         ((p ≡ length was.configurations) × (step.next ≡ c)) → IsDead h returns u ⊎
         IsOpen h returns (was.configurations ++ step.next ∷ []) waiting (Hope h returns last.node) p u c
@@ -792,7 +797,7 @@ deepens_on h returns old new waited waiting expanded before all looks = record {
                 at_i) in
                 omega (arith, was.are.many, slice_get_within old.nodes.items w.origin.from led.node led.is_node)
 
-            old_place : (f : Configuration h returns) (k : ℕ) → k < length was.configurations →
+            old_place : (f : Configuration h None returns) (k : ℕ) → k < length was.configurations →
                 slice_get (was.configurations ++ step.next ∷ []) k ≡ Some f → slice_get was.configurations k ≡ Some f
             old_place f k less at_k = left (read_push was.configurations step.next f k at_k)
               where
@@ -814,7 +819,8 @@ deepens_on h returns old new waited waiting expanded before all looks = record {
               follow = λ q d later at_q. follow q d later (read_push was.configurations step.next d q at_q);
             })
               where
-                follow : (q : ℕ) (d : Configuration h returns) → p < q → (slice_get was.configurations q ≡ Some d) ⊎
+                follow : (q : ℕ) (d : Configuration h None returns) → p < q →
+                    (slice_get was.configurations q ≡ Some d) ⊎
                     ((q ≡ length was.configurations) × (step.next ≡ d)) → GoesOnFrom h returns c d
                 follow q d later (inl found) = going.follow q d later found
                 follow q d later (inr (end, same)) = subst (GoesOnFrom h returns c) same
@@ -880,7 +886,7 @@ deepened_more h returns store waiting expanded most is enough = record {
     was : Deepens h returns store waiting expanded (Hope h returns is.last)
     was = is.deepens
 
-    cs : List (Configuration h returns)
+    cs : List (Configuration h None returns)
     cs = was.configurations
 
     nodes : List Node
@@ -898,37 +904,38 @@ deepened_more h returns store waiting expanded most is enough = record {
     node_at : (k : ℕ) → k < most + 1 → slice_get nodes k ≡ Some (get_or nodes k none)
     node_at k lt = slice_get-get_or nodes k none (omega (arith, lt, is.count, enough))
 
-    at : (k : ℕ) (d : Configuration h returns) → k < most + 1 →
+    at : (k : ℕ) (d : Configuration h None returns) → k < most + 1 →
         slice_get cs k ≡ Some (get_or (take (most + 1) cs) k d)
     at k d lt = slice_get-get_or cs k d (omega (arith, lt, counted)) ∙
-        ap (λ (c : Configuration h returns). Some c) (sym (get_or-take (most + 1) cs k d lt))
+        ap (λ (c : Configuration h None returns). Some c) (sym (get_or-take (most + 1) cs k d lt))
 
-    for_it : (k : ℕ) (d : Configuration h returns) → k < most + 1 →
-        IsFor h returns (get_or nodes k none) (get_or (take (most + 1) cs) k d)
+    for_it : (k : ℕ) (d : Configuration h None returns) → k < most + 1 →
+        IsFor h None returns (get_or nodes k none) (get_or (take (most + 1) cs) k d)
     for_it k d lt = was.are.each k (get_or nodes k none) (get_or (take (most + 1) cs) k d) (node_at k lt) (at k d lt)
 
-    differ : (i j : ℕ) (d : Configuration h returns) → i < j → j < most + 1 →
-        AreOne h returns (get_or (take (most + 1) cs) i d) (get_or (take (most + 1) cs) j d) → ⊥
+    differ : (i j : ℕ) (d : Configuration h None returns) → i < j → j < most + 1 →
+        AreOne h None returns (get_or (take (most + 1) cs) i d) (get_or (take (most + 1) cs) j d) → ⊥
     differ i j d lt inside one =
         was.keeps.different i j none lt (omega (arith, inside, is.count, enough))
-        (one_node h returns (get_or nodes i none) (get_or nodes j none) (get_or (take (most + 1) cs) i d)
+        (one_node h None returns (get_or nodes i none) (get_or nodes j none) (get_or (take (most + 1) cs) i d)
         (get_or (take (most + 1) cs) j d) (for_it i d (omega (arith, lt, inside))) (for_it j d inside) one)
 
-    first_one : Configuration h returns
+    first_one : Configuration h None returns
     first_one = (some_inside cs 0 (omega (arith, counted))).0
 
-    past_all : (k : ℕ) (d : Configuration h returns) → k < most + 1 →
-        AreOne h returns (get_or (take (most + 1) cs) k d) (get_or cs (most + 1) first_one) → ⊥
+    past_all : (k : ℕ) (d : Configuration h None returns) → k < most + 1 →
+        AreOne h None returns (get_or (take (most + 1) cs) k d) (get_or cs (most + 1) first_one) → ⊥
     past_all k d lt one =
         let last : most + 1 < length nodes = omega (arith, is.count, enough) in
         was.keeps.different k (most + 1) none lt last
-        (one_node h returns (get_or nodes k none) (get_or nodes (most + 1) none) (get_or (take (most + 1) cs) k d)
+        (one_node h None returns (get_or nodes k none) (get_or nodes (most + 1) none) (get_or (take (most + 1) cs) k d)
         (get_or cs (most + 1) first_one) (for_it k d lt)
         (was.are.each (most + 1) (get_or nodes (most + 1) none) (get_or cs (most + 1) first_one)
         (slice_get-get_or nodes (most + 1) none last)
         (slice_get-get_or cs (most + 1) first_one (omega (arith, counted)))) one)
 
-    open_end : (k : ℕ) (d : Configuration h returns) → k < most + 1 → (get_or (take (most + 1) cs) k d).to_come ≢ []
+    open_end : (k : ℕ) (d : Configuration h None returns) → k < most + 1 →
+        (get_or (take (most + 1) cs) k d).to_come ≢ []
     open_end k d lt ended =
         omega (
           arith,
@@ -937,7 +944,7 @@ deepened_more h returns store waiting expanded most is enough = record {
           length-drop (get_or nodes k none).past returns,
         )
 
-    deep : (i j : ℕ) (d : Configuration h returns) → i < j → j < most + 1 →
+    deep : (i j : ℕ) (d : Configuration h None returns) → i < j → j < most + 1 →
         IsAlive h returns (get_or (take (most + 1) cs) i d) →
         GoesOnFrom h returns (get_or (take (most + 1) cs) i d) (get_or (take (most + 1) cs) j d)
     deep i j d lt inside alive =
@@ -949,10 +956,10 @@ deepened_more h returns store waiting expanded most is enough = record {
         u : Node
         u = get_or nodes i none
 
-        c : Configuration h returns
+        c : Configuration h None returns
         c = get_or (take (most + 1) cs) i d
 
-        it : IsFor h returns u c
+        it : IsFor h None returns u c
         it = for_it i d less
 
         by : IsDead h returns u ⊎ IsOpen h returns cs waiting (Hope h returns is.last) i u c →
@@ -978,7 +985,7 @@ last_read h returns store waiting expanded place v is same read =
 
 pub last_reached : (h : ObservedHistory) (returns : List ℕ) (store : Store) (waiting : List Waiting)
     (expanded : ℕ) (v : Node) → IsAtLast h returns store waiting expanded →
-    slice_get store.nodes.items expanded ≡ Some v → IsReached h returns v
+    slice_get store.nodes.items expanded ≡ Some v → IsReached h None returns v
 last_reached h returns store waiting expanded v is at =
     let it : HasFor h returns is.deepens.configurations expanded v =
     of_node h returns store.nodes.items is.deepens.configurations expanded v is.deepens.are at in

@@ -26,7 +26,7 @@ use Rattle.stamp_explain.specs.Configuration.{Reaches}
 use Rattle.stamp_explain.specs.Configuration.Reaches.{begins}
 use Rattle.stamp_explain.specs.Node.{AreTaken, IsOpening, StandsFor, IsReached}
 use Rattle.stamp_explain.specs.Store.{Keeps}
-use Rattle.stamp_explain.specs.Expand.{Hope, GoesOn, Leads, Expands, Enters, IsPlaced, IsLinkedAt, AreLinked, nodes_of}
+use Rattle.stamp_explain.specs.Expand.{Hope, GoesOn, Suffice, Enters, IsPlaced, nodes_of}
 use Rattle.stamp_explain.specs.Expand.{origins_of}
 use Rattle.stamp_explain.proofs.Lists.{none_in_empty, contains_cases, contains_first, contains_rest}
 use Rattle.stamp_explain.proofs.Finding.{runs_legal, legal_runs}
@@ -70,10 +70,11 @@ explained_by h returns are explained =
 pub record Searches (h : ObservedHistory) (returns : List ℕ) (looked : ℕ) (store : Store)
     (waiting : List ℕ) : Type 0 where
   pub keeps : Keeps store
-  pub reached : (v : Node) → Contains store.nodes.items v → IsReached h returns v
   pub inside : All (λ (p : ℕ). p < length store.nodes.items) waiting
   pub loses : LosesNothing (Hope h returns) (Contains store.nodes.items) (IsPlaced store.nodes.items waiting)
-  pub linked : AreLinked h returns store
+  pub first : Node
+  pub is_first : IsOpening h first
+  pub at_first : slice_get store.nodes.items 0 ≡ Some first
   pub count : looked + length waiting ≡ length store.nodes.items
 
 -- the opening is a node that is reached, and hopes for any order
@@ -93,21 +94,22 @@ opening_stands h returns node is = record {
     no_bit : (t : ℕ) → bit_at 0 t ≡ 1 → ⊥
     no_bit t bit = absurd (omega (arith, bit_at-zero t, bit))
 
-pub opening_way : (h : ObservedHistory) (returns : List ℕ) (node : Node) → IsOpening h node →
-    Reaches h returns (drop node.past returns) (opening h.width) node.writer []
-opening_way h returns node is =
-    subst (λ (put : Option ℕ). Reaches h returns (drop node.past returns) (opening h.width) put [])
-    (sym is.writer) (subst (λ (n : ℕ). Reaches h returns (drop n returns) (opening h.width) None []) (sym is.past)
+pub opening_way : (h : ObservedHistory) (asked : Option ℕ) (returns : List ℕ) (node : Node) → IsOpening h node →
+    Reaches h asked returns (drop node.past returns) (opening h.width) node.writer []
+opening_way h asked returns node is =
+    subst (λ (put : Option ℕ). Reaches h asked returns (drop node.past returns) (opening h.width) put [])
+    (sym is.writer) (subst (λ (n : ℕ). Reaches h asked returns (drop n returns) (opening h.width) None []) (sym is.past)
     begins)
 
-abbrev pub opening_reached : (h : ObservedHistory) (returns : List ℕ) (node : Node) → IsOpening h node → IsReached h
-    returns node
-opening_reached h returns node is = record {
+abbrev pub opening_reached : (h : ObservedHistory) (asked : Option ℕ) (returns : List ℕ) (node : Node) →
+    IsOpening h node → IsReached h
+    asked returns node
+opening_reached h asked returns node is = record {
   state = opening h.width;
   taken = [];
   inside = omega (arith, is.past);
   stands = opening_stands h returns node is;
-  way = opening_way h returns node is;
+  way = opening_way h asked returns node is;
 }
 
 pub contains_at : {X : Type 0} (xs : List X) (k : ℕ) (x : X) → slice_get xs k ≡ Some x → Contains xs x
@@ -138,7 +140,6 @@ pub searches_first : (h : ObservedHistory) (returns : List ℕ) (old new : Store
     Searches h returns 0 new waiting
 searches_first h returns old new waiting next empty is enters = record {
   keeps = enters.keeps;
-  reached = λ v has. subst (IsReached h returns) (one v has) (opening_reached h returns next.node is);
   inside = subst (All (λ (p : ℕ). p < length new.nodes.items)) (sym enters.to_do) enters.inside;
   loses = record {
     kept = λ u n seen hope. record {
@@ -150,13 +151,9 @@ searches_first h returns old new waiting next empty is enters = record {
       hope = hope;
     };
   };
-  linked = record {
-    first = next.node;
-    is_first = is;
-    at_first = at_first;
-    each = λ k v lt at. absurd (enters.keeps.different 0 k v lt (slice_get_within new.nodes.items k v at)
-        (at_place 0 v inside ∙ sym (at_place k v (slice_get_within new.nodes.items k v at))));
-  };
+  first = next.node;
+  is_first = is;
+  at_first = at_first;
   count = omega (
     arith,
     ap (λ (ns : List Node). length ns) all,
@@ -202,12 +199,10 @@ Comes nexts w = (x : Next) × (Contains nexts x × (x.node ≡ w))
 pub searches_more : (h : ObservedHistory) (returns : List ℕ) (looked : ℕ) (old new : Store)
     (before popped after : List ℕ) (nexts : List Next) (place : ℕ) (v : Node) →
     Searches h returns looked old before → before ≡ popped ++ place ∷ [] →
-    slice_get old.nodes.items place ≡ Some v → Expands h returns v nexts →
+    slice_get old.nodes.items place ≡ Some v → Suffice h returns v nexts →
     Enters old new place popped after nexts → Searches h returns (looked + 1) new after
-searches_more h returns looked old new before popped after nexts place v is split at expands enters = record {
+searches_more h returns looked old new before popped after nexts place v is split at suffice enters = record {
   keeps = enters.keeps;
-  reached = λ w has. reached w (Contains-append_cases old.nodes.items (nodes_of enters.added) w
-      (subst (λ (ns : List Node). Contains ns w) enters.nodes has));
   inside = subst (All (λ (p : ℕ). p < length new.nodes.items)) (sym enters.to_do)
       (All-append (λ (p : ℕ). p < length new.nodes.items) popped enters.places
       (All-weaker (Contains popped) (λ (p : ℕ). p < length new.nodes.items)
@@ -217,12 +212,9 @@ searches_more h returns looked old new before popped after nexts place v is spli
         (Contains-append_cases old.nodes.items (nodes_of enters.added) u
         (subst (λ (ns : List Node). Contains ns u) enters.nodes seen)) hope);
   };
-  linked = record {
-    first = is.linked.first;
-    is_first = is.linked.is_first;
-    at_first = more 0 is.linked.first is.linked.at_first;
-    each = λ k w lt here. linked k w lt here (below k);
-  };
+  first = is.first;
+  is_first = is.is_first;
+  at_first = more 0 is.first is.at_first;
   count = omega (
     arith,
     is.count,
@@ -251,66 +243,6 @@ searches_more h returns looked old new before popped after nexts place v is spli
     more k w here = ap (λ (ns : List Node). slice_get ns k) enters.nodes ∙
         read_left old.nodes.items (nodes_of enters.added) k w here
 
-    v_reached : IsReached h returns v
-    v_reached = is.reached v (contains_at old.nodes.items place v at)
-
-    led : (x : Next) → Contains enters.added x → Leads h returns v x
-    led x has = expands.each x (All-contains (Contains nexts) enters.added x enters.among has)
-
-    reached : (w : Node) → Contains old.nodes.items w ⊎ Contains (nodes_of enters.added) w → IsReached h returns w
-    reached w (inl has) = is.reached w has
-    reached w (inr has) = let found : (x : Next) × (Contains enters.added x × (x.node ≡ w)) =
-        named enters.added w has in
-        subst (IsReached h returns) found.1.1 (leads_reached h returns v found.0 v_reached
-        (led found.0 found.1.0))
-
-    below : (k : ℕ) → (k < length old.nodes.items) ⊎ (length old.nodes.items ≤ k)
-    below k = grind arith
-
-    linked : (k : ℕ) (w : Node) → 0 < k → slice_get new.nodes.items k ≡ Some w →
-        (k < length old.nodes.items) ⊎ (length old.nodes.items ≤ k) → IsLinkedAt h returns new k w
-    linked k w lt here (inl less) =
-        let d : Node = get_or old.nodes.items k w in
-        let was : slice_get old.nodes.items k ≡ Some d = slice_get-get_or old.nodes.items k w less in
-        let same : d ≡ w = same_Some d w (sym (more k d was) ∙ here) in
-        let link : IsLinkedAt h returns old k w = is.linked.each k w lt (was ∙ ap (λ (x : Node). Some x) same) in
-        record {
-          origin = link.origin;
-          is_origin = ap (λ (os : List Origin). slice_get os k) enters.origins ∙
-              read_left old.origins.items (origins_of place enters.added) k link.origin link.is_origin;
-          sooner = link.sooner;
-          node = link.node;
-          is_node = more link.origin.from link.node link.is_node;
-          reached = link.reached;
-          leads = link.leads;
-        }
-    linked k w lt here (inr past) =
-        let j : ℕ = k - length old.nodes.items in
-        let k_is : k ≡ length old.nodes.items + j = omega arith in
-        let origin_place : k ≡ length old.origins.items + j = omega (arith, is.keeps.origins) in
-        let read : slice_get (nodes_of enters.added) j ≡ Some w =
-        sym (read_right old.nodes.items (nodes_of enters.added) j) ∙
-        ap (λ (n : ℕ). slice_get (old.nodes.items ++ nodes_of enters.added) n) (sym k_is) ∙
-        ap (λ (ns : List Node). slice_get ns k) (sym enters.nodes) ∙ here in
-        let found : (x : Next) × ((slice_get enters.added j ≡ Some x) × (x.node ≡ w)) =
-        named_at enters.added j w read in
-        let x : Next = found.0 in
-        record {
-          origin = record { from = place; took = x.took };
-          is_origin = ap (λ (os : List Origin). slice_get os k) enters.origins ∙
-              ap (λ (n : ℕ). slice_get (old.origins.items ++ origins_of place enters.added) n) origin_place ∙
-              read_right old.origins.items (origins_of place enters.added) j ∙
-              slice_get-map (λ (y : Next). record { from = place; took = y.took }) enters.added j ∙
-              ap (λ (o : Option Next). option_map (λ (y : Next). record { from = place; took = y.took }) o)
-              found.1.0;
-          sooner = omega (arith, past, slice_get_within old.nodes.items place v at);
-          node = v;
-          is_node = more place v at;
-          reached = v_reached;
-          leads = subst (λ (u : Node). Leads h returns v (record { node = u; took = x.took })) found.1.1
-              (led x (contains_at enters.added j x found.1.0));
-        }
-
     either : (w : Node) → IsPlaced old.nodes.items before w → (w ≡ v) ⊎ IsPlaced old.nodes.items popped w
     either w placed = which (Contains-push_cases popped place placed.place
         (subst (λ (ps : List ℕ). Contains ps placed.place) split placed.among))
@@ -337,7 +269,7 @@ searches_more h returns looked old new before popped after nexts place v is spli
 
     follows : (n : ℕ) → Hope h returns v n → Follows (Hope h returns) (Comes nexts) n
     follows n hope =
-        let on : GoesOn h returns nexts n = expands.whole n hope in
+        let on : GoesOn h returns nexts n = suffice n hope in
         record {
           node = on.next.node;
           steps = on.left;
@@ -391,15 +323,15 @@ pub found_nothing : (h : ObservedHistory) (returns : List ℕ) (looked : ℕ) (s
 found_nothing h returns looked store waiting are is none explained =
     none_left (Hope h returns) (Contains store.nodes.items) (IsPlaced store.nodes.items waiting) is.loses
     (λ w placed. none_in_empty placed.place (subst (λ (ps : List ℕ). Contains ps placed.place) none placed.among))
-    is.linked.first (length (drop is.linked.first.past returns) + length explained.order)
-    (contains_at store.nodes.items 0 is.linked.first is.linked.at_first)
+    is.first (length (drop is.first.past returns) + length explained.order)
+    (contains_at store.nodes.items 0 is.first is.at_first)
     (record {
       state = opening h.width;
       taken = [];
-      stands = opening_stands h returns is.linked.first is.linked.is_first;
+      stands = opening_stands h returns is.first is.is_first;
       rest = explained.order;
       by = subst (λ (n : ℕ). IsCompletedBy (LockSteps h.limits) h.entries (drop n returns) (opening h.width) []
-          explained.order) (sym is.linked.is_first.past) (explained_by h returns are explained);
+          explained.order) (sym is.is_first.past) (explained_by h returns are explained);
       steps = refl;
     })
 

@@ -34,59 +34,62 @@ pub come_as_well : (returns : List ℕ) (past w : ℕ) → past < length returns
 come_as_well returns past w lt same = sym (come returns past lt) ∙ ap (λ (n : ℕ). drop n returns) (sym same)
 
 -- a way goes on where the awaited call returns
-pub way_past : (h : ObservedHistory) (returns : List ℕ) (node w : Node) (s : LockState) (taken : List ℕ) →
-    node.past < length returns → Reaches h returns (drop node.past returns) s node.writer taken →
-    LeadsByReturn h returns node w s taken → Reaches h returns (drop w.past returns) s w.writer taken
-way_past h returns node w s taken inside way l =
-    subst (λ (put : Option ℕ). Reaches h returns (drop w.past returns) s put taken) (sym l.put)
-    (goes_past (subst (λ (to_come : List ℕ). Reaches h returns to_come s node.writer taken) there way) l.in_effect)
+pub way_past : (h : ObservedHistory) (asked : Option ℕ) (returns : List ℕ) (node w : Node) (s : LockState)
+    (taken : List ℕ) →
+    node.past < length returns → Reaches h asked returns (drop node.past returns) s node.writer taken →
+    LeadsByReturn h returns node w s taken → Reaches h asked returns (drop w.past returns) s w.writer taken
+way_past h asked returns node w s taken inside way l =
+    subst (λ (put : Option ℕ). Reaches h asked returns (drop w.past returns) s put taken) (sym l.put)
+    (goes_past (subst (λ (to_come : List ℕ). Reaches h asked returns to_come s node.writer taken) there way)
+    l.in_effect)
   where
     there : drop node.past returns ≡ slice_index returns node.past ∷ drop w.past returns
     there = come returns node.past inside ∙ ap (λ (rest : List ℕ). slice_index returns node.past ∷ rest)
         (come_less returns node.past w.past l.past)
 
 -- and where a call takes effect
-pub way_by : (h : ObservedHistory) (returns : List ℕ) (node w : Node) (s : LockState) (taken : List ℕ) (i : ℕ) →
-    node.past < length returns → Reaches h returns (drop node.past returns) s node.writer taken →
-    (l : LeadsByCall h returns node w s taken i) →
-    Reaches h returns (drop w.past returns) l.state w.writer (l.effect.index ∷ taken)
-way_by h returns node w s taken i inside way l =
-    subst (λ (put : Option ℕ). Reaches h returns (drop w.past returns) l.state put (l.effect.index ∷ taken))
-    (sym l.put) (subst (λ (to_come : List ℕ). Reaches h returns to_come l.state
+pub way_by : (h : ObservedHistory) (asked : Option ℕ) (returns : List ℕ) (node w : Node) (s : LockState)
+    (taken : List ℕ) (i : ℕ) →
+    node.past < length returns → Reaches h asked returns (drop node.past returns) s node.writer taken →
+    (l : LeadsByCall h asked returns node w s taken i) →
+    Reaches h asked returns (drop w.past returns) l.state w.writer (l.effect.index ∷ taken)
+way_by h asked returns node w s taken i inside way l =
+    subst (λ (put : Option ℕ). Reaches h asked returns (drop w.past returns) l.state put (l.effect.index ∷ taken))
+    (sym l.put) (subst (λ (to_come : List ℕ). Reaches h asked returns to_come l.state
     (put_after node.writer l.effect.index l.effect.entry.call l.effect.reply) (l.effect.index ∷ taken))
     (come_as_well returns node.past w.past inside l.past)
-    (goes_on_by (subst (λ (to_come : List ℕ). Reaches h returns to_come s node.writer taken)
+    (goes_on_by (subst (λ (to_come : List ℕ). Reaches h asked returns to_come s node.writer taken)
     (come returns node.past inside) way) l.awaited l.effect l.state l.is_awaited l.not_yet l.tried l.may))
 
 -- what comes from a node that is reached is reached
-pub leads_reached : (h : ObservedHistory) (returns : List ℕ) (node : Node) (next : Next) →
-    IsReached h returns node → Leads h returns node next → IsReached h returns next.node
-leads_reached h returns node next reached leads =
+pub leads_reached : (h : ObservedHistory) (asked : Option ℕ) (returns : List ℕ) (node : Node) (next : Next) →
+    IsReached h asked returns node → Leads h asked returns node next → IsReached h asked returns next.node
+leads_reached h asked returns node next reached leads =
     by next.took (leads.leads reached.state reached.taken reached.stands)
   where
-    by : (o : Option ℕ) → LeadsBy h returns node next.node reached.state reached.taken o →
-        IsReached h returns next.node
+    by : (o : Option ℕ) → LeadsBy h asked returns node next.node reached.state reached.taken o →
+        IsReached h asked returns next.node
     by None l = record {
       state = reached.state;
       taken = reached.taken;
       inside = omega (arith, leads.inside, l.past);
       stands = l.stands;
-      way = way_past h returns node next.node reached.state reached.taken leads.inside reached.way l;
+      way = way_past h asked returns node next.node reached.state reached.taken leads.inside reached.way l;
     }
     by (Some i) l = record {
       state = l.state;
       taken = l.effect.index ∷ reached.taken;
       inside = omega (arith, leads.inside, l.past);
       stands = l.stands;
-      way = way_by h returns node next.node reached.state reached.taken i leads.inside reached.way l;
+      way = way_by h asked returns node next.node reached.state reached.taken i leads.inside reached.way l;
     }
 
 -- so a call that took effect there did so in some state
 pub led_by : (h : ObservedHistory) (returns : List ℕ) (node w : Node) (took : Option ℕ) →
-    IsReached h returns node → Leads h returns node (record { node = w; took = took }) → IsLed h node took
+    IsReached h None returns node → Leads h None returns node (record { node = w; took = took }) → IsLed h node took
 led_by h returns node w None reached leads = tt
 led_by h returns node w (Some i) reached leads =
-    let l : LeadsByCall h returns node w reached.state reached.taken i =
+    let l : LeadsByCall h None returns node w reached.state reached.taken i =
     leads.leads reached.state reached.taken reached.stands in
     record {
       state = reached.state;
@@ -129,7 +132,7 @@ ends_last h returns v all = record {
 
 -- as much is left where a return was passed
 pub ends_past : (h : ObservedHistory) (returns : List ℕ) (node w : Node) (left : List Taken) →
-    Leads h returns node (record { node = w; took = None }) → Ends h returns w left → Ends h returns node left
+    Leads h None returns node (record { node = w; took = None }) → Ends h returns w left → Ends h returns node left
 ends_past h returns node w left leads after = record {
   ends = λ s taken stands pending. by s taken stands pending (leads.leads s taken stands);
 }
@@ -157,14 +160,14 @@ ends_past h returns node w left leads after = record {
 
 -- and one more call where it took effect
 pub ends_call : (h : ObservedHistory) (returns : List ℕ) (node w : Node) (i : ℕ) (one : Taken) (left : List Taken) →
-    Leads h returns node (record { node = w; took = Some i }) → one.entry ≡ i → RepliesAt h node one →
+    Leads h None returns node (record { node = w; took = Some i }) → one.entry ≡ i → RepliesAt h node one →
     Ends h returns w left → Ends h returns node (one ∷ left)
 ends_call h returns node w i one left leads same replies after = record {
   ends = λ s taken stands pending. by s taken stands pending (leads.leads s taken stands);
 }
   where
     by : (s : LockState) (taken : List ℕ) → StandsFor h returns node s taken →
-        ArePending h.entries (drop node.past returns) taken → LeadsByCall h returns node w s taken i →
+        ArePending h.entries (drop node.past returns) taken → LeadsByCall h None returns node w s taken i →
         EndsFor h returns node s taken (one ∷ left)
     by s taken stands pending l =
         let x : Effect = l.effect in

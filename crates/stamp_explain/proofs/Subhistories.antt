@@ -9,7 +9,8 @@ use Rattle.std.proofs.lemmas.List.Elements.{All-nil, All-cons, All-filter, All-h
 use Rattle.std.proofs.Math.ListN.{drop_of_length-le}
 use Rattle.stamp_explain.specs.declared.observed.Observation.{Observation}
 use Rattle.stamp_explain.specs.declared.apart.Subhistory.{Subhistory}
-use Rattle.stamp_explain.specs.Observed.{ObservedHistory, IsObserved, IsSmall, IsLow, is_of_lock, is_of_record, of_lock, of_record}
+use Rattle.stamp_explain.specs.Observed.{ObservedHistory, IsObserved, IsSmall, IsLow, is_of_lock, is_of_record, of_lock}
+use Rattle.stamp_explain.specs.Observed.{of_record}
 use Rattle.stamp_explain.specs.Explained.{AreApart, IsEffectOf, IsExplained, RespectsBefore}
 use Rattle.std.proofs.lemmas.Option.{slice_get_within}
 use Rattle.stamp_explain.specs.Apart.{is_of_object, of_object, places_where, IsSubhistoryOf}

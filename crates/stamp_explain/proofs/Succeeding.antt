@@ -8,7 +8,7 @@ use Rattle.std.specs.List.{Contains}
 use Rattle.std.specs.Int.{bit_at}
 use Rattle.std.proofs.Math.Seq.{take-suc, drop-cons}
 use Rattle.std.proofs.lemmas.List.Elements.{Contains-append_left, Contains-get_or, Contains-push, Contains-push_cases}
-use Rattle.std.proofs.lemmas.Option.{same_Some, slice_get_read, slice_get-get_or, slice_get_within}
+use Rattle.std.proofs.lemmas.Option.{none-some, same_Some, slice_get_read, slice_get-get_or, slice_get_within}
 use Rattle.stamp_explain.specs.declared.observed.Observation.{Observation}
 use Rattle.stamp_explain.specs.declared.observed.Returned.{Returned}
 use Rattle.stamp_explain.specs.declared.node.Node.{Node}
@@ -19,12 +19,12 @@ use Rattle.stamp_explain.specs.Observed.{ObservedHistory, IsObserved, HasReturne
 use Rattle.stamp_explain.specs.Explained.{Effect, IsEffectOf}
 use Rattle.stamp_explain.specs.Observer.{changes_nothing, observes_by, observes, observes_in, observes_at}
 use Rattle.stamp_explain.specs.Search.{LockState, LockSteps, MayTake, IsReturnAt}
-use Rattle.stamp_explain.specs.Configuration.{IsTried}
+use Rattle.stamp_explain.specs.Configuration.{IsAtOnce, IsTried, NoneIsAtOnce}
 use Rattle.stamp_explain.specs.Node.{IsNext, AreTaken, StandsFor}
 use Rattle.stamp_explain.specs.Timeline.{IsTimeline, IsAwaitedAt, IsOpenAt, AreOpen}
 use Rattle.stamp_explain.specs.Node.{ClearsBit}
 use Rattle.stamp_explain.specs.Expand.{Hope, GoesOn, Expands, Leads, LeadsBy, IsTakenTo, Took, Tried}
-use Rattle.stamp_explain.specs.Expand.{IsNotInEffect, IsTakenAlike}
+use Rattle.stamp_explain.specs.Expand.{IsNotInEffect, IsTakenAlike, NoneIsAtOnceAt, Suffice}
 use Rattle.stamp_explain.proofs.Finding.{not_before_itself}
 use Rattle.stamp_explain.proofs.Completing.{IsAwaited}
 use Rattle.stamp_explain.proofs.Searching.{CompletesIn, GoesPast, GoesOnBy, goes_on}
@@ -184,12 +184,13 @@ not_yet h timeline node a s taken is bit stands has =
     (get_or timeline.returns.items node.past 0) a stands.in_effect is.at (the_next h timeline node a is).still has).0
 
 -- a node comes next where a call that is tried takes effect
-pub leads_by_call : (h : ObservedHistory) (timeline : Timeline) (node : Node) (a : Observation) (i : ℕ) (s : LockState)
-    (taken : List ℕ) (w : Next) → Awaits h timeline node a → bit_at node.threads a.thread ≢ 1 →
-    StandsFor h timeline.returns.items node s taken → (to : IsTakenTo h timeline.returns.items node a i s taken w) →
-    IsTried a to.effect.entry → LeadsBy h timeline.returns.items node w.node s taken w.took
-leads_by_call h timeline node a i s taken w is bit stands to tried =
-    subst (λ (o : Option ℕ). LeadsBy h timeline.returns.items node w.node s taken o) (sym to.took) (record {
+pub leads_by_call : (h : ObservedHistory) (asked : Option ℕ) (timeline : Timeline) (node : Node) (a : Observation)
+    (i : ℕ) (s : LockState) (taken : List ℕ) (w : Next) → Awaits h timeline node a →
+    bit_at node.threads a.thread ≢ 1 → StandsFor h timeline.returns.items node s taken →
+    (to : IsTakenTo h timeline.returns.items node a i s taken w) → IsTried h asked a s taken to.effect →
+    LeadsBy h asked timeline.returns.items node w.node s taken w.took
+leads_by_call h asked timeline node a i s taken w is bit stands to tried =
+    subst (λ (o : Option ℕ). LeadsBy h asked timeline.returns.items node w.node s taken o) (sym to.took) (record {
       past = to.past;
       awaited = a;
       is_awaited = is.at;
@@ -232,85 +233,97 @@ only_one w v has = by (contains_cases w [] v has)
     by (inl same) = same
     by (inr none) = absurd (none_in_empty v none)
 
--- where the call is in effect, its return is past
-pub expands_past : (h : ObservedHistory) (timeline : Timeline) (node : Node) (a : Observation) (threads : ℕ) →
-    Awaits h timeline node a → bit_at node.threads a.thread ≡ 1 → ClearsBit node.threads threads a.thread →
-    Expands h timeline.returns.items node (record {
-      node = record { past = node.past + 1; bits = node.bits; writer = node.writer; threads = threads };
-      took = None;
-    } ∷ [])
-expands_past h timeline node a threads is bit clears = record {
-  each = λ w has. subst (λ (v : Next). Leads h timeline.returns.items node v) (only_one next w has) leads;
-  whole = λ n hope. goes n hope (goes_on h.limits h.entries i a (drop (suc node.past) timeline.returns.items)
-      hope.state hope.taken n (the_awaited h timeline node a is) (steps_of h timeline node a n is hope));
+-- a return is past
+abbrev pub past_of : Node → ℕ → Next
+past_of node threads = record {
+  node = record { past = node.past + 1; bits = node.bits; writer = node.writer; threads = threads };
+  took = None;
 }
+
+one_more : (n : ℕ) → suc n ≡ n + 1
+one_more n = omega arith
+
+awaited_in_effect : (h : ObservedHistory) (timeline : Timeline) (node : Node) (a : Observation) (s : LockState)
+    (taken : List ℕ) → Awaits h timeline node a → bit_at node.threads a.thread ≡ 1 →
+    StandsFor h timeline.returns.items node s taken → Contains taken (get_or timeline.returns.items node.past 0)
+awaited_in_effect h timeline node a s taken is bit stands =
+    stands.in_effect.each_next (get_or timeline.returns.items node.past 0) a (the_next h timeline node a is) bit
+
+stands_past : (h : ObservedHistory) (timeline : Timeline) (node : Node) (a : Observation) (threads : ℕ) (s : LockState)
+    (taken : List ℕ) → Awaits h timeline node a → bit_at node.threads a.thread ≡ 1 →
+    ClearsBit node.threads threads a.thread → StandsFor h timeline.returns.items node s taken →
+    StandsFor h timeline.returns.items (past_of node threads).node s taken
+stands_past h timeline node a threads s taken is bit clears stands = record {
+  at = stands.at;
+  in_effect = subst (λ (past : List ℕ). AreTaken h.entries past threads taken)
+      (sym (take-suc timeline.returns.items node.past 0 is.inside) ∙
+      ap (λ (n : ℕ). take n timeline.returns.items) (one_more node.past))
+      (taken_past h.entries (take node.past timeline.returns.items) node.threads threads taken
+      (get_or timeline.returns.items node.past 0) a (orderly h is.observed) stands.in_effect
+      (the_next h timeline node a is) (awaited_in_effect h timeline node a s taken is bit stands) clears);
+}
+
+-- where the call is in effect, its return is past
+pub leads_past : (h : ObservedHistory) (asked : Option ℕ) (timeline : Timeline) (node : Node) (a : Observation)
+    (threads : ℕ) → Awaits h timeline node a → bit_at node.threads a.thread ≡ 1 →
+    ClearsBit node.threads threads a.thread → Leads h asked timeline.returns.items node (past_of node threads)
+leads_past h asked timeline node a threads is bit clears = record {
+  inside = is.inside;
+  leads = λ s taken stands. record {
+    past = refl;
+    in_effect = awaited_in_effect h timeline node a s taken is bit stands;
+    put = refl;
+    stands = stands_past h timeline node a threads s taken is bit clears stands;
+  };
+}
+
+pub suffices_past : (h : ObservedHistory) (timeline : Timeline) (node : Node) (a : Observation) (threads : ℕ) →
+    Awaits h timeline node a → bit_at node.threads a.thread ≡ 1 → ClearsBit node.threads threads a.thread →
+    Suffice h timeline.returns.items node (past_of node threads ∷ [])
+suffices_past h timeline node a threads is bit clears n hope =
+    goes (goes_on h.limits h.entries i a (drop (suc node.past) timeline.returns.items) hope.state hope.taken n
+    (the_awaited h timeline node a is) (steps_of h timeline node a n is hope))
   where
     i : ℕ
     i = get_or timeline.returns.items node.past 0
 
-    it : Node
-    it = record { past = node.past + 1; bits = node.bits; writer = node.writer; threads = threads }
-
     next : Next
-    next = record { node = it; took = None }
+    next = past_of node threads
 
-    one_more : suc node.past ≡ node.past + 1
-    one_more = omega arith
+    next_left : drop (suc node.past) timeline.returns.items ≡ drop next.node.past timeline.returns.items
+    next_left = ap (λ (k : ℕ). drop k timeline.returns.items) (one_more node.past)
 
-    next_left : drop (suc node.past) timeline.returns.items ≡ drop it.past timeline.returns.items
-    next_left = ap (λ (n : ℕ). drop n timeline.returns.items) one_more
-
-    in_effect : (s : LockState) (taken : List ℕ) → StandsFor h timeline.returns.items node s taken → Contains taken i
-    in_effect s taken stands = stands.in_effect.each_next i a (the_next h timeline node a is) bit
-
-    stands : (s : LockState) (taken : List ℕ) → StandsFor h timeline.returns.items node s taken →
-        StandsFor h timeline.returns.items it s taken
-    stands s taken stands_for = record {
-      at = stands_for.at;
-      in_effect = subst (λ (past : List ℕ). AreTaken h.entries past threads taken)
-          (sym (take-suc timeline.returns.items node.past 0 is.inside) ∙
-          ap (λ (n : ℕ). take n timeline.returns.items) one_more)
-          (taken_past h.entries (take node.past timeline.returns.items) node.threads threads taken i a
-          (orderly h is.observed) stands_for.in_effect (the_next h timeline node a is)
-          (in_effect s taken stands_for) clears);
-    }
-
-    leads : Leads h timeline.returns.items node next
-    leads = record {
-      inside = is.inside;
-      leads = λ s taken stands_for. record {
-        past = refl;
-        in_effect = in_effect s taken stands_for;
-        put = refl;
-        stands = stands s taken stands_for;
-      };
-    }
-
-    goes : (n : ℕ) (hope : Hope h timeline.returns.items node n) →
-        GoesPast (LockSteps h.limits) h.entries i (drop (suc node.past) timeline.returns.items) hope.state hope.taken n
-        ⊎ GoesOnBy h.limits h.entries i a (drop (suc node.past) timeline.returns.items) hope.state hope.taken n →
+    goes : GoesPast (LockSteps h.limits) h.entries i (drop (suc node.past) timeline.returns.items) hope.state
+        hope.taken n ⊎
+        GoesOnBy h.limits h.entries i a (drop (suc node.past) timeline.returns.items) hope.state hope.taken n →
         GoesOn h timeline.returns.items (next ∷ []) n
-    goes n hope (inl past) =
+    goes (inl past) =
         let P : List ℕ → Type 0 = λ (to_come : List ℕ). CompletesIn (LockSteps h.limits) h.entries to_come
         hope.state hope.taken past.left in
         goes_on_to h timeline.returns.items (next ∷ []) next hope.state hope.taken past.left n (alone next)
-        (omega (arith, past.fewer)) (stands hope.state hope.taken hope.stands) (subst P next_left past.completes)
-    goes n hope (inr on) = absurd (on.awaited (in_effect hope.state hope.taken hope.stands))
+        (omega (arith, past.fewer))
+        (stands_past h timeline node a threads hope.state hope.taken is bit clears hope.stands)
+        (subst P next_left past.completes)
+    goes (inr on) = absurd (on.awaited
+        (awaited_in_effect h timeline node a hope.state hope.taken is bit hope.stands))
+
+pub expands_past : (h : ObservedHistory) (timeline : Timeline) (node : Node) (a : Observation) (threads : ℕ) →
+    Awaits h timeline node a → bit_at node.threads a.thread ≡ 1 → ClearsBit node.threads threads a.thread →
+    Expands h timeline.returns.items node (past_of node threads ∷ [])
+expands_past h timeline node a threads is bit clears = record {
+  each = λ w has. subst (λ (v : Next). Leads h None timeline.returns.items node v)
+      (only_one (past_of node threads) w has) (leads_past h None timeline node a threads is bit clears);
+  whole = suffices_past h timeline node a threads is bit clears;
+}
 
 -- else an open call of the same object takes effect
-pub expands_taken : (h : ObservedHistory) (timeline : Timeline) (node : Node) (a : Observation) (calls : List ℕ) (k : ℕ)
+suffice_taken : (h : ObservedHistory) (timeline : Timeline) (node : Node) (a : Observation) (calls : List ℕ) (k : ℕ)
     (nexts : List Next) → Awaits h timeline node a → bit_at node.threads a.thread ≢ 1 →
     AreOpen h timeline.returns.items node.past calls → length calls ≤ k →
-    Tries h timeline.returns.items node calls k nexts → Expands h timeline.returns.items node nexts
-expands_taken h timeline node a calls k nexts is bit are all tries = record {
-  each = λ w has. record {
-    inside = is.inside;
-    leads = λ s taken stands. to w s taken stands
-        ((tries.tried a s taken (awaited_at h timeline node a is) stands).each w has);
-  };
-  whole = λ n hope. goes n hope (goes_on h.limits h.entries i a (drop (suc node.past) timeline.returns.items)
-      hope.state hope.taken n (the_awaited h timeline node a is) (steps_of h timeline node a n is hope));
-}
+    Tries h timeline.returns.items node calls k nexts → Suffice h timeline.returns.items node nexts
+suffice_taken h timeline node a calls k nexts is bit are all tries n hope =
+    goes (goes_on h.limits h.entries i a (drop (suc node.past) timeline.returns.items) hope.state hope.taken n
+    (the_awaited h timeline node a is) (steps_of h timeline node a n is hope))
   where
     i : ℕ
     i = get_or timeline.returns.items node.past 0
@@ -319,19 +332,12 @@ expands_taken h timeline node a calls k nexts is bit are all tries = record {
         timeline.returns.items
     same_left w same = sym (left_of h timeline node a is) ∙ ap (λ (n : ℕ). drop n timeline.returns.items) (sym same)
 
-    to : (w : Next) (s : LockState) (taken : List ℕ) → StandsFor h timeline.returns.items node s taken →
-        (j : ℕ) × IsTakenAlike h timeline.returns.items node a j s taken w →
-        LeadsBy h timeline.returns.items node w.node s taken w.took
-    to w s taken stands (j, took) =
-        leads_by_call h timeline node a j s taken w is bit stands took.0 (inl took.1)
-
-    goes : (n : ℕ) (hope : Hope h timeline.returns.items node n) →
-        GoesPast (LockSteps h.limits) h.entries i (drop (suc node.past) timeline.returns.items) hope.state hope.taken n
-        ⊎ GoesOnBy h.limits h.entries i a (drop (suc node.past) timeline.returns.items) hope.state hope.taken n →
+    goes : GoesPast (LockSteps h.limits) h.entries i (drop (suc node.past) timeline.returns.items) hope.state
+        hope.taken n ⊎
+        GoesOnBy h.limits h.entries i a (drop (suc node.past) timeline.returns.items) hope.state hope.taken n →
         GoesOn h timeline.returns.items nexts n
-    goes n hope (inl past) =
-        absurd (not_yet h timeline node a hope.state hope.taken is bit hope.stands past.in_effect)
-    goes n hope (inr on) =
+    goes (inl past) = absurd (not_yet h timeline node a hope.state hope.taken is bit hope.stands past.in_effect)
+    goes (inr on) =
         let it : Contains calls on.effect.index = are.whole on.effect.index (open_may h timeline.returns.items node.past
         node.threads a hope.state on.state hope.taken on.effect is.at hope.stands.in_effect on.may) in
         let found : Makes h timeline.returns.items node on.state (on.effect.index ∷ hope.taken) nexts =
@@ -341,6 +347,101 @@ expands_taken h timeline node a calls k nexts is bit are all tries = record {
         (on.effect.index ∷ hope.taken) on.left in
         goes_on_to h timeline.returns.items nexts found.0 on.state (on.effect.index ∷ hope.taken) on.left n found.1.0
         (omega (arith, on.fewer)) found.1.1.1 (subst P (same_left found.0.node found.1.1.0) on.completes)
+
+-- of the first k of these calls none takes effect at once
+pub record NoneOfFirst (h : ObservedHistory) (asked : Option ℕ) (returns : List ℕ) (node : Node) (calls : List ℕ)
+    (k : ℕ) : Type 0 where
+  pub none : (a : Observation) (s : LockState) (taken : List ℕ) → IsAwaitedAt h returns node.past a →
+      StandsFor h returns node s taken → (x : Effect) (t : LockState) → IsAtOnce asked x → (p : ℕ) → p < k →
+      p < length calls → get_or calls p 0 ≡ x.index → ¬ MayTake (LockSteps h.limits) h.entries a s taken x t
+
+pub none_of_none : (h : ObservedHistory) (asked : Option ℕ) (returns : List ℕ) (node : Node) (calls : List ℕ) →
+    NoneOfFirst h asked returns node calls 0
+none_of_none h asked returns node calls = record {
+  none = λ a s taken awaited stands x t at_once p lt inside is may. absurd (omega (arith, lt));
+}
+
+-- nor the next, which does not tell, or is asked, or may not take effect
+pub none_of_more : (h : ObservedHistory) (asked : Option ℕ) (returns : List ℕ) (node : Node) (calls : List ℕ)
+    (k : ℕ) → NoneOfFirst h asked returns node calls k →
+    ((a : Observation) (s : LockState) (taken : List ℕ) → IsAwaitedAt h returns node.past a →
+    StandsFor h returns node s taken → (x : Effect) (t : LockState) → IsAtOnce asked x →
+    get_or calls k 0 ≡ x.index → ¬ MayTake (LockSteps h.limits) h.entries a s taken x t) →
+    NoneOfFirst h asked returns node calls (k + 1)
+none_of_more h asked returns node calls k before here = record {
+  none = λ a s taken awaited stands x t at_once p lt inside is.
+      by a s taken awaited stands x t at_once p inside is (which p lt);
+}
+  where
+    which : (p : ℕ) → p < k + 1 → (p < k) ⊎ (p ≡ k)
+    which p lt = grind arith
+
+    by : (a : Observation) (s : LockState) (taken : List ℕ) → IsAwaitedAt h returns node.past a →
+        StandsFor h returns node s taken → (x : Effect) (t : LockState) → IsAtOnce asked x → (p : ℕ) →
+        p < length calls → get_or calls p 0 ≡ x.index → (p < k) ⊎ (p ≡ k) →
+        ¬ MayTake (LockSteps h.limits) h.entries a s taken x t
+    by a s taken awaited stands x t at_once p inside is (inl less) =
+        before.none a s taken awaited stands x t at_once p less inside is
+    by a s taken awaited stands x t at_once p inside is (inr same) =
+        here a s taken awaited stands x t at_once (ap (λ (n : ℕ). get_or calls n 0) (sym same) ∙ is)
+
+-- it may not take effect
+pub none_by_took : (h : ObservedHistory) (asked : Option ℕ) (returns : List ℕ) (node : Node) (calls : List ℕ)
+    (k : ℕ) → NoneOfFirst h asked returns node calls k → Took h returns node (get_or calls k 0) None →
+    NoneOfFirst h asked returns node calls (k + 1)
+none_by_took h asked returns node calls k before took = none_of_more h asked returns node calls k before
+    (λ a s taken awaited stands x t at_once is may. took.takes a s taken awaited stands x t may (sym is))
+
+-- it does not tell that it changes nothing
+pub none_by_change : (h : ObservedHistory) (asked : Option ℕ) (returns : List ℕ) (node : Node) (calls : List ℕ)
+    (k : ℕ) → NoneOfFirst h asked returns node calls k → observes_at h.entries (get_or calls k 0) ≡ false →
+    NoneOfFirst h asked returns node calls (k + 1)
+none_by_change h asked returns node calls k before silent = none_of_more h asked returns node calls k before
+    (λ a s taken awaited stands x t at_once is may. false_true (sym silent ∙ ap (observes_at h.entries) is ∙
+    ap observes_in may.effect.is_entry ∙ at_once.tells))
+  where
+    false_true : false ≡ true → ⊥
+    false_true h = cc
+
+-- it is the one that is asked
+pub none_by_asked : (h : ObservedHistory) (asked : ℕ) (returns : List ℕ) (node : Node) (calls : List ℕ) (k : ℕ) →
+    NoneOfFirst h (Some asked) returns node calls k → get_or calls k 0 ≡ asked →
+    NoneOfFirst h (Some asked) returns node calls (k + 1)
+none_by_asked h asked returns node calls k before same = none_of_more h (Some asked) returns node calls k before
+    (λ a s taken awaited stands x t at_once is may.
+    at_once.other (ap (λ (i : ℕ). Some i) (sym same ∙ is)))
+
+-- so none does
+pub none_at_once : (h : ObservedHistory) (asked : Option ℕ) (timeline : Timeline) (node : Node) (calls : List ℕ)
+    (k : ℕ) → AreOpen h timeline.returns.items node.past calls → length calls ≤ k →
+    NoneOfFirst h asked timeline.returns.items node calls k → NoneIsAtOnceAt h asked timeline.returns.items node
+none_at_once h asked timeline node calls k are all before = record {
+  none = λ a s taken awaited stands x t at_once may.
+      let it : Contains calls x.index = are.whole x.index (open_may h timeline.returns.items node.past node.threads a s
+      t taken x awaited.is_entry stands.in_effect may) in
+      before.none a s taken awaited stands x t at_once it.0 (omega (arith, it.1, all)) it.1
+      (same_read calls it.0 0 x.index it.1 ∙ it.2) may;
+}
+
+expands_taken : (h : ObservedHistory) (timeline : Timeline) (node : Node) (a : Observation) (calls : List ℕ) (k : ℕ)
+    (nexts : List Next) → Awaits h timeline node a → bit_at node.threads a.thread ≢ 1 →
+    NoneIsAtOnceAt h None timeline.returns.items node → AreOpen h timeline.returns.items node.past calls →
+    length calls ≤ k → Tries h timeline.returns.items node calls k nexts → Expands h timeline.returns.items node nexts
+expands_taken h timeline node a calls k nexts is bit none are all tries = record {
+  each = λ w has. record {
+    inside = is.inside;
+    leads = λ s taken stands. to w s taken stands
+        ((tries.tried a s taken (awaited_at h timeline node a is) stands).each w has);
+  };
+  whole = suffice_taken h timeline node a calls k nexts is bit are all tries;
+}
+  where
+    to : (w : Next) (s : LockState) (taken : List ℕ) → StandsFor h timeline.returns.items node s taken →
+        (j : ℕ) × IsTakenAlike h timeline.returns.items node a j s taken w →
+        LeadsBy h None timeline.returns.items node w.node s taken w.took
+    to w s taken stands (j, took) =
+        leads_by_call h None timeline node a j s taken w is bit stands took.0
+        (inr (none.none a s taken (awaited_at h timeline node a is) stands, took.1))
 
 -- what is behind so many of a list is in the rest
 in_drop : (xs : List ℕ) (n k j : ℕ) → n ≤ k → k < length xs → get_or xs k j ≡ j → Contains (drop n xs) j
@@ -392,32 +493,42 @@ observes_so e reply is may = by e.returned refl is may
     by (Some r) at is may = ((r, at), ap (changes_nothing e.call) (sym may) ∙ is)
 
 -- a call that changes nothing takes effect at once
-pub expands_at_once : (h : ObservedHistory) (timeline : Timeline) (node : Node) (a : Observation) (i : ℕ) (w : Next) →
-    Awaits h timeline node a → bit_at node.threads a.thread ≢ 1 → observes_at h.entries i ≡ true →
-    Took h timeline.returns.items node i (Some w) → Expands h timeline.returns.items node (w ∷ [])
-expands_at_once h timeline node a i w is bit observer takes = record {
-  each = λ v has. subst (λ (n : Next). Leads h timeline.returns.items node n) (only_one w v has) (record {
-    inside = is.inside;
-    leads = λ s taken stands. leads_by_call h timeline node a i s taken w is bit stands (took s taken stands)
-        (inr (observing s taken (took s taken stands)));
-  });
-  whole = λ n hope. goes n hope (took hope.state hope.taken hope.stands);
+observing : (h : ObservedHistory) (returns : List ℕ) (node : Node) (a : Observation) (i : ℕ) (w : Next) (s : LockState)
+    (taken : List ℕ) → observes_at h.entries i ≡ true → (to : IsTakenTo h returns node a i s taken w) →
+    observes to.effect.entry ≡ true
+observing h returns node a i w s taken observer to =
+    ap observes_in (sym to.may.effect.is_entry) ∙ ap (observes_at h.entries) to.index ∙ observer
+
+pub leads_at_once : (h : ObservedHistory) (asked : Option ℕ) (timeline : Timeline) (node : Node) (a : Observation)
+    (i : ℕ) (w : Next) → Awaits h timeline node a → bit_at node.threads a.thread ≢ 1 →
+    observes_at h.entries i ≡ true → asked ≢ Some i → Took h timeline.returns.items node i (Some w) →
+    Leads h asked timeline.returns.items node w
+leads_at_once h asked timeline node a i w is bit observer other took = record {
+  inside = is.inside;
+  leads = λ s taken stands. by s taken stands (took.takes a s taken (awaited_at h timeline node a is) stands);
 }
   where
-    took : (s : LockState) (taken : List ℕ) → StandsFor h timeline.returns.items node s taken →
-        IsTakenTo h timeline.returns.items node a i s taken w
-    took s taken stands = takes.takes a s taken (awaited_at h timeline node a is) stands
+    by : (s : LockState) (taken : List ℕ) → StandsFor h timeline.returns.items node s taken →
+        IsTakenTo h timeline.returns.items node a i s taken w →
+        LeadsBy h asked timeline.returns.items node w.node s taken w.took
+    by s taken stands to = leads_by_call h asked timeline node a i s taken w is bit stands to (inl (record {
+      tells = observing h timeline.returns.items node a i w s taken observer to;
+      other = λ same. other (same ∙ ap (λ (k : ℕ). Some k) to.index);
+    }))
 
-    observing : (s : LockState) (taken : List ℕ) → (to : IsTakenTo h timeline.returns.items node a i s taken w) →
-        observes to.effect.entry ≡ true
-    observing s taken to = ap observes_in (sym to.may.effect.is_entry) ∙ ap (observes_at h.entries) to.index ∙ observer
-
-    goes : (n : ℕ) (hope : Hope h timeline.returns.items node n) →
-        IsTakenTo h timeline.returns.items node a i hope.state hope.taken w → GoesOn h timeline.returns.items (w ∷ []) n
-    goes n hope took =
+pub suffices_at_once : (h : ObservedHistory) (timeline : Timeline) (node : Node) (a : Observation) (i : ℕ)
+    (w : Next) → Awaits h timeline node a → observes_at h.entries i ≡ true →
+    Took h timeline.returns.items node i (Some w) → Suffice h timeline.returns.items node (w ∷ [])
+suffices_at_once h timeline node a i w is observer takes n hope =
+    goes (takes.takes a hope.state hope.taken (awaited_at h timeline node a is) hope.stands)
+  where
+    goes : IsTakenTo h timeline.returns.items node a i hope.state hope.taken w →
+        GoesOn h timeline.returns.items (w ∷ []) n
+    goes took =
         let x : Effect = took.effect in
         let tells : HasReturned x.entry × (changes_nothing x.entry.call x.reply ≡ true) =
-        observes_so x.entry x.reply (observing hope.state hope.taken took) took.may.effect.replies in
+        observes_so x.entry x.reply
+        (observing h timeline.returns.items node a i w hope.state hope.taken observer took) took.may.effect.replies in
         let once : TakesAtOnce (LockSteps h.limits) h.entries (drop node.past timeline.returns.items) hope.state
         (x.index ∷ hope.taken) n =
         takes_at_once (LockSteps h.limits) h.entries (drop node.past timeline.returns.items) hope.state hope.taken x n
@@ -433,6 +544,15 @@ expands_at_once h timeline node a i w is bit observer takes = record {
         once.fewer
         (subst (λ (t : LockState). StandsFor h timeline.returns.items w.node t (x.index ∷ hope.taken)) same took.stands)
         (subst P (ap (λ (m : ℕ). drop m timeline.returns.items) (sym took.past)) once.completes)
+
+pub expands_at_once : (h : ObservedHistory) (timeline : Timeline) (node : Node) (a : Observation) (i : ℕ) (w : Next) →
+    Awaits h timeline node a → bit_at node.threads a.thread ≢ 1 → observes_at h.entries i ≡ true →
+    Took h timeline.returns.items node i (Some w) → Expands h timeline.returns.items node (w ∷ [])
+expands_at_once h timeline node a i w is bit observer takes = record {
+  each = λ v has. subst (λ (n : Next). Leads h None timeline.returns.items node n) (only_one w v has)
+      (leads_at_once h None timeline node a i w is bit observer (λ same. none-some i same) takes);
+  whole = suffices_at_once h timeline node a i w is observer takes;
+}
 
 -- the awaited call is read
 index_read : (returns : List ℕ) (past i : ℕ) → past < length returns → i ≡ get_or returns past i →
@@ -493,13 +613,15 @@ open_within h timeline past v slice k is lt read same within =
     open_read h timeline past v slice k is lt read same within in
     slice_get_within h.entries (get_or slice k 0) it.entry it.is_entry
 
--- where the awaited call is not in effect an open call takes effect
-pub expands_open : (h : ObservedHistory) (timeline : Timeline) (node : Node) (calls : List ℕ) (k : ℕ) (nexts : List
-    Next) →
-    IsObserved h → IsTimeline h timeline → node.past < length timeline.returns.items →
-    IsNotInEffect h timeline.returns.items node → AreOpen h timeline.returns.items node.past calls → length calls ≤ k →
-    Tries h timeline.returns.items node calls k nexts → Expands h timeline.returns.items node nexts
-expands_open h timeline node calls k nexts observed is inside awaited are all tries =
+-- the awaited call, which is not in effect
+record AwaitsOne (h : ObservedHistory) (timeline : Timeline) (node : Node) : Type 0 where
+  entry : Observation
+  awaits : Awaits h timeline node entry
+  bit : bit_at node.threads entry.thread ≢ 1
+
+awaits_one : (h : ObservedHistory) (timeline : Timeline) (node : Node) → IsObserved h → IsTimeline h timeline →
+    node.past < length timeline.returns.items → IsNotInEffect h timeline.returns.items node → AwaitsOne h timeline node
+awaits_one h timeline node observed is inside awaited =
     let there : IsReturnAt h.entries (get_or timeline.returns.items node.past 0) = is.are.each node.past 0 inside in
     let awaits : Awaits h timeline node there.entry = record {
       observed = observed;
@@ -507,5 +629,26 @@ expands_open h timeline node calls k nexts observed is inside awaited are all tr
       inside = inside;
       at = there.is_entry;
     } in
-    expands_taken h timeline node there.entry calls k nexts awaits
-    (awaited.awaited there.entry (awaited_at h timeline node there.entry awaits)) are all tries
+    record {
+      entry = there.entry;
+      awaits = awaits;
+      bit = awaited.awaited there.entry (awaited_at h timeline node there.entry awaits);
+    }
+
+-- where the awaited call is not in effect an open call takes effect
+pub suffice_open : (h : ObservedHistory) (timeline : Timeline) (node : Node) (calls : List ℕ) (k : ℕ)
+    (nexts : List Next) → IsObserved h → IsTimeline h timeline → node.past < length timeline.returns.items →
+    IsNotInEffect h timeline.returns.items node → AreOpen h timeline.returns.items node.past calls →
+    length calls ≤ k → Tries h timeline.returns.items node calls k nexts → Suffice h timeline.returns.items node nexts
+suffice_open h timeline node calls k nexts observed is inside awaited are all tries =
+    let one : AwaitsOne h timeline node = awaits_one h timeline node observed is inside awaited in
+    suffice_taken h timeline node one.entry calls k nexts one.awaits one.bit are all tries
+
+pub expands_open : (h : ObservedHistory) (timeline : Timeline) (node : Node) (calls : List ℕ) (k : ℕ)
+    (nexts : List Next) → IsObserved h → IsTimeline h timeline → node.past < length timeline.returns.items →
+    IsNotInEffect h timeline.returns.items node → NoneIsAtOnceAt h None timeline.returns.items node →
+    AreOpen h timeline.returns.items node.past calls → length calls ≤ k →
+    Tries h timeline.returns.items node calls k nexts → Expands h timeline.returns.items node nexts
+expands_open h timeline node calls k nexts observed is inside awaited none are all tries =
+    let one : AwaitsOne h timeline node = awaits_one h timeline node observed is inside awaited in
+    expands_taken h timeline node one.entry calls k nexts one.awaits one.bit none are all tries

@@ -1,5 +1,6 @@
 -- Orders of the subhistories of lock and record, merged.
-use Rattle.std.proofs.Common.{◌≡◌, ◌≢◌, ◌⊎◌, ℕ, ◌+◌, ◌<◌, ◌≤◌, Bool, List, [], ◌∷◌, ◌++◌, length, get_or, refl, sym, ◌∙◌}
+use Rattle.std.proofs.Common.{◌≡◌, ◌≢◌, ◌⊎◌, ℕ, ◌+◌, ◌<◌, ◌≤◌, Bool, List, [], ◌∷◌, ◌++◌, length, get_or, refl, sym}
+use Rattle.std.proofs.Common.{◌∙◌}
 use Rattle.std.proofs.Common.{ap, subst, inl, inr, arith, Option, None, Some}
 use Rattle.std.proofs.Common.{true, false, zero, suc}
 use Rattle.std.specs.Prelude.{slice_get, drop, filter, option_map}

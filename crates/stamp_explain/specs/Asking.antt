@@ -12,7 +12,7 @@ use Rattle.stamp_explain.specs.Explained.{IsExplained}
 use Rattle.stamp_explain.specs.Cut.{place_of, seen_at}
 use Rattle.stamp_explain.specs.Node.{IsReached}
 use Rattle.stamp_explain.specs.Timeline.{IsTimeline}
-use Rattle.stamp_explain.specs.Expand.{Expands, Leads, Took}
+use Rattle.stamp_explain.specs.Expand.{Leads, NoneIsAtOnceAt, Suffice, Took}
 use Rattle.stamp_explain.specs.Possible.{GetsBeside, with_reply, without_return}
 
 -- a search for the replies of a returned call: what is seen then, with its timeline, and the same without the return
@@ -27,7 +27,7 @@ pub record IsAsking (asking : Asking) : Type 0 where
 
 -- a node that it reached, where the call that is asked takes no effect
 pub record IsReachedBeside (asking : Asking) (node : Node) : Type 0 where
-  pub reached : IsReached asking.seen asking.timeline.returns.items node
+  pub reached : IsReached asking.seen (Some asking.place) asking.timeline.returns.items node
   pub still : ¬ Contains reached.taken asking.place
 
 -- such a node with a return to come
@@ -53,7 +53,7 @@ pub record IsAnswered (asking : Asking) (reply : Reply) (h : ObservedHistory) : 
 
 -- this node comes next, and the call that was asked takes no effect there
 pub record LeadsBeside (asking : Asking) (node : Node) (next : Next) : Type 0 where
-  pub leads : Leads asking.seen asking.timeline.returns.items node next
+  pub leads : Leads asking.seen (Some asking.place) asking.timeline.returns.items node next
   pub other : next.took ≢ Some asking.place
 
 pub record AreLed (asking : Asking) (node : Node) (nexts : List Next) : Type 0 where
@@ -79,6 +79,16 @@ pub record Gets (asking : Asking) (reply : Reply) : Type 0 where
 abbrev pub GetsMore : Asking → List Reply → List Reply → Type 0
 GetsMore asking old new = (reply : Reply) → Contains new reply → Contains old reply ⊎ Gets asking reply
 
+-- with each reply of the call, nothing is lost if the search goes on by these nodes
+abbrev pub SufficeBeside : Asking → Node → List Next → Type 0
+SufficeBeside asking node nexts = (reply : Reply) (h : ObservedHistory) → IsAnswered asking reply h →
+    Suffice h asking.timeline.returns.items node nexts
+
+-- in nothing that the node stands for a call beside the one asked may take effect at once
+abbrev pub NoneIsAtOnceBeside : Asking → Node → Type 0
+NoneIsAtOnceBeside asking node =
+    NoneIsAtOnceAt asking.seen (Some asking.place) asking.timeline.returns.items node
+
 -- with a reply that isn't among the new ones, the call can't take effect here
 pub record AreAsked (asking : Asking) (node : Node) (old new : List Reply) : Type 0 where
   pub more : AreMore old new
@@ -87,9 +97,9 @@ pub record AreAsked (asking : Asking) (node : Node) (old new : List Reply) : Typ
       Took h asking.timeline.returns.items node asking.place None
 
 -- with another reply than these, nothing is lost if the search goes on by these nodes
-pub record ExpandUnless (asking : Asking) (node : Node) (nexts : List Next) (replies : List Reply) : Type 0 where
-  pub expands : (reply : Reply) (h : ObservedHistory) → IsAnswered asking reply h → ¬ Contains replies reply →
-      Expands h asking.timeline.returns.items node nexts
+pub record SufficeUnless (asking : Asking) (node : Node) (nexts : List Next) (replies : List Reply) : Type 0 where
+  pub suffice : (reply : Reply) (h : ObservedHistory) → IsAnswered asking reply h → ¬ Contains replies reply →
+      Suffice h asking.timeline.returns.items node nexts
 
 -- all different, each is one that the call gets, and with no other reply an order explains what is seen
 pub record AreReplies (asking : Asking) (replies : List Reply) : Type 0 where

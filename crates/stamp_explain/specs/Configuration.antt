@@ -21,31 +21,42 @@ put_after put i (Put words) reply = Some i
 put_after put i (PutIf expected words) Yes = Some i
 put_after put i _ _ = put
 
--- where the return of the one is awaited, the other is tried: it is of the same object, or tells that it changes
--- nothing
-abbrev pub IsTried : Observation → Observation → Type 0
-IsTried awaited e = AreOfOneObject awaited e ⊎ (observes e ≡ true)
+-- a call that tells that it changes nothing, and takes effect at once: all but the one that is asked, if one is
+pub record IsAtOnce (asked : Option ℕ) (x : Effect) : Type 0 where
+  pub tells : observes x.entry ≡ true
+  pub other : asked ≢ Some x.index
+
+-- none of them may take effect
+abbrev pub NoneIsAtOnce : ObservedHistory → Option ℕ → Observation → LockState → List ℕ → Type 0
+NoneIsAtOnce h asked awaited s taken = (x : Effect) (t : LockState) → IsAtOnce asked x →
+    ¬ MayTake (LockSteps h.limits) h.entries awaited s taken x t
+
+-- of the open calls this one is tried: it takes effect at once, or none does, and it is of the awaited one's object
+abbrev pub IsTried : ObservedHistory → Option ℕ → Observation → LockState → List ℕ → Effect → Type 0
+IsTried h asked awaited s taken x =
+    IsAtOnce asked x ⊎ (NoneIsAtOnce h asked awaited s taken × AreOfOneObject awaited x.entry)
 
 -- a way through a search from the opening: a call in effect returns; where one that is not in effect is to
 -- return, an open call that is tried takes effect. It leads to the returns to come, what lock and record are in, the
 -- put whose words the record holds, if there was one, and the calls in effect
-pub data Reaches (h : ObservedHistory) (returns : List ℕ) : List ℕ → LockState → Option ℕ → List ℕ → Type 0 where
-  begins : Reaches h returns returns (opening h.width) None []
+pub data Reaches (h : ObservedHistory) (asked : Option ℕ) (returns : List ℕ) : List ℕ → LockState → Option ℕ →
+    List ℕ → Type 0 where
+  begins : Reaches h asked returns returns (opening h.width) None []
   goes_past : {i : ℕ} {to_come : List ℕ} {s : LockState} {put : Option ℕ} {taken : List ℕ} →
-      Reaches h returns (i ∷ to_come) s put taken → Contains taken i → Reaches h returns to_come s put taken
+      Reaches h asked returns (i ∷ to_come) s put taken → Contains taken i → Reaches h asked returns to_come s put taken
   goes_on_by : {i : ℕ} {to_come : List ℕ} {s : LockState} {put : Option ℕ} {taken : List ℕ} →
-      Reaches h returns (i ∷ to_come) s put taken → (awaited : Observation) (x : Effect) (t : LockState) →
-      slice_get h.entries i ≡ Some awaited → ¬ Contains taken i → IsTried awaited x.entry →
+      Reaches h asked returns (i ∷ to_come) s put taken → (awaited : Observation) (x : Effect) (t : LockState) →
+      slice_get h.entries i ≡ Some awaited → ¬ Contains taken i → IsTried h asked awaited s taken x →
       MayTake (LockSteps h.limits) h.entries awaited s taken x t →
-      Reaches h returns (i ∷ to_come) t (put_after put x.index x.entry.call x.reply) (x.index ∷ taken)
+      Reaches h asked returns (i ∷ to_come) t (put_after put x.index x.entry.call x.reply) (x.index ∷ taken)
 
 -- where a way leads
-pub record Configuration (h : ObservedHistory) (returns : List ℕ) : Type 0 where
+pub record Configuration (h : ObservedHistory) (asked : Option ℕ) (returns : List ℕ) : Type 0 where
   pub to_come : List ℕ
   pub state : LockState
   pub put : Option ℕ
   pub taken : List ℕ
-  pub way : Reaches h returns to_come state put taken
+  pub way : Reaches h asked returns to_come state put taken
 
 -- the number of the lock's word after these events
 abbrev pub number_after : Bounds → List LockEvent → ℕ
@@ -53,16 +64,17 @@ number_after limits events = word_number (units limits) (counts events)
 
 -- a search takes them for one: the returns to come are the same, the lock's word, the put whose words the record
 -- holds, and the calls in effect
-pub record AreOne (h : ObservedHistory) (returns : List ℕ) (c d : Configuration h returns) : Type 0 where
+pub record AreOne (h : ObservedHistory) (asked : Option ℕ) (returns : List ℕ) (c d : Configuration h asked returns) :
+    Type 0 where
   pub to_come : c.to_come ≡ d.to_come
   pub word : number_after h.limits c.state.0 ≡ number_after h.limits d.state.0
   pub put : c.put ≡ d.put
   pub in_effect : (i : ℕ) → Contains c.taken i ↔ Contains d.taken i
 
 -- so many configurations are reached, no two of which are one
-pub record AreReached (h : ObservedHistory) (returns : List ℕ) (most : ℕ) : Type 0 where
-  pub configurations : List (Configuration h returns)
-  pub different : AllPairs (λ (c d : Configuration h returns). ¬ AreOne h returns c d) configurations
+pub record AreReached (h : ObservedHistory) (asked : Option ℕ) (returns : List ℕ) (most : ℕ) : Type 0 where
+  pub configurations : List (Configuration h asked returns)
+  pub different : AllPairs (λ (c d : Configuration h asked returns). ¬ AreOne h asked returns c d) configurations
   pub many : most ≤ length configurations
 
 -- a search on whose ways the call at this place takes no effect reaches more than so many: the returns come in their
@@ -71,16 +83,16 @@ pub record ReachesMoreBeside (h : ObservedHistory) (i most : ℕ) : Type 0 where
   pub returns : List ℕ
   pub are : AreReturns h.entries returns
   pub once : AllPairs (λ (i j : ℕ). i ≢ j) returns
-  pub reached : AreReached h returns (most + 1)
-  pub beside : All (λ (c : Configuration h returns). ¬ Contains c.taken i) reached.configurations
+  pub reached : AreReached h (Some i) returns (most + 1)
+  pub beside : All (λ (c : Configuration h (Some i) returns). ¬ Contains c.taken i) reached.configurations
 
 -- an order goes on from here to the end
-abbrev pub IsAlive : (h : ObservedHistory) (returns : List ℕ) → Configuration h returns → Type 0
+abbrev pub IsAlive : (h : ObservedHistory) (returns : List ℕ) → Configuration h None returns → Type 0
 IsAlive h returns c = CanComplete (LockSteps h.limits) h.entries c.to_come c.state c.taken
 
 -- the second goes on from the first: its calls took effect as they did there, and then more; returns that were to
 -- come there are past
-pub record GoesOnFrom (h : ObservedHistory) (returns : List ℕ) (c d : Configuration h returns) : Type 0 where
+pub record GoesOnFrom (h : ObservedHistory) (returns : List ℕ) (c d : Configuration h None returns) : Type 0 where
   pub later : List ℕ
   pub taken : d.taken ≡ later ++ c.taken
   pub passed : List ℕ
@@ -90,13 +102,14 @@ pub record GoesOnFrom (h : ObservedHistory) (returns : List ℕ) (c d : Configur
 -- some return is to come, and after one from which an order goes on to the end it has looked at such alone as go on
 -- from that one. So but for those on one way it has looked at dead ends
 pub record LookedAtMore (h : ObservedHistory) (returns : List ℕ) (most : ℕ) : Type 0 where
-  pub looked : List (Configuration h returns)
-  pub different : AllPairs (λ (c d : Configuration h returns). ¬ AreOne h returns c d) looked
-  pub unended : All (λ (c : Configuration h returns). c.to_come ≢ []) looked
-  pub in_depth : AllPairs (λ (c d : Configuration h returns). IsAlive h returns c → GoesOnFrom h returns c d) looked
+  pub looked : List (Configuration h None returns)
+  pub different : AllPairs (λ (c d : Configuration h None returns). ¬ AreOne h None returns c d) looked
+  pub unended : All (λ (c : Configuration h None returns). c.to_come ≢ []) looked
+  pub in_depth : AllPairs (λ (c d : Configuration h None returns). IsAlive h returns c → GoesOnFrom h returns c d)
+      looked
   pub many : length looked ≡ most + 1
-  pub further : Configuration h returns
-  pub is_further : All (λ (c : Configuration h returns). ¬ AreOne h returns c further) looked
+  pub further : Configuration h None returns
+  pub is_further : All (λ (c : Configuration h None returns). ¬ AreOne h None returns c further) looked
 
 -- a search for an order gives up: it has looked at more than so many. The returns come in their order, each once
 pub record GivesUp (h : ObservedHistory) (most : ℕ) : Type 0 where

@@ -15,7 +15,7 @@ use Rattle.stamp_explain.specs.declared.timeline.Timeline.{Timeline}
 use Rattle.stamp_explain.specs.Observed.{ObservedHistory, IsObserved, AreOfOneObject}
 use Rattle.stamp_explain.specs.Explained.{Effect, IsEffectOf, IsExplained}
 use Rattle.stamp_explain.specs.Search.{LockState, LockSteps, MayTake, IsCompletedBy}
-use Rattle.stamp_explain.specs.Configuration.{GivesUp, IsGivenUp, IsTried, put_after}
+use Rattle.stamp_explain.specs.Configuration.{GivesUp, IsGivenUp, IsTried, NoneIsAtOnce, put_after}
 use Rattle.stamp_explain.specs.Node.{IsAt, StandsFor, IsReached, IsOpening}
 use Rattle.stamp_explain.specs.Timeline.{IsTimeline, IsAwaitedAt}
 use Rattle.stamp_explain.specs.Store.{IsStored, Keeps}
@@ -25,7 +25,7 @@ use Rattle.stamp_explain.specs.Order.{IsOrderOf}
 pub record MayGoOn (h : ObservedHistory) (timeline : Timeline) (node : Node) : Type 0 where
   pub observed : IsObserved h
   pub is_timeline : IsTimeline h timeline
-  pub reached : IsReached h timeline.returns.items node
+  pub reached : IsReached h None timeline.returns.items node
   pub past : node.past < length timeline.returns.items
 
 -- an order completes what the node stands for, in so many steps: returns and calls that take effect
@@ -46,7 +46,8 @@ pub record GoesOn (h : ObservedHistory) (returns : List ℕ) (nexts : List Next)
   pub hope : Hope h returns next.node left
 
 -- one node comes from another, where that stands for this state: this call takes effect
-pub record LeadsByCall (h : ObservedHistory) (returns : List ℕ) (node w : Node) (s : LockState) (taken : List ℕ)
+pub record LeadsByCall (h : ObservedHistory) (asked : Option ℕ) (returns : List ℕ) (node w : Node) (s : LockState)
+    (taken : List ℕ)
     (i : ℕ) : Type 0 where
   pub past : w.past ≡ node.past
   pub awaited : Observation
@@ -54,7 +55,7 @@ pub record LeadsByCall (h : ObservedHistory) (returns : List ℕ) (node w : Node
   pub not_yet : ¬ Contains taken (slice_index returns node.past)
   pub effect : Effect
   pub index : effect.index ≡ i
-  pub tried : IsTried awaited effect.entry
+  pub tried : IsTried h asked awaited s taken effect
   pub state : LockState
   pub may : MayTake (LockSteps h.limits) h.entries awaited s taken effect state
   pub put : w.writer ≡ put_after node.writer effect.index effect.entry.call effect.reply
@@ -68,15 +69,15 @@ pub record LeadsByReturn (h : ObservedHistory) (returns : List ℕ) (node w : No
   pub put : w.writer ≡ node.writer
   pub stands : StandsFor h returns w s taken
 
-abbrev pub LeadsBy : ObservedHistory → List ℕ → Node → Node → LockState → List ℕ → Option ℕ → Type 0
-LeadsBy h returns node w s taken None = LeadsByReturn h returns node w s taken
-LeadsBy h returns node w s taken (Some i) = LeadsByCall h returns node w s taken i
+abbrev pub LeadsBy : ObservedHistory → Option ℕ → List ℕ → Node → Node → LockState → List ℕ → Option ℕ → Type 0
+LeadsBy h asked returns node w s taken None = LeadsByReturn h returns node w s taken
+LeadsBy h asked returns node w s taken (Some i) = LeadsByCall h asked returns node w s taken i
 
 -- whatever the node stands for
-pub record Leads (h : ObservedHistory) (returns : List ℕ) (node : Node) (next : Next) : Type 0 where
+pub record Leads (h : ObservedHistory) (asked : Option ℕ) (returns : List ℕ) (node : Node) (next : Next) : Type 0 where
   pub inside : node.past < length returns
   pub leads : (s : LockState) (taken : List ℕ) → StandsFor h returns node s taken →
-      LeadsBy h returns node next.node s taken next.took
+      LeadsBy h asked returns node next.node s taken next.took
 
 -- where a call took effect at a node, in some state that this stands for
 pub record IsLedBy (h : ObservedHistory) (node : Node) (i : ℕ) : Type 0 where
@@ -92,14 +93,23 @@ abbrev pub IsLed : ObservedHistory → Node → Option ℕ → Type 0
 IsLed h node None = Unit {0}
 IsLed h node (Some i) = IsLedBy h node i
 
--- nothing is lost if the search goes on from this node by these, and each of them comes from it
+-- nothing is lost if the search goes on from this node by these
+abbrev pub Suffice : ObservedHistory → List ℕ → Node → List Next → Type 0
+Suffice h returns node nexts = (n : ℕ) → Hope h returns node n → GoesOn h returns nexts n
+
+-- and each of them comes from it
 pub record Expands (h : ObservedHistory) (returns : List ℕ) (node : Node) (nexts : List Next) : Type 0 where
-  pub each : (w : Next) → Contains nexts w → Leads h returns node w
-  pub whole : (n : ℕ) → Hope h returns node n → GoesOn h returns nexts n
+  pub each : (w : Next) → Contains nexts w → Leads h None returns node w
+  pub whole : Suffice h returns node nexts
 
 -- the awaited call is not in effect
 pub record IsNotInEffect (h : ObservedHistory) (returns : List ℕ) (node : Node) : Type 0 where
   pub awaited : (a : Observation) → IsAwaitedAt h returns node.past a → bit_at node.threads a.thread ≢ 1
+
+-- in nothing that the node stands for a call may take effect at once
+pub record NoneIsAtOnceAt (h : ObservedHistory) (asked : Option ℕ) (returns : List ℕ) (node : Node) : Type 0 where
+  pub none : (a : Observation) (s : LockState) (taken : List ℕ) → IsAwaitedAt h returns node.past a →
+      StandsFor h returns node s taken → NoneIsAtOnce h asked a s taken
 
 -- what becomes of a node, where the call of this entry takes effect
 pub record IsTakenTo (h : ObservedHistory) (returns : List ℕ) (node : Node) (a : Observation) (i : ℕ)
@@ -202,8 +212,8 @@ pub record IsLinkedAt (h : ObservedHistory) (returns : List ℕ) (store : Store)
   pub sooner : origin.from < k
   pub node : Node
   pub is_node : slice_get store.nodes.items origin.from ≡ Some node
-  pub reached : IsReached h returns node
-  pub leads : Leads h returns node (record { node = v; took = origin.took })
+  pub reached : IsReached h None returns node
+  pub leads : Leads h None returns node (record { node = v; took = origin.took })
 
 -- the first node is where a search begins, and each other comes from one before it
 pub record AreLinked (h : ObservedHistory) (returns : List ℕ) (store : Store) : Type 0 where

@@ -1,5 +1,5 @@
 -- The laws of observed histories, over the definitions alone.
-use Rattle.std.specs.Prelude.{ℕ, ◌≡◌, ◌≢◌, ◌<◌, ◌≤◌, ◌*◌, ◌↔◌, true, false, Some}
+use Rattle.std.specs.Prelude.{ℕ, ◌≡◌, ◌≢◌, ◌<◌, ◌≤◌, ◌*◌, ◌↔◌, true, false, Option, Some, None}
 use Rattle.std.specs.Prelude.{List, [], ◌∷◌, length, drop, slice_get}
 use Rattle.std.specs.List.{All, AllPairs, Contains}
 use Rattle.stamp_core.specs.Limits.{Bounds}
@@ -120,19 +120,19 @@ Locality =
     CanComplete RecordAlone h.entries records (zeros h.width) [])
 
 -- what a search reaches is decided by the calls that took effect, in their order
-pub record AreDecided (h : ObservedHistory) (returns : List ℕ) : Type 0 where
-  pub suffix : (c : Configuration h returns) → (n : ℕ) × (c.to_come ≡ drop n returns)
-  pub inside : (c : Configuration h returns) → All (λ (i : ℕ). i < length h.entries) c.taken
-  pub once : (c : Configuration h returns) → AllPairs (λ (i j : ℕ). i ≢ j) c.taken
-  pub decided : (c d : Configuration h returns) → c.taken ≡ d.taken → (c.state ≡ d.state) × (c.put ≡ d.put)
+pub record AreDecided (h : ObservedHistory) (asked : Option ℕ) (returns : List ℕ) : Type 0 where
+  pub suffix : (c : Configuration h asked returns) → (n : ℕ) × (c.to_come ≡ drop n returns)
+  pub inside : (c : Configuration h asked returns) → All (λ (i : ℕ). i < length h.entries) c.taken
+  pub once : (c : Configuration h asked returns) → AllPairs (λ (i j : ℕ). i ≢ j) c.taken
+  pub decided : (c d : Configuration h asked returns) → c.taken ≡ d.taken → (c.state ≡ d.state) × (c.put ≡ d.put)
 
 -- So there are as many configurations at most as there are orders of some of the calls, at each of the returns.
 abbrev pub TheOrderDecides : Type 0
-TheOrderDecides = (h : ObservedHistory) (returns : List ℕ) → AreDecided h returns
+TheOrderDecides = (h : ObservedHistory) (asked : Option ℕ) (returns : List ℕ) → AreDecided h asked returns
 
 -- each configuration that a search reaches is alive
 abbrev pub MeetsNoDeadEnd : ObservedHistory → Type 0
-MeetsNoDeadEnd h = (returns : List ℕ) → AreReturns h.entries returns → (c : Configuration h returns) →
+MeetsNoDeadEnd h = (returns : List ℕ) → AreReturns h.entries returns → (c : Configuration h None returns) →
     IsAlive h returns c
 
 -- So where each configuration that a search reaches is alive, it does not give up before it has looked at twice as

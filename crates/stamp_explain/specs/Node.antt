@@ -86,12 +86,12 @@ HasGone h i e put s None = (reply : Reply) (t : LockState) → MayReply e reply 
 HasGone h i e put s (Some step) = Goes h i e put s step
 
 -- the node stands for what a way through the search reaches, with the words of its writer in the record
-pub record IsReached (h : ObservedHistory) (returns : List ℕ) (node : Node) : Type 0 where
+pub record IsReached (h : ObservedHistory) (asked : Option ℕ) (returns : List ℕ) (node : Node) : Type 0 where
   pub state : LockState
   pub taken : List ℕ
   pub inside : node.past ≤ length returns
   pub stands : StandsFor h returns node state taken
-  pub way : Reaches h returns (drop node.past returns) state node.writer taken
+  pub way : Reaches h asked returns (drop node.past returns) state node.writer taken
 
 -- the bit of this thread is set, or cleared, and the others are as before; no bit is set that was not
 pub record SetsBit (old new k : ℕ) : Type 0 where

@@ -69,7 +69,7 @@ pub record GetsBeside (h : ObservedHistory) (i : ℕ) (e : Observation) (reply :
   pub returns : List ℕ
   pub are : AreReturns h.entries returns
   pub once : AllPairs (λ (i j : ℕ). i ≢ j) returns
-  pub reached : Configuration h returns
+  pub reached : Configuration h (Some i) returns
   pub still : ¬ Contains reached.taken i
   pub awaits : AwaitsNotBefore h reached.to_come e
   pub next : LockState

@@ -8,10 +8,10 @@ ghost use Rattle.stamp_explain.specs.declared.observed.Returned.{Returned};
 ghost use Rattle.stamp_explain.specs.Observed.{ObservedHistory, IsObserved, IsBefore};
 ghost use Rattle.stamp_explain.specs.Configuration.{ReachesMoreBeside};
 ghost use Rattle.stamp_explain.specs.Cut.{place_of};
-ghost use Rattle.stamp_explain.specs.Expand.{Enters, Expands, Took, IsNotInEffect};
+ghost use Rattle.stamp_explain.specs.Expand.{Enters, Suffice, Took, IsNotInEffect};
 ghost use Rattle.stamp_explain.specs.Store.{Keeps};
 ghost use Rattle.stamp_explain.specs.Possible.{without_return};
-ghost use Rattle.stamp_explain.specs.Asking.{Adds, AreAsked, AreLed, AreMore, AreReplies, ExpandUnless, IsAnswered, IsAsking, IsAskingAt, LeadsBeside, MayGoOnBeside, GetsMore};
+ghost use Rattle.stamp_explain.specs.Asking.{Adds, AreAsked, AreLed, AreMore, AreReplies, GetsMore, IsAnswered, IsAsking, IsAskingAt, LeadsBeside, MayGoOnBeside, NoneIsAtOnceBeside, SufficeBeside, SufficeUnless};
 
 use crate::cut::seen_at;
 use crate::node::{Next, Node, Origin, has_bit, without_bit};
@@ -123,8 +123,7 @@ fn add(replies: &mut Vec<Reply>, reply: Reply) -> Result<(), AllocError>
 fn passed(asking: &Asking, node: &Node) -> Option<Next>
     requires { MayGoOnBeside asking.now node.now }
     ensures leads { IfSome result (λ next. LeadsBeside asking.now node.now next) }
-    ensures one { IfSome result (λ next. (reply : Reply) (h : ObservedHistory) → IsAnswered asking.now reply h
-        → Expands h asking.now.timeline.returns.items node.now (next ∷ [])) }
+    ensures one { IfSome result (λ next. SufficeBeside asking.now node.now (next ∷ [])) }
     ensures none { IfNone result (IsNotInEffect asking.now.seen asking.now.timeline.returns.items node.now) }
 {
     let timeline = &asking.timeline;
@@ -149,8 +148,8 @@ fn observed_beside(asking: &Asking, node: &Node) -> Option<Next>
     requires at { MayGoOnBeside asking.now node.now }
     requires awaited { IsNotInEffect asking.now.seen asking.now.timeline.returns.items node.now }
     ensures leads { IfSome result (λ next. LeadsBeside asking.now node.now next) }
-    ensures one { IfSome result (λ next. (reply : Reply) (h : ObservedHistory) → IsAnswered asking.now reply h
-        → Expands h asking.now.timeline.returns.items node.now (next ∷ [])) }
+    ensures one { IfSome result (λ next. SufficeBeside asking.now node.now (next ∷ [])) }
+    ensures none { IfNone result (NoneIsAtOnceBeside asking.now node.now) }
 {
     for i in asking.timeline.opens[node.past].as_slice() {
         if *i != asking.place && observes_at(&asking.seen, *i) {
@@ -166,10 +165,11 @@ fn observed_beside(asking: &Asking, node: &Node) -> Option<Next>
 fn choices_beside(asking: &Asking, node: &Node, nexts: &mut Vec<Next>) -> Result<(), AllocError>
     requires at { MayGoOnBeside asking.now node.now }
     requires awaited { IsNotInEffect asking.now.seen asking.now.timeline.returns.items node.now }
+    requires at_once { NoneIsAtOnceBeside asking.now node.now }
     ensures leads { IfOk result (λ _. AreLed asking.now node.now nexts.new.items) }
     ensures whole { IfOk result (λ _. (reply : Reply) (h : ObservedHistory) → IsAnswered asking.now reply h
         → Took h asking.now.timeline.returns.items node.now asking.now.place None
-        → Expands h asking.now.timeline.returns.items node.now nexts.new.items) }
+        → Suffice h asking.now.timeline.returns.items node.now nexts.new.items) }
 {
     nexts.clear();
     let awaited = asking.timeline.returns[node.past];
@@ -212,7 +212,7 @@ fn go_on(
     ensures leads { IfOk result (λ _. AreLed asking.now node.now nexts.new.items) }
     ensures more { IfOk result (λ _. AreMore replies.old.items replies.new.items) }
     ensures gets { IfOk result (λ _. GetsMore asking.now replies.old.items replies.new.items) }
-    ensures whole { IfOk result (λ _. ExpandUnless asking.now node.now nexts.new.items replies.new.items) }
+    ensures whole { IfOk result (λ _. SufficeUnless asking.now node.now nexts.new.items replies.new.items) }
 {
     nexts.clear();
     if let Some(next) = passed(asking, node) {

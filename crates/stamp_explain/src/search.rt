@@ -1,5 +1,5 @@
 //! The search for an order.
-ghost use Rattle.std.specs.Prelude.{ℕ, ◌≡◌, ◌<◌, ◌++◌, IfOk, IfSome, List, [], ◌∷◌, length};
+ghost use Rattle.std.specs.Prelude.{ℕ, ◌≡◌, ◌<◌, ◌++◌, IfOk, IfSome, None, List, [], ◌∷◌, length};
 ghost use Rattle.std.specs.Option.{IfNone};
 ghost use Rattle.stamp_core.specs.Word.{IsAdmitted, word_at};
 ghost use Rattle.stamp_explain.specs.Observed.{IsObserved};
@@ -7,7 +7,7 @@ ghost use Rattle.stamp_explain.specs.Search.{AreReturns};
 ghost use Rattle.stamp_explain.specs.Node.{IsOpening};
 ghost use Rattle.stamp_explain.specs.Timeline.{IsTimeline, IsOpenAt};
 ghost use Rattle.stamp_explain.specs.Store.{Keeps};
-ghost use Rattle.stamp_explain.specs.Expand.{MayGoOn, Expands, Took, IsNotInEffect, IsSearched, LooksAt, waiting_from};
+ghost use Rattle.stamp_explain.specs.Expand.{MayGoOn, Expands, Took, IsNotInEffect, NoneIsAtOnceAt, IsSearched, LooksAt, waiting_from};
 
 use crate::found::Found;
 use crate::node::{Next, Node, Origin, Waiting, has_bit, with_bit, without_bit};
@@ -84,6 +84,7 @@ fn forced(observed: &Observed, timeline: &Timeline, node: &Node) -> Option<Next>
     requires { MayGoOn observed.now timeline.now node.now }
     ensures one { IfSome result (λ next. Expands observed.now timeline.now.returns.items node.now (next ∷ [])) }
     ensures none { IfNone result (IsNotInEffect observed.now timeline.now.returns.items node.now) }
+    ensures at_once { IfNone result (NoneIsAtOnceAt observed.now None timeline.now.returns.items node.now) }
 {
     let thread = observed.entries()[timeline.returns[node.past]].thread;
     if has_bit(node.threads, thread) {
@@ -117,6 +118,7 @@ fn choices(
 ) -> Result<(), AllocError>
     requires at { MayGoOn observed.now timeline.now node.now }
     requires awaited { IsNotInEffect observed.now timeline.now.returns.items node.now }
+    requires at_once { NoneIsAtOnceAt observed.now None timeline.now.returns.items node.now }
     ensures { IfOk result (λ _. Expands observed.now timeline.now.returns.items node.now nexts.new.items) }
 {
     nexts.clear();

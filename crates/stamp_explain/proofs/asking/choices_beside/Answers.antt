@@ -8,7 +8,7 @@ use Rattle.stamp_explain.proofs.Succeeding.{open_read, opens_read, open_within, 
 use Rattle.stamp_explain.proofs.Answering.{timeline_alike}
 use Rattle.stamp_explain.proofs.Beside.{awaited_inside, TriesBeside, AwaitsThere, awaits_there, beside_some}
 use Rattle.stamp_explain.proofs.Beside.{beside_none, beside_asked, beside_other}
-use Rattle.stamp_explain.proofs.Beside.{expands_beside, alike_of}
+use Rattle.stamp_explain.proofs.Beside.{suffice_beside, alike_of}
 use Rattle.stamp_explain.proofs.asking.choices_beside.Goals as goal
 use Rattle.stamp_explain.proofs.asking.choices_beside.Goals.{then-i-asking+then-are_of_one_object+in-Some+in_ok-push}
 use Rattle.stamp_explain.proofs.asking.choices_beside.Goals.{then-i-asking+then-are_of_one_object+in_default}
@@ -58,7 +58,7 @@ loop-k-preserved c =
           ap (λ (v : Vec Next Global). v.items) w.nexts-is ∙ w.in_ok-push.ensures.items in
           subst (λ (ns : List Next). TriesBeside asking node calls (k + 1) ns) (sym same)
           (beside_some asking node there.entry calls k c.loop-k.nexts.items w.in-Some.next there.awaits
-          c.requires.at.reached.reached there.bit c.loop-k.invariant c.loop-k-test.true other
+          c.requires.at.reached.reached there.bit c.requires.at_once c.loop-k.invariant c.loop-k-test.true other
           (w.in-Some.ensures asking.timeline.returns.items c.requires.at.asks.timeline.are it)
           (λ b e awaited at. (w.are_of_one_object.ensures b e (awaited_read asking.seen
           asking.timeline.returns.items node.past c.index-awaited.result.now b awaited c.index-awaited.ensures) at).0
@@ -89,7 +89,7 @@ loop-k-preserved c =
 
 pub returns-clause-whole : goal.returns-clause-whole
 returns-clause-whole c = λ reply h is none.
-    expands_beside c.args.asking.now c.args.node.now c.as_slice-calls.result.now c.loop-k.k c.loop-k.nexts.items reply h
+    suffice_beside c.args.asking.now c.args.node.now c.as_slice-calls.result.now c.loop-k.k c.loop-k.nexts.items reply h
     c.requires.at.asks c.requires.at.past c.requires.awaited
     (opens_read h c.args.asking.now.timeline c.args.node.now.past c.index.result.now c.as_slice-calls.result.now
     (timeline_alike c.args.asking.now.seen h c.args.asking.now.place c.args.asking.now.timeline

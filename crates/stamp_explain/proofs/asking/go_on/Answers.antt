@@ -4,13 +4,13 @@ use Rattle.std.proofs.Common.{None}
 use Rattle.std.proofs.lemmas.Result.{IfOk-weaker}
 use Rattle.stamp_core.specs.declared.reply.Reply.{Reply}
 use Rattle.stamp_explain.specs.Observed.{ObservedHistory}
-use Rattle.stamp_explain.specs.Expand.{Expands, Took}
-use Rattle.stamp_explain.specs.Asking.{ExpandUnless, IsAnswered}
+use Rattle.stamp_explain.specs.Expand.{Suffice, Took}
+use Rattle.stamp_explain.specs.Asking.{SufficeUnless, IsAnswered}
 use Rattle.stamp_explain.proofs.asking.go_on.Goals as goal
 
 pub returns-in-Some-clause-whole : goal.returns-in-Some-clause-whole
 returns-in-Some-clause-whole c = record {
-  expands = λ reply h is misses. subst (λ (ns : List Next). Expands h c.args.asking.now.timeline.returns.items
+  suffice = λ reply h is misses. subst (λ (ns : List Next). Suffice h c.args.asking.now.timeline.returns.items
       c.args.node.now ns) (sym (c.in_ok-push.ensures.items ∙
       ap (λ (ns : List Next). ns ++ c.in-Some.next ∷ []) c.clear.ensures.items)) (c.in-Some.ensures.one reply h is);
 }
@@ -18,7 +18,7 @@ returns-in-Some-clause-whole c = record {
 pub returns-in-Some-observed_beside-clause-whole :
     goal.returns-in-Some-observed_beside-clause-whole
 returns-in-Some-observed_beside-clause-whole c = record {
-  expands = λ reply h is misses. subst (λ (ns : List Next). Expands h c.args.asking.now.timeline.returns.items
+  suffice = λ reply h is misses. subst (λ (ns : List Next). Suffice h c.args.asking.now.timeline.returns.items
       c.args.node.now ns) (sym (c.in_ok-push-2.ensures.items ∙
       ap (λ (ns : List Next). ns ++ c.in-Some-observed_beside.next ∷ []) c.clear.ensures.items))
       (c.in-Some-observed_beside.ensures.one reply h is);
@@ -28,8 +28,8 @@ pub returns-clause-whole : goal.returns-clause-whole
 returns-clause-whole c = IfOk-weaker c.choices_beside.result
     (λ _. (reply : Reply) (h : ObservedHistory) → IsAnswered c.args.asking.now reply h →
     Took h c.args.asking.now.timeline.returns.items c.args.node.now c.args.asking.now.place None →
-    Expands h c.args.asking.now.timeline.returns.items c.args.node.now c.choices_beside.new.nexts.items)
-    (λ _. ExpandUnless c.args.asking.now c.args.node.now c.choices_beside.new.nexts.items c.ask.new.replies.items)
+    Suffice h c.args.asking.now.timeline.returns.items c.args.node.now c.choices_beside.new.nexts.items)
+    (λ _. SufficeUnless c.args.asking.now c.args.node.now c.choices_beside.new.nexts.items c.ask.new.replies.items)
     (λ _ whole. record {
-      expands = λ reply h is misses. whole reply h is (c.in_ok-ask.ensures.asked reply h is misses);
+      suffice = λ reply h is misses. whole reply h is (c.in_ok-ask.ensures.asked reply h is misses);
     }) c.choices_beside.ensures.whole

@@ -1,8 +1,13 @@
-use Rattle.std.proofs.Common.{◌≢◌, get_or, sym, ◌∙◌, arith}
+use Rattle.std.proofs.Common.{◌≢◌, ◌≡◌, Some, get_or, sym, ◌∙◌, arith}
 use Rattle.stamp_explain.specs.Timeline.{IsOpenAt}
-use Rattle.stamp_explain.proofs.Succeeding.{open_read}
-use Rattle.stamp_explain.proofs.Beside.{AwaitsThere, awaits_there, at_once_leads, at_once_expands}
+use Rattle.stamp_explain.proofs.Succeeding.{open_read, opens_read, none_at_once, none_by_asked, none_by_change}
+use Rattle.stamp_explain.proofs.Succeeding.{none_by_took}
+use Rattle.stamp_explain.proofs.Beside.{AwaitsThere, awaits_there, at_once_leads, at_once_suffices}
 use Rattle.stamp_explain.proofs.asking.observed_beside.Goals as goal
+use Rattle.stamp_explain.proofs.asking.observed_beside.Goals.{then-i-asking+then-observes_at+in_default}
+use Rattle.stamp_explain.proofs.asking.observed_beside.Goals.{else-i-asking}
+use Rattle.stamp_explain.proofs.asking.observed_beside.Goals.{else-i-asking-via-then-i-asking+else-observes_at}
+use Rattle.stamp_explain.proofs.asking.observed_beside.Goals.{else-i-asking-via-else-i-asking}
 
 pub returns-in-Some-clause-leads : goal.returns-in-Some-clause-leads
 returns-in-Some-clause-leads c =
@@ -20,7 +25,7 @@ returns-in-Some-clause-leads c =
     c.loop-i-test.true)) other
 
 pub returns-in-Some-clause-one : goal.returns-in-Some-clause-one
-returns-in-Some-clause-one c = λ reply h is.
+returns-in-Some-clause-one c =
     let asking = c.args.asking.now in
     let node = c.args.node.now in
     let other : get_or c.as_slice-i-items.result.now c.loop-i.i-index 0 ≢ asking.place =
@@ -32,7 +37,40 @@ returns-in-Some-clause-one c = λ reply h is.
     open_read asking.seen asking.timeline node.past c.index.result.now c.as_slice-i-items.result.now
     c.loop-i.i-index c.requires.at.asks.timeline c.requires.at.past c.index.ensures c.as_slice-i-items.ensures.value
     c.loop-i-test.true in
-    at_once_expands asking node there.entry (get_or c.as_slice-i-items.result.now c.loop-i.i-index 0) c.in-Some.next
-    reply h c.requires.at.asks there.awaits there.bit it.entry it.is_entry
+    at_once_suffices asking node there.entry (get_or c.as_slice-i-items.result.now c.loop-i.i-index 0) c.in-Some.next
+    c.requires.at.asks there.awaits it.entry it.is_entry
     (sym c.observes_at.ensures ∙ c.if-observes_at.true)
-    (c.in-Some.ensures asking.timeline.returns.items c.requires.at.asks.timeline.are it) other is
+    (c.in-Some.ensures asking.timeline.returns.items c.requires.at.asks.timeline.are it) other
+
+pub returns-clause-none : goal.returns-clause-none
+returns-clause-none c =
+    let asking = c.args.asking.now in
+    let node = c.args.node.now in
+    none_at_once asking.seen (Some asking.place) asking.timeline node c.as_slice-i-items.result.now c.loop-i.i-index
+    (opens_read asking.seen asking.timeline node.past c.index.result.now c.as_slice-i-items.result.now
+    c.requires.at.asks.timeline c.requires.at.past c.index.ensures c.as_slice-i-items.ensures.value)
+    (omega (arith, c.loop-i-test.false)) c.loop-i.invariant
+
+pub loop-i-preserved : goal.loop-i-preserved
+loop-i-preserved c =
+    let asking = c.args.asking.now in
+    let node = c.args.node.now in
+    let returns = asking.timeline.returns.items in
+    let calls = c.as_slice-i-items.result.now in
+    let k = c.loop-i.i-index in
+    elim c.if-i-asking.branch [
+      | then-i-asking+then-observes_at+in_default w ↦
+          none_by_took asking.seen (Some asking.place) returns node calls k c.loop-i.invariant
+          (w.in_default.ensures returns c.requires.at.asks.timeline.are
+          (open_read asking.seen asking.timeline node.past c.index.result.now calls k c.requires.at.asks.timeline
+          c.requires.at.past c.index.ensures c.as_slice-i-items.ensures.value c.loop-i-test.true))
+      | else-i-asking w ↦
+          elim w.else-i-asking.branch [
+            | else-i-asking-via-then-i-asking+else-observes_at v ↦
+                none_by_change asking.seen (Some asking.place) returns node calls k c.loop-i.invariant
+                (sym v.observes_at.ensures ∙ v.if-observes_at.false)
+            | else-i-asking-via-else-i-asking v ↦
+                none_by_asked asking.seen asking.place returns node calls k c.loop-i.invariant
+                (omega (arith, v.if-i-asking.false))
+          ]
+    ]

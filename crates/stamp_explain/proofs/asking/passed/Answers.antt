@@ -4,7 +4,7 @@ use Rattle.std.proofs.lemmas.Option.{same_Some}
 use Rattle.stamp_explain.specs.declared.observed.Observation.{Observation}
 use Rattle.stamp_explain.proofs.Expanding.{at_place}
 use Rattle.stamp_explain.proofs.Succeeding.{Awaits, awaits_of}
-use Rattle.stamp_explain.proofs.Beside.{past_leads, past_expands}
+use Rattle.stamp_explain.proofs.Beside.{past_leads, past_suffices}
 use Rattle.stamp_explain.proofs.asking.passed.Goals as goal
 
 false_true : false ≡ true → ⊥
@@ -31,14 +31,14 @@ returns-then-has_bit-clause-leads c =
     (c.has_bit.ensures.0 c.if-has_bit.true) c.without_bit.ensures
 
 pub returns-then-has_bit-clause-one : goal.returns-then-has_bit-clause-one
-returns-then-has_bit-clause-one c = λ reply h is.
-    past_expands c.args.asking.now c.args.node.now
-    (get_or c.entries.result.now c.index.result.now c.index-entries-index.result) c.without_bit.result reply h
+returns-then-has_bit-clause-one c =
+    past_suffices c.args.asking.now c.args.node.now
+    (get_or c.entries.result.now c.index.result.now c.index-entries-index.result) c.without_bit.result
     c.requires.asks
     (awaits_of c.args.asking.now.seen c.args.asking.now.timeline c.args.node.now c.index.result.now c.entries.result.now
     c.index-entries-index.result c.requires.asks.observed c.requires.asks.timeline c.requires.past c.index.ensures
     c.entries.ensures.entries)
-    (c.has_bit.ensures.0 c.if-has_bit.true) c.without_bit.ensures is
+    (c.has_bit.ensures.0 c.if-has_bit.true) c.without_bit.ensures
 
 pub returns-else-has_bit-clause-none : goal.returns-else-has_bit-clause-none
 returns-else-has_bit-clause-none c = record {

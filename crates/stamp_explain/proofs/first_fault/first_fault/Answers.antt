@@ -21,11 +21,13 @@ found_at-requires-clause-end c =
 pub loop-low-preserved-after-branch-2 : goal.loop-low-preserved-after-branch-2
 loop-low-preserved-after-branch-2 c =
     let middle : ℕ = c.loop-low.low + (c.loop-low.high - c.loop-low.low) / 2 in
-    let Now : Found → Type 0 = λ (f : Found). Narrows f c.loop-low.low c.loop-low.high c.loop-low.unexplained c.loop-low.stuck middle
+    let Now : Found → Type 0 = λ (f : Found). Narrows f c.loop-low.low c.loop-low.high c.loop-low.unexplained
+    c.loop-low.stuck middle
     c.match-branch-2.low c.match-branch-2.high c.match-branch-2.unexplained c.match-branch-2.stuck in
     narrowed c.args.observed.now c.args.most c.loop-low.unexplained c.args.ends.now c.loop-low.low c.loop-low.high
     middle c.loop-low.stuck
-    c.in_ok-found_at.field-0 c.match-branch-2.low c.match-branch-2.high c.match-branch-2.unexplained c.match-branch-2.stuck
+    c.in_ok-found_at.field-0 c.match-branch-2.low c.match-branch-2.high c.match-branch-2.unexplained
+    c.match-branch-2.stuck
     c.requires.observed c.requires.ends c.loop-low.invariant (omega arith)
     (middle_inside c.loop-low.low c.loop-low.high c.loop-low-test.true) c.in_ok-found_at.ensures
     (elim c.match-branch-2.branch [
@@ -37,11 +39,13 @@ loop-low-preserved-after-branch-2 c =
 pub loop-low-preserved : goal.loop-low-preserved
 loop-low-preserved c =
     let middle : ℕ = c.loop-low.low + (c.loop-low.high - c.loop-low.low) / 2 in
-    let Now : Found → Type 0 = λ (f : Found). Narrows f c.loop-low.low c.loop-low.high c.loop-low.unexplained c.loop-low.stuck middle
+    let Now : Found → Type 0 = λ (f : Found). Narrows f c.loop-low.low c.loop-low.high c.loop-low.unexplained
+    c.loop-low.stuck middle
     c.match-branch-2.low c.match-branch-2.high c.match-branch-2.unexplained c.match-branch-2.stuck in
     narrowed c.args.observed.now c.args.most c.loop-low.unexplained c.args.ends.now c.loop-low.low c.loop-low.high
     middle c.loop-low.stuck
-    c.in_ok-found_at.field-0 c.match-branch-2.low c.match-branch-2.high c.match-branch-2.unexplained c.match-branch-2.stuck
+    c.in_ok-found_at.field-0 c.match-branch-2.low c.match-branch-2.high c.match-branch-2.unexplained
+    c.match-branch-2.stuck
     c.requires.observed c.requires.ends c.loop-low.invariant (omega arith)
     (middle_inside c.loop-low.low c.loop-low.high c.loop-low-test.true) c.in_ok-found_at.ensures
     (elim c.match-branch-2.branch [
@@ -65,7 +69,8 @@ returns-then-unexplained c = unexplained_between c.args.observed.now c.args.most
     c.loop-low.high _ c.requires.ends
     (subst (λ (b : Bool). IsBetween c.args.observed.now c.args.most b c.args.ends.now c.loop-low.low c.loop-low.high
     false) c.if-unexplained.true
-    (subst (λ (b : Bool). IsBetween c.args.observed.now c.args.most c.loop-low.unexplained c.args.ends.now c.loop-low.low
+    (subst (λ (b : Bool). IsBetween c.args.observed.now c.args.most c.loop-low.unexplained c.args.ends.now
+    c.loop-low.low
     c.loop-low.high b) c.if-stuck.false c.loop-low.invariant)) (omega (arith, c.loop-low-test.false))
     (end_at c.args.ends.now c.loop-low.low
     (omega (arith, c.loop-low.invariant.order, c.loop-low.invariant.inside)))
@@ -75,7 +80,8 @@ returns-else-unexplained c = undecided_between c.args.observed.now c.args.most c
     c.loop-low.high _ c.requires.ends
     (subst (λ (b : Bool). IsBetween c.args.observed.now c.args.most b c.args.ends.now c.loop-low.low c.loop-low.high
     false) c.if-unexplained.false
-    (subst (λ (b : Bool). IsBetween c.args.observed.now c.args.most c.loop-low.unexplained c.args.ends.now c.loop-low.low
+    (subst (λ (b : Bool). IsBetween c.args.observed.now c.args.most c.loop-low.unexplained c.args.ends.now
+    c.loop-low.low
     c.loop-low.high b) c.if-stuck.false c.loop-low.invariant)) (omega (arith, c.loop-low-test.false))
     (end_at c.args.ends.now c.loop-low.low
     (omega (arith, c.loop-low.invariant.order, c.loop-low.invariant.inside)))

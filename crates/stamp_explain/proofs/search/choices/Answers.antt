@@ -66,6 +66,7 @@ loop-k-preserved c =
 pub returns : goal.returns
 returns c = expands_open c.args.observed.now c.args.timeline.now c.args.node.now c.as_slice-calls.result.now c.loop-k.k
     c.loop-k.nexts.items c.requires.at.observed c.requires.at.is_timeline c.requires.at.past c.requires.awaited
+    c.requires.at_once
     (opens_read c.args.observed.now c.args.timeline.now c.args.node.now.past c.index.result.now
     c.as_slice-calls.result.now c.requires.at.is_timeline c.requires.at.past c.index.ensures
     c.as_slice-calls.ensures.value)
