@@ -8,13 +8,13 @@ use Rattle.std.proofs.lemmas.Bool.Decides.{nat_tests}
 use Rattle.stamp_explain.specs.Cut.{begun_by}
 use Rattle.std.specs.Prelude.{slice_get, slice_index, drop, take, ◌↔◌}
 use Rattle.std.specs.Int.{bit_at}
-use Rattle.std.specs.List.{All, AllPairs, Contains}
+use Rattle.std.specs.List.{AllPairs, Contains}
 use Rattle.std.proofs.lemmas.List.Elements.{Contains-append_left, Contains-push, Contains-push_cases, Contains-get_or}
 use Rattle.std.proofs.lemmas.List.Quantifiers.{all_pairs_push}
-use Rattle.std.proofs.lemmas.Option.{none-some, same_Some, slice_get_within, slice_get-get_or, slice_get_read}
+use Rattle.std.proofs.lemmas.Option.{none-some, same_Some, slice_get_within, slice_get-get_or}
 use Rattle.std.proofs.lemmas.Option.{get_or_from_slice_get}
-use Rattle.std.proofs.lemmas.List.{get_or-set_same, length-set, length-append, length-map, take_all}
-use Rattle.std.proofs.lemmas.List.Elements.{All-append, All-weaker, All-contains, All-contains_itself}
+use Rattle.std.proofs.lemmas.List.{get_or-set_same, length-set, take_all}
+use Rattle.std.proofs.lemmas.List.Elements.{All-contains}
 use Rattle.std.proofs.lemmas.List.Elements.{Contains-append_cases}
 use Rattle.stamp_core.specs.Limits.{Bounds}
 use Rattle.stamp_core.specs.declared.reply.Reply.{Reply}
@@ -22,7 +22,6 @@ use Rattle.stamp_explain.specs.declared.observed.Observation.{Observation}
 use Rattle.stamp_explain.specs.declared.node.Node.{Node}
 use Rattle.stamp_explain.specs.declared.node.Next.{Next}
 use Rattle.stamp_explain.specs.declared.node.Step.{Step}
-use Rattle.stamp_explain.specs.declared.timeline.Timeline.{Timeline}
 use Rattle.stamp_explain.specs.declared.store.Store.{Store}
 use Rattle.stamp_explain.specs.declared.asking.Asking.{Asking}
 use Rattle.stamp_explain.specs.Observed.{ObservedHistory, IsObserved, IsBefore, MayReply, AreOfOneObject}
@@ -30,7 +29,6 @@ use Rattle.stamp_explain.specs.Observer.{observes_at, observes_in}
 use Rattle.stamp_explain.specs.Search.{LockState, LockSteps, IsReturnAt, after_call}
 use Rattle.stamp_explain.specs.Configuration.{Configuration, ReachesMoreBeside}
 use Rattle.stamp_explain.specs.Node.{IsReached, IsAt, StandsFor, HasGone, IsOpening}
-use Rattle.stamp_explain.specs.Store.{Keeps}
 use Rattle.stamp_explain.specs.Timeline.{AreOpen, IsAwaitedAt}
 use Rattle.stamp_explain.specs.Node.{ClearsBit}
 use Rattle.stamp_explain.specs.Expand.{Suffice, Leads, LeadsBy, Took, IsNotInEffect, IsTakenTo, Enters, nodes_of}
@@ -38,7 +36,7 @@ use Rattle.stamp_explain.specs.Possible.{without_return, answering}
 use Rattle.stamp_explain.specs.Asking.{Adds, AreAsked, AreLed, AreMore, AreReplies, Gets, GetsMore}
 use Rattle.stamp_explain.specs.Asking.{IsAnswered, IsAsking, IsReachedBeside, LeadsBeside, NoneIsAtOnceBeside}
 use Rattle.stamp_explain.specs.Asking.{SufficeBeside, SufficeUnless}
-use Rattle.stamp_explain.proofs.Lists.{none_in_empty, contains_cases, contains_first, pairs_none}
+use Rattle.stamp_explain.proofs.Lists.{none_in_empty, contains_cases, pairs_none}
 use Rattle.stamp_explain.proofs.Replying.{IsAlike, alike_before, replied_is_observed}
 use Rattle.stamp_explain.proofs.Answering.{AreAlike, alike_with_reply, timeline_alike, there, other_there, took_alike}
 use Rattle.stamp_explain.proofs.Answering.{turned}
@@ -46,6 +44,7 @@ use Rattle.stamp_explain.proofs.Answering.{same_calls_before, at_same, at_alike,
 use Rattle.stamp_explain.proofs.Expanding.{one_reply, at_place}
 use Rattle.stamp_explain.proofs.Leading.{come, way_past, way_by}
 use Rattle.stamp_explain.proofs.Counting.{all_differ, as_many, configuration_of, configurations_of, each_has}
+use Rattle.stamp_explain.proofs.Exploring.{Explores, explores_first, explores_more, only_first, popped_node}
 use Rattle.stamp_explain.proofs.Exploring.{Searches, searches_first, searches_more, found_nothing, opening_reached}
 use Rattle.stamp_explain.proofs.Exploring.{named, contains_at}
 use Rattle.stamp_explain.proofs.Succeeding.{Awaits, Tries, awaited_at, past_of, leads_past, suffices_past}
@@ -644,46 +643,24 @@ beside_inside asking node asks is = which (cases node.past (length asking.timeli
 -- what the search keeps
 pub record Walks (asking : Asking) (looked : ℕ) (store : Store) (waiting : List ℕ) (replies : List Reply) :
     Type 0 where
-  pub keeps : Keeps store
+  pub explores : Explores looked store waiting
   pub reached : (v : Node) → Contains store.nodes.items v → IsReachedBeside asking v
-  pub inside : All (λ (p : ℕ). p < length store.nodes.items) waiting
-  pub count : looked + length waiting ≡ length store.nodes.items
   pub once : AllPairs (λ (a b : Reply). a ≢ b) replies
   pub gets : (reply : Reply) → Contains replies reply → Gets asking reply
   pub searches : (reply : Reply) (h : ObservedHistory) → IsAnswered asking reply h → ¬ Contains replies reply →
-      Searches h asking.timeline.returns.items looked store waiting
+      Searches h asking.timeline.returns.items store waiting
 
 pub walks_first : (asking : Asking) (old new : Store) (waiting : List ℕ) (next : Next) → old.nodes.items ≡ [] →
     IsOpening asking.seen next.node → Enters old new 0 [] waiting (next ∷ []) → Walks asking 0 new waiting []
 walks_first asking old new waiting next empty is enters = record {
-  keeps = enters.keeps;
-  reached = λ v has. first v (subst (λ (ns : List Node). Contains ns v) all has);
-  inside = subst (All (λ (p : ℕ). p < length new.nodes.items)) (sym enters.to_do) enters.inside;
-  count = omega (
-    arith,
-    ap (λ (ns : List Node). length ns) all,
-    length-map enters.added (λ (w : Next). w.node),
-    enters.many,
-    ap (λ (ps : List ℕ). length ps) enters.to_do,
-  );
+  explores = explores_first old new waiting next empty enters;
+  reached = λ v has. subst (IsReachedBeside asking) (only_first old new waiting next empty enters v has)
+      (opening_beside asking next.node is);
   once = pairs_none (λ (a b : Reply). a ≢ b);
   gets = λ reply has. absurd (none_in_empty reply has);
   searches = λ reply h answered misses. searches_first h asking.timeline.returns.items old new waiting next empty
       (opening_alike asking.seen h asking.place next.node (alike_of asking reply h answered) is) enters;
 }
-  where
-    all : new.nodes.items ≡ nodes_of enters.added
-    all = enters.nodes ∙ ap (λ (ns : List Node). ns ++ nodes_of enters.added) empty
-
-    first : (v : Node) → Contains (nodes_of enters.added) v → IsReachedBeside asking v
-    first v has = let found : (x : Next) × (Contains enters.added x × (x.node ≡ v)) = named enters.added v has in
-        by found.0 v found.1.1 (contains_cases next [] found.0 (All-contains (Contains (next ∷ [])) enters.added
-        found.0 enters.among found.1.0))
-      where
-        by : (x : Next) (v : Node) → x.node ≡ v → (next ≡ x) ⊎ Contains [] x → IsReachedBeside asking v
-        by x v same (inl e) = subst (IsReachedBeside asking) (ap (λ (w : Next). w.node) e ∙ same)
-            (opening_beside asking next.node is)
-        by x v same (inr none) = absurd (none_in_empty x none)
 
 pub walks_more : (asking : Asking) (looked : ℕ) (old new : Store) (before popped after : List ℕ) (nexts : List Next)
     (replies more : List Reply) (place : ℕ) (v : Node) → Walks asking looked old before replies →
@@ -693,27 +670,12 @@ pub walks_more : (asking : Asking) (looked : ℕ) (old new : Store) (before popp
 walks_more asking looked old new before popped after nexts replies more place v is split at led grows gets suffice
     enters =
     record {
-      keeps = enters.keeps;
+      explores = explores_more looked old new before popped after nexts place is.explores split enters;
       reached = λ w has. by w (Contains-append_cases old.nodes.items (nodes_of enters.added) w
           (subst (λ (ns : List Node). Contains ns w) enters.nodes has));
-      inside = subst (All (λ (p : ℕ). p < length new.nodes.items)) (sym enters.to_do)
-          (All-append (λ (p : ℕ). p < length new.nodes.items) popped enters.places
-          (All-weaker (Contains popped) (λ (p : ℕ). p < length new.nodes.items)
-          (λ p has. omega (arith, longer, popped_less p has)) popped (All-contains_itself popped)) enters.inside);
-      count = omega (
-        arith,
-        is.count,
-        longer,
-        enters.many,
-        ap (λ (ps : List ℕ). length ps) enters.to_do,
-        ap (λ (ps : List ℕ). length ps) split,
-        length-append popped enters.places,
-        length-append popped (place ∷ []),
-      );
       once = grows.once is.once;
       gets = λ reply has. gotten reply (gets reply has);
-      searches = λ reply h answered misses. searches_more h asking.timeline.returns.items looked old new before
-          popped after
+      searches = λ reply h answered misses. searches_more h asking.timeline.returns.items old new before popped after
           nexts place v (is.searches reply h answered (λ has. misses (grows.kept reply has))) split at
           (suffice.suffice reply h answered misses) enters;
     }
@@ -721,18 +683,6 @@ walks_more asking looked old new before popped after nexts replies more place v 
     gotten : (reply : Reply) → Contains replies reply ⊎ Gets asking reply → Gets asking reply
     gotten reply (inl has) = is.gets reply has
     gotten reply (inr new) = new
-
-    longer : length new.nodes.items ≡ length old.nodes.items + length enters.added
-    longer = omega (
-      arith,
-      ap (λ (ns : List Node). length ns) enters.nodes,
-      length-append old.nodes.items (nodes_of enters.added),
-      length-map enters.added (λ (w : Next). w.node),
-    )
-
-    popped_less : (p : ℕ) → Contains popped p → p < length old.nodes.items
-    popped_less p has = All-contains (λ (q : ℕ). q < length old.nodes.items) before p is.inside
-        (subst (λ (ps : List ℕ). Contains ps p) (sym split) (Contains-append_left popped (place ∷ []) p has))
 
     by : (w : Node) → Contains old.nodes.items w ⊎ Contains (nodes_of enters.added) w → IsReachedBeside asking w
     by w (inl has) = is.reached w has
@@ -747,7 +697,7 @@ pub walks_end : (asking : Asking) (looked : ℕ) (store : Store) (waiting : List
 walks_end asking looked store waiting replies asks is none = record {
   gets = is.gets;
   once = is.once;
-  whole = λ reply h answered misses. found_nothing h asking.timeline.returns.items looked store waiting
+  whole = λ reply h answered misses. found_nothing h asking.timeline.returns.items store waiting
       (timeline_alike asking.seen h asking.place asking.timeline (alike_of asking reply h answered) asks.timeline).are
       (is.searches reply h answered misses) none;
 }
@@ -764,10 +714,10 @@ walks_on asking most looked store waiting replies asks is all waits = record {
     configurations = configurations_of asking.seen (Some asking.place) asking.timeline.returns.items store.nodes.items
         (λ v has. (is.reached v has).reached);
     different = all_differ asking.seen (Some asking.place) asking.timeline.returns.items store.nodes.items
-        (λ v has. (is.reached v has).reached) is.keeps.different;
+        (λ v has. (is.reached v has).reached) is.explores.keeps.different;
     many = omega (
       arith,
-      is.count,
+      is.explores.count,
       all,
       waits,
       as_many asking.seen (Some asking.place) asking.timeline.returns.items store.nodes.items
@@ -781,24 +731,10 @@ walks_on asking most looked store waiting replies asks is all waits = record {
       (λ v has. (is.reached v has).still);
 }
 
--- the place that is popped, and the node there
-pub walked_inside : (asking : Asking) (looked : ℕ) (store : Store) (before popped : List ℕ) (replies : List Reply)
-    (place : ℕ) → Walks asking looked store before replies → before ≡ popped ++ place ∷ [] →
-    place < length store.nodes.items
-walked_inside asking looked store before popped replies place is split =
-    All-contains (λ (p : ℕ). p < length store.nodes.items) before place is.inside
-    (subst (λ (ps : List ℕ). Contains ps place) (sym split) (Contains-push popped place))
-
-pub walked_node : (asking : Asking) (looked : ℕ) (store : Store) (before popped : List ℕ) (replies : List Reply)
-    (place : ℕ) (v : Node) → Walks asking looked store before replies → before ≡ popped ++ place ∷ [] →
-    v ≡ get_or store.nodes.items place v → slice_get store.nodes.items place ≡ Some v
-walked_node asking looked store before popped replies place v is split read =
-    slice_get_read store.nodes.items (length store.nodes.items) place v refl
-    (walked_inside asking looked store before popped replies place is split) read
-
+-- the node whose place is popped
 pub walked_reached : (asking : Asking) (looked : ℕ) (store : Store) (before popped : List ℕ) (replies : List Reply)
     (place : ℕ) (v : Node) → Walks asking looked store before replies → before ≡ popped ++ place ∷ [] →
     v ≡ get_or store.nodes.items place v → IsReachedBeside asking v
 walked_reached asking looked store before popped replies place v is split read =
     is.reached v (contains_at store.nodes.items place v
-    (walked_node asking looked store before popped replies place v is split read))
+    (popped_node looked store before popped place v is.explores split read))

@@ -1,5 +1,5 @@
 -- A search that goes through all that is reached, and what an order of the whole is to a search.
-use Rattle.std.proofs.Common.{◌≡◌, ◌⊎◌, ℕ, ◌+◌, ◌-◌, ◌<◌, ◌≤◌, List, [], ◌∷◌, ◌++◌, length, get_or}
+use Rattle.std.proofs.Common.{◌≡◌, ◌⊎◌, ℕ, ◌+◌, ◌<◌, ◌≤◌, List, [], ◌∷◌, ◌++◌, length, get_or}
 use Rattle.std.proofs.Common.{refl, sym, ◌∙◌, ap, subst, inl, inr, arith, Option, None, Some, true, false}
 use Rattle.std.specs.Prelude.{take, drop, slice_get, ◌==◌}
 use Rattle.std.specs.Option.{option_map}
@@ -16,7 +16,6 @@ use Rattle.std.proofs.lemmas.Option.{slice_get_read, get_or_from_slice_get}
 use Rattle.stamp_core.specs.Content.{zeros}
 use Rattle.stamp_explain.specs.declared.node.Node.{Node}
 use Rattle.stamp_explain.specs.declared.node.Next.{Next}
-use Rattle.stamp_explain.specs.declared.node.Origin.{Origin}
 use Rattle.stamp_explain.specs.declared.store.Store.{Store}
 use Rattle.stamp_explain.specs.Observed.{ObservedHistory}
 use Rattle.stamp_explain.specs.Explained.{Effect, IsExplained, IsExplainedBy, history_of, indices_of}
@@ -27,12 +26,10 @@ use Rattle.stamp_explain.specs.Configuration.Reaches.{begins}
 use Rattle.stamp_explain.specs.Node.{AreTaken, IsOpening, StandsFor, IsReached}
 use Rattle.stamp_explain.specs.Store.{Keeps}
 use Rattle.stamp_explain.specs.Expand.{Hope, GoesOn, Suffice, Enters, IsPlaced, nodes_of}
-use Rattle.stamp_explain.specs.Expand.{origins_of}
 use Rattle.stamp_explain.proofs.Lists.{none_in_empty, contains_cases, contains_first, contains_rest}
 use Rattle.stamp_explain.proofs.Finding.{runs_legal, legal_runs}
 use Rattle.stamp_explain.proofs.Searching.{Waits, Follows, LosesNothing, node_kept, none_left}
-use Rattle.stamp_explain.proofs.Entering.{read_left, read_right}
-use Rattle.stamp_explain.proofs.Leading.{leads_reached}
+use Rattle.stamp_explain.proofs.Entering.{read_left}
 
 -- what an order of the whole history is to a search
 pub completed_from : (h : ObservedHistory) (returns : List ℕ) (rest : List Effect) → AreReturns h.entries returns →
@@ -66,16 +63,18 @@ explained_by h returns are explained =
       runs = runs_legal h.limits [] (zeros h.width) (history_of explained.order) by.legal;
     }
 
--- what the search keeps
-pub record Searches (h : ObservedHistory) (returns : List ℕ) (looked : ℕ) (store : Store)
-    (waiting : List ℕ) : Type 0 where
+-- so many nodes were looked at, and the others of the store wait at these places
+pub record Explores (looked : ℕ) (store : Store) (waiting : List ℕ) : Type 0 where
   pub keeps : Keeps store
   pub inside : All (λ (p : ℕ). p < length store.nodes.items) waiting
+  pub count : looked + length waiting ≡ length store.nodes.items
+
+-- nothing of what can be completed from the opening is lost
+pub record Searches (h : ObservedHistory) (returns : List ℕ) (store : Store) (waiting : List ℕ) : Type 0 where
   pub loses : LosesNothing (Hope h returns) (Contains store.nodes.items) (IsPlaced store.nodes.items waiting)
   pub first : Node
   pub is_first : IsOpening h first
   pub at_first : slice_get store.nodes.items 0 ≡ Some first
-  pub count : looked + length waiting ≡ length store.nodes.items
 
 -- the opening is a node that is reached, and hopes for any order
 pub opening_stands : (h : ObservedHistory) (returns : List ℕ) (node : Node) → IsOpening h node →
@@ -135,86 +134,80 @@ named_at xs j w at = by (slice_get xs j) refl (sym (slice_get-map (λ (x : Next)
     by None e h = absurd (none-some w h)
     by (Some x) e h = (x, (e, same_Some x.node w h))
 
-pub searches_first : (h : ObservedHistory) (returns : List ℕ) (old new : Store) (waiting : List ℕ) (next : Next) →
-    old.nodes.items ≡ [] → IsOpening h next.node → Enters old new 0 [] waiting (next ∷ []) →
-    Searches h returns 0 new waiting
-searches_first h returns old new waiting next empty is enters = record {
+-- the nodes of a store that had none
+first_nodes : (old new : Store) (waiting : List ℕ) (next : Next) → old.nodes.items ≡ [] →
+    (enters : Enters old new 0 [] waiting (next ∷ [])) → new.nodes.items ≡ nodes_of enters.added
+first_nodes old new waiting next empty enters =
+    enters.nodes ∙ ap (λ (ns : List Node). ns ++ nodes_of enters.added) empty
+
+pub explores_first : (old new : Store) (waiting : List ℕ) (next : Next) → old.nodes.items ≡ [] →
+    Enters old new 0 [] waiting (next ∷ []) → Explores 0 new waiting
+explores_first old new waiting next empty enters = record {
   keeps = enters.keeps;
   inside = subst (All (λ (p : ℕ). p < length new.nodes.items)) (sym enters.to_do) enters.inside;
+  count = omega (
+    arith,
+    ap (λ (ns : List Node). length ns) (first_nodes old new waiting next empty enters),
+    length-map enters.added (λ (w : Next). w.node),
+    enters.many,
+    ap (λ (ps : List ℕ). length ps) enters.to_do,
+  );
+}
+
+-- all of them are the first
+pub only_first : (old new : Store) (waiting : List ℕ) (next : Next) → old.nodes.items ≡ [] →
+    Enters old new 0 [] waiting (next ∷ []) → (v : Node) → Contains new.nodes.items v → next.node ≡ v
+only_first old new waiting next empty enters v has =
+    let found : (x : Next) × (Contains enters.added x × (x.node ≡ v)) = named enters.added v
+    (subst (λ (ns : List Node). Contains ns v) (first_nodes old new waiting next empty enters) has) in
+    ap (λ (w : Next). w.node) (which found.0 (contains_cases next [] found.0
+    (All-contains (Contains (next ∷ [])) enters.added found.0 enters.among found.1.0))) ∙ found.1.1
+  where
+    which : (w : Next) → (next ≡ w) ⊎ Contains [] w → next ≡ w
+    which w (inl e) = e
+    which w (inr none) = absurd (none_in_empty w none)
+
+pub searches_first : (h : ObservedHistory) (returns : List ℕ) (old new : Store) (waiting : List ℕ) (next : Next) →
+    old.nodes.items ≡ [] → IsOpening h next.node → Enters old new 0 [] waiting (next ∷ []) →
+    Searches h returns new waiting
+searches_first h returns old new waiting next empty is enters = record {
   loses = record {
     kept = λ u n seen hope. record {
       node = u;
       steps = n;
       waiting = subst (λ (ps : List ℕ). IsPlaced new.nodes.items ps u) (sym enters.to_do)
-          (enters.placed u (subst (λ (ns : List Node). Contains ns u) all seen));
+          (enters.placed u (subst (λ (ns : List Node). Contains ns u)
+          (first_nodes old new waiting next empty enters) seen));
       no_more = omega arith;
       hope = hope;
     };
   };
   first = next.node;
   is_first = is;
-  at_first = at_first;
-  count = omega (
-    arith,
-    ap (λ (ns : List Node). length ns) all,
-    length-map enters.added (λ (w : Next). w.node),
-    enters.many,
-    ap (λ (ps : List ℕ). length ps) enters.to_do,
-  );
+  at_first = slice_get-get_or new.nodes.items 0 next.node inside ∙ ap (λ (v : Node). Some v)
+      (sym (only_first old new waiting next empty enters (get_or new.nodes.items 0 next.node)
+      (Contains-get_or new.nodes.items 0 next.node inside)));
 }
   where
-    all : new.nodes.items ≡ nodes_of enters.added
-    all = enters.nodes ∙ ap (λ (ns : List Node). ns ++ nodes_of enters.added) empty
-
-    one_next : (w : Next) → Contains enters.added w → next ≡ w
-    one_next w has = first_only (contains_cases next [] w (All-contains (Contains (next ∷ [])) enters.added w
-        enters.among has))
-      where
-        first_only : (next ≡ w) ⊎ Contains [] w → next ≡ w
-        first_only (inl e) = e
-        first_only (inr none) = absurd (none_in_empty w none)
-
-    one : (v : Node) → Contains new.nodes.items v → next.node ≡ v
-    one v has = let found : (x : Next) × (Contains enters.added x × (x.node ≡ v)) =
-        named enters.added v (subst (λ (ns : List Node). Contains ns v) all has) in
-        ap (λ (w : Next). w.node) (one_next found.0 found.1.0) ∙ found.1.1
-
-    at_place : (k : ℕ) (d : Node) → k < length new.nodes.items → get_or new.nodes.items k d ≡ next.node
-    at_place k d lt = sym (one (get_or new.nodes.items k d) (Contains-get_or new.nodes.items k d lt))
-
     some_in : (xs : List Node) → Contains xs next.node → 0 < length xs
     some_in xs (k, lt, e) = omega (arith, lt)
 
     inside : 0 < length new.nodes.items
     inside = some_in new.nodes.items (enters.each next (contains_first next [] next refl))
 
-    at_first : slice_get new.nodes.items 0 ≡ Some next.node
-    at_first = slice_get-get_or new.nodes.items 0 next.node inside ∙
-        ap (λ (v : Node). Some v) (at_place 0 next.node inside)
-
 -- the node is one of those that come next
 abbrev Comes : List Next → Node → Type 0
 Comes nexts w = (x : Next) × (Contains nexts x × (x.node ≡ w))
 
-pub searches_more : (h : ObservedHistory) (returns : List ℕ) (looked : ℕ) (old new : Store)
-    (before popped after : List ℕ) (nexts : List Next) (place : ℕ) (v : Node) →
-    Searches h returns looked old before → before ≡ popped ++ place ∷ [] →
-    slice_get old.nodes.items place ≡ Some v → Suffice h returns v nexts →
-    Enters old new place popped after nexts → Searches h returns (looked + 1) new after
-searches_more h returns looked old new before popped after nexts place v is split at suffice enters = record {
+pub explores_more : (looked : ℕ) (old new : Store) (before popped after : List ℕ) (nexts : List Next)
+    (place : ℕ) → Explores looked old before → before ≡ popped ++ place ∷ [] →
+    Enters old new place popped after nexts → Explores (looked + 1) new after
+explores_more looked old new before popped after nexts place is split enters = record {
   keeps = enters.keeps;
   inside = subst (All (λ (p : ℕ). p < length new.nodes.items)) (sym enters.to_do)
       (All-append (λ (p : ℕ). p < length new.nodes.items) popped enters.places
       (All-weaker (Contains popped) (λ (p : ℕ). p < length new.nodes.items)
       (λ p has. omega (arith, longer, popped_less p has)) popped (All-contains_itself popped)) enters.inside);
-  loses = record {
-    kept = λ u n seen hope. turned (kept.kept u n
-        (Contains-append_cases old.nodes.items (nodes_of enters.added) u
-        (subst (λ (ns : List Node). Contains ns u) enters.nodes seen)) hope);
-  };
-  first = is.first;
-  is_first = is.is_first;
-  at_first = more 0 is.first is.at_first;
   count = omega (
     arith,
     is.count,
@@ -239,6 +232,21 @@ searches_more h returns looked old new before popped after nexts place v is spli
     popped_less p has = All-contains (λ (q : ℕ). q < length old.nodes.items) before p is.inside
         (subst (λ (ps : List ℕ). Contains ps p) (sym split) (Contains-append_left popped (place ∷ []) p has))
 
+pub searches_more : (h : ObservedHistory) (returns : List ℕ) (old new : Store) (before popped after : List ℕ)
+    (nexts : List Next) (place : ℕ) (v : Node) → Searches h returns old before → before ≡ popped ++ place ∷ [] →
+    slice_get old.nodes.items place ≡ Some v → Suffice h returns v nexts →
+    Enters old new place popped after nexts → Searches h returns new after
+searches_more h returns old new before popped after nexts place v is split at suffice enters = record {
+  loses = record {
+    kept = λ u n seen hope. turned (kept.kept u n
+        (Contains-append_cases old.nodes.items (nodes_of enters.added) u
+        (subst (λ (ns : List Node). Contains ns u) enters.nodes seen)) hope);
+  };
+  first = is.first;
+  is_first = is.is_first;
+  at_first = more 0 is.first is.at_first;
+}
+  where
     more : (k : ℕ) (w : Node) → slice_get old.nodes.items k ≡ Some w → slice_get new.nodes.items k ≡ Some w
     more k w here = ap (λ (ns : List Node). slice_get ns k) enters.nodes ∙
         read_left old.nodes.items (nodes_of enters.added) k w here
@@ -318,9 +326,9 @@ searches_more h returns looked old new before popped after nexts place v is spli
     }
 
 -- where none waits, no order explains the history
-pub found_nothing : (h : ObservedHistory) (returns : List ℕ) (looked : ℕ) (store : Store) (waiting : List ℕ) →
-    AreReturns h.entries returns → Searches h returns looked store waiting → waiting ≡ [] → ¬ IsExplained h
-found_nothing h returns looked store waiting are is none explained =
+pub found_nothing : (h : ObservedHistory) (returns : List ℕ) (store : Store) (waiting : List ℕ) →
+    AreReturns h.entries returns → Searches h returns store waiting → waiting ≡ [] → ¬ IsExplained h
+found_nothing h returns store waiting are is none explained =
     none_left (Hope h returns) (Contains store.nodes.items) (IsPlaced store.nodes.items waiting) is.loses
     (λ w placed. none_in_empty placed.place (subst (λ (ps : List ℕ). Contains ps placed.place) none placed.among))
     is.first (length (drop is.first.past returns) + length explained.order)
@@ -342,20 +350,19 @@ is_zero n is = grind (arith, nat_tests)
 pub is_more : (n : ℕ) → false ≡ (n == 0) → 1 ≤ n
 is_more n is = grind (arith, nat_tests)
 
-pub popped_inside : (h : ObservedHistory) (returns : List ℕ) (looked : ℕ) (store : Store) (before popped : List ℕ)
-    (place : ℕ) → Searches h returns looked store before → before ≡ popped ++ place ∷ [] →
-    place < length store.nodes.items
-popped_inside h returns looked store before popped place is split =
+-- what is popped is the place of a node
+pub popped_inside : (looked : ℕ) (store : Store) (before popped : List ℕ) (place : ℕ) → Explores looked store before →
+    before ≡ popped ++ place ∷ [] → place < length store.nodes.items
+popped_inside looked store before popped place is split =
     All-contains (λ (p : ℕ). p < length store.nodes.items) before place is.inside
     (subst (λ (ps : List ℕ). Contains ps place) (sym split) (Contains-push popped place))
 
--- what is popped is the place of a node that is reached
-pub popped_node : (h : ObservedHistory) (returns : List ℕ) (looked : ℕ) (store : Store) (before popped : List ℕ)
-    (place : ℕ) (v : Node) → Searches h returns looked store before → before ≡ popped ++ place ∷ [] →
-    v ≡ get_or store.nodes.items place v → slice_get store.nodes.items place ≡ Some v
-popped_node h returns looked store before popped place v is split read =
+pub popped_node : (looked : ℕ) (store : Store) (before popped : List ℕ) (place : ℕ) (v : Node) →
+    Explores looked store before → before ≡ popped ++ place ∷ [] → v ≡ get_or store.nodes.items place v →
+    slice_get store.nodes.items place ≡ Some v
+popped_node looked store before popped place v is split read =
     slice_get_read store.nodes.items (length store.nodes.items) place v refl
-    (popped_inside h returns looked store before popped place is split) read
+    (popped_inside looked store before popped place is split) read
 
 pub nil_of_length : (xs : List ℕ) → length xs ≡ 0 → xs ≡ []
 nil_of_length [] h = refl

@@ -19,7 +19,7 @@ use Rattle.stamp_explain.specs.Observed.{ObservedHistory, IsObserved, HasReturne
 use Rattle.stamp_explain.specs.Explained.{Effect, IsEffectOf}
 use Rattle.stamp_explain.specs.Observer.{changes_nothing, observes_by, observes, observes_in, observes_at}
 use Rattle.stamp_explain.specs.Search.{LockState, LockSteps, MayTake, IsReturnAt}
-use Rattle.stamp_explain.specs.Configuration.{IsAtOnce, IsTried, NoneIsAtOnce}
+use Rattle.stamp_explain.specs.Configuration.{IsAtOnce, IsTried}
 use Rattle.stamp_explain.specs.Node.{IsNext, AreTaken, StandsFor}
 use Rattle.stamp_explain.specs.Timeline.{IsTimeline, IsAwaitedAt, IsOpenAt, AreOpen}
 use Rattle.stamp_explain.specs.Node.{ClearsBit}

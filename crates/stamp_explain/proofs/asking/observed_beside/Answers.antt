@@ -1,4 +1,4 @@
-use Rattle.std.proofs.Common.{◌≢◌, ◌≡◌, Some, get_or, sym, ◌∙◌, arith}
+use Rattle.std.proofs.Common.{◌≢◌, Some, get_or, sym, ◌∙◌, arith}
 use Rattle.stamp_explain.specs.Timeline.{IsOpenAt}
 use Rattle.stamp_explain.proofs.Succeeding.{open_read, opens_read, none_at_once, none_by_asked, none_by_change}
 use Rattle.stamp_explain.proofs.Succeeding.{none_by_took}

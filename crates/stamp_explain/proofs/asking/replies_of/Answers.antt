@@ -2,9 +2,9 @@ use Rattle.std.proofs.Common.{◌<◌, ◌∷◌, [], ℕ, List, sym, ◌∙◌,
 use Rattle.stamp_core.specs.declared.reply.Reply.{Reply}
 use Rattle.stamp_explain.specs.declared.node.Next.{Next}
 use Rattle.stamp_explain.specs.Expand.{Enters}
-use Rattle.stamp_explain.proofs.Exploring.{is_zero, is_more, nil_of_length}
-use Rattle.stamp_explain.proofs.Beside.{Walks, walks_first, walks_more, walks_end, walks_on, walked_inside, walked_node}
-use Rattle.stamp_explain.proofs.Beside.{walked_reached, beside_inside}
+use Rattle.stamp_explain.proofs.Exploring.{is_zero, is_more, nil_of_length, popped_inside, popped_node}
+use Rattle.stamp_explain.proofs.Beside.{Walks, walks_first, walks_more, walks_end, walks_on, walked_reached}
+use Rattle.stamp_explain.proofs.Beside.{beside_inside}
 use Rattle.stamp_explain.specs.Asking.{IsReachedBeside}
 use Rattle.stamp_explain.proofs.asking.replies_of.Goals as goal
 
@@ -24,8 +24,8 @@ returns-in_default-clause-some c =
 
 pub index-requires : goal.index-requires
 index-requires c = subst (λ (n : ℕ). c.in-Some.place < n) (sym c.loop.store.nodes.ok.0)
-    (walked_inside c.args.asking.now c.loop.counter c.loop.store c.loop.waiting.items c.pop.new.self.items
-    c.loop.replies.items c.in-Some.place c.loop.invariant c.in-Some.ensures.items)
+    (popped_inside c.loop.counter c.loop.store c.loop.waiting.items c.pop.new.self.items c.in-Some.place
+    c.loop.invariant.explores c.in-Some.ensures.items)
 
 pub go_on-requires : goal.go_on-requires
 go_on-requires c =
@@ -44,9 +44,8 @@ loop-preserved c =
     walks_more c.args.asking.now c.loop.counter c.loop.store c.enter-in-loop.new.store c.loop.waiting.items
     c.pop.new.self.items c.enter-in-loop.new.waiting.items c.go_on.new.nexts.items c.loop.replies.items
     c.go_on.new.replies.items c.in-Some.place c.index.result.now c.loop.invariant c.in-Some.ensures.items
-    (walked_node c.args.asking.now c.loop.counter c.loop.store c.loop.waiting.items c.pop.new.self.items
-    c.loop.replies.items c.in-Some.place c.index.result.now c.loop.invariant c.in-Some.ensures.items
-    c.index.ensures) c.in_ok-go_on.ensures.leads c.in_ok-go_on.ensures.more
+    (popped_node c.loop.counter c.loop.store c.loop.waiting.items c.pop.new.self.items c.in-Some.place
+    c.index.result.now c.loop.invariant.explores c.in-Some.ensures.items c.index.ensures) c.in_ok-go_on.ensures.leads c.in_ok-go_on.ensures.more
     c.in_ok-go_on.ensures.gets c.in_ok-go_on.ensures.whole
     (subst (λ (ns : List Next). Enters c.loop.store c.enter-in-loop.new.store c.in-Some.place c.pop.new.self.items
     c.enter-in-loop.new.waiting.items ns) c.as_slice.ensures.value c.in_ok-enter-2.ensures)
