@@ -3,8 +3,9 @@ use Rattle.std.specs.Prelude.{slice_get}
 use Rattle.stamp_explain.specs.declared.node.Next.{Next}
 use Rattle.stamp_explain.specs.declared.node.Waiting.{Waiting}
 use Rattle.stamp_explain.specs.Expand.{LooksAt, waiting_from}
-use Rattle.stamp_explain.proofs.Deepening.{IsAtLast, deepens_first, deepens_on}
-use Rattle.stamp_explain.proofs.Deepening.{deepens_no_more, deepened_more, last_read, last_reached, expanded_last}
+use Rattle.stamp_explain.proofs.Deepening.{IsAtLast, deepens_first}
+use Rattle.stamp_explain.proofs.LookingOn.{deepens_on}
+use Rattle.stamp_explain.proofs.GivingUp.{deepens_no_more, deepened_more, last_read, last_reached, expanded_last}
 use Rattle.stamp_explain.proofs.search.search.Goals as goal
 use Rattle.stamp_explain.proofs.search.search.Goals.{else-loop-test}
 use Rattle.stamp_explain.proofs.search.search.Goals.{then-loop-test+else-node-returns+in_ok-successors+in_ok-leave+in_ok-look+else-not-branch+else-counter-most}

@@ -1,0 +1,204 @@
+-- What a search in depth finds where nothing is left, or where it gives up.
+use Rattle.std.proofs.Common.{◌≡◌, ◌≢◌, ◌⊎◌, ℕ, ◌+◌, ◌<◌, ◌≤◌, List, [], ◌++◌, length}
+use Rattle.std.proofs.Common.{get_or}
+use Rattle.std.proofs.Common.{refl, sym, ◌∙◌, ap, subst, inl, inr, arith, None, Some}
+use Rattle.std.specs.Prelude.{take, drop, slice_get}
+use Rattle.std.specs.List.{All, Contains}
+use Rattle.std.proofs.lemmas.List.{length-drop, get_or-take}
+use Rattle.std.proofs.lemmas.List.{length-take-le}
+use Rattle.std.proofs.lemmas.Option.{same_Some, slice_get-get_or, slice_get_within}
+use Rattle.std.proofs.lemmas.Option.{slice_get_read}
+use Rattle.stamp_explain.specs.declared.node.Node.{Node}
+use Rattle.stamp_explain.specs.declared.node.Next.{Next}
+use Rattle.stamp_explain.specs.declared.node.Waiting.{Waiting}
+use Rattle.stamp_explain.specs.declared.store.Store.{Store}
+use Rattle.stamp_explain.specs.Observed.{ObservedHistory}
+use Rattle.stamp_explain.specs.Explained.{IsExplained}
+use Rattle.stamp_explain.specs.Search.{LockSteps, IsCompletedBy, AreReturns, opening}
+use Rattle.stamp_explain.specs.Configuration.{AreOne, Configuration, GoesOnFrom, IsAlive, LookedAtMore}
+use Rattle.stamp_explain.specs.Node.{IsReached}
+use Rattle.stamp_explain.specs.Expand.{Hope, Expands}
+use Rattle.stamp_explain.specs.Expand.{waiting_from}
+use Rattle.stamp_explain.proofs.Counting.{IsFor, one_node}
+use Rattle.stamp_explain.proofs.Exploring.{explained_by, opening_stands}
+use Rattle.stamp_explain.proofs.GoingOn.{reached_of}
+use Rattle.stamp_explain.proofs.Deepening.{IsOpen, IsDead, Deepens, None_now, IsAtLast, some_inside, HasFor, of_node}
+use Rattle.stamp_explain.proofs.Deepening.{deepens_expanded}
+use Rattle.stamp_explain.proofs.LookingOn.{all_passed, all_passed_over}
+
+-- where all that waited was seen, no order explains the history
+pub deepens_no_more : (h : ObservedHistory) (returns : List ℕ) (store : Store) (waited : List Waiting)
+    (expanded : ℕ) → AreReturns h.entries returns → Deepens h returns store waited expanded None_now →
+    length store.nodes.items ≡ expanded → All (λ (w : Waiting). Contains store.nodes.items w.node) waited →
+    ¬ IsExplained h
+deepens_no_more h returns store waited expanded are before all seen explained =
+    by (was.each 0 first of_first.configuration (omega (
+      arith,
+      all,
+      slice_get_within store.nodes.items 0 first
+          was.linked.at_first,
+    )) was.linked.at_first of_first.is_at)
+  where
+    was : Deepens h returns store [] expanded None_now
+    was = all_passed_over h returns store [] waited expanded before all seen
+
+    first : Node
+    first = was.linked.first
+
+    of_first : HasFor h returns was.configurations 0 first
+    of_first = of_node h returns store.nodes.items was.configurations 0 first was.are was.linked.at_first
+
+    steps : ℕ
+    steps = length (drop first.past returns) + length explained.order
+
+    hope : Hope h returns first steps
+    hope = record {
+      state = opening h.width;
+      taken = [];
+      stands = opening_stands h returns first was.linked.is_first;
+      rest = explained.order;
+      by = subst (λ (n : ℕ). IsCompletedBy (LockSteps h.limits) h.entries (drop n returns) (opening h.width) []
+          explained.order) (sym was.linked.is_first.past) (explained_by h returns are explained);
+      steps = refl;
+    }
+
+    by : IsDead h returns first ⊎ IsOpen h returns was.configurations [] None_now 0 first of_first.configuration → ⊥
+    by (inl dead) = dead steps hope
+    by (inr going) = all_passed h returns was.configurations [] 0 first of_first.configuration going (omega arith) steps
+        hope
+
+-- where it has expanded more than so many, it has looked at more than so many
+pub deepened_more : (h : ObservedHistory) (returns : List ℕ) (store : Store) (waiting : List Waiting)
+    (expanded most : ℕ) → IsAtLast h returns store waiting expanded → most < expanded →
+    LookedAtMore h returns most
+deepened_more h returns store waiting expanded most is enough = record {
+  looked = take (most + 1) cs;
+  different = λ i j d lt inside one. differ i j d lt (omega (arith, inside, many)) one;
+  unended = λ k d inside. open_end k d (omega (arith, inside, many));
+  in_depth = λ i j d lt inside alive. deep i j d lt (omega (arith, inside, many)) alive;
+  many = many;
+  further = get_or cs (most + 1) first_one;
+  is_further = λ k d inside one. past_all k d (omega (arith, inside, many)) one;
+}
+  where
+    was : Deepens h returns store waiting expanded (Hope h returns is.last)
+    was = is.deepens
+
+    cs : List (Configuration h None returns)
+    cs = was.configurations
+
+    nodes : List Node
+    nodes = store.nodes.items
+
+    counted : most + 2 ≤ length cs
+    counted = omega (arith, was.are.many, is.count, enough)
+
+    many : length (take (most + 1) cs) ≡ most + 1
+    many = length-take-le (most + 1) cs (omega (arith, counted))
+
+    none : Node
+    none = record { past = 0; bits = 0; writer = None; threads = 0 }
+
+    node_at : (k : ℕ) → k < most + 1 → slice_get nodes k ≡ Some (get_or nodes k none)
+    node_at k lt = slice_get-get_or nodes k none (omega (arith, lt, is.count, enough))
+
+    at : (k : ℕ) (d : Configuration h None returns) → k < most + 1 →
+        slice_get cs k ≡ Some (get_or (take (most + 1) cs) k d)
+    at k d lt = slice_get-get_or cs k d (omega (arith, lt, counted)) ∙
+        ap (λ (c : Configuration h None returns). Some c) (sym (get_or-take (most + 1) cs k d lt))
+
+    for_it : (k : ℕ) (d : Configuration h None returns) → k < most + 1 →
+        IsFor h None returns (get_or nodes k none) (get_or (take (most + 1) cs) k d)
+    for_it k d lt = was.are.each k (get_or nodes k none) (get_or (take (most + 1) cs) k d) (node_at k lt) (at k d lt)
+
+    differ : (i j : ℕ) (d : Configuration h None returns) → i < j → j < most + 1 →
+        AreOne h None returns (get_or (take (most + 1) cs) i d) (get_or (take (most + 1) cs) j d) → ⊥
+    differ i j d lt inside one =
+        was.keeps.different i j none lt (omega (arith, inside, is.count, enough))
+        (one_node h None returns (get_or nodes i none) (get_or nodes j none) (get_or (take (most + 1) cs) i d)
+        (get_or (take (most + 1) cs) j d) (for_it i d (omega (arith, lt, inside))) (for_it j d inside) one)
+
+    first_one : Configuration h None returns
+    first_one = (some_inside cs 0 (omega (arith, counted))).0
+
+    past_all : (k : ℕ) (d : Configuration h None returns) → k < most + 1 →
+        AreOne h None returns (get_or (take (most + 1) cs) k d) (get_or cs (most + 1) first_one) → ⊥
+    past_all k d lt one =
+        let last : most + 1 < length nodes = omega (arith, is.count, enough) in
+        was.keeps.different k (most + 1) none lt last
+        (one_node h None returns (get_or nodes k none) (get_or nodes (most + 1) none) (get_or (take (most + 1) cs) k d)
+        (get_or cs (most + 1) first_one) (for_it k d lt)
+        (was.are.each (most + 1) (get_or nodes (most + 1) none) (get_or cs (most + 1) first_one)
+        (slice_get-get_or nodes (most + 1) none last)
+        (slice_get-get_or cs (most + 1) first_one (omega (arith, counted)))) one)
+
+    open_end : (k : ℕ) (d : Configuration h None returns) → k < most + 1 →
+        (get_or (take (most + 1) cs) k d).to_come ≢ []
+    open_end k d lt ended =
+        omega (
+          arith,
+          was.unended k (get_or nodes k none) (omega (arith, lt, enough)) (node_at k lt),
+          ap (λ (xs : List ℕ). length xs) (sym (for_it k d lt).to_come ∙ ended),
+          length-drop (get_or nodes k none).past returns,
+        )
+
+    deep : (i j : ℕ) (d : Configuration h None returns) → i < j → j < most + 1 →
+        IsAlive h returns (get_or (take (most + 1) cs) i d) →
+        GoesOnFrom h returns (get_or (take (most + 1) cs) i d) (get_or (take (most + 1) cs) j d)
+    deep i j d lt inside alive =
+        by (was.each i u c (omega (arith, lt, inside, enough)) (node_at i less) (at i d less))
+      where
+        less : i < most + 1
+        less = omega (arith, lt, inside)
+
+        u : Node
+        u = get_or nodes i none
+
+        c : Configuration h None returns
+        c = get_or (take (most + 1) cs) i d
+
+        it : IsFor h None returns u c
+        it = for_it i d less
+
+        by : IsDead h returns u ⊎ IsOpen h returns cs waiting (Hope h returns is.last) i u c →
+            GoesOnFrom h returns c (get_or (take (most + 1) cs) j d)
+        by (inl dead) = absurd (dead (length (drop u.past returns) + length alive.rest) (record {
+          state = c.state;
+          taken = c.taken;
+          stands = it.stands;
+          rest = alive.rest;
+          by = subst (λ (xs : List ℕ). IsCompletedBy (LockSteps h.limits) h.entries xs c.state c.taken alive.rest)
+              it.to_come alive.by;
+          steps = refl;
+        }))
+        by (inr going) = going.follow j (get_or (take (most + 1) cs) j d) lt (at j d inside)
+
+-- the last node is read, and is reached
+pub last_read : (h : ObservedHistory) (returns : List ℕ) (store : Store) (waiting : List Waiting)
+    (expanded place : ℕ) (v : Node) → IsAtLast h returns store waiting expanded → place ≡ expanded →
+    v ≡ get_or store.nodes.items place v → slice_get store.nodes.items expanded ≡ Some v
+last_read h returns store waiting expanded place v is same read =
+    ap (λ (n : ℕ). slice_get store.nodes.items n) (sym same) ∙
+    slice_get_read store.nodes.items (length store.nodes.items) place v refl (omega (arith, same, is.count)) read
+
+pub last_reached : (h : ObservedHistory) (returns : List ℕ) (store : Store) (waiting : List Waiting)
+    (expanded : ℕ) (v : Node) → IsAtLast h returns store waiting expanded →
+    slice_get store.nodes.items expanded ≡ Some v → IsReached h None returns v
+last_reached h returns store waiting expanded v is at =
+    let it : HasFor h returns is.deepens.configurations expanded v =
+    of_node h returns store.nodes.items is.deepens.configurations expanded v is.deepens.are at in
+    reached_of h returns v it.configuration it.is_for
+
+-- the last node, read, is expanded
+pub expanded_last : (h : ObservedHistory) (returns : List ℕ) (store : Store) (waiting after : List Waiting)
+    (expanded place : ℕ) (nexts : List Next) (v : Node) → IsAtLast h returns store waiting expanded →
+    place ≡ expanded → slice_get store.nodes.items expanded ≡ Some v → v.past < length returns →
+    Expands h returns v nexts → after ≡ waiting ++ waiting_from place nexts →
+    Deepens h returns store after (expanded + 1) None_now
+expanded_last h returns store waiting after expanded place nexts v is same at inside expands left =
+    let last : v ≡ is.last = same_Some v is.last (sym at ∙ is.is_last) in
+    subst (λ (ws : List Waiting). Deepens h returns store ws (expanded + 1) None_now)
+    (ap (λ (n : ℕ). waiting ++ waiting_from n nexts) (sym same) ∙ sym left)
+    (deepens_expanded h returns store waiting expanded nexts is
+    (subst (λ (u : Node). u.past < length returns) last inside)
+    (subst (λ (u : Node). Expands h returns u nexts) last expands))
