@@ -398,12 +398,19 @@ between_undecided h most unexplained ends low high middle stuck p is le less at 
     same : (x y : ℕ × ℕ) → Some x ≡ Some y → x ≡ y
     same x y h = cc
 
-pub stuck_between : (h : ObservedHistory) (most : ℕ) (unexplained : Bool) (ends : List (ℕ × ℕ)) (low high : ℕ) (p :
-    ℕ × ℕ) →
-    AreEnds h.entries ends → IsBetween h most unexplained ends low high true → high ≤ low → slice_get ends low ≡
-    Some p →
-    IsStuck h p.1
-stuck_between h most unexplained ends low high p are is le at =
+-- the call whose return is where the two meet
+record IsMet (h : ObservedHistory) (most : ℕ) (unexplained stuck : Bool) (p : ℕ × ℕ) : Type 0 where
+  entry : Observation
+  return : Returned
+  is_entry : slice_get h.entries p.1 ≡ Some entry
+  returned : entry.returned ≡ Some return
+  explained : IsExplained (cut return.last p.1 h)
+  above : IsAbove h most (return.last, p.1) unexplained stuck
+
+is_met : (h : ObservedHistory) (most : ℕ) (unexplained stuck : Bool) (ends : List (ℕ × ℕ)) (low high : ℕ) (p : ℕ × ℕ) →
+    AreEnds h.entries ends → IsBetween h most unexplained ends low high stuck → high ≤ low →
+    slice_get ends low ≡ Some p → IsMet h most unexplained stuck p
+is_met h most unexplained stuck ends low high p are is le at =
     let found : (e : Observation) × ((slice_get h.entries p.1 ≡ Some e) × EndsAt e p.0) =
     are.each p (contained ends low p at) in
     let last : found.1.1.0.last ≡ p.0 = found.1.1.1.1 in
@@ -414,46 +421,52 @@ stuck_between h most unexplained ends low high p are is le at =
       is_entry = found.1.0;
       returned = found.1.1.1.0;
       explained = subst (λ (n : ℕ). IsExplained (cut n p.1 h)) (sym last) (is.below p at);
-      stuck = subst (λ (n : ℕ). ¬ IsExplained (cut n (p.1 + 1) h)) (sym last)
+      above = subst (λ (n : ℕ). IsAbove h most (n, p.1) unexplained stuck) (sym last)
           (is.above p (subst (λ (n : ℕ). slice_get ends n ≡ Some p) same at));
+    }
+
+pub stuck_between : (h : ObservedHistory) (most : ℕ) (unexplained : Bool) (ends : List (ℕ × ℕ)) (low high : ℕ)
+    (p : ℕ × ℕ) → AreEnds h.entries ends → IsBetween h most unexplained ends low high true → high ≤ low →
+    slice_get ends low ≡ Some p → IsStuck h p.1
+stuck_between h most unexplained ends low high p are is le at =
+    let met : IsMet h most unexplained true p = is_met h most unexplained true ends low high p are is le at in
+    record {
+      entry = met.entry;
+      return = met.return;
+      is_entry = met.is_entry;
+      returned = met.returned;
+      explained = met.explained;
+      stuck = met.above;
     }
 
 pub undecided_between : (h : ObservedHistory) (most : ℕ) (ends : List (ℕ × ℕ)) (low high : ℕ) (p : ℕ × ℕ) →
     AreEnds h.entries ends → IsBetween h most false ends low high false → high ≤ low → slice_get ends low ≡ Some p →
     IsUndecided h most p.1
 undecided_between h most ends low high p are is le at =
-    let found : (e : Observation) × ((slice_get h.entries p.1 ≡ Some e) × EndsAt e p.0) =
-    are.each p (contained ends low p at) in
-    let last : found.1.1.0.last ≡ p.0 = found.1.1.1.1 in
-    let same : low ≡ high = omega (arith, le, is.order) in
+    let met : IsMet h most false false p = is_met h most false false ends low high p are is le at in
     record {
-      entry = found.0;
-      return = found.1.1.0;
-      is_entry = found.1.0;
-      returned = found.1.1.1.0;
-      explained = subst (λ (n : ℕ). IsExplained (cut n p.1 h)) (sym last) (is.below p at);
+      entry = met.entry;
+      return = met.return;
+      is_entry = met.is_entry;
+      returned = met.returned;
+      explained = met.explained;
       whole = is.whole;
-      undecided = subst (λ (n : ℕ). IsLastOrGivesUp h most n (p.1 + 1)) (sym last)
-          (is.above p (subst (λ (n : ℕ). slice_get ends n ≡ Some p) same at));
+      undecided = met.above;
     }
 
 pub unexplained_between : (h : ObservedHistory) (most : ℕ) (ends : List (ℕ × ℕ)) (low high : ℕ) (p : ℕ × ℕ) →
     AreEnds h.entries ends → IsBetween h most true ends low high false → high ≤ low → slice_get ends low ≡ Some p →
     IsUnexplained h most p.1
 unexplained_between h most ends low high p are is le at =
-    let found : (e : Observation) × ((slice_get h.entries p.1 ≡ Some e) × EndsAt e p.0) =
-    are.each p (contained ends low p at) in
-    let last : found.1.1.0.last ≡ p.0 = found.1.1.1.1 in
-    let same : low ≡ high = omega (arith, le, is.order) in
+    let met : IsMet h most true false p = is_met h most true false ends low high p are is le at in
     record {
-      entry = found.0;
-      return = found.1.1.0;
-      is_entry = found.1.0;
-      returned = found.1.1.1.0;
-      explained = subst (λ (n : ℕ). IsExplained (cut n p.1 h)) (sym last) (is.below p at);
+      entry = met.entry;
+      return = met.return;
+      is_entry = met.is_entry;
+      returned = met.returned;
+      explained = met.explained;
       unexplained = is.whole;
-      gives_up = subst (λ (n : ℕ). IsGivenUp (seen_at n (p.1 + 1) h) most) (sym last)
-          (is.above p (subst (λ (n : ℕ). slice_get ends n ≡ Some p) same at));
+      gives_up = met.above;
     }
 
 -- what becomes of the two by what was found between them
