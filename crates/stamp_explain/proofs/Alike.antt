@@ -1,6 +1,6 @@
 -- Of calls that are alike, the one that returned first may take effect first.
 use Rattle.std.proofs.Common.{◌≡◌, ◌≢◌, ◌⊎◌, ℕ, ◌<◌, List, [], ◌∷◌, get_or, refl, sym, ◌∙◌, ap, subst, inl, inr, arith}
-use Rattle.std.proofs.Common.{Option, Some}
+use Rattle.std.proofs.Common.{Option, Some, length, suc, ◌+◌}
 use Rattle.std.specs.Prelude.{slice_get, MatchOption}
 use Rattle.std.specs.List.{All, AllPairs, Contains}
 use Rattle.std.proofs.lemmas.List.Elements.{All-cons, All-head, All-tail, All-weaker, All-contains}
@@ -19,6 +19,7 @@ use Rattle.stamp_explain.specs.ExplainLaws.{AlikeInTurn}
 use Rattle.stamp_explain.proofs.Lists.{none_in_empty, contains_cases, contains_first, contains_rest, pairs_head}
 use Rattle.stamp_explain.proofs.Lists.{pairs_tail, pairs_cons}
 use Rattle.stamp_explain.proofs.Completing.{same_entry}
+use Rattle.stamp_explain.proofs.Searching.{CompletesIn}
 
 -- the second list is the first with the one effect in the place of the other
 data Replaces (x y : Effect) : List Effect → List Effect → Type 0 where
@@ -189,36 +190,68 @@ replaced_completes limits entries a to_come s t taken x k e xs first may by at a
         which (inl same) = inl (contains_first k taken j (sym r.index ∙ same))
         which (inr has) = inr has
 
+replaced_length : (x y : Effect) {ys zs : List Effect} → Replaces x y ys zs → length zs ≡ length ys
+replaced_length x y (here {ys}) = refl
+replaced_length x y (later {w} {ys} {zs} r) = ap suc (replaced_length x y r)
+
+-- it may take effect, too
+pub may_in_turn : (limits : Bounds) (entries : List Observation) (a : Observation) (s t : LockState) (taken : List ℕ)
+    (x : Effect) (k : ℕ) (e : Observation) → MayTake (LockSteps limits) entries a s taken x t →
+    slice_get entries k ≡ Some e → IsAlikeSooner e x.entry → ¬ Contains taken k → ¬ IsBefore a e →
+    MayTake (LockSteps limits) entries a s taken (record { index = k; entry = e; reply = x.reply }) t
+may_in_turn limits entries a s t taken x k e may at alike fresh begun = record {
+  effect = record { is_entry = at; replies = may_reply_alike e x.entry x.reply alike may.effect.replies };
+  fresh = fresh;
+  begun = begun;
+  steps = subst (λ (c : Call). LockSteps limits s (c, x.reply) t) (sym alike.call) may.steps;
+}
+
+-- it is in the rest of an order
+in_rest : (x : Effect) (k : ℕ) (taken : List ℕ) (rest : List Effect) → ¬ Contains taken k → k ≢ x.index →
+    Contains (x.index ∷ taken) k ⊎ Contains (indices_of rest) k → Contains (indices_of rest) k
+in_rest x k taken rest fresh other (inl has) = absurd (neither (contains_cases x.index taken k has))
+  where
+    neither : (x.index ≡ k) ⊎ Contains taken k → ⊥
+    neither (inl same) = other (sym same)
+    neither (inr has) = fresh has
+in_rest x k taken rest fresh other (inr has) = has
+
+replaced_in : (x : Effect) (k : ℕ) (entries : List Observation) (to_come taken : List ℕ) (limits : Bounds)
+    (t : LockState) (rest : List Effect) → IsCompletedBy (LockSteps limits) entries to_come t (x.index ∷ taken) rest →
+    ¬ Contains taken k → k ≢ x.index → Contains to_come k → Replaced x k rest
+replaced_in x k entries to_come taken limits t rest by fresh other due =
+    replaced x k rest (in_rest x k taken rest fresh other
+    (All-contains (λ (j : ℕ). Contains (x.index ∷ taken) j ⊎ Contains (indices_of rest) j) to_come k by.returned due))
+
+-- and the rest is completed in as many steps
+pub alike_in_as_many : (limits : Bounds) (entries : List Observation) (a : Observation) (to_come : List ℕ)
+    (s t : LockState) (taken : List ℕ) (x : Effect) (k : ℕ) (e : Observation) (n : ℕ) →
+    IsFirstReturn entries taken a → MayTake (LockSteps limits) entries a s taken x t →
+    CompletesIn (LockSteps limits) entries to_come t (x.index ∷ taken) n → slice_get entries k ≡ Some e →
+    IsAlikeSooner e x.entry → k ≢ x.index → ¬ Contains taken k → Contains to_come k →
+    CompletesIn (LockSteps limits) entries to_come t (k ∷ taken) n
+alike_in_as_many limits entries a to_come s t taken x k e n first may can at alike other fresh due =
+    let r : Replaced x k can.rest =
+    replaced_in x k entries to_come taken limits t can.rest can.by fresh other due in
+    record {
+      rest = r.others;
+      by = replaced_completes limits entries a to_come s t taken x k e can.rest first may can.by at alike other r;
+      steps = ap (λ (m : ℕ). length to_come + m) (replaced_length x r.old r.replaces) ∙ can.steps;
+    }
+
 same_or_not : (j k : ℕ) → (j ≡ k) ⊎ (j ≢ k)
 same_or_not j k = grind arith
 
 pub alike_in_turn : AlikeInTurn
 alike_in_turn limits entries a to_come s t taken x k e first may can at alike fresh begun due = record {
-  may = record {
-    effect = record { is_entry = at; replies = may_reply_alike e x.entry x.reply alike may.effect.replies };
-    fresh = fresh;
-    begun = begun;
-    steps = subst (λ (c : Call). LockSteps limits s (c, x.reply) t) (sym alike.call) may.steps;
-  };
+  may = may_in_turn limits entries a s t taken x k e may at alike fresh begun;
   can = which (same_or_not k x.index);
 }
   where
-    in_rest : k ≢ x.index → Contains (x.index ∷ taken) k ⊎ Contains (indices_of can.rest) k →
-        Contains (indices_of can.rest) k
-    in_rest other (inl has) = absurd (neither (contains_cases x.index taken k has))
-      where
-        neither : (x.index ≡ k) ⊎ Contains taken k → ⊥
-        neither (inl same) = other (sym same)
-        neither (inr has) = fresh has
-    in_rest other (inr has) = has
-
     which : (k ≡ x.index) ⊎ (k ≢ x.index) → CanComplete (LockSteps limits) entries to_come t (k ∷ taken)
     which (inl same) = subst (λ (j : ℕ). CanComplete (LockSteps limits) entries to_come t (j ∷ taken)) (sym same) can
     which (inr other) =
-        let r : Replaced x k can.rest = replaced x k can.rest (in_rest other
-        (All-contains (λ (j : ℕ). Contains (x.index ∷ taken) j ⊎ Contains (indices_of can.rest) j) to_come k
-        can.by.returned due)) in
-        record {
-          rest = r.others;
-          by = replaced_completes limits entries a to_come s t taken x k e can.rest first may can.by at alike other r;
-        }
+        let c : CompletesIn (LockSteps limits) entries to_come t (k ∷ taken) (length to_come + length can.rest) =
+        alike_in_as_many limits entries a to_come s t taken x k e (length to_come + length can.rest) first may
+        (record { rest = can.rest; by = can.by; steps = refl }) at alike other fresh due in
+        record { rest = c.rest; by = c.by }

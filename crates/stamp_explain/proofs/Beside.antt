@@ -28,15 +28,16 @@ use Rattle.stamp_explain.specs.Observed.{ObservedHistory, IsObserved, IsBefore, 
 use Rattle.stamp_explain.specs.Observer.{observes_at, observes_in}
 use Rattle.stamp_explain.specs.Search.{LockState, LockSteps, IsReturnAt, after_call}
 use Rattle.stamp_explain.specs.Configuration.{Configuration, ReachesMoreBeside}
-use Rattle.stamp_explain.specs.Node.{IsReached, IsAt, StandsFor, HasGone, IsOpening}
+use Rattle.stamp_explain.specs.Node.{IsReached, IsAt, HasGone, IsOpening}
 use Rattle.stamp_explain.specs.Timeline.{AreOpen, IsAwaitedAt}
 use Rattle.stamp_explain.specs.Node.{ClearsBit}
-use Rattle.stamp_explain.specs.Expand.{Suffice, Leads, LeadsBy, Took, IsNotInEffect, IsTakenTo, Enters, nodes_of}
+use Rattle.stamp_explain.specs.Expand.{Suffice, LeadsBy, Took, IsNotInEffect, IsTakenTo, Enters, nodes_of}
 use Rattle.stamp_explain.specs.Possible.{without_return, answering}
 use Rattle.stamp_explain.specs.Asking.{Adds, AreAsked, AreLed, AreMore, AreReplies, Gets, GetsMore}
 use Rattle.stamp_explain.specs.Asking.{IsAnswered, IsAsking, IsReachedBeside, LeadsBeside, NoneIsAtOnceBeside}
 use Rattle.stamp_explain.specs.Asking.{SufficeBeside, SufficeUnless}
-use Rattle.stamp_explain.proofs.Lists.{none_in_empty, contains_cases, pairs_none}
+use Rattle.stamp_explain.specs.Turn.{IsOutOfTurn}
+use Rattle.stamp_explain.proofs.Lists.{each_push, none_in_empty, contains_cases, pairs_none}
 use Rattle.stamp_explain.proofs.Replying.{IsAlike, alike_before, replied_is_observed}
 use Rattle.stamp_explain.proofs.Answering.{AreAlike, alike_with_reply, timeline_alike, there, other_there, took_alike}
 use Rattle.stamp_explain.proofs.Answering.{turned}
@@ -49,7 +50,7 @@ use Rattle.stamp_explain.proofs.Exploring.{Searches, searches_first, searches_mo
 use Rattle.stamp_explain.proofs.Exploring.{named, contains_at}
 use Rattle.stamp_explain.proofs.Succeeding.{Awaits, Tries, awaited_at, past_of, leads_past, suffices_past}
 use Rattle.stamp_explain.proofs.Succeeding.{leads_at_once, suffices_at_once, suffice_open}
-use Rattle.stamp_explain.proofs.Succeeding.{none_tried, tried_none, tried_some, tried_other, leads_by_call}
+use Rattle.stamp_explain.proofs.Succeeding.{none_tried, tried_none, tried_some, tried_other, tried_later, took_leads}
 
 abbrev pub is_begun : ℕ → Observation → Bool
 is_begun last e = not (nat_lt last e.first)
@@ -192,46 +193,6 @@ at_once_suffices asking node a i w asks awaits e at observes took other reply h 
     (ap observes_in (other_there asking.seen h asking.place i e alike other at) ∙ sym (ap observes_in at) ∙ observes)
     (took_alike asking.seen h asking.place asking.timeline.returns.items node i (Some w) alike other took)
 
-took_leads : (asking : Asking) (node : Node) (a : Observation) (i : ℕ) (w : Next) →
-    Awaits asking.seen asking.timeline node a → bit_at node.threads a.thread ≢ 1 → NoneIsAtOnceBeside asking node →
-    Took asking.seen asking.timeline.returns.items node i (Some w) →
-    ((e : Observation) → slice_get asking.seen.entries i ≡ Some e → AreOfOneObject a e) →
-    Leads asking.seen (Some asking.place) asking.timeline.returns.items node w
-took_leads asking node a i w is bit none took alike = record {
-  inside = is.inside;
-  leads = λ s taken stands. to s taken stands
-      (took.takes a s taken (awaited_at asking.seen asking.timeline node a is) stands);
-}
-  where
-    to : (s : LockState) (taken : List ℕ) → StandsFor asking.seen asking.timeline.returns.items node s taken →
-        IsTakenTo asking.seen asking.timeline.returns.items node a i s taken w →
-        LeadsBy asking.seen (Some asking.place) asking.timeline.returns.items node w.node s taken w.took
-    to s taken stands it = leads_by_call asking.seen (Some asking.place) asking.timeline node a i s taken w is bit
-        stands it
-        (inr (
-          none.none a s taken (awaited_at asking.seen asking.timeline node a is) stands,
-          alike it.effect.entry
-              (ap (λ (j : ℕ). slice_get asking.seen.entries j) (sym it.index) ∙ it.may.effect.is_entry),
-        ))
-
--- the awaited call, which is not in effect
-pub record AwaitsThere (asking : Asking) (node : Node) : Type 0 where
-  pub entry : Observation
-  pub awaits : Awaits asking.seen asking.timeline node entry
-  pub bit : bit_at node.threads entry.thread ≢ 1
-
-pub awaits_there : (asking : Asking) (node : Node) → IsAsking asking → node.past < length
-    asking.timeline.returns.items →
-    IsNotInEffect asking.seen asking.timeline.returns.items node → AwaitsThere asking node
-awaits_there asking node asks inside awaited =
-    let there : IsReturnAt asking.seen.entries (get_or asking.timeline.returns.items node.past 0) =
-    asks.timeline.are.each node.past 0 inside in
-    record {
-      entry = there.entry;
-      awaits = record { observed = asks.observed; timeline_is = asks.timeline; inside = inside; at = there.is_entry };
-      bit = awaited.awaited there.entry (record { inside = inside; is_entry = there.is_entry });
-    }
-
 pub awaited_inside : (asking : Asking) (node : Node) (i : ℕ) → IsAsking asking →
     node.past < length asking.timeline.returns.items → i ≡ get_or asking.timeline.returns.items node.past i →
     i < length asking.seen.entries
@@ -246,12 +207,12 @@ pub record TriesBeside (asking : Asking) (node : Node) (calls : List ℕ) (k : �
   pub led : AreLed asking node nexts
   pub tries : (reply : Reply) (h : ObservedHistory) → IsAnswered asking reply h →
       Took h asking.timeline.returns.items node asking.place None →
-      Tries h asking.timeline.returns.items node calls k nexts
+      Tries h (Some asking.place) asking.timeline.returns.items node calls k nexts
 
 pub beside_first : (asking : Asking) (node : Node) (calls : List ℕ) → TriesBeside asking node calls 0 []
 beside_first asking node calls = record {
   led = record { each = λ w has. absurd (none_in_empty w has) };
-  tries = λ reply h is none. none_tried h asking.timeline.returns.items node calls;
+  tries = λ reply h is none. none_tried h (Some asking.place) asking.timeline.returns.items node calls;
 }
 
 pub beside_asked : (asking : Asking) (node : Node) (calls : List ℕ) (k : ℕ) (nexts : List Next) →
@@ -259,7 +220,7 @@ pub beside_asked : (asking : Asking) (node : Node) (calls : List ℕ) (k : ℕ) 
     get_or calls (length calls - 1 - k) 0 ≡ asking.place → TriesBeside asking node calls (k + 1) nexts
 beside_asked asking node calls k nexts is more here = record {
   led = is.led;
-  tries = λ reply h answered none. tried_none h asking.timeline.returns.items node calls k nexts
+  tries = λ reply h answered none. tried_none h (Some asking.place) asking.timeline.returns.items node calls k nexts
       (is.tries reply h answered none) more
       (subst (λ (i : ℕ). Took h asking.timeline.returns.items node i None) (sym here) none);
 }
@@ -271,11 +232,41 @@ pub beside_none : (asking : Asking) (node : Node) (calls : List ℕ) (k : ℕ) (
     TriesBeside asking node calls (k + 1) nexts
 beside_none asking node calls k nexts is more other took = record {
   led = is.led;
-  tries = λ reply h answered none. tried_none h asking.timeline.returns.items node calls k nexts
+  tries = λ reply h answered none. tried_none h (Some asking.place) asking.timeline.returns.items node calls k nexts
       (is.tries reply h answered none) more
       (took_alike asking.seen h asking.place asking.timeline.returns.items node (get_or calls (length calls - 1 - k) 0)
       None (alike_of asking reply h answered) other took);
 }
+
+-- a call that goes ahead of another does so with each reply of the one asked
+pub beside_later : (asking : Asking) (node : Node) (calls : List ℕ) (k : ℕ) (nexts : List Next) →
+    TriesBeside asking node calls k nexts → k < length calls →
+    get_or calls (length calls - 1 - k) 0 ≢ asking.place →
+    IsOutOfTurn asking.seen (Some asking.place) node calls (get_or calls (length calls - 1 - k) 0) →
+    TriesBeside asking node calls (k + 1) nexts
+beside_later asking node calls k nexts is more other out = record {
+  led = is.led;
+  tries = λ reply h answered none. tried_later h (Some asking.place) asking.timeline.returns.items node calls k nexts
+      (is.tries reply h answered none) more (out_too h (alike_of asking reply h answered));
+}
+  where
+    out_too : (h : ObservedHistory) → AreAlike asking.seen h asking.place →
+        IsOutOfTurn h (Some asking.place) node calls (get_or calls (length calls - 1 - k) 0)
+    out_too h alike = record {
+      first = out.first;
+      among = out.among;
+      other = out.other;
+      goes = record {
+        entry = out.goes.entry;
+        is_entry = other_there asking.seen h asking.place out.first out.goes.entry alike
+            (λ same. out.other (ap (λ (i : ℕ). Some i) (sym same))) out.goes.is_entry;
+        other = out.goes.other;
+        is_other = other_there asking.seen h asking.place (get_or calls (length calls - 1 - k) 0) out.goes.other alike
+            other out.goes.is_other;
+        ahead = out.goes.ahead;
+        waits = out.goes.waits;
+      };
+    }
 
 -- the calls of the awaited entry and of another one are those that are seen
 record SeenToo (asking : Asking) (node : Node) (i : ℕ) (a e : Observation) : Type 0 where
@@ -313,7 +304,7 @@ pub beside_other : (asking : Asking) (node : Node) (calls : List ℕ) (k : ℕ) 
     TriesBeside asking node calls (k + 1) nexts
 beside_other asking node calls k nexts is more other = record {
   led = is.led;
-  tries = λ reply h answered none. tried_other h asking.timeline.returns.items node calls k nexts
+  tries = λ reply h answered none. tried_other h (Some asking.place) asking.timeline.returns.items node calls k nexts
       (is.tries reply h answered none) more (λ a e awaited at alike.
       let it : SeenToo asking node (get_or calls (length calls - 1 - k) 0) a e =
       seen_too asking reply h node (get_or calls (length calls - 1 - k) 0) a e answered awaited at in
@@ -321,42 +312,38 @@ beside_other asking node calls k nexts is more other = record {
 }
 
 pub beside_some : (asking : Asking) (node : Node) (a : Observation) (calls : List ℕ) (k : ℕ) (nexts : List Next)
-    (w : Next) → Awaits asking.seen asking.timeline node a → IsReached asking.seen (Some asking.place)
-    asking.timeline.returns.items node →
-    bit_at node.threads a.thread ≢ 1 → NoneIsAtOnceBeside asking node → TriesBeside asking node calls k nexts →
-    k < length calls →
-    get_or calls (length calls - 1 - k) 0 ≢ asking.place →
+    (w : Next) → Awaits asking.seen asking.timeline node a →
+    IsReached asking.seen (Some asking.place) asking.timeline.returns.items node →
+    bit_at node.threads a.thread ≢ 1 → NoneIsAtOnceBeside asking node →
+    AreOpen asking.seen asking.timeline.returns.items node.past calls → TriesBeside asking node calls k nexts →
+    k < length calls → get_or calls (length calls - 1 - k) 0 ≢ asking.place →
+    ¬ IsOutOfTurn asking.seen (Some asking.place) node calls (get_or calls (length calls - 1 - k) 0) →
     Took asking.seen asking.timeline.returns.items node (get_or calls (length calls - 1 - k) 0) (Some w) →
-    ((b e : Observation) → IsAwaitedAt asking.seen asking.timeline.returns.items node.past b →
-    slice_get asking.seen.entries (get_or calls (length calls - 1 - k) 0) ≡ Some e → AreOfOneObject b e) →
-    TriesBeside asking node calls (k + 1) (nexts ++ w ∷ [])
-beside_some asking node a calls k nexts w awaits reached bit none_at_once is more other took alike = record {
-  led = record { each = λ v has. by v (Contains-push_cases nexts w v has) };
-  tries = λ reply h answered none. tried_some h asking.timeline.returns.items node calls k nexts w
+    ((e : Observation) → slice_get asking.seen.entries (get_or calls (length calls - 1 - k) 0) ≡ Some e →
+    AreOfOneObject a e) → TriesBeside asking node calls (k + 1) (nexts ++ w ∷ [])
+beside_some asking node a calls k nexts w awaits reached bit none_at_once are is more other turn took alike = record {
+  led = record {
+    each = each_push (LeadsBeside asking node) nexts w is.led.each (record {
+      leads = took_leads asking.seen (Some asking.place) asking.timeline node a calls
+          (get_or calls (length calls - 1 - k) 0) w awaits bit none_at_once are turn took alike;
+      other = took_other asking node (get_or calls (length calls - 1 - k) 0) w a awaits reached took other;
+    });
+  };
+  tries = λ reply h answered none. tried_some h (Some asking.place) asking.timeline.returns.items node calls k nexts w
       (is.tries reply h answered none) more
       (took_alike asking.seen h asking.place asking.timeline.returns.items node (get_or calls (length calls - 1 - k) 0)
-      (Some w) (alike_of asking reply h answered) other took) (λ b e awaited at.
-      let it : SeenToo asking node (get_or calls (length calls - 1 - k) 0) b e =
-      seen_too asking reply h node (get_or calls (length calls - 1 - k) 0) b e answered awaited at in
-      it.objects.0 (alike it.awaited it.entry it.is_awaited it.is_entry));
+      (Some w) (alike_of asking reply h answered) other took);
 }
-  where
-    by : (v : Next) → Contains nexts v ⊎ (w ≡ v) → LeadsBeside asking node v
-    by v (inl has) = is.led.each v has
-    by v (inr same) = subst (LeadsBeside asking node) same (record {
-      leads = took_leads asking node a (get_or calls (length calls - 1 - k) 0) w awaits bit none_at_once took
-          (λ e at. alike a e (awaited_at asking.seen asking.timeline node a awaits) at);
-      other = took_other asking node (get_or calls (length calls - 1 - k) 0) w a awaits reached took other;
-    })
 
 pub suffice_beside : (asking : Asking) (node : Node) (calls : List ℕ) (k : ℕ) (nexts : List Next) (reply : Reply)
     (h : ObservedHistory) → IsAsking asking → node.past < length asking.timeline.returns.items →
     IsNotInEffect asking.seen asking.timeline.returns.items node →
     AreOpen h asking.timeline.returns.items node.past calls → length calls ≤ k → IsAnswered asking reply h →
-    Tries h asking.timeline.returns.items node calls k nexts → Suffice h asking.timeline.returns.items node nexts
+    Tries h (Some asking.place) asking.timeline.returns.items node calls k nexts →
+    Suffice h asking.timeline.returns.items node nexts
 suffice_beside asking node calls k nexts reply h asks inside awaited are all is tries =
     let alike : AreAlike asking.seen h asking.place = alike_of asking reply h is in
-    suffice_open h asking.timeline node calls k nexts (observed_of asking reply h asks is)
+    suffice_open h (Some asking.place) asking.timeline node calls k nexts (observed_of asking reply h asks is)
     (timeline_alike asking.seen h asking.place asking.timeline alike asks.timeline) inside
     (record {
       awaited = λ b it bit.

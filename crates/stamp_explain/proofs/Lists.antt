@@ -1,5 +1,8 @@
 -- Lists by their first element.
-use Rattle.std.proofs.Common.{◌≡◌, ◌≢◌, ◌⊎◌, ℕ, ◌<◌, zero, suc, List, [], ◌∷◌, length, inl, inr, arith}
+use Rattle.std.proofs.Common.{◌≡◌, ◌≢◌, ◌⊎◌, ℕ, ◌<◌, zero, suc, List, [], ◌∷◌, ◌++◌, length, inl, inr, arith}
+use Rattle.std.proofs.Common.{subst}
+use Rattle.std.proofs.lemmas.List.Elements.{Contains-push_cases}
+use Rattle.std.specs.Prelude.{drop}
 use Rattle.std.specs.List.{All, AllPairs, Contains}
 
 pub none_in_empty : {X : Type 0} (x : X) → ¬ Contains [] x
@@ -29,6 +32,19 @@ pairs_cons R x xs first all (suc i) (suc j) d lt within = all i j d (omega arith
 
 pub pairs_none : {X : Type 0} (R : X → X → Type 0) → AllPairs R []
 pairs_none R i j d lt within = absurd (omega arith)
+
+pub each_push : {X : Type 0} (P : X → Type 0) (xs : List X) (x : X) → ((y : X) → Contains xs y → P y) → P x →
+    (y : X) → Contains (xs ++ x ∷ []) y → P y
+each_push P xs x each it y has = by (Contains-push_cases xs x y has)
+  where
+    by : Contains xs y ⊎ (x ≡ y) → P y
+    by (inl was) = each y was
+    by (inr same) = subst P same it
+
+pub pairs_drop : {X : Type 0} (R : X → X → Type 0) (n : ℕ) (xs : List X) → AllPairs R xs → AllPairs R (drop n xs)
+pairs_drop R zero xs all = all
+pairs_drop R (suc n) [] all = all
+pairs_drop R (suc n) (x ∷ xs) all = pairs_drop R n xs (pairs_tail R x xs all)
 
 -- whether a number is in a list
 pub either_in : (xs : List ℕ) (i : ℕ) → Contains xs i ⊎ (¬ Contains xs i)

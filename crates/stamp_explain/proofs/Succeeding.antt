@@ -1,13 +1,13 @@
 -- The nodes that come next.
 use Rattle.std.proofs.Common.{◌≡◌, ◌≢◌, ◌⊎◌, ℕ, ◌+◌, ◌-◌, ◌<◌, ◌≤◌, suc, List, [], ◌∷◌}
-use Rattle.std.proofs.Common.{◌++◌, length, get_or, refl, sym, ◌∙◌, ap, subst, inl, inr, arith, None}
+use Rattle.std.proofs.Common.{zero, ◌++◌, length, get_or, refl, sym, ◌∙◌, ap, subst, inl, inr, arith, None}
 use Rattle.std.proofs.Common.{Option, Some, Vec, Global}
 use Rattle.std.specs.Prelude.{slice_get, take, drop, MatchOption, true, false}
 use Rattle.std.proofs.lemmas.List.{take_all, get_or-drop, length-drop}
 use Rattle.std.specs.List.{Contains}
 use Rattle.std.specs.Int.{bit_at}
 use Rattle.std.proofs.Math.Seq.{take-suc, drop-cons}
-use Rattle.std.proofs.lemmas.List.Elements.{Contains-append_left, Contains-get_or, Contains-push, Contains-push_cases}
+use Rattle.std.proofs.lemmas.List.Elements.{Contains-append_left, Contains-get_or, Contains-push}
 use Rattle.std.proofs.lemmas.Option.{none-some, same_Some, slice_get_read, slice_get-get_or, slice_get_within}
 use Rattle.stamp_explain.specs.declared.observed.Observation.{Observation}
 use Rattle.stamp_explain.specs.declared.observed.Returned.{Returned}
@@ -15,126 +15,127 @@ use Rattle.stamp_explain.specs.declared.node.Node.{Node}
 use Rattle.stamp_explain.specs.declared.node.Next.{Next}
 use Rattle.stamp_explain.specs.declared.timeline.Timeline.{Timeline}
 use Rattle.stamp_core.specs.declared.reply.Reply.{Reply}
-use Rattle.stamp_explain.specs.Observed.{ObservedHistory, IsObserved, HasReturned, MayReply, AreOfOneObject}
-use Rattle.stamp_explain.specs.Explained.{Effect, IsEffectOf}
+use Rattle.stamp_explain.specs.Observed.{ObservedHistory, IsObserved, HasReturned, IsBefore, MayReply}
+use Rattle.stamp_explain.specs.Observed.{AreOfOneObject}
+use Rattle.stamp_explain.specs.Explained.{Effect}
 use Rattle.stamp_explain.specs.Observer.{changes_nothing, observes_by, observes, observes_in, observes_at}
-use Rattle.stamp_explain.specs.Search.{LockState, LockSteps, MayTake, IsReturnAt}
-use Rattle.stamp_explain.specs.Configuration.{IsAtOnce, IsTried}
+use Rattle.stamp_explain.specs.Search.{AreInOrder, IsAlikeSooner, LockState, LockSteps, MayTake, IsReturnAt}
+use Rattle.stamp_explain.specs.Turn.{IsAhead, IsOutOfTurn}
+use Rattle.stamp_core.specs.Call.{is_lock_call}
+use Rattle.stamp_explain.specs.Configuration.{IsAtOnce, IsInTurn, IsTried}
 use Rattle.stamp_explain.specs.Node.{IsNext, AreTaken, StandsFor}
 use Rattle.stamp_explain.specs.Timeline.{IsTimeline, IsAwaitedAt, IsOpenAt, AreOpen}
 use Rattle.stamp_explain.specs.Node.{ClearsBit}
-use Rattle.stamp_explain.specs.Expand.{Hope, GoesOn, Expands, Leads, LeadsBy, IsTakenTo, Took, Tried}
-use Rattle.stamp_explain.specs.Expand.{IsNotInEffect, IsTakenAlike, NoneIsAtOnceAt, Suffice}
-use Rattle.stamp_explain.proofs.Finding.{not_before_itself}
+use Rattle.stamp_explain.specs.Expand.{Hope, GoesOn, Expands, Leads, LeadsBy, IsTakenTo, Took}
+use Rattle.stamp_explain.specs.Expand.{IsNotInEffect, NoneIsAtOnceAt, Suffice}
+use Rattle.stamp_explain.proofs.Alike.{alike_in_as_many, may_in_turn}
+use Rattle.stamp_explain.proofs.Finding.{ArePending, first_of_pending, not_before_itself}
 use Rattle.stamp_explain.proofs.Completing.{IsAwaited}
 use Rattle.stamp_explain.proofs.Searching.{CompletesIn, GoesPast, GoesOnBy, goes_on}
 use Rattle.stamp_explain.proofs.Standing.{taken_by_bit, taken_past}
 use Rattle.stamp_explain.proofs.Staying.{observers_change_nothing}
 use Rattle.stamp_explain.proofs.Observing.{TakesAtOnce, takes_at_once}
-use Rattle.stamp_explain.proofs.Expanding.{orderly, next_awaited, in_take, open_may, same_read}
-use Rattle.stamp_explain.proofs.Lists.{none_in_empty, contains_cases, contains_first}
-
--- of whatever the node stands for, the last k of these calls were tried
-pub record Tries (h : ObservedHistory) (returns : List ℕ) (node : Node) (calls : List ℕ) (k : ℕ)
-    (nexts : List Next) : Type 0 where
-  pub tried : (a : Observation) (s : LockState) (taken : List ℕ) → IsAwaitedAt h returns node.past a →
-      StandsFor h returns node s taken → Tried h returns node a s taken calls k nexts
+use Rattle.stamp_explain.proofs.Expanding.{next_open, orderly, next_awaited, in_take, open_may, same_read}
+use Rattle.stamp_explain.proofs.Lists.{none_in_empty, contains_cases, contains_first, each_push, either_in}
+use Rattle.stamp_explain.proofs.Lists.{pairs_drop}
 
 -- one of these nodes stands for the state, with these calls in effect
 abbrev Makes : ObservedHistory → List ℕ → Node → LockState → List ℕ → List Next → Type 0
 Makes h returns node u taken nexts = (w : Next) × (Contains nexts w ×
     ((w.node.past ≡ node.past) × StandsFor h returns w.node u taken))
 
-pub none_tried : (h : ObservedHistory) (returns : List ℕ) (node : Node) (calls : List ℕ) →
-    Tries h returns node calls 0 []
-none_tried h returns node calls = record {
-  tried = λ a s taken awaited stands. record {
-    each = λ w has. absurd (none_in_empty w has);
-    whole = λ x u may alike p lt le is. absurd (omega (arith, lt, le));
-  };
+-- or another call goes ahead of it
+abbrev MakesOrWaits : ObservedHistory → Option ℕ → List ℕ → Node → List ℕ → Effect → LockState → List ℕ → List Next →
+    Type 0
+MakesOrWaits h asked returns node calls x u taken nexts =
+    IsOutOfTurn h asked node calls x.index ⊎ Makes h returns node u (x.index ∷ taken) nexts
+
+-- of whatever the node stands for, the last k of these calls were tried: each of the awaited one's object that may
+-- take effect leads to one of these nodes, or is out of turn
+pub record Tries (h : ObservedHistory) (asked : Option ℕ) (returns : List ℕ) (node : Node) (calls : List ℕ) (k : ℕ)
+    (nexts : List Next) : Type 0 where
+  pub tried : (a : Observation) (s : LockState) (taken : List ℕ) → IsAwaitedAt h returns node.past a →
+      StandsFor h returns node s taken → (x : Effect) (u : LockState) →
+      MayTake (LockSteps h.limits) h.entries a s taken x u → AreOfOneObject a x.entry → (p : ℕ) → p < length calls →
+      length calls ≤ p + k → get_or calls p 0 ≡ x.index → MakesOrWaits h asked returns node calls x u taken nexts
+
+pub none_tried : (h : ObservedHistory) (asked : Option ℕ) (returns : List ℕ) (node : Node) (calls : List ℕ) →
+    Tries h asked returns node calls 0 []
+none_tried h asked returns node calls = record {
+  tried = λ a s taken awaited stands x u may alike p lt le is. absurd (omega (arith, lt, le));
 }
 
 last_or_less : (p k n : ℕ) → n ≤ p + (k + 1) → p < n → k < n → (n ≤ p + k) ⊎ (p ≡ n - 1 - k)
 last_or_less p k n le lt less = grind arith
 
--- one more was tried, if it makes a node where it is the one that takes effect
-one_more_tried : (h : ObservedHistory) (returns : List ℕ) (node : Node) (a : Observation) (s : LockState)
-    (taken calls : List ℕ) (k : ℕ) (nexts : List Next) → Tried h returns node a s taken calls k nexts →
-    k < length calls →
-    ((x : Effect) (u : LockState) → MayTake (LockSteps h.limits) h.entries a s taken x u → AreOfOneObject a x.entry →
-    get_or calls (length calls - 1 - k) 0 ≡ x.index → Makes h returns node u (x.index ∷ taken) nexts) →
-    Tried h returns node a s taken calls (k + 1) nexts
-one_more_tried h returns node a s taken calls k nexts tried more makes = record {
-  each = tried.each;
-  whole = λ x u may alike p lt le is. by x u may alike p lt is (last_or_less p k (length calls) le lt more);
+-- one more was tried, if it leads to a node, or is out of turn
+one_more_tried : (h : ObservedHistory) (asked : Option ℕ) (returns : List ℕ) (node : Node) (calls : List ℕ) (k : ℕ)
+    (old new : List Next) → Tries h asked returns node calls k old → k < length calls →
+    ((w : Next) → Contains old w → Contains new w) →
+    ((a : Observation) (s : LockState) (taken : List ℕ) → IsAwaitedAt h returns node.past a →
+    StandsFor h returns node s taken → (x : Effect) (u : LockState) →
+    MayTake (LockSteps h.limits) h.entries a s taken x u → AreOfOneObject a x.entry →
+    get_or calls (length calls - 1 - k) 0 ≡ x.index → MakesOrWaits h asked returns node calls x u taken new) →
+    Tries h asked returns node calls (k + 1) new
+one_more_tried h asked returns node calls k old new tries more kept makes = record {
+  tried = λ a s taken awaited stands x u may alike p lt le is.
+      by a s taken awaited stands x u may alike p lt is (last_or_less p k (length calls) le lt more);
 }
   where
-    by : (x : Effect) (u : LockState) → MayTake (LockSteps h.limits) h.entries a s taken x u →
-        AreOfOneObject a x.entry → (p : ℕ) → p < length calls → get_or calls p 0 ≡ x.index →
-        (length calls ≤ p + k) ⊎ (p ≡ length calls - 1 - k) → Makes h returns node u (x.index ∷ taken) nexts
-    by x u may alike p lt is (inl le) = tried.whole x u may alike p lt le is
-    by x u may alike p lt is (inr same) =
-        makes x u may alike (ap (λ (n : ℕ). get_or calls n 0) (sym same) ∙ is)
+    stays : (x : Effect) (u : LockState) (taken : List ℕ) → MakesOrWaits h asked returns node calls x u taken old →
+        MakesOrWaits h asked returns node calls x u taken new
+    stays x u taken (inl out) = inl out
+    stays x u taken (inr found) = inr (found.0, (kept found.0 found.1.0, found.1.1))
+
+    by : (a : Observation) (s : LockState) (taken : List ℕ) → IsAwaitedAt h returns node.past a →
+        StandsFor h returns node s taken → (x : Effect) (u : LockState) →
+        MayTake (LockSteps h.limits) h.entries a s taken x u → AreOfOneObject a x.entry → (p : ℕ) →
+        p < length calls → get_or calls p 0 ≡ x.index → (length calls ≤ p + k) ⊎ (p ≡ length calls - 1 - k) →
+        MakesOrWaits h asked returns node calls x u taken new
+    by a s taken awaited stands x u may alike p lt is (inl le) =
+        stays x u taken (tries.tried a s taken awaited stands x u may alike p lt le is)
+    by a s taken awaited stands x u may alike p lt is (inr same) =
+        makes a s taken awaited stands x u may alike (ap (λ (n : ℕ). get_or calls n 0) (sym same) ∙ is)
 
 -- it can't take effect
-pub tried_none : (h : ObservedHistory) (returns : List ℕ) (node : Node) (calls : List ℕ) (k : ℕ) (nexts : List Next) →
-    Tries h returns node calls k nexts → k < length calls →
-    Took h returns node (get_or calls (length calls - 1 - k) 0) None → Tries h returns node calls (k + 1) nexts
-tried_none h returns node calls k nexts tries more took = record {
-  tried = λ a s taken awaited stands.
-      one_more_tried h returns node a s taken calls k nexts (tries.tried a s taken awaited stands) more
-      (λ x u may alike is. absurd (took.takes a s taken awaited stands x u may (sym is)));
-}
+pub tried_none : (h : ObservedHistory) (asked : Option ℕ) (returns : List ℕ) (node : Node) (calls : List ℕ) (k : ℕ)
+    (nexts : List Next) → Tries h asked returns node calls k nexts → k < length calls →
+    Took h returns node (get_or calls (length calls - 1 - k) 0) None → Tries h asked returns node calls (k + 1) nexts
+tried_none h asked returns node calls k nexts tries more took =
+    one_more_tried h asked returns node calls k nexts nexts tries more (λ w has. has)
+    (λ a s taken awaited stands x u may alike is. absurd (took.takes a s taken awaited stands x u may (sym is)))
 
 -- it is of the other object
-pub tried_other : (h : ObservedHistory) (returns : List ℕ) (node : Node) (calls : List ℕ) (k : ℕ)
-    (nexts : List Next) → Tries h returns node calls k nexts → k < length calls →
+pub tried_other : (h : ObservedHistory) (asked : Option ℕ) (returns : List ℕ) (node : Node) (calls : List ℕ) (k : ℕ)
+    (nexts : List Next) → Tries h asked returns node calls k nexts → k < length calls →
     ((a e : Observation) → IsAwaitedAt h returns node.past a →
     slice_get h.entries (get_or calls (length calls - 1 - k) 0) ≡ Some e → ¬ AreOfOneObject a e) →
-    Tries h returns node calls (k + 1) nexts
-tried_other h returns node calls k nexts tries more other = record {
-  tried = λ a s taken awaited stands.
-      one_more_tried h returns node a s taken calls k nexts (tries.tried a s taken awaited stands) more
-      (λ x u may alike is. absurd (other a x.entry awaited
-      (ap (λ (i : ℕ). slice_get h.entries i) is ∙ may.effect.is_entry) alike));
-}
+    Tries h asked returns node calls (k + 1) nexts
+tried_other h asked returns node calls k nexts tries more other =
+    one_more_tried h asked returns node calls k nexts nexts tries more (λ w has. has)
+    (λ a s taken awaited stands x u may alike is. absurd (other a x.entry awaited
+    (ap (λ (i : ℕ). slice_get h.entries i) is ∙ may.effect.is_entry) alike))
+
+-- another goes ahead of it
+pub tried_later : (h : ObservedHistory) (asked : Option ℕ) (returns : List ℕ) (node : Node) (calls : List ℕ) (k : ℕ)
+    (nexts : List Next) → Tries h asked returns node calls k nexts → k < length calls →
+    IsOutOfTurn h asked node calls (get_or calls (length calls - 1 - k) 0) →
+    Tries h asked returns node calls (k + 1) nexts
+tried_later h asked returns node calls k nexts tries more out =
+    one_more_tried h asked returns node calls k nexts nexts tries more (λ w has. has)
+    (λ a s taken awaited stands x u may alike is. inl (subst (IsOutOfTurn h asked node calls) is out))
 
 -- it takes effect
-pub tried_some : (h : ObservedHistory) (returns : List ℕ) (node : Node) (calls : List ℕ) (k : ℕ) (nexts : List Next)
-    (w : Next) → Tries h returns node calls k nexts → k < length calls →
+pub tried_some : (h : ObservedHistory) (asked : Option ℕ) (returns : List ℕ) (node : Node) (calls : List ℕ) (k : ℕ)
+    (nexts : List Next) (w : Next) → Tries h asked returns node calls k nexts → k < length calls →
     Took h returns node (get_or calls (length calls - 1 - k) 0) (Some w) →
-    ((a e : Observation) → IsAwaitedAt h returns node.past a →
-    slice_get h.entries (get_or calls (length calls - 1 - k) 0) ≡ Some e → AreOfOneObject a e) →
-    Tries h returns node calls (k + 1) (nexts ++ w ∷ [])
-tried_some h returns node calls k nexts w tries more took alike = record {
-  tried = λ a s taken awaited stands.
-      let some : IsTakenTo h returns node a i s taken w = took.takes a s taken awaited stands in
-      one_more_tried h returns node a s taken calls k (nexts ++ w ∷ [])
-      (pushed a s taken (tries.tried a s taken awaited stands) (
-        some,
-        alike a some.effect.entry awaited
-            (ap (λ (j : ℕ). slice_get h.entries j) (sym some.index) ∙ some.may.effect.is_entry),
-      )) more
-      (λ x u may alike is. (w, (Contains-push nexts w, (some.past, some.only x u may (sym is)))));
-}
-  where
-    i : ℕ
-    i = get_or calls (length calls - 1 - k) 0
-
-    pushed : (a : Observation) (s : LockState) (taken : List ℕ) → Tried h returns node a s taken calls k nexts →
-        IsTakenAlike h returns node a i s taken w → Tried h returns node a s taken calls k (nexts ++ w ∷ [])
-    pushed a s taken tried some = record {
-      each = λ v has. each v (Contains-push_cases nexts w v has);
-      whole = λ x u may alike p lt le is. kept x u (tried.whole x u may alike p lt le is);
-    }
-      where
-        each : (v : Next) → Contains nexts v ⊎ (w ≡ v) → (j : ℕ) × IsTakenAlike h returns node a j s taken v
-        each v (inl has) = tried.each v has
-        each v (inr same) = (i, subst (λ (n : Next). IsTakenAlike h returns node a i s taken n) same some)
-
-        kept : (x : Effect) (u : LockState) → Makes h returns node u (x.index ∷ taken) nexts →
-            Makes h returns node u (x.index ∷ taken) (nexts ++ w ∷ [])
-        kept x u found = (found.0, (Contains-append_left nexts (w ∷ []) found.0 found.1.0, found.1.1))
+    Tries h asked returns node calls (k + 1) (nexts ++ w ∷ [])
+tried_some h asked returns node calls k nexts w tries more took =
+    one_more_tried h asked returns node calls k nexts (nexts ++ w ∷ []) tries more
+    (λ v has. Contains-append_left nexts (w ∷ []) v has) (λ a s taken awaited stands x u may alike is.
+    let some : IsTakenTo h returns node a (get_or calls (length calls - 1 - k) 0) s taken w =
+    took.takes a s taken awaited stands in
+    inr (w, (Contains-push nexts w, (some.past, some.only x u may (sym is)))))
 
 -- what is known of a node whose return is awaited
 pub record Awaits (h : ObservedHistory) (timeline : Timeline) (node : Node) (a : Observation) : Type 0 where
@@ -316,37 +317,204 @@ expands_past h timeline node a threads is bit clears = record {
   whole = suffices_past h timeline node a threads is bit clears;
 }
 
+-- what is behind so many of a list is in the rest
+in_drop : (xs : List ℕ) (n k j : ℕ) → n ≤ k → k < length xs → get_or xs k j ≡ j → Contains (drop n xs) j
+in_drop xs n k j le lt is =
+    let back : n + (k - n) ≡ k = omega (arith, le) in
+    let inside : k - n < length (drop n xs) = omega (arith, le, lt, length-drop n xs) in
+    (k - n, inside, get_or-drop n xs (k - n) j ∙ ap (λ (m : ℕ). get_or xs m j) back ∙ is)
+
+-- a call that returned and is not in effect is yet to return
+due : (h : ObservedHistory) (timeline : Timeline) (node : Node) (s : LockState) (taken : List ℕ) (j : ℕ)
+    (e : Observation) → IsTimeline h timeline → StandsFor h timeline.returns.items node s taken →
+    slice_get h.entries j ≡ Some e → HasReturned e → ¬ Contains taken j →
+    Contains (drop node.past timeline.returns.items) j
+due h timeline node s taken j e is stands at returned misses = by (is.are.whole j e at returned)
+  where
+    which : (k n : ℕ) → (k < n) ⊎ (n ≤ k)
+    which k n = grind arith
+
+    few : (n m : ℕ) → (n ≤ m) ⊎ (m < n)
+    few n m = grind arith
+
+    by : Contains timeline.returns.items j → Contains (drop node.past timeline.returns.items) j
+    by (k, lt, at) = side (which k node.past)
+      where
+        side : (k < node.past) ⊎ (node.past ≤ k) → Contains (drop node.past timeline.returns.items) j
+        side (inl less) = absurd (misses (stands.in_effect.all_past j (past (few node.past
+            (length timeline.returns.items)))))
+          where
+            past : (node.past ≤ length timeline.returns.items) ⊎ (length timeline.returns.items < node.past) →
+                Contains (take node.past timeline.returns.items) j
+            past (inl le) = in_take timeline.returns.items node.past k j less le at
+            past (inr over) = subst (λ (xs : List ℕ). Contains xs j)
+                (sym (take_all node.past timeline.returns.items (omega (arith, over)))) (k, lt, at)
+        side (inr le) = in_drop timeline.returns.items node.past k j le lt at
+
+-- the calls that have returned and are not in effect are those whose returns are to come
+pending : (h : ObservedHistory) (timeline : Timeline) (node : Node) (s : LockState) (taken : List ℕ) →
+    IsTimeline h timeline → StandsFor h timeline.returns.items node s taken →
+    ArePending h.entries (drop node.past timeline.returns.items) taken
+pending h timeline node s taken is stands = record {
+  whole = λ j e at returned misses. due h timeline node s taken j e is stands at returned misses;
+  in_order = pairs_drop (AreInOrder h.entries) node.past timeline.returns.items is.are.in_order;
+}
+
+-- one more than the position at which a call returned
+abbrev bound : Option Returned → ℕ
+bound None = 0
+bound (Some r) = suc r.last
+
+alike_ahead : (e f : Observation) → IsAhead e f → IsAlikeSooner e f
+alike_ahead e f ahead = record {
+  call = ahead.call;
+  first = ahead.first;
+  at_first = ahead.at_first;
+  later = ahead.later;
+  at_later = ahead.at_later;
+  reply = ahead.reply;
+  sooner = omega (arith, ahead.sooner);
+}
+
+bound_ahead : (e f : Observation) → IsAhead e f → suc (bound e.returned) ≤ bound f.returned
+bound_ahead e f ahead =
+    let first : bound e.returned ≡ suc ahead.first.last = ap bound ahead.at_first in
+    let later : bound f.returned ≡ suc ahead.later.last = ap bound ahead.at_later in
+    omega (arith, first, later, ahead.sooner)
+
+-- a call of the awaited one's object may take effect, and then what is left is completed
+record Completes (h : ObservedHistory) (timeline : Timeline) (node : Node) (a : Observation) (s : LockState)
+    (taken : List ℕ) (u : LockState) (left : ℕ) (x : Effect) : Type 0 where
+  object : AreOfOneObject a x.entry
+  may : MayTake (LockSteps h.limits) h.entries a s taken x u
+  rest : CompletesIn (LockSteps h.limits) h.entries (get_or timeline.returns.items node.past 0 ∷
+      drop (suc node.past) timeline.returns.items) u (x.index ∷ taken) left
+
+-- so may one that goes ahead of it
+completes_ahead : (h : ObservedHistory) (asked : Option ℕ) (timeline : Timeline) (node : Node) (a : Observation)
+    (calls : List ℕ) (s : LockState) (taken : List ℕ) (u : LockState) (left : ℕ) (x : Effect) →
+    Awaits h timeline node a → AreOpen h timeline.returns.items node.past calls →
+    StandsFor h timeline.returns.items node s taken → Completes h timeline node a s taken u left x →
+    (out : IsOutOfTurn h asked node calls x.index) → out.goes.other ≡ x.entry →
+    Completes h timeline node a s taken u left
+    (record { index = out.first; entry = out.goes.entry; reply = x.reply })
+completes_ahead h asked timeline node a calls s taken u left x is are stands it out same = record {
+  object = it.object ∙ ap is_lock_call (sym ahead.call);
+  may = may_in_turn h.limits h.entries a s u taken x out.first out.goes.entry it.may out.goes.is_entry sooner fresh
+      begun;
+  rest = alike_in_as_many h.limits h.entries a (i ∷ drop (suc node.past) returns) s u taken x out.first
+      out.goes.entry left (first_of_pending h.entries i a (drop (suc node.past) returns) taken is.at
+      (subst (λ (to_come : List ℕ). ArePending h.entries to_come taken) (left_of h timeline node a is)
+      (pending h timeline node s taken is.timeline_is stands))) it.may it.rest out.goes.is_entry sooner another fresh
+      (subst (λ (to_come : List ℕ). Contains to_come out.first) (left_of h timeline node a is)
+      (due h timeline node s taken out.first out.goes.entry is.timeline_is stands out.goes.is_entry
+      (out.goes.ahead.first, out.goes.ahead.at_first) fresh));
+}
+  where
+    returns : List ℕ
+    returns = timeline.returns.items
+
+    i : ℕ
+    i = get_or returns node.past 0
+
+    ahead : IsAhead out.goes.entry x.entry
+    ahead = subst (IsAhead out.goes.entry) same out.goes.ahead
+
+    sooner : IsAlikeSooner out.goes.entry x.entry
+    sooner = alike_ahead out.goes.entry x.entry ahead
+
+    opened : IsOpenAt h returns node.past out.first
+    opened = are.each out.first out.among
+
+    begun : ¬ IsBefore a out.goes.entry
+    begun = subst (λ (o : Observation). ¬ IsBefore a o)
+        (same_Some opened.entry out.goes.entry (sym opened.is_entry ∙ out.goes.is_entry)) (opened.begun a is.at)
+
+    fresh : ¬ Contains taken out.first
+    fresh has = out.goes.waits (taken_by_bit h.entries (take node.past returns) node.threads taken out.first
+        out.goes.entry stands.in_effect out.goes.is_entry opened.still has).0
+
+    irreflexive : {p q : ℕ} → suc p ≤ q → p ≡ q → ⊥
+    irreflexive lt same = omega (arith, lt, same)
+
+    another : out.first ≢ x.index
+    another one = irreflexive (bound_ahead out.goes.entry x.entry ahead) (ap (λ (o : Observation). bound o.returned)
+        (same_Some out.goes.entry x.entry (sym out.goes.is_entry ∙ ap (λ (j : ℕ). slice_get h.entries j) one ∙
+        it.may.effect.is_entry)))
+
+-- it leads to a node, or one that returned sooner does
+one_turn : (h : ObservedHistory) (asked : Option ℕ) (timeline : Timeline) (node : Node) (a : Observation)
+    (calls : List ℕ) (k : ℕ) (nexts : List Next) (s : LockState) (taken : List ℕ) (most : ℕ) (u : LockState)
+    (left : ℕ) (x : Effect) → Awaits h timeline node a → AreOpen h timeline.returns.items node.past calls →
+    length calls ≤ k → StandsFor h timeline.returns.items node s taken →
+    Tries h asked timeline.returns.items node calls k nexts → suc left ≤ most →
+    Completes h timeline node a s taken u left x →
+    ((y : Effect) → suc (bound y.entry.returned) ≤ bound x.entry.returned →
+    Completes h timeline node a s taken u left y → GoesOn h timeline.returns.items nexts most) →
+    GoesOn h timeline.returns.items nexts most
+one_turn h asked timeline node a calls k nexts s taken most u left x is are all stands tries fewer it again =
+    by (tries.tried a s taken (awaited_at h timeline node a is) stands x u it.may it.object at.0 at.1
+    (omega (arith, all)) (same_read calls at.0 0 x.index at.1 ∙ at.2))
+  where
+    returns : List ℕ
+    returns = timeline.returns.items
+
+    at : Contains calls x.index
+    at = are.whole x.index (open_may h returns node.past node.threads a s u taken x is.at stands.in_effect it.may)
+
+    same_left : (w : Node) → w.past ≡ node.past → get_or returns node.past 0 ∷ drop (suc node.past) returns ≡
+        drop w.past returns
+    same_left w same = sym (left_of h timeline node a is) ∙ ap (λ (m : ℕ). drop m returns) (sym same)
+
+    by : MakesOrWaits h asked returns node calls x u taken nexts → GoesOn h returns nexts most
+    by (inl out) =
+        let same : out.goes.other ≡ x.entry =
+        same_Some out.goes.other x.entry (sym out.goes.is_other ∙ it.may.effect.is_entry) in
+        again (record { index = out.first; entry = out.goes.entry; reply = x.reply })
+        (bound_ahead out.goes.entry x.entry (subst (IsAhead out.goes.entry) same out.goes.ahead))
+        (completes_ahead h asked timeline node a calls s taken u left x is are stands it out same)
+    by (inr found) =
+        let P : List ℕ → Type 0 = λ (to_come : List ℕ). CompletesIn (LockSteps h.limits) h.entries to_come u
+        (x.index ∷ taken) left in
+        goes_on_to h returns nexts found.0 u (x.index ∷ taken) left most found.1.0 (omega (arith, fewer)) found.1.1.1
+        (subst P (same_left found.0.node found.1.1.0) it.rest)
+
+in_turn : (h : ObservedHistory) (asked : Option ℕ) (timeline : Timeline) (node : Node) (a : Observation)
+    (calls : List ℕ) (k : ℕ) (nexts : List Next) (s : LockState) (taken : List ℕ) (most : ℕ) (u : LockState)
+    (left n : ℕ) (x : Effect) → Awaits h timeline node a → AreOpen h timeline.returns.items node.past calls →
+    length calls ≤ k → StandsFor h timeline.returns.items node s taken →
+    Tries h asked timeline.returns.items node calls k nexts → suc left ≤ most →
+    bound x.entry.returned ≤ n → Completes h timeline node a s taken u left x →
+    GoesOn h timeline.returns.items nexts most
+in_turn h asked timeline node a calls k nexts s taken most u left zero x is are all stands tries fewer few it =
+    one_turn h asked timeline node a calls k nexts s taken most u left x is are all stands tries fewer it
+    (λ y less more. absurd (omega (arith, few, less)))
+in_turn h asked timeline node a calls k nexts s taken most u left (suc n) x is are all stands tries fewer few it =
+    one_turn h asked timeline node a calls k nexts s taken most u left x is are all stands tries fewer it
+    (λ y less more. in_turn h asked timeline node a calls k nexts s taken most u left n y is are all stands tries fewer
+    (omega (arith, few, less)) more)
+
 -- else an open call of the same object takes effect
-suffice_taken : (h : ObservedHistory) (timeline : Timeline) (node : Node) (a : Observation) (calls : List ℕ) (k : ℕ)
+suffice_taken : (h : ObservedHistory) (asked : Option ℕ) (timeline : Timeline) (node : Node) (a : Observation)
+    (calls : List ℕ) (k : ℕ)
     (nexts : List Next) → Awaits h timeline node a → bit_at node.threads a.thread ≢ 1 →
     AreOpen h timeline.returns.items node.past calls → length calls ≤ k →
-    Tries h timeline.returns.items node calls k nexts → Suffice h timeline.returns.items node nexts
-suffice_taken h timeline node a calls k nexts is bit are all tries n hope =
+    Tries h asked timeline.returns.items node calls k nexts → Suffice h timeline.returns.items node nexts
+suffice_taken h asked timeline node a calls k nexts is bit are all tries n hope =
     goes (goes_on h.limits h.entries i a (drop (suc node.past) timeline.returns.items) hope.state hope.taken n
     (the_awaited h timeline node a is) (steps_of h timeline node a n is hope))
   where
     i : ℕ
     i = get_or timeline.returns.items node.past 0
 
-    same_left : (w : Node) → w.past ≡ node.past → i ∷ drop (suc node.past) timeline.returns.items ≡ drop w.past
-        timeline.returns.items
-    same_left w same = sym (left_of h timeline node a is) ∙ ap (λ (n : ℕ). drop n timeline.returns.items) (sym same)
-
     goes : GoesPast (LockSteps h.limits) h.entries i (drop (suc node.past) timeline.returns.items) hope.state
         hope.taken n ⊎
         GoesOnBy h.limits h.entries i a (drop (suc node.past) timeline.returns.items) hope.state hope.taken n →
         GoesOn h timeline.returns.items nexts n
     goes (inl past) = absurd (not_yet h timeline node a hope.state hope.taken is bit hope.stands past.in_effect)
-    goes (inr on) =
-        let it : Contains calls on.effect.index = are.whole on.effect.index (open_may h timeline.returns.items node.past
-        node.threads a hope.state on.state hope.taken on.effect is.at hope.stands.in_effect on.may) in
-        let found : Makes h timeline.returns.items node on.state (on.effect.index ∷ hope.taken) nexts =
-        (tries.tried a hope.state hope.taken (awaited_at h timeline node a is) hope.stands).whole on.effect on.state
-        on.may on.alike it.0 it.1 (omega (arith, all)) (same_read calls it.0 0 on.effect.index it.1 ∙ it.2) in
-        let P : List ℕ → Type 0 = λ (to_come : List ℕ). CompletesIn (LockSteps h.limits) h.entries to_come on.state
-        (on.effect.index ∷ hope.taken) on.left in
-        goes_on_to h timeline.returns.items nexts found.0 on.state (on.effect.index ∷ hope.taken) on.left n found.1.0
-        (omega (arith, on.fewer)) found.1.1.1 (subst P (same_left found.0.node found.1.1.0) on.completes)
+    goes (inr on) = in_turn h asked timeline node a calls k nexts hope.state hope.taken n on.state on.left
+        (bound on.effect.entry.returned) on.effect is are all hope.stands tries (omega (arith, on.fewer))
+        (omega arith) (record { object = on.alike; may = on.may; rest = on.completes })
 
 -- of the first k of these calls none takes effect at once
 pub record NoneOfFirst (h : ObservedHistory) (asked : Option ℕ) (returns : List ℕ) (node : Node) (calls : List ℕ)
@@ -423,60 +591,62 @@ none_at_once h asked timeline node calls k are all before = record {
       (same_read calls it.0 0 x.index it.1 ∙ it.2) may;
 }
 
-expands_taken : (h : ObservedHistory) (timeline : Timeline) (node : Node) (a : Observation) (calls : List ℕ) (k : ℕ)
-    (nexts : List Next) → Awaits h timeline node a → bit_at node.threads a.thread ≢ 1 →
-    NoneIsAtOnceAt h None timeline.returns.items node → AreOpen h timeline.returns.items node.past calls →
-    length calls ≤ k → Tries h timeline.returns.items node calls k nexts → Expands h timeline.returns.items node nexts
-expands_taken h timeline node a calls k nexts is bit none are all tries = record {
-  each = λ w has. record {
-    inside = is.inside;
-    leads = λ s taken stands. to w s taken stands
-        ((tries.tried a s taken (awaited_at h timeline node a is) stands).each w has);
-  };
-  whole = suffice_taken h timeline node a calls k nexts is bit are all tries;
+-- a call that is not out of turn is in turn
+is_in_turn : (h : ObservedHistory) (asked : Option ℕ) (timeline : Timeline) (node : Node) (a : Observation)
+    (s : LockState) (taken calls : List ℕ) (x : Effect) → Awaits h timeline node a →
+    AreOpen h timeline.returns.items node.past calls → StandsFor h timeline.returns.items node s taken →
+    slice_get h.entries x.index ≡ Some x.entry → ¬ IsOutOfTurn h asked node calls x.index →
+    IsInTurn h asked a taken x
+is_in_turn h asked timeline node a s taken calls x is are stands at turn j e other at_j ahead begun =
+    which (either_in taken j)
+  where
+    opened : ¬ Contains taken j → IsOpenAt h timeline.returns.items node.past j
+    opened misses = record {
+      entry = e;
+      is_entry = at_j;
+      still = λ has. misses (stands.in_effect.all_past j has);
+      begun = λ b at_b. subst (λ (o : Observation). ¬ IsBefore o e) (same_Some a b (sym is.at ∙ at_b)) begun;
+    }
+
+    which : Contains taken j ⊎ (¬ Contains taken j) → Contains taken j
+    which (inl has) = has
+    which (inr misses) = absurd (turn (record {
+      first = j;
+      among = are.whole j (opened misses);
+      other = other;
+      goes = record {
+        entry = e;
+        is_entry = at_j;
+        other = x.entry;
+        is_other = at;
+        ahead = ahead;
+        waits = λ bit. misses (stands.in_effect.each_next j e
+            (next_open h timeline.returns.items node.past a j is.observed is.timeline_is.are is.inside is.at
+            (opened misses)) bit);
+      };
+    }))
+
+-- a node comes next where a call is chosen
+pub took_leads : (h : ObservedHistory) (asked : Option ℕ) (timeline : Timeline) (node : Node) (a : Observation)
+    (calls : List ℕ) (i : ℕ) (w : Next) → Awaits h timeline node a → bit_at node.threads a.thread ≢ 1 →
+    NoneIsAtOnceAt h asked timeline.returns.items node → AreOpen h timeline.returns.items node.past calls →
+    ¬ IsOutOfTurn h asked node calls i → Took h timeline.returns.items node i (Some w) →
+    ((e : Observation) → slice_get h.entries i ≡ Some e → AreOfOneObject a e) →
+    Leads h asked timeline.returns.items node w
+took_leads h asked timeline node a calls i w is bit none are turn took alike = record {
+  inside = is.inside;
+  leads = λ s taken stands. to s taken stands (took.takes a s taken (awaited_at h timeline node a is) stands);
 }
   where
-    to : (w : Next) (s : LockState) (taken : List ℕ) → StandsFor h timeline.returns.items node s taken →
-        (j : ℕ) × IsTakenAlike h timeline.returns.items node a j s taken w →
-        LeadsBy h None timeline.returns.items node w.node s taken w.took
-    to w s taken stands (j, took) =
-        leads_by_call h None timeline node a j s taken w is bit stands took.0
-        (inr (none.none a s taken (awaited_at h timeline node a is) stands, took.1))
-
--- what is behind so many of a list is in the rest
-in_drop : (xs : List ℕ) (n k j : ℕ) → n ≤ k → k < length xs → get_or xs k j ≡ j → Contains (drop n xs) j
-in_drop xs n k j le lt is =
-    let back : n + (k - n) ≡ k = omega (arith, le) in
-    let inside : k - n < length (drop n xs) = omega (arith, le, lt, length-drop n xs) in
-    (k - n, inside, get_or-drop n xs (k - n) j ∙ ap (λ (m : ℕ). get_or xs m j) back ∙ is)
-
--- a call that returned and is not in effect is yet to return
-due : (h : ObservedHistory) (timeline : Timeline) (node : Node) (s : LockState) (taken : List ℕ) (x : Effect) →
-    IsTimeline h timeline → StandsFor h timeline.returns.items node s taken → IsEffectOf h.entries x → HasReturned
-    x.entry →
-    ¬ Contains taken x.index → Contains (drop node.past timeline.returns.items) x.index
-due h timeline node s taken x is stands effect returned misses =
-    by (is.are.whole x.index x.entry effect.is_entry returned)
-  where
-    which : (k n : ℕ) → (k < n) ⊎ (n ≤ k)
-    which k n = grind arith
-
-    few : (n m : ℕ) → (n ≤ m) ⊎ (m < n)
-    few n m = grind arith
-
-    by : Contains timeline.returns.items x.index → Contains (drop node.past timeline.returns.items) x.index
-    by (k, lt, at) = side (which k node.past)
-      where
-        side : (k < node.past) ⊎ (node.past ≤ k) → Contains (drop node.past timeline.returns.items) x.index
-        side (inl less) = absurd (misses (stands.in_effect.all_past x.index (past (few node.past
-            (length timeline.returns.items)))))
-          where
-            past : (node.past ≤ length timeline.returns.items) ⊎ (length timeline.returns.items < node.past) →
-                Contains (take node.past timeline.returns.items) x.index
-            past (inl le) = in_take timeline.returns.items node.past k x.index less le at
-            past (inr over) = subst (λ (xs : List ℕ). Contains xs x.index)
-                (sym (take_all node.past timeline.returns.items (omega (arith, over)))) (k, lt, at)
-        side (inr le) = in_drop timeline.returns.items node.past k x.index le lt at
+    to : (s : LockState) (taken : List ℕ) → StandsFor h timeline.returns.items node s taken →
+        IsTakenTo h timeline.returns.items node a i s taken w →
+        LeadsBy h asked timeline.returns.items node w.node s taken w.took
+    to s taken stands it = leads_by_call h asked timeline node a i s taken w is bit stands it (inr (record {
+      none = none.none a s taken (awaited_at h timeline node a is) stands;
+      object = alike it.effect.entry (ap (λ (j : ℕ). slice_get h.entries j) (sym it.index) ∙ it.may.effect.is_entry);
+      in_turn = is_in_turn h asked timeline node a s taken calls it.effect is are stands it.may.effect.is_entry
+          (subst (λ (j : ℕ). ¬ IsOutOfTurn h asked node calls j) (sym it.index) turn);
+    }))
 
 -- an observation tells that it changed nothing
 observes_so : (e : Observation) (reply : Reply) → observes e ≡ true → MayReply e reply →
@@ -534,7 +704,8 @@ suffices_at_once h timeline node a i w is observer takes n hope =
         takes_at_once (LockSteps h.limits) h.entries (drop node.past timeline.returns.items) hope.state hope.taken x n
         took.may.effect tells.0
         (λ s t steps. observers_change_nothing h.limits x.entry.call x.reply s t tells.1 steps) took.may.fresh
-        (due h timeline node hope.state hope.taken x is.timeline_is hope.stands took.may.effect tells.0 took.may.fresh)
+        (due h timeline node hope.state hope.taken x.index x.entry is.timeline_is hope.stands took.may.effect.is_entry
+        tells.0 took.may.fresh)
         (record { rest = hope.rest; by = hope.by; steps = hope.steps }) in
         let same : took.state ≡ hope.state = observers_change_nothing h.limits x.entry.call x.reply hope.state
         took.state tells.1 took.may.steps in
@@ -614,12 +785,12 @@ open_within h timeline past v slice k is lt read same within =
     slice_get_within h.entries (get_or slice k 0) it.entry it.is_entry
 
 -- the awaited call, which is not in effect
-record AwaitsOne (h : ObservedHistory) (timeline : Timeline) (node : Node) : Type 0 where
-  entry : Observation
-  awaits : Awaits h timeline node entry
-  bit : bit_at node.threads entry.thread ≢ 1
+pub record AwaitsOne (h : ObservedHistory) (timeline : Timeline) (node : Node) : Type 0 where
+  pub entry : Observation
+  pub awaits : Awaits h timeline node entry
+  pub bit : bit_at node.threads entry.thread ≢ 1
 
-awaits_one : (h : ObservedHistory) (timeline : Timeline) (node : Node) → IsObserved h → IsTimeline h timeline →
+pub awaits_one : (h : ObservedHistory) (timeline : Timeline) (node : Node) → IsObserved h → IsTimeline h timeline →
     node.past < length timeline.returns.items → IsNotInEffect h timeline.returns.items node → AwaitsOne h timeline node
 awaits_one h timeline node observed is inside awaited =
     let there : IsReturnAt h.entries (get_or timeline.returns.items node.past 0) = is.are.each node.past 0 inside in
@@ -636,19 +807,56 @@ awaits_one h timeline node observed is inside awaited =
     }
 
 -- where the awaited call is not in effect an open call takes effect
-pub suffice_open : (h : ObservedHistory) (timeline : Timeline) (node : Node) (calls : List ℕ) (k : ℕ)
-    (nexts : List Next) → IsObserved h → IsTimeline h timeline → node.past < length timeline.returns.items →
+pub suffice_open : (h : ObservedHistory) (asked : Option ℕ) (timeline : Timeline) (node : Node) (calls : List ℕ)
+    (k : ℕ) (nexts : List Next) → IsObserved h → IsTimeline h timeline → node.past < length timeline.returns.items →
     IsNotInEffect h timeline.returns.items node → AreOpen h timeline.returns.items node.past calls →
-    length calls ≤ k → Tries h timeline.returns.items node calls k nexts → Suffice h timeline.returns.items node nexts
-suffice_open h timeline node calls k nexts observed is inside awaited are all tries =
+    length calls ≤ k → Tries h asked timeline.returns.items node calls k nexts →
+    Suffice h timeline.returns.items node nexts
+suffice_open h asked timeline node calls k nexts observed is inside awaited are all tries =
     let one : AwaitsOne h timeline node = awaits_one h timeline node observed is inside awaited in
-    suffice_taken h timeline node one.entry calls k nexts one.awaits one.bit are all tries
+    suffice_taken h asked timeline node one.entry calls k nexts one.awaits one.bit are all tries
 
+-- of the last k of these calls those that are tried lead to these nodes
+pub record Chooses (h : ObservedHistory) (returns : List ℕ) (node : Node) (calls : List ℕ) (k : ℕ)
+    (nexts : List Next) : Type 0 where
+  pub led : (w : Next) → Contains nexts w → Leads h None returns node w
+  pub tries : Tries h None returns node calls k nexts
+
+pub chooses_none : (h : ObservedHistory) (returns : List ℕ) (node : Node) (calls : List ℕ) →
+    Chooses h returns node calls 0 []
+chooses_none h returns node calls = record {
+  led = λ w has. absurd (none_in_empty w has);
+  tries = none_tried h None returns node calls;
+}
+
+pub chooses_one : (h : ObservedHistory) (timeline : Timeline) (node : Node) (a : Observation) (calls : List ℕ) (k : ℕ)
+    (nexts : List Next) (w : Next) → Awaits h timeline node a → bit_at node.threads a.thread ≢ 1 →
+    NoneIsAtOnceAt h None timeline.returns.items node → AreOpen h timeline.returns.items node.past calls →
+    Chooses h timeline.returns.items node calls k nexts → k < length calls →
+    ¬ IsOutOfTurn h None node calls (get_or calls (length calls - 1 - k) 0) →
+    Took h timeline.returns.items node (get_or calls (length calls - 1 - k) 0) (Some w) →
+    ((e : Observation) → slice_get h.entries (get_or calls (length calls - 1 - k) 0) ≡ Some e → AreOfOneObject a e) →
+    Chooses h timeline.returns.items node calls (k + 1) (nexts ++ w ∷ [])
+chooses_one h timeline node a calls k nexts w is bit none are chooses more turn took alike = record {
+  led = each_push (Leads h None timeline.returns.items node) nexts w chooses.led
+      (took_leads h None timeline node a calls (get_or calls (length calls - 1 - k) 0) w is bit none are turn took
+      alike);
+  tries = tried_some h None timeline.returns.items node calls k nexts w chooses.tries more took;
+}
+
+-- the others lead to none
+pub chooses_not : (h : ObservedHistory) (returns : List ℕ) (node : Node) (calls : List ℕ) (k : ℕ)
+    (nexts : List Next) → Chooses h returns node calls k nexts → Tries h None returns node calls (k + 1) nexts →
+    Chooses h returns node calls (k + 1) nexts
+chooses_not h returns node calls k nexts chooses tries = record { led = chooses.led; tries = tries }
+
+-- where the awaited call is not in effect an open call takes effect
 pub expands_open : (h : ObservedHistory) (timeline : Timeline) (node : Node) (calls : List ℕ) (k : ℕ)
     (nexts : List Next) → IsObserved h → IsTimeline h timeline → node.past < length timeline.returns.items →
-    IsNotInEffect h timeline.returns.items node → NoneIsAtOnceAt h None timeline.returns.items node →
-    AreOpen h timeline.returns.items node.past calls → length calls ≤ k →
-    Tries h timeline.returns.items node calls k nexts → Expands h timeline.returns.items node nexts
-expands_open h timeline node calls k nexts observed is inside awaited none are all tries =
-    let one : AwaitsOne h timeline node = awaits_one h timeline node observed is inside awaited in
-    expands_taken h timeline node one.entry calls k nexts one.awaits one.bit none are all tries
+    IsNotInEffect h timeline.returns.items node → AreOpen h timeline.returns.items node.past calls →
+    length calls ≤ k → Chooses h timeline.returns.items node calls k nexts →
+    Expands h timeline.returns.items node nexts
+expands_open h timeline node calls k nexts observed is inside awaited are all chooses = record {
+  each = chooses.led;
+  whole = suffice_open h None timeline node calls k nexts observed is inside awaited are all chooses.tries;
+}

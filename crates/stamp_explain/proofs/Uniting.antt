@@ -22,7 +22,7 @@ use Rattle.stamp_explain.specs.Configuration.{GivesUp, IsGivenUp, IsNotRefused}
 use Rattle.stamp_explain.specs.Expand.{IsFound, IsSearched}
 use Rattle.stamp_explain.specs.Order.{IsOrderOf, taken_of}
 use Rattle.stamp_explain.specs.Apart.{places_where, is_of_object, of_object, IsSubhistoryOf}
-use Rattle.stamp_explain.proofs.Lists.{pairs_none, pairs_cons, pairs_head, pairs_tail}
+use Rattle.stamp_explain.proofs.Lists.{pairs_none, pairs_cons, pairs_head, pairs_drop}
 use Rattle.stamp_explain.proofs.Merging.IsMerge.{none, left, right}
 use Rattle.stamp_explain.proofs.Merging.{merge_all, Merges, IsSound, respects_all, sound_of}
 use Rattle.stamp_explain.proofs.Parting.{judged_apart, merged_explains}
@@ -136,15 +136,10 @@ next_left : (xs : List Effect) (k : ℕ) (x : Effect) → slice_get xs k ≡ Som
 next_left xs k x at = drop_more xs k x (slice_get_within xs k x at) ∙
     ap (λ (y : Effect). y ∷ drop (k + 1) xs) (get_or_from_slice_get xs k x x at)
 
-pairs_left : (n : ℕ) (xs : List Effect) → AllPairs RespectsBefore xs → AllPairs RespectsBefore (drop n xs)
-pairs_left zero xs all = all
-pairs_left (suc n) [] all = all
-pairs_left (suc n) (x ∷ xs) all = pairs_left n xs (pairs_tail RespectsBefore x xs all)
-
 later_left : (xs : List Effect) (k : ℕ) (x : Effect) → slice_get xs k ≡ Some x → AllPairs RespectsBefore xs →
     All (RespectsBefore x) (drop (k + 1) xs)
 later_left xs k x at all = pairs_head RespectsBefore x (drop (k + 1) xs)
-    (subst (AllPairs RespectsBefore) (next_left xs k x at) (pairs_left k xs all))
+    (subst (AllPairs RespectsBefore) (next_left xs k x at) (pairs_drop RespectsBefore k xs all))
 
 inside_or_past : (taken : List Taken) (k : ℕ) → ((t : Taken) × (slice_get taken k ≡ Some t)) ⊎ (length taken ≤ k)
 inside_or_past [] k = inr (omega arith)

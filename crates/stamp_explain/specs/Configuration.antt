@@ -10,9 +10,10 @@ use Rattle.stamp_core.specs.declared.call.Call.TheVariants.{Put, PutIf}
 use Rattle.stamp_core.specs.declared.reply.Reply.{Reply}
 use Rattle.stamp_core.specs.declared.reply.Reply.TheVariants.{Yes}
 use Rattle.stamp_explain.specs.declared.observed.Observation.{Observation}
-use Rattle.stamp_explain.specs.Observed.{ObservedHistory, AreOfOneObject, of_lock, of_record}
+use Rattle.stamp_explain.specs.Observed.{ObservedHistory, AreOfOneObject, IsBefore, of_lock, of_record}
 use Rattle.stamp_explain.specs.Observer.{observes}
 use Rattle.stamp_explain.specs.Explained.{Effect, IsExplained}
+use Rattle.stamp_explain.specs.Turn.{IsAhead}
 use Rattle.stamp_explain.specs.Search.{LockState, LockSteps, CanComplete, MayTake, AreReturns, opening}
 
 -- whose words the record holds after a call, which stands at this place of the history, and its reply
@@ -31,10 +32,21 @@ abbrev pub NoneIsAtOnce : ObservedHistory → Option ℕ → Observation → Loc
 NoneIsAtOnce h asked awaited s taken = (x : Effect) (t : LockState) → IsAtOnce asked x →
     ¬ MayTake (LockSteps h.limits) h.entries awaited s taken x t
 
--- of the open calls this one is tried: it takes effect at once, or none does, and it is of the awaited one's object
+-- each call that is alike and returned sooner is in effect, or begins after the awaited one has returned
+abbrev pub IsInTurn : ObservedHistory → Option ℕ → Observation → List ℕ → Effect → Type 0
+IsInTurn h asked awaited taken x = (i : ℕ) (e : Observation) → asked ≢ Some i → slice_get h.entries i ≡ Some e →
+    IsAhead e x.entry → ¬ IsBefore awaited e → Contains taken i
+
+-- where none takes effect at once, one of the awaited one's object is chosen: of those that are alike, in turn
+pub record IsChosen (h : ObservedHistory) (asked : Option ℕ) (awaited : Observation) (s : LockState) (taken : List ℕ)
+    (x : Effect) : Type 0 where
+  pub none : NoneIsAtOnce h asked awaited s taken
+  pub object : AreOfOneObject awaited x.entry
+  pub in_turn : IsInTurn h asked awaited taken x
+
+-- of the open calls this one is tried
 abbrev pub IsTried : ObservedHistory → Option ℕ → Observation → LockState → List ℕ → Effect → Type 0
-IsTried h asked awaited s taken x =
-    IsAtOnce asked x ⊎ (NoneIsAtOnce h asked awaited s taken × AreOfOneObject awaited x.entry)
+IsTried h asked awaited s taken x = IsAtOnce asked x ⊎ IsChosen h asked awaited s taken x
 
 -- a way through a search from the opening: a call in effect returns; where one that is not in effect is to
 -- return, an open call that is tried takes effect. It leads to the returns to come, what lock and record are in, the

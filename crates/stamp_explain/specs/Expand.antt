@@ -1,5 +1,6 @@
 -- How a search goes on from a node, and what it finds.
-use Rattle.std.specs.Prelude.{ℕ, ◌≡◌, ◌≢◌, ◌<◌, ◌≤◌, ◌++◌, ◌+◌, List, ◌∷◌, length, drop, map, slice_get, slice_index}
+use Rattle.std.specs.Prelude.{ℕ, ◌≡◌, ◌≢◌, ◌<◌, ◌≤◌, ◌++◌, ◌+◌, List, ◌∷◌, length, drop, map, slice_get}
+use Rattle.std.specs.Prelude.{slice_index}
 use Rattle.std.specs.Prelude.{Option, Some, None, Bool, true, false}
 use Rattle.std.specs.List.{All, Contains}
 use Rattle.std.specs.Int.{bit_at}
@@ -12,7 +13,7 @@ use Rattle.stamp_explain.specs.declared.store.Store.{Store}
 use Rattle.stamp_explain.specs.declared.found.Found.{Found}
 use Rattle.stamp_explain.specs.declared.found.Found.TheVariants.{Order, Nothing, Undecided}
 use Rattle.stamp_explain.specs.declared.timeline.Timeline.{Timeline}
-use Rattle.stamp_explain.specs.Observed.{ObservedHistory, IsObserved, AreOfOneObject}
+use Rattle.stamp_explain.specs.Observed.{ObservedHistory, IsObserved}
 use Rattle.stamp_explain.specs.Explained.{Effect, IsEffectOf, IsExplained}
 use Rattle.stamp_explain.specs.Search.{LockState, LockSteps, MayTake, IsCompletedBy}
 use Rattle.stamp_explain.specs.Configuration.{GivesUp, IsGivenUp, IsTried, NoneIsAtOnce, put_after}
@@ -125,11 +126,6 @@ pub record IsTakenTo (h : ObservedHistory) (returns : List ℕ) (node : Node) (a
   pub only : (x : Effect) (u : LockState) → MayTake (LockSteps h.limits) h.entries a s taken x u → x.index ≡ i →
       StandsFor h returns w.node u (x.index ∷ taken)
 
--- the same, and the call is of the awaited one's object
-abbrev pub IsTakenAlike : ObservedHistory → List ℕ → Node → Observation → ℕ → LockState → List ℕ → Next → Type 0
-IsTakenAlike h returns node a i s taken w =
-    (to : IsTakenTo h returns node a i s taken w) × AreOfOneObject a to.effect.entry
-
 abbrev pub Takes : ObservedHistory → List ℕ → Node → Observation → ℕ → LockState → List ℕ → Option Next → Type 0
 Takes h returns node a i s taken None = (x : Effect) (u : LockState) →
     MayTake (LockSteps h.limits) h.entries a s taken x u → x.index ≢ i
@@ -139,15 +135,6 @@ Takes h returns node a i s taken (Some w) = IsTakenTo h returns node a i s taken
 pub record Took (h : ObservedHistory) (returns : List ℕ) (node : Node) (i : ℕ) (found : Option Next) : Type 0 where
   pub takes : (a : Observation) (s : LockState) (taken : List ℕ) → IsAwaitedAt h returns node.past a →
       StandsFor h returns node s taken → Takes h returns node a i s taken found
-
--- of the last k of these calls: each node that was made is one of these, and each call of the awaited one's object
--- that may take effect makes one
-pub record Tried (h : ObservedHistory) (returns : List ℕ) (node : Node) (a : Observation) (s : LockState)
-    (taken calls : List ℕ) (k : ℕ) (nexts : List Next) : Type 0 where
-  pub each : (w : Next) → Contains nexts w → (i : ℕ) × IsTakenAlike h returns node a i s taken w
-  pub whole : (x : Effect) (u : LockState) → MayTake (LockSteps h.limits) h.entries a s taken x u →
-      AreOfOneObject a x.entry → (p : ℕ) → p < length calls → length calls ≤ p + k → slice_index calls p ≡ x.index →
-      (w : Next) × (Contains nexts w × ((w.node.past ≡ node.past) × StandsFor h returns w.node u (x.index ∷ taken)))
 
 -- what a search finds that looks at so many configurations before it gives up
 abbrev pub IsSearched : ObservedHistory → ℕ → Found → Type 0

@@ -21,6 +21,7 @@ use crate::search::{opening, take_of};
 use crate::stepping::step_of;
 use crate::store::Store;
 use crate::timeline::{Timeline, timeline_of};
+use crate::turn::is_out_of_turn;
 use stamp_core::Reply;
 use std::alloc::{AllocError, Global};
 
@@ -161,7 +162,8 @@ fn observed_beside(asking: &Asking, node: &Node) -> Option<Next>
     None
 }
 
-/// The nodes that come next where another open call of the awaited one's object takes effect.
+/// The nodes that come next where another open call of the awaited one's object takes effect: of those that
+/// are alike, the one that returned first.
 fn choices_beside(asking: &Asking, node: &Node, nexts: &mut Vec<Next>) -> Result<(), AllocError>
     requires at { MayGoOnBeside asking.now node.now }
     requires awaited { IsNotInEffect asking.now.seen asking.now.timeline.returns.items node.now }
@@ -176,7 +178,10 @@ fn choices_beside(asking: &Asking, node: &Node, nexts: &mut Vec<Next>) -> Result
     let calls = asking.timeline.opens[node.past].as_slice();
     for k in 0..calls.len() {
         let i = calls[calls.len() - 1 - k];
-        if i != asking.place && are_of_one_object(&asking.seen, awaited, i) {
+        if i != asking.place
+            && are_of_one_object(&asking.seen, awaited, i)
+            && !is_out_of_turn(&asking.seen, Some(asking.place), node, calls, i)
+        {
             if let Some(next) = take_of(&asking.seen, node, i) {
                 nexts.push(next)?;
             }

@@ -17,6 +17,7 @@ use crate::order::order_to;
 use crate::stepping::step_of;
 use crate::store::Store;
 use crate::timeline::Timeline;
+use crate::turn::is_out_of_turn;
 use stamp_core::Word;
 use std::alloc::{AllocError, Global};
 
@@ -109,7 +110,8 @@ fn forced(observed: &Observed, timeline: &Timeline, node: &Node) -> Option<Next>
 }
 
 /// The nodes that come next where an open call has to take effect. Only those of the awaited call's
-/// object, lock or record, are tried; the node of that which returns first comes last.
+/// object, lock or record, are tried, and of those that are alike the one that returned first. The node
+/// of the call which returns first comes last.
 fn choices(
     observed: &Observed,
     timeline: &Timeline,
@@ -126,7 +128,9 @@ fn choices(
     let calls = timeline.opens[node.past].as_slice();
     for k in 0..calls.len() {
         let i = calls[calls.len() - 1 - k];
-        if are_of_one_object(observed, awaited, i) {
+        if are_of_one_object(observed, awaited, i)
+            && !is_out_of_turn(observed, None, node, calls, i)
+        {
             if let Some(next) = take_of(observed, node, i) {
                 nexts.push(next)?;
             }

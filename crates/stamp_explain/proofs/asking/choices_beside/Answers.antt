@@ -1,18 +1,20 @@
-use Rattle.std.proofs.Common.{◌≡◌, ◌≢◌, ◌<◌, ◌+◌, ◌-◌, ℕ, List, [], ◌∷◌, ◌++◌, length, get_or, sym, ◌∙◌, ap, subst}
+use Rattle.std.proofs.Common.{◌≡◌, ◌<◌, ◌+◌, ◌-◌, ℕ, List, [], ◌∷◌, ◌++◌, length, get_or, sym, ◌∙◌, ap, subst}
 use Rattle.std.proofs.Common.{arith}
 use Rattle.std.proofs.Common.{Vec, Global, true, false}
 use Rattle.std.proofs.lemmas.Option.{slice_get_within}
 use Rattle.stamp_explain.specs.declared.node.Next.{Next}
-use Rattle.stamp_explain.specs.Timeline.{IsOpenAt}
+use Rattle.stamp_explain.specs.Timeline.{AreOpen, IsOpenAt}
+use Rattle.stamp_explain.proofs.Succeeding.{AwaitsOne, awaits_one, awaited_at}
 use Rattle.stamp_explain.proofs.Succeeding.{open_read, opens_read, open_within, awaited_read}
 use Rattle.stamp_explain.proofs.Answering.{timeline_alike}
-use Rattle.stamp_explain.proofs.Beside.{awaited_inside, TriesBeside, AwaitsThere, awaits_there, beside_some}
-use Rattle.stamp_explain.proofs.Beside.{beside_none, beside_asked, beside_other}
+use Rattle.stamp_explain.proofs.Beside.{awaited_inside, TriesBeside, beside_some}
+use Rattle.stamp_explain.proofs.Beside.{beside_later, beside_none, beside_asked, beside_other}
 use Rattle.stamp_explain.proofs.Beside.{suffice_beside, alike_of}
 use Rattle.stamp_explain.proofs.asking.choices_beside.Goals as goal
-use Rattle.stamp_explain.proofs.asking.choices_beside.Goals.{then-i-asking+then-are_of_one_object+in-Some+in_ok-push}
-use Rattle.stamp_explain.proofs.asking.choices_beside.Goals.{then-i-asking+then-are_of_one_object+in_default}
+use Rattle.stamp_explain.proofs.asking.choices_beside.Goals.{then-i-asking+then-are_of_one_object+then-not-is_out_of_turn+in-Some+in_ok-push}
+use Rattle.stamp_explain.proofs.asking.choices_beside.Goals.{then-i-asking+then-are_of_one_object+then-not-is_out_of_turn+in_default}
 use Rattle.stamp_explain.proofs.asking.choices_beside.Goals.{else-i-asking}
+use Rattle.stamp_explain.proofs.asking.choices_beside.Goals.{else-i-asking-via-then-i-asking+then-are_of_one_object+else-not-is_out_of_turn}
 use Rattle.stamp_explain.proofs.asking.choices_beside.Goals.{else-i-asking-via-then-i-asking+else-are_of_one_object}
 use Rattle.stamp_explain.proofs.asking.choices_beside.Goals.{else-i-asking-via-else-i-asking}
 
@@ -41,49 +43,56 @@ false_true h = cc
 pub loop-k-preserved : goal.loop-k-preserved
 loop-k-preserved c =
     let asking = c.args.asking.now in
+    let returns = asking.timeline.returns.items in
     let node = c.args.node.now in
     let calls : List ℕ = c.as_slice-calls.result.now in
     let k : ℕ = c.loop-k.k in
+    let nexts : List Next = c.loop-k.nexts.items in
     let within : length calls - 1 - k < length calls = omega (arith, c.loop-k-test.true) in
-    let it : IsOpenAt asking.seen asking.timeline.returns.items node.past (get_or calls (length calls - 1 - k) 0) =
+    let it : IsOpenAt asking.seen returns node.past (get_or calls (length calls - 1 - k) 0) =
     open_read asking.seen asking.timeline node.past c.index.result.now calls (length calls - 1 - k)
     c.requires.at.asks.timeline c.requires.at.past c.index.ensures c.as_slice-calls.ensures.value within in
-    let there : AwaitsThere asking node = awaits_there asking node c.requires.at.asks c.requires.at.past
-    c.requires.awaited in
+    let are : AreOpen asking.seen returns node.past calls =
+    opens_read asking.seen asking.timeline node.past c.index.result.now calls c.requires.at.asks.timeline
+    c.requires.at.past c.index.ensures c.as_slice-calls.ensures.value in
+    let one : AwaitsOne asking.seen asking.timeline node =
+    awaits_one asking.seen asking.timeline node c.requires.at.asks.observed c.requires.at.asks.timeline
+    c.requires.at.past c.requires.awaited in
     elim c.if-i-asking.branch [
-      | then-i-asking+then-are_of_one_object+in-Some+in_ok-push w ↦
-          let other : get_or calls (length calls - 1 - k) 0 ≢ asking.place =
-          λ same. omega (arith, same, w.if-i-asking.true) in
-          let same : c.if-i-asking.nexts.items ≡ c.loop-k.nexts.items ++ w.in-Some.next ∷ [] =
+      | then-i-asking+then-are_of_one_object+then-not-is_out_of_turn+in-Some+in_ok-push w ↦
+          let same : c.if-i-asking.nexts.items ≡ nexts ++ w.in-Some.next ∷ [] =
           ap (λ (v : Vec Next Global). v.items) w.nexts-is ∙ w.in_ok-push.ensures.items in
           subst (λ (ns : List Next). TriesBeside asking node calls (k + 1) ns) (sym same)
-          (beside_some asking node there.entry calls k c.loop-k.nexts.items w.in-Some.next there.awaits
-          c.requires.at.reached.reached there.bit c.requires.at_once c.loop-k.invariant c.loop-k-test.true other
-          (w.in-Some.ensures asking.timeline.returns.items c.requires.at.asks.timeline.are it)
-          (λ b e awaited at. (w.are_of_one_object.ensures b e (awaited_read asking.seen
-          asking.timeline.returns.items node.past c.index-awaited.result.now b awaited c.index-awaited.ensures) at).0
-          w.if-are_of_one_object.true))
-      | then-i-asking+then-are_of_one_object+in_default w ↦
-          let other : get_or calls (length calls - 1 - k) 0 ≢ asking.place =
-          λ same. omega (arith, same, w.if-i-asking.true) in
-          let same : c.if-i-asking.nexts.items ≡ c.loop-k.nexts.items =
-          ap (λ (v : Vec Next Global). v.items) w.nexts-is in
+          (beside_some asking node one.entry calls k nexts w.in-Some.next one.awaits c.requires.at.reached.reached
+          one.bit c.requires.at_once are c.loop-k.invariant c.loop-k-test.true
+          (λ same. omega (arith, same, w.if-i-asking.true))
+          (λ out. false_true (sym w.if-not-is_out_of_turn.true ∙ w.is_out_of_turn.ensures.1 out))
+          (w.in-Some.ensures returns c.requires.at.asks.timeline.are it)
+          (λ e at. (w.are_of_one_object.ensures one.entry e (awaited_read asking.seen returns node.past
+          c.index-awaited.result.now one.entry (awaited_at asking.seen asking.timeline node one.entry one.awaits)
+          c.index-awaited.ensures) at).0 w.if-are_of_one_object.true))
+      | then-i-asking+then-are_of_one_object+then-not-is_out_of_turn+in_default w ↦
+          let same : c.if-i-asking.nexts.items ≡ nexts = ap (λ (v : Vec Next Global). v.items) w.nexts-is in
           subst (λ (ns : List Next). TriesBeside asking node calls (k + 1) ns) (sym same)
-          (beside_none asking node calls k c.loop-k.nexts.items c.loop-k.invariant c.loop-k-test.true other
-          (w.in_default.ensures asking.timeline.returns.items c.requires.at.asks.timeline.are it))
+          (beside_none asking node calls k nexts c.loop-k.invariant c.loop-k-test.true
+          (λ same. omega (arith, same, w.if-i-asking.true))
+          (w.in_default.ensures returns c.requires.at.asks.timeline.are it))
       | else-i-asking w ↦
-          let same : c.if-i-asking.nexts.items ≡ c.loop-k.nexts.items =
-          ap (λ (v : Vec Next Global). v.items) w.nexts-is in
+          let same : c.if-i-asking.nexts.items ≡ nexts = ap (λ (v : Vec Next Global). v.items) w.nexts-is in
           subst (λ (ns : List Next). TriesBeside asking node calls (k + 1) ns) (sym same)
           (elim w.else-i-asking.branch [
+            | else-i-asking-via-then-i-asking+then-are_of_one_object+else-not-is_out_of_turn v ↦
+                beside_later asking node calls k nexts c.loop-k.invariant c.loop-k-test.true
+                (λ same. omega (arith, same, v.if-i-asking.true))
+                (v.is_out_of_turn.ensures.0 v.if-not-is_out_of_turn.false)
             | else-i-asking-via-then-i-asking+else-are_of_one_object v ↦
-                beside_other asking node calls k c.loop-k.nexts.items c.loop-k.invariant c.loop-k-test.true
+                beside_other asking node calls k nexts c.loop-k.invariant c.loop-k-test.true
                 (λ a e awaited at alike. false_true (sym v.if-are_of_one_object.false ∙
-                (v.are_of_one_object.ensures a e (awaited_read asking.seen asking.timeline.returns.items node.past
+                (v.are_of_one_object.ensures a e (awaited_read asking.seen returns node.past
                 c.index-awaited.result.now a awaited c.index-awaited.ensures) at).1 alike))
             | else-i-asking-via-else-i-asking v ↦
                 let here : get_or calls (length calls - 1 - k) 0 ≡ asking.place = omega (arith, v.if-i-asking.false) in
-                beside_asked asking node calls k c.loop-k.nexts.items c.loop-k.invariant c.loop-k-test.true here
+                beside_asked asking node calls k nexts c.loop-k.invariant c.loop-k-test.true here
           ])
     ]
 

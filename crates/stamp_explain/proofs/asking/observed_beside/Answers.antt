@@ -1,8 +1,9 @@
 use Rattle.std.proofs.Common.{◌≢◌, Some, get_or, sym, ◌∙◌, arith}
 use Rattle.stamp_explain.specs.Timeline.{IsOpenAt}
+use Rattle.stamp_explain.proofs.Succeeding.{AwaitsOne, awaits_one}
 use Rattle.stamp_explain.proofs.Succeeding.{open_read, opens_read, none_at_once, none_by_asked, none_by_change}
 use Rattle.stamp_explain.proofs.Succeeding.{none_by_took}
-use Rattle.stamp_explain.proofs.Beside.{AwaitsThere, awaits_there, at_once_leads, at_once_suffices}
+use Rattle.stamp_explain.proofs.Beside.{at_once_leads, at_once_suffices}
 use Rattle.stamp_explain.proofs.asking.observed_beside.Goals as goal
 use Rattle.stamp_explain.proofs.asking.observed_beside.Goals.{then-i-asking+then-observes_at+in_default}
 use Rattle.stamp_explain.proofs.asking.observed_beside.Goals.{else-i-asking}
@@ -15,8 +16,9 @@ returns-in-Some-clause-leads c =
     let node = c.args.node.now in
     let other : get_or c.as_slice-i-items.result.now c.loop-i.i-index 0 ≢ asking.place =
     λ same. omega (arith, same, c.if-i-asking.true) in
-    let there : AwaitsThere asking node = awaits_there asking node c.requires.at.asks c.requires.at.past
-    c.requires.awaited in
+    let there : AwaitsOne asking.seen asking.timeline node =
+    awaits_one asking.seen asking.timeline node c.requires.at.asks.observed c.requires.at.asks.timeline
+    c.requires.at.past c.requires.awaited in
     at_once_leads asking node there.entry (get_or c.as_slice-i-items.result.now c.loop-i.i-index 0) c.in-Some.next
     there.awaits c.requires.at.reached.reached there.bit (sym c.observes_at.ensures ∙ c.if-observes_at.true)
     (c.in-Some.ensures asking.timeline.returns.items c.requires.at.asks.timeline.are
@@ -30,8 +32,9 @@ returns-in-Some-clause-one c =
     let node = c.args.node.now in
     let other : get_or c.as_slice-i-items.result.now c.loop-i.i-index 0 ≢ asking.place =
     λ same. omega (arith, same, c.if-i-asking.true) in
-    let there : AwaitsThere asking node = awaits_there asking node c.requires.at.asks c.requires.at.past
-    c.requires.awaited in
+    let there : AwaitsOne asking.seen asking.timeline node =
+    awaits_one asking.seen asking.timeline node c.requires.at.asks.observed c.requires.at.asks.timeline
+    c.requires.at.past c.requires.awaited in
     let it : IsOpenAt asking.seen asking.timeline.returns.items node.past
     (get_or c.as_slice-i-items.result.now c.loop-i.i-index 0) =
     open_read asking.seen asking.timeline node.past c.index.result.now c.as_slice-i-items.result.now

@@ -45,7 +45,8 @@ loop-preserved c =
     c.pop.new.self.items c.enter-in-loop.new.waiting.items c.go_on.new.nexts.items c.loop.replies.items
     c.go_on.new.replies.items c.in-Some.place c.index.result.now c.loop.invariant c.in-Some.ensures.items
     (popped_node c.loop.counter c.loop.store c.loop.waiting.items c.pop.new.self.items c.in-Some.place
-    c.index.result.now c.loop.invariant.explores c.in-Some.ensures.items c.index.ensures) c.in_ok-go_on.ensures.leads c.in_ok-go_on.ensures.more
+    c.index.result.now c.loop.invariant.explores c.in-Some.ensures.items c.index.ensures) c.in_ok-go_on.ensures.leads
+    c.in_ok-go_on.ensures.more
     c.in_ok-go_on.ensures.gets c.in_ok-go_on.ensures.whole
     (subst (λ (ns : List Next). Enters c.loop.store c.enter-in-loop.new.store c.in-Some.place c.pop.new.self.items
     c.enter-in-loop.new.waiting.items ns) c.as_slice.ensures.value c.in_ok-enter-2.ensures)
