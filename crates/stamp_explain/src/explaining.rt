@@ -1,7 +1,7 @@
 //! The record of an order that explains an observed history, or the return at which none does.
 ghost use Rattle.std.specs.Prelude.{◌≡◌};
 ghost use Rattle.stamp_explain.specs.Observed.{IsObserved};
-ghost use Rattle.stamp_explain.specs.Verdict.{IsAnswer};
+ghost use Rattle.stamp_explain.specs.Verdict.{IsAnswer, IsNotFound};
 
 use crate::first_fault::first_fault;
 use crate::found::{Found, find};
@@ -66,6 +66,25 @@ impl From<AllocError> for ExplainError {
     }
 }
 
+/// What is answered where no order was found: since there is none, or since the search gave up. Where no
+/// call has returned, the empty order explains the history.
+fn without_order(
+    alloc: Global,
+    observed: &Observed,
+    most: u64,
+    unexplained: bool,
+) -> Result<Record, ExplainError>
+    requires observed { IsObserved observed.now }
+    requires found { IsNotFound observed.now most unexplained }
+    ensures { IsAnswer observed.now most result }
+{
+    let ends = ends_of(alloc, observed.entries())?;
+    if ends.is_empty() {
+        return Ok(record_of(alloc, observed, &[])?);
+    }
+    Err(first_fault(alloc, observed, ends.as_slice(), most, unexplained)?)
+}
+
 /// A record of an order that explains the history, with a point for each call. Position p becomes the
 /// moments 64 p to 64 p + 63; a call under way that took effect ends with the history, and one that
 /// didn't is left out. A search gives up once it has looked at more than `most` configurations. Refuses as
@@ -75,13 +94,9 @@ pub fn explain(alloc: Global, observed: &Observed, most: u64) -> Result<Record, 
     requires { IsObserved observed.now }
     ensures { IsAnswer observed.now most result }
 {
-    let ends = ends_of(alloc, observed.entries())?;
-    if ends.is_empty() {
-        return Ok(record_of(alloc, observed, &[])?);
-    }
     match find(alloc, observed, most)? {
         Found::Order(order) => Ok(record_of(alloc, observed, order.as_slice())?),
-        Found::Nothing => Err(first_fault(alloc, observed, ends.as_slice(), most, true)?),
-        Found::Undecided => Err(first_fault(alloc, observed, ends.as_slice(), most, false)?),
+        Found::Nothing => without_order(alloc, observed, most, true),
+        Found::Undecided => without_order(alloc, observed, most, false),
     }
 }

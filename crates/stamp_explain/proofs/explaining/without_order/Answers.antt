@@ -3,7 +3,7 @@ use Rattle.stamp_explain.specs.declared.observed.Observation.{Observation}
 use Rattle.stamp_explain.specs.TimelineKeys.{AreEnds}
 use Rattle.stamp_explain.proofs.Exploring.{is_zero}
 use Rattle.stamp_explain.proofs.Faulting.{order_of_none}
-use Rattle.stamp_explain.proofs.explaining.explain.Goals as goal
+use Rattle.stamp_explain.proofs.explaining.without_order.Goals as goal
 
 pub record_of-requires-clause-order : goal.record_of-requires-clause-order
 record_of-requires-clause-order c = order_of_none c.args.observed.now c.in_ok-ends.ends.items
