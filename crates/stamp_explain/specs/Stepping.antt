@@ -2,7 +2,9 @@
 use Rattle.std.specs.Prelude.{ℕ, ◌≡◌, ◌++◌, List, Option, Some, None}
 use Rattle.stamp_core.specs.LockEvent.{LockEvent}
 use Rattle.stamp_core.specs.Limits.{Bounds}
-use Rattle.stamp_core.specs.Word.{Represents, word_at}
+use Rattle.stamp_core.specs.Word.{LockWord, Represents, word_at}
+use Rattle.stamp_core.specs.LockDecision.{reply_as}
+use Rattle.stamp_core.specs.declared.lock_decision.LockReply.{LockReply}
 use Rattle.stamp_core.specs.Content.{RecordReplies}
 use Rattle.stamp_core.specs.Transition.{transition}
 use Rattle.stamp_core.specs.History.{Replies, appended_by}
@@ -11,6 +13,11 @@ use Rattle.stamp_explain.specs.declared.observed.Observation.{Observation}
 use Rattle.stamp_explain.specs.Observed.{MayReply}
 use Rattle.stamp_explain.specs.Configuration.{put_after}
 use Rattle.stamp_explain.specs.Node.{content_by}
+
+-- a step of the lock, with its reply as one of lock or record
+abbrev pub step_as : Option (LockWord × LockReply) → Option (LockWord × Reply)
+step_as None = None
+step_as (Some x) = Some (x.0, reply_as x.1)
 
 -- after these events the lock gives no reply that the observation allows; or this one, and the word represents
 -- what it leaves

@@ -2,14 +2,15 @@
 ghost use Rattle.std.specs.Prelude.{◌≡◌, ◌<◌, ◌≤◌, ◌↔◌, IsTrue, MatchOption, Some, false, slice_get, length};
 ghost use Rattle.stamp_core.specs.Word.{IsAdmitted, word_at};
 ghost use Rattle.stamp_core.specs.Call.{is_lock_call, call_suits};
+ghost use Rattle.stamp_core.specs.Decision.{Steps};
 ghost use Rattle.stamp_explain.specs.Observed.{MayReply};
-ghost use Rattle.stamp_explain.specs.Stepping.{LockGoes, RecordGoes};
+ghost use Rattle.stamp_explain.specs.Stepping.{LockGoes, RecordGoes, step_as};
 ghost use Rattle.stamp_explain.specs.Node.{content_by, HasGone, IsAt};
 ghost use Rattle.stamp_explain.specs.Search.{LockState};
 
 use crate::node::Step;
 use crate::observed::{Observation, Observed};
-use stamp_core::{Call, Limits, Reply, Words, step};
+use stamp_core::{Call, Limits, LockDecision, LockReply, Reply, Word, Words, decide_lock};
 
 /// Whether the observation allows this reply.
 fn may_reply(entry: &Observation, reply: &Reply) -> bool
@@ -21,13 +22,27 @@ fn may_reply(entry: &Observation, reply: &Reply) -> bool
     }
 }
 
+/// The word after a call of the lock and its reply; nothing where the call waits.
+fn lock_after(limits: Limits, word: Word, call: &Call) -> Option<(Word, LockReply)>
+    requires admitted { IsAdmitted limits word }
+    requires lock_call { IsTrue (is_lock_call call.now) }
+    ensures { Steps limits word call.now (step_as result) }
+{
+    match decide_lock(limits, word, call) {
+        LockDecision::Answer(reply) => Some((word, reply)),
+        LockDecision::Change(next, reply) => Some((next, reply)),
+        LockDecision::Wait => None,
+    }
+}
+
 /// The number of the word after a call of the lock, and the reply, where the observation allows it.
 fn lock_step(limits: Limits, bits: u64, entry: &Observation) -> Option<(u64, Reply)>
     requires admitted { IsAdmitted limits (word_at limits bits) }
     requires lock_call { IsTrue (is_lock_call entry.now.call) }
     ensures { LockGoes limits bits entry.now result }
 {
-    let (next, reply) = step(limits, limits.word(bits), entry.call)?;
+    let (next, found) = lock_after(limits, limits.word(bits), &entry.call)?;
+    let reply = found.as_reply();
     if may_reply(entry, &reply) {
         Some((next.bits(), reply))
     } else {
