@@ -20,7 +20,7 @@ pub(crate) struct Timeline {
 fn returns_of(alloc: Global, entries: &[Observation]) -> Result<Vec<(u64, usize)>, AllocError>
     ensures { IfOk result (λ keys. AreKeys EndsAt entries.now (length entries.now) keys.items) }
 {
-    let mut keys = Vec::new(alloc);
+    let mut keys = Vec::with_capacity(alloc, entries.len())?;
     for (i, entry) in entries.iter().enumerate() {
         if let Some(returned) = &entry.returned {
             keys.push((returned.last, i))?;
@@ -46,7 +46,7 @@ pub(crate) fn ends_of(
 fn begins_of(alloc: Global, entries: &[Observation]) -> Result<Vec<(u64, usize)>, AllocError>
     ensures { IfOk result (λ keys. AreKeys BeginsAt entries.now (length entries.now) keys.items) }
 {
-    let mut keys = Vec::new(alloc);
+    let mut keys = Vec::with_capacity(alloc, entries.len())?;
     for (i, entry) in entries.iter().enumerate() {
         keys.push((entry.first, i))?;
     }
@@ -126,7 +126,7 @@ fn opens_of(
     ensures opens { IfOk result (λ opens. AreOpens observed.now (places_of ends.now) opens.items) }
 {
     let _ = observed.entries();
-    let mut opens = Vec::new(alloc);
+    let mut opens = Vec::with_capacity(alloc, ends.len())?;
     let mut kept = Vec::new(alloc);
     let mut begun = 0;
     for (past, end) in ends.iter().enumerate() {

@@ -1,4 +1,4 @@
-use Rattle.std.proofs.Common.{◌≡◌, ◌+◌, length, refl, sym, subst, Some}
+use Rattle.std.proofs.Common.{◌≡◌, ◌+◌, ℕ, arith, length, refl, sym, subst, Some}
 use Rattle.std.specs.Prelude.{slice_get}
 use Rattle.std.proofs.lemmas.Option.{slice_get_read}
 use Rattle.stamp_explain.specs.TimelineKeys.{AreKeys, BeginsAt}
@@ -13,3 +13,7 @@ loop-i-preserved c =
     c.index-entries-i.is in
     subst (AreKeys BeginsAt es (c.loop-i.i + 1)) (sym c.in_ok-push.ensures.items)
     (begins_more es c.loop-i.i c.loop-i.keys.items e c.loop-i.invariant at)
+
+pub returns : goal.returns
+returns c = subst (λ (n : ℕ). AreKeys BeginsAt c.args.entries.now n c.loop-i.keys.items)
+    (omega (arith, c.loop-i-test.false, c.loop-i.auto.i-end)) c.loop-i.invariant

@@ -1,4 +1,4 @@
-use Rattle.std.proofs.Common.{◌≡◌, ◌+◌, ℕ, length, refl, sym, ◌∙◌, ap, subst, Some}
+use Rattle.std.proofs.Common.{◌≡◌, ◌+◌, ℕ, arith, length, refl, sym, ◌∙◌, ap, subst, Some}
 use Rattle.std.proofs.Common.{Vec, Global}
 use Rattle.std.specs.Prelude.{slice_get}
 use Rattle.std.proofs.lemmas.Option.{slice_get_read}
@@ -22,3 +22,7 @@ loop-i-preserved c =
           subst (AreKeys EndsAt es (c.loop-i.i + 1)) (sym (ap (λ (v : Vec (ℕ × ℕ) Global). v.items) w.keys-is))
           (ends_same es c.loop-i.i c.loop-i.keys.items e c.loop-i.invariant at w.in_default.is)
     ]
+
+pub returns : goal.returns
+returns c = subst (λ (n : ℕ). AreKeys EndsAt c.args.entries.now n c.loop-i.keys.items)
+    (omega (arith, c.loop-i-test.false, c.loop-i.auto.i-end)) c.loop-i.invariant
