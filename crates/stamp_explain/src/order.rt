@@ -3,8 +3,8 @@ ghost use Rattle.std.specs.Prelude.{ℕ, ◌≡◌, ◌≤◌, ◌<◌, IfOk, So
 ghost use Rattle.stamp_explain.specs.Observed.{IsObserved};
 ghost use Rattle.stamp_explain.specs.Node.{IsReached};
 ghost use Rattle.stamp_explain.specs.Timeline.{IsTimeline};
-ghost use Rattle.stamp_explain.specs.Expand.{AreLinked, IsLed};
-ghost use Rattle.stamp_explain.specs.Order.{IsOrderOf, IsTakenAt, IsEnd};
+ghost use Rattle.stamp_explain.specs.Expand.{AreLinked, IsLed, IsLedBy};
+ghost use Rattle.stamp_explain.specs.Order.{IsOrderOf, IsTakenAt, IsEnd, RepliesAt};
 
 use crate::node::Node;
 use crate::observed::Observed;
@@ -23,8 +23,20 @@ pub struct Taken {
     pub reply: Reply,
 }
 
-/// The call that took effect when the search left this node, with its reply; none where a return was
-/// passed.
+/// What a call is answered where it takes effect at this node.
+fn reply_at(observed: &Observed, node: &Node, i: usize) -> Reply
+    requires observed { IsObserved observed.now }
+    requires led { IsLedBy observed.now node.now i }
+    ensures { RepliesAt observed.now node.now (record { entry = i; reply = result }) }
+{
+    let Some(step) = step_of(observed, node.bits, node.writer, i) else {
+        unreachable!();
+    };
+    step.reply
+}
+
+/// The call that took effect when the search left this node, with its reply, which is that of its return
+/// unless it is under way; none where a return was passed.
 fn taken_at(observed: &Observed, node: &Node, took: Option<usize>) -> Option<Taken>
     requires observed { IsObserved observed.now }
     requires led { IsLed observed.now node.now took }
@@ -33,13 +45,18 @@ fn taken_at(observed: &Observed, node: &Node, took: Option<usize>) -> Option<Tak
     let Some(i) = took else {
         return None;
     };
-    let Some(step) = step_of(observed, node.bits, node.writer, i) else {
-        unreachable!();
-    };
-    Some(Taken {
-        entry: i,
-        reply: step.reply,
-    })
+    // By the layout the prover knows that the limits are in their range.
+    let _ = observed.limits().layout();
+    match &observed.entries()[i].returned {
+        None => Some(Taken {
+            entry: i,
+            reply: reply_at(observed, node, i),
+        }),
+        Some(returned) => Some(Taken {
+            entry: i,
+            reply: returned.reply,
+        }),
+    }
 }
 
 /// The calls that took effect on the way to the last node of an order.
