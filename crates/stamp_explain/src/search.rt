@@ -54,6 +54,7 @@ fn look(store: &mut Store, waiting: &mut Vec<Waiting>) -> Result<bool, AllocErro
 
 /// What becomes of a node if the call of this entry takes effect; nothing where it is in effect, or
 /// would give another reply.
+#[inline(always)]
 pub(crate) fn take_of(observed: &Observed, node: &Node, i: usize) -> Option<Next>
     requires observed { IsObserved observed.now }
     requires admitted { IsAdmitted observed.now.limits (word_at observed.now.limits node.now.bits) }

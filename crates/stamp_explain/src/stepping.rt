@@ -13,6 +13,7 @@ use crate::observed::{Observation, Observed};
 use stamp_core::{Call, Limits, LockDecision, LockReply, Reply, Word, Words, decide_lock};
 
 /// Whether the observation allows this reply.
+#[inline(always)]
 fn may_reply(entry: &Observation, reply: &Reply) -> bool
     ensures { IsTrue result ↔ MayReply entry.now reply.now }
 {
@@ -23,6 +24,7 @@ fn may_reply(entry: &Observation, reply: &Reply) -> bool
 }
 
 /// The word after a call of the lock and its reply; nothing where the call waits.
+#[inline(always)]
 fn lock_after(limits: Limits, word: Word, call: &Call) -> Option<(Word, LockReply)>
     requires admitted { IsAdmitted limits word }
     requires lock_call { IsTrue (is_lock_call call.now) }
@@ -36,6 +38,7 @@ fn lock_after(limits: Limits, word: Word, call: &Call) -> Option<(Word, LockRepl
 }
 
 /// The number of the word after a call of the lock, and the reply, where the observation allows it.
+#[inline(always)]
 fn lock_step(limits: Limits, bits: u64, entry: &Observation) -> Option<(u64, Reply)>
     requires admitted { IsAdmitted limits (word_at limits bits) }
     requires lock_call { IsTrue (is_lock_call entry.now.call) }
@@ -70,6 +73,7 @@ fn content_of(observed: &Observed, writer: Option<usize>) -> Words
 }
 
 /// Whose words the record holds after a call of it, and the reply, where the observation allows it.
+#[inline(never)]
 fn record_step(
     observed: &Observed,
     writer: Option<usize>,
@@ -100,6 +104,7 @@ fn record_step(
 }
 
 /// What the call of entry `i` does, where the observation allows its reply.
+#[inline(always)]
 pub(crate) fn step_of(
     observed: &Observed,
     bits: u64,
