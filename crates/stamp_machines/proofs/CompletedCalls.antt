@@ -8,7 +8,7 @@ use Rattle.std.proofs.Math.Seq.{drop-append_seam}
 use Rattle.stamp_core.specs.declared.entry.Entry.{Entry}
 use Rattle.stamp_machines.specs.Script.{Scripted, IsSound}
 use Rattle.stamp_machines.specs.Invariant.{Invariant}
-use Rattle.stamp_machines.specs.World.{World, execution_of, completed_calls, step, stepped, landed}
+use Rattle.stamp_machines.specs.World.{World, execution_of, completed_calls, step, stepped, world_after}
 use Rattle.stamp_machines.specs.World.{current, stamps_of, opening}
 use Rattle.stamp_machines.specs.StepKind.{IsOfKind}
 use Rattle.stamp_machines.specs.CompletionsFields.{IsAfter, calls_until, calls_after, HandsOn}
@@ -26,15 +26,15 @@ use Rattle.stamp_machines.proofs.StepBound.{execution-rest}
 use Rattle.stamp_machines.proofs.StepsKeep.{execution_of-more, always-kept}
 
 -- a step takes no entry away
-landed-entries : (world : World) (t : ℕ) (b : Begun) (words : List ℕ) (now : Turn) →
-    (more : List Entry) × ((landed world t b words now).entries ≡ world.entries ++ more)
-landed-entries world t b words (turned.Going m) = ([], sym (append-nil world.entries))
-landed-entries world t b words (turned.Done r) = (_, refl)
+world_after-entries : (world : World) (t : ℕ) (b : Begun) (words : List ℕ) (now : Turn) →
+    (more : List Entry) × ((world_after world t b words now).entries ≡ world.entries ++ more)
+world_after-entries world t b words (turned.Going m) = ([], sym (append-nil world.entries))
+world_after-entries world t b words (turned.Done r) = (_, refl)
 
 stepped-entries : (world : World) (t : ℕ) (o : Option Begun) →
     (more : List Entry) × ((stepped world t o).entries ≡ world.entries ++ more)
 stepped-entries world t None = ([], sym (append-nil world.entries))
-stepped-entries world t (Some b) = landed-entries world t b _ _
+stepped-entries world t (Some b) = world_after-entries world t b _ _
 
 entries-more : (script : Scripted) (world : World) (names : List ℕ) →
     (more : List Entry) × ((fold (step script) world names).entries ≡ world.entries ++ more)
@@ -54,18 +54,18 @@ no_entry entries e more =
     cc
 
 -- the entry that a step leaves is of a call that ended by it
-landed-last : (world : World) (t : ℕ) (b : Begun) (words : List ℕ) (now : Turn) (e : Entry) →
-    (landed world t b words now).entries ≡ world.entries ++ e ∷ [] → e.last ≡ world.position
-landed-last world t b words (turned.Going m) e more =
+world_after-last : (world : World) (t : ℕ) (b : Begun) (words : List ℕ) (now : Turn) (e : Entry) →
+    (world_after world t b words now).entries ≡ world.entries ++ e ∷ [] → e.last ≡ world.position
+world_after-last world t b words (turned.Going m) e more =
     absurd (no_entry world.entries e more)
-landed-last world t b words (turned.Done r) e more =
+world_after-last world t b words (turned.Done r) e more =
     let one = append_cancel_left world.entries _ (e ∷ []) more in
     cc
 
 stepped-last : (world : World) (t : ℕ) (o : Option Begun) (e : Entry) →
     (stepped world t o).entries ≡ world.entries ++ e ∷ [] → e.last ≡ world.position
 stepped-last world t None e more = absurd (no_entry world.entries e more)
-stepped-last world t (Some b) e more = landed-last world t b _ _ e more
+stepped-last world t (Some b) e more = world_after-last world t b _ _ e more
 
 -- all that a script finishes is what it has finished and what it still does
 until-and-after : (script : Scripted) (made : ℕ) →

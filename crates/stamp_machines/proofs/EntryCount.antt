@@ -36,7 +36,7 @@ use Rattle.stamp_machines.specs.MachineState.{MachineState, Phase, OnLock, OnRec
 use Rattle.stamp_machines.specs.Machine.{after_access, after_in, lock_turn, record_turn}
 use Rattle.stamp_machines.specs.Script.{Scripted, IsSound, Suits, calls_of}
 use Rattle.stamp_machines.specs.World.{World, opening, current, current_of, begin, shape_of}
-use Rattle.stamp_machines.specs.World.{stamps_of, is_of, call_of, landed, stepped, step, entry_of}
+use Rattle.stamp_machines.specs.World.{stamps_of, is_of, call_of, world_after, stepped, step, entry_of}
 use Rattle.stamp_machines.specs.World.{execution_of, completed_calls}
 use Rattle.stamp_machines.proofs.CurrentCall.{thread-within, call-suits}
 use Rattle.stamp_machines.proofs.EntryOrder.{each_slot, slot_none}
@@ -235,7 +235,7 @@ after_same s seen = by s.phase
 
 lands-counted : (script : Scripted) (world : World) (t : ℕ) (b : Begun) (words : List ℕ)
     (turned : Turn) → IsCounted script world → IsOneOf script world.entries t (Some b) →
-    IsStillOf b.machine.call turned → IsCounted script (landed world t b words turned)
+    IsStillOf b.machine.call turned → IsCounted script (world_after world t b words turned)
 lands-counted script world t b words (Going m) counts one same = record {
   named = counts.named;
   suits = counts.suits;

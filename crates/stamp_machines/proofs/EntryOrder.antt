@@ -23,7 +23,7 @@ use Rattle.stamp_machines.specs.declared.machine.Turn.{Turn}
 use Rattle.stamp_machines.specs.declared.machine.Turn.TheVariants.{Going, Done}
 use Rattle.stamp_machines.specs.Script.{Scripted, calls_of}
 use Rattle.stamp_machines.specs.World.{World, opening, current, current_of, begin, shape_of}
-use Rattle.stamp_machines.specs.World.{stamps_of, landed, stepped, step, entry_of, execution_of}
+use Rattle.stamp_machines.specs.World.{stamps_of, world_after, stepped, step, entry_of, execution_of}
 
 -- the list with one slot set
 pub slot_other : (xs : List (Option Begun)) (i k : ℕ) (v : Option Begun) → (k == i) ≡ false →
@@ -166,7 +166,7 @@ entry-fits script world t b r o since answered = record {
 done-order : (script : Scripted) (world : World) (t : ℕ) (b : Begun) (words : List ℕ) (r : Reply) →
     InOrder script world → IsSince world.position world.entries t (Some b) →
     IsLegal script.limits script.width (history_of (world.entries ++ entry_of world t b r ∷ [])) →
-    InOrder script (landed world t b words (Done r))
+    InOrder script (world_after world t b words (Done r))
 done-order script world t b words r o since legal =
     let e : Entry = entry_of world t b r in
     record {
@@ -189,8 +189,8 @@ step-order script world t o legal = by (current script world t) refl legal
   where
     lands : (b : Begun) (words : List ℕ) (turned : Turn) →
         IsSince world.position world.entries t (Some b) →
-        IsLegal script.limits script.width (history_of (landed world t b words turned).entries) →
-        InOrder script (landed world t b words turned)
+        IsLegal script.limits script.width (history_of (world_after world t b words turned).entries) →
+        InOrder script (world_after world t b words turned)
     lands b words (Going m) since legal =
         going-order script world t words (Some (record { machine = m; first = b.first })) o since
     lands b words (Done r) since legal = done-order script world t b words r o since legal

@@ -16,7 +16,6 @@ pub mod StepsKeep
 pub mod AccessesAreSafe
 pub mod StateSteps
 pub mod WorkerStamps
-pub mod WorkersLanded
 pub mod RunFacts
 pub mod ScriptsAreSound
 pub mod CompletedCalls

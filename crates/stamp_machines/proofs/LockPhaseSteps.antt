@@ -45,9 +45,9 @@ turned-word limits call lock now r w t =
       represented = t.represented w.events w.represented;
     }
 
-abbrev pub PhaseLanded : Bounds → Call → ℕ → ℕ → PhaseTurn → Type 0
-PhaseLanded limits call lock now (Still seen) = now ≡ lock
-PhaseLanded limits call lock now (Ended r) = Turns limits call lock now r
+abbrev pub PhaseLeaves : Bounds → Call → ℕ → ℕ → PhaseTurn → Type 0
+PhaseLeaves limits call lock now (Still seen) = now ≡ lock
+PhaseLeaves limits call lock now (Ended r) = Turns limits call lock now r
 
 -- what a decision on the word says
 abbrev pub MeetsAt : Bounds → Call → ℕ → Decision → Type 0
@@ -129,48 +129,48 @@ unfolding decision
 decision-meets_at limits lock call range w =
     meets_at limits lock call range w (row limits (counts_at limits lock) call) refl
 
-loaded-landed : (limits : Bounds) (call : Call) (lock : ℕ) → AreInRange limits →
+loaded-leaves : (limits : Bounds) (call : Call) (lock : ℕ) → AreInRange limits →
     IsAdmittedAt limits lock →
-    PhaseLanded limits call lock lock (judged lock (decision limits lock call))
-loaded-landed limits call lock range a =
+    PhaseLeaves limits call lock lock (judged lock (decision limits lock call))
+loaded-leaves limits call lock range a =
     go (decision limits lock call) (decision-meets_at limits lock call range a)
   where
     go : (d : Decision) → MeetsAt limits call lock d →
-        PhaseLanded limits call lock lock (judged lock d)
+        PhaseLeaves limits call lock lock (judged lock d)
     go (Answer r) m = m
     go (Change new r) m = refl
     go Wait m = refl
 
-tried-landed : (limits : Bounds) (call : Call) (lock old : ℕ) (d : Decision) → AreInRange limits →
+tried-leaves : (limits : Bounds) (call : Call) (lock old : ℕ) (d : Decision) → AreInRange limits →
     IsAdmittedAt limits lock → decision limits old call ≡ d →
-    PhaseLanded limits call lock (lock_after (next_on old d) lock)
+    PhaseLeaves limits call lock (lock_after (next_on old d) lock)
     (tried limits call old (local_seen (next_on old d) lock []) d)
-tried-landed limits call lock old (Answer r) range a e = loaded-landed limits call lock range a
-tried-landed limits call lock old Wait range a e = loaded-landed limits call lock range a
-tried-landed limits call lock old (Change new r) range a e = go (lock == old) refl
+tried-leaves limits call lock old (Answer r) range a e = loaded-leaves limits call lock range a
+tried-leaves limits call lock old Wait range a e = loaded-leaves limits call lock range a
+tried-leaves limits call lock old (Change new r) range a e = go (lock == old) refl
   where
     go : (b : Bool) → (lock == old) ≡ b →
-        PhaseLanded limits call lock (if b then new.bits else lock) (if b then Ended r
+        PhaseLeaves limits call lock (if b then new.bits else lock) (if b then Ended r
         else judged lock (decision limits lock call))
-    go false q = loaded-landed limits call lock range a
+    go false q = loaded-leaves limits call lock range a
     go true q =
         let same : lock ≡ old = grind (arith, q) in
         let e' : decision limits lock call ≡ Change new r = rw same e in
         rw e' at (decision-meets_at limits lock call range a)
 
-pub phase-landed : (limits : Bounds) (call : Call) (lock : ℕ) (items : List ℕ) (seen : Option ℕ) →
+pub phase-leaves : (limits : Bounds) (call : Call) (lock : ℕ) (items : List ℕ) (seen : Option ℕ) →
     AreInRange limits → IsAdmittedAt limits lock →
-    PhaseLanded limits call lock (lock_after (phase_next limits call seen) lock)
+    PhaseLeaves limits call lock (lock_after (phase_next limits call seen) lock)
     (phase_after limits call seen (local_seen (phase_next limits call seen) lock items))
-phase-landed limits call lock items None range a = loaded-landed limits call lock range a
-phase-landed limits call lock items (Some old) range a = go (decision limits old call) refl
+phase-leaves limits call lock items None range a = loaded-leaves limits call lock range a
+phase-leaves limits call lock items (Some old) range a = go (decision limits old call) refl
   where
     go : (d : Decision) → decision limits old call ≡ d →
-        PhaseLanded limits call lock (lock_after (next_on old d) lock)
+        PhaseLeaves limits call lock (lock_after (next_on old d) lock)
         (tried limits call old (local_seen (next_on old d) lock items) d)
-    go (Answer r) e = tried-landed limits call lock old (Answer r) range a e
-    go Wait e = tried-landed limits call lock old Wait range a e
-    go (Change new r) e = tried-landed limits call lock old (Change new r) range a e
+    go (Answer r) e = tried-leaves limits call lock old (Answer r) range a e
+    go Wait e = tried-leaves limits call lock old Wait range a e
+    go (Change new r) e = tried-leaves limits call lock old (Change new r) range a e
 
 -- the record's lock calls, where their stamps are held and a version is left
 pub shared_at : (limits : Bounds) (c : Counts) (taken : Transition) →

@@ -39,7 +39,7 @@ use Rattle.stamp_machines.specs.LocalAccess.{LoadLock, LoadItem, lock_after, ite
 use Rattle.stamp_machines.specs.LocalAccess.{local_seen}
 use Rattle.stamp_machines.specs.RecordKept.{read_by, written_by, Fits, SameFor, AloneFor, Steps}
 use Rattle.stamp_machines.specs.RecordKept.{Stands, IsRead}
-use Rattle.stamp_machines.proofs.LockPhaseSteps.{PhaseLanded, phase-landed, Turns, turned-word}
+use Rattle.stamp_machines.proofs.LockPhaseSteps.{PhaseLeaves, phase-leaves, Turns, turned-word}
 use Rattle.stamp_machines.proofs.LockPhaseSteps.{counts-of, shared_at, left_at, claimed_at}
 use Rattle.stamp_machines.proofs.LockPhaseSteps.{upgraded_at}
 
@@ -716,9 +716,9 @@ locking : (limits : Bounds) (job : Job) (e : LockStep) (seen : Option ℕ) (lock
     (local_seen (phase_next limits (call_for e) seen) lock items)))
 locking limits job e seen lock items content s =
     rw (items_same limits (call_for e) seen items)
-    (go _ _ (phase-landed limits (call_for e) lock items seen s.range s.admitted))
+    (go _ _ (phase-leaves limits (call_for e) lock items seen s.range s.admitted))
   where
-    go : (lock' : ℕ) (p : PhaseTurn) → PhaseLanded limits (call_for e) lock lock' p →
+    go : (lock' : ℕ) (p : PhaseTurn) → PhaseLeaves limits (call_for e) lock lock' p →
         Steps limits job (Locking e seen) lock items content lock' items (passed job e p)
     go lock' (Still now) l = rw l (still limits job e seen now lock items content s)
     go lock' (Ended r) t = ended limits job e seen lock lock' items content r s t

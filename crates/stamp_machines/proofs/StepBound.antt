@@ -26,7 +26,7 @@ use Rattle.stamp_machines.specs.LockPhase.{phase_next}
 use Rattle.stamp_machines.specs.MachineState.{Phase, OnLock, OnRecord, start, first_phase}
 use Rattle.stamp_machines.specs.Script.{Scripted, IsSound, calls_of}
 use Rattle.stamp_machines.specs.World.{World, current, current_of, begin, shape_of, stamps_of}
-use Rattle.stamp_machines.specs.World.{call_of, landed, stepped, step, entry_of, execution_of}
+use Rattle.stamp_machines.specs.World.{call_of, world_after, stepped, step, entry_of, execution_of}
 use Rattle.stamp_machines.specs.World.{completed_calls}
 use Rattle.stamp_machines.specs.Interference.{lock_word, interferes, changes_by_others, own_since}
 use Rattle.stamp_machines.specs.Interference.{changes_since, own_steps, interference, NeverWaits}
@@ -44,7 +44,7 @@ use Rattle.stamp_machines.specs.Machine.{next_access, after_access, lock_turn}
 use Rattle.stamp_machines.specs.Invariant.{Invariant, IsOf, events_in, job_at}
 use Rattle.stamp_machines.proofs.LockCallSteps.{decided}
 use Rattle.stamp_machines.proofs.TwoKindsOfCall.{lock_none}
-use Rattle.stamp_machines.proofs.LockPhaseSteps.{PhaseLanded, phase-landed}
+use Rattle.stamp_machines.proofs.LockPhaseSteps.{PhaseLeaves, phase-leaves}
 use Rattle.stamp_machines.proofs.CommonWords.{IsToLock, lock-moves, phase-to_lock}
 use Rattle.stamp_machines.proofs.EntryOrder.{each_slot, slot_none}
 use Rattle.stamp_machines.proofs.EntryCount.{IsStillOf, after_same}
@@ -275,7 +275,7 @@ BoundedMachine limits call word own changes (Going m) =
 BoundedMachine limits call word own changes (Done r) = own ≤ changes + 2
 
 lock-bounded : (limits : Bounds) (shape : Shape) (call : Call) (word now own changes : ℕ)
-    (x : PhaseTurn) → PhaseLanded limits call word now x →
+    (x : PhaseTurn) → PhaseLeaves limits call word now x →
     BoundedTurn limits call word own changes x →
     BoundedMachine limits call now own changes (lock_turn shape call x)
 lock-bounded limits shape call word now own changes (Still seen) same bounded =
@@ -310,9 +310,9 @@ turn-bounded script world b (OnLock seen) own changes k sound shape kind never a
     let admitted : IsAdmittedAt script.limits word =
     record { events = events_in script world; represented = k.represented } in
     let found : local_seen a word [] ≡ word = seen-is a word to_lock in
-    let l : PhaseLanded script.limits call word (lock_after a word)
+    let l : PhaseLeaves script.limits call word (lock_after a word)
     (phase_after script.limits call seen word) =
-    rw found at (phase-landed script.limits call word [] seen sound.range admitted) in
+    rw found at (phase-leaves script.limits call word [] seen sound.range admitted) in
     let t : BoundedTurn script.limits call word (own + 1) changes
     (phase_after script.limits call seen word) =
     own-bound script.limits call word own changes seen
@@ -359,7 +359,7 @@ entry-bounded script names n b r within few =
 
 lands-bounded : (script : Scripted) (names : List ℕ) (n : ℕ) (b : Begun) (words : List ℕ)
     (turned : Turn) → AreBounded script names → BoundedSlot script names n (Some b) →
-    execution_of script (names ++ n ∷ []) ≡ landed (execution_of script names) n b words turned →
+    execution_of script (names ++ n ∷ []) ≡ world_after (execution_of script names) n b words turned →
     IsStillOf b.machine.call turned →
     (NeverWaits b.machine.call →
     BoundedMachine script.limits b.machine.call (slice_index words 0)

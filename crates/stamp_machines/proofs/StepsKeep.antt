@@ -35,12 +35,12 @@ use Rattle.stamp_machines.specs.Machine.{next_in, after_in, next_access, after_a
 use Rattle.stamp_machines.specs.Machine.{record_turn}
 use Rattle.stamp_machines.specs.Script.{Scripted, IsSound}
 use Rattle.stamp_machines.specs.declared.state.Begun.{Begun}
-use Rattle.stamp_machines.specs.World.{World, opening, opening_word, current, landed, stepped, step}
+use Rattle.stamp_machines.specs.World.{World, opening, opening_word, current, world_after, stepped, step}
 use Rattle.stamp_machines.specs.World.{execution_of, entry_of, shape_of}
 use Rattle.stamp_machines.specs.RecordKept.{Doing, RecordKept, Steps, Stands, read_in, written_in}
 use Rattle.stamp_machines.specs.RecordKept.{read_by, written_by, FitsIn, SameFor, AloneFor}
 use Rattle.stamp_machines.specs.Invariant.{Invariant, IsOf, doing_in, doing_at, job_at, content_in, events_in}
-use Rattle.stamp_machines.proofs.LockPhaseSteps.{PhaseLanded, phase-landed, counts-of}
+use Rattle.stamp_machines.proofs.LockPhaseSteps.{PhaseLeaves, phase-leaves, counts-of}
 use Rattle.stamp_machines.proofs.OtherRecordCalls.{moved-kept, le_sum}
 use Rattle.stamp_machines.specs.Laws.{ReleasesWinAlways}
 use Rattle.stamp_machines.proofs.RecordCallSteps.{own-step, releasing-wins}
@@ -93,7 +93,7 @@ going-kept : (script : Scripted) (world : World) (t : ℕ) (b : Begun) (words : 
     (content_in script world)
     (map doing_in (slice_set world.begun t (Some (record { machine = m; first = b.first })))) →
     (counts_at (record_limits (shape_of script)) (slice_index words 1)).write_count ≤ world.position
-    + 1 → Invariant script (landed world t b words (machines.Going m))
+    + 1 → Invariant script (world_after world t b words (machines.Going m))
 going-kept script world t b words m k o n s r f =
     record {
       legal = k.legal;
@@ -127,7 +127,7 @@ done-kept : (script : Scripted) (world : World) (t : ℕ) (b : Begun) (words : L
     (map doing_in (slice_set world.begun t None)) → length content ≡ script.width →
     length words ≡ 2 + script.width →
     (counts_at (record_limits (shape_of script)) (slice_index words 1)).write_count ≤ world.position
-    + 1 → Invariant script (landed world t b words (machines.Done r))
+    + 1 → Invariant script (world_after world t b words (machines.Done r))
 done-kept script world t b words r events content k ends s rk w n f =
     let e : Entry = entry_of world t b r in
     let events_now : events_of script.limits (history_of (world.entries ++ e ∷ [])) ≡ events =
@@ -179,8 +179,8 @@ lock-step : (script : Scripted) (world : World) (t : ℕ) (b : Begun) (now : ℕ
     (p : PhaseTurn) → Invariant script world → IsSound script → b.machine.shape ≡ shape_of script →
     job_in b.machine.call ≡ None → doing_in (slice_index_or world.begun t None) ≡ None →
     words ≡ now ∷ slice_index world.words 1 ∷ drop 2 world.words → length words ≡ 2 + script.width →
-    PhaseLanded script.limits b.machine.call (slice_index world.words 0) now p →
-    Invariant script (landed world t b words (lock_turn b.machine.shape b.machine.call p))
+    PhaseLeaves script.limits b.machine.call (slice_index world.words 0) now p →
+    Invariant script (world_after world t b words (lock_turn b.machine.shape b.machine.call p))
 lock-step script world t b now words (Still seen) k sound o j z w n l =
     going-kept script world t b words (record b.machine { phase = OnLock seen }) k (o, j) n (rw w l)
     (rw (
@@ -216,7 +216,7 @@ record-step : (script : Scripted) (world : World) (t : ℕ) (b : Begun) (job : J
     (counts_at (record_limits (shape_of script)) lock).write_count ≤ world.position + 1 →
     Steps (record_limits (shape_of script)) job place (slice_index world.words 1) (drop 2 world.words)
     (content_in script world) lock items turned →
-    Invariant script (landed world t b words (record_turn b.machine.shape b.machine.call job turned))
+    Invariant script (world_after world t b words (record_turn b.machine.shape b.machine.call job turned))
 record-step script world t b job place lock items words (places.Going to) k h o j rd wr w n f
     s =
     going-kept script world t b words (record b.machine { phase = OnRecord job to }) k (o, j) n
@@ -308,7 +308,7 @@ begun-kept : (script : Scripted) (world : World) (t : ℕ) (b : Begun) (phase : 
     (counts_at (record_limits (shape_of script)) (slice_index world.words 1)).writers
     (content_in script world) (drop 2 world.words) (slice_index_or world.begun t None) b →
     b.machine.phase ≡ phase →
-    Invariant script (landed world t b
+    Invariant script (world_after world t b
     (words_after (next_in (shape_of script) b.machine.call phase) world.words)
     (after_in (shape_of script) b.machine.call
     (seen_by (next_in (shape_of script) b.machine.call phase) world.words) phase))
@@ -318,7 +318,7 @@ begun-kept script world t b (OnLock seen) k sound room h ready e =
     (phase-to_lock script.limits b.machine.call seen) in
     let w : IsAdmittedAt script.limits (slice_index world.words 0) =
     record { events = (events_in script world); represented = k.represented } in
-    let l = phase-landed script.limits b.machine.call (slice_index world.words 0) [] seen sound.range
+    let l = phase-leaves script.limits b.machine.call (slice_index world.words 0) [] seen sound.range
     w in
     let j : job_in b.machine.call ≡ None = ready.of.1 ∙ ap job_at e in
     let slot : doing_in (slice_index_or world.begun t None) ≡ None = ready.lock (ap doing_at e) in
@@ -326,7 +326,7 @@ begun-kept script world t b (OnLock seen) k sound room h ready e =
     length-words_after (with_lock 0 a) world.words ∙ k.memory in
     rw m.seen (subst
     (λ (s : Shape). Invariant script
-    (landed world t b (words_after (with_lock 0 a) world.words)
+    (world_after world t b (words_after (with_lock 0 a) world.words)
     (lock_turn s b.machine.call
     (phase_after script.limits b.machine.call seen
     (local_seen a (slice_index world.words 0) []))))) ready.of.0
@@ -352,7 +352,7 @@ begun-kept script world t b (OnRecord job place) k sound room h ready e =
     (content_in script world) _ _ s.0.effect in let f = k.few in omega (arith, one, f)) in
     rw m.seen (subst
     (λ (x : Shape). Invariant script
-    (landed world t b (words_after (with_lock 1 a) world.words)
+    (world_after world t b (words_after (with_lock 1 a) world.words)
     (record_turn x b.machine.call job
     (places.after limits script.width job place
     (local_seen a (slice_index world.words 1) (drop 2 world.words)))))) ready.of.0
@@ -360,16 +360,16 @@ begun-kept script world t b (OnRecord job place) k sound room h ready e =
 
 -- a machine of another shape is none of the script's
 of-shape : (script : Scripted) (world : World) (t : ℕ) (b : Begun) → b.machine.shape ≡ shape_of script →
-    Invariant script (landed world t b
+    Invariant script (world_after world t b
     (words_after (next_in (shape_of script) b.machine.call b.machine.phase) world.words)
     (after_in (shape_of script) b.machine.call
     (seen_by (next_in (shape_of script) b.machine.call b.machine.phase) world.words)
     b.machine.phase)) →
-    Invariant script (landed world t b (words_after (next_access b.machine) world.words)
+    Invariant script (world_after world t b (words_after (next_access b.machine) world.words)
     (after_access b.machine (seen_by (next_access b.machine) world.words)))
 of-shape script world t b e h =
     subst (λ (s : Shape). Invariant script
-    (landed world t b (words_after (next_in s b.machine.call b.machine.phase) world.words)
+    (world_after world t b (words_after (next_in s b.machine.call b.machine.phase) world.words)
     (after_in s b.machine.call
     (seen_by (next_in s b.machine.call b.machine.phase) world.words) b.machine.phase)))
     (sym e) h
@@ -458,7 +458,7 @@ pub position-step : (script : Scripted) (world : World) (t : ℕ) →
 position-step script world t = go (current script world t)
   where
     done : (b : Begun) (words : List ℕ) (turned : MachineTurn) →
-        (landed world t b words turned).position ≡ world.position + 1
+        (world_after world t b words turned).position ≡ world.position + 1
     done b words (machines.Going m) = refl
     done b words (machines.Done r) = refl
 

@@ -21,7 +21,7 @@ use Rattle.stamp_machines.specs.declared.running.Stepped.{Stepped}
 use Rattle.stamp_machines.specs.declared.running.Stepped.TheVariants.{Idle, Going, Ended}
 use Rattle.stamp_machines.specs.Script.{Scripted, IsSound, calls_of}
 use Rattle.stamp_machines.specs.World.{World, current, current_of, begin, shape_of, stamps_of}
-use Rattle.stamp_machines.specs.World.{call_of, landed, stepped, entry_of, execution_of}
+use Rattle.stamp_machines.specs.World.{call_of, world_after, stepped, entry_of, execution_of}
 use Rattle.stamp_machines.specs.World.{completed_calls}
 use Rattle.stamp_machines.specs.MachineState.{start}
 use Rattle.stamp_machines.specs.Stepped.{Reports}
@@ -206,8 +206,8 @@ longer-than entries e same = let l = length-append entries (e ∷ []) in let m =
 tallied-going : (script : Scripted) (names : List ℕ) (n : ℕ) (s : TallyState) (b : Begun)
     (words : List ℕ) (t : Turn) → IsSound script → length names ≤ 1000000 → n < length script.threads →
     IsTallied script names s → Measures script names s.changes n b (meter_at s.meters n) →
-    execution_of script (names ++ n ∷ []) ≡ landed (execution_of script names) n b words t →
-    (landed (execution_of script names) n b words t).entries ≡ (execution_of script names).entries →
+    execution_of script (names ++ n ∷ []) ≡ world_after (execution_of script names) n b words t →
+    (world_after (execution_of script names) n b words t).entries ≡ (execution_of script names).entries →
     IsTallied script (names ++ n ∷ []) (tally_after s n (change_by script names n) Going)
 tallied-going script names n s b words (turned.Done r) sound few within all measures now entries =
     absurd (longer-than _ _ entries)
@@ -261,8 +261,8 @@ cost-last script names n b r s measures =
 tallied-ended : (script : Scripted) (names : List ℕ) (n : ℕ) (s : TallyState) (b : Begun) (e : Entry)
     (words : List ℕ) (t : Turn) → IsSound script → length names ≤ 1000000 → n < length script.threads →
     IsTallied script names s → Measures script names s.changes n b (meter_at s.meters n) →
-    execution_of script (names ++ n ∷ []) ≡ landed (execution_of script names) n b words t →
-    (landed (execution_of script names) n b words t).entries ≡ (execution_of script names).entries
+    execution_of script (names ++ n ∷ []) ≡ world_after (execution_of script names) n b words t →
+    (world_after (execution_of script names) n b words t).entries ≡ (execution_of script names).entries
     ++ e ∷ [] → IsTallied script (names ++ n ∷ [])
     (tally_after s n (change_by script names n) (Ended e))
 tallied-ended script names n s b e words (turned.Going m) sound few within all measures now entries =

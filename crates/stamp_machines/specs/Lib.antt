@@ -26,8 +26,7 @@ pub mod StateFields
 pub mod RunView
 pub mod Stepped
 pub mod StepKind
-pub mod Landed
-pub mod StateLanded
+pub mod StateStep
 pub mod RunFields
 pub mod RunRecord
 pub mod Completing

@@ -17,11 +17,6 @@ IsOfKind script world thread Going =
 IsOfKind script world thread Ended =
     (e : Entry) × ((step script world thread).entries ≡ world.entries ++ e ∷ [])
 
-abbrev pub kind_of : Stepped → StepKind
-kind_of stepped.Idle = Idle
-kind_of stepped.Going = Going
-kind_of (stepped.Ended e) = Ended
-
 abbrev pub with_entry : Option Entry → Stepped
 with_entry None = stepped.Idle
 with_entry (Some e) = stepped.Ended e

@@ -1,10 +1,7 @@
 -- What a step reports.
 use Rattle.std.specs.Prelude.{◌≡◌, ℕ, [], ◌∷◌, ◌++◌, IsSome, None}
 use Rattle.stamp_machines.specs.Script.{Scripted}
-use Rattle.stamp_machines.specs.World.{World, current, step, entry_of}
-use Rattle.stamp_machines.specs.declared.machine.Turn.{Turn}
-use Rattle.stamp_machines.specs.declared.machine.Turn.TheVariants as turned
-use Rattle.stamp_machines.specs.declared.state.Begun.{Begun}
+use Rattle.stamp_machines.specs.World.{World, current, step}
 use Rattle.stamp_machines.specs.declared.running.Stepped.{Stepped}
 use Rattle.stamp_machines.specs.declared.running.Stepped.TheVariants.{Idle, Going, Ended}
 
@@ -14,7 +11,3 @@ Reports script world thread Idle = current script world thread ≡ None
 Reports script world thread Going =
     IsSome (current script world thread) × ((step script world thread).entries ≡ world.entries)
 Reports script world thread (Ended e) = (step script world thread).entries ≡ world.entries ++ e ∷ []
-
-abbrev pub told : World → ℕ → Begun → Turn → Stepped
-told world thread b (turned.Going machine) = Going
-told world thread b (turned.Done reply) = Ended (entry_of world thread b reply)

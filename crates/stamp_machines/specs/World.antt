@@ -1,6 +1,6 @@
 -- A schedule: each name in turn makes one access of its thread's current call on the common words.
 use Rattle.std.specs.Prelude.{ℕ, ◌+◌, ◌==◌, Bool, List, [], ◌∷◌, ◌++◌, length, map, filter}
-use Rattle.std.specs.Prelude.{replicate, Option, Some, None, if◌then◌else◌, slice_get, slice_index}
+use Rattle.std.specs.Prelude.{replicate, Option, Some, None, slice_get, slice_index}
 use Rattle.std.specs.Prelude.{slice_index_or, slice_set, fold}
 use Rattle.stamp_core.specs.LockEvent.{counts}
 use Rattle.stamp_core.specs.Limits.{Bounds, units}
@@ -131,21 +131,16 @@ entry_of world thread b reply =
       last = world.position;
     }
 
--- the stamps of thread t after a step of another or of itself
-abbrev pub stamps_after : ℕ → ℕ → List ℕ → Turn → List ℕ
-stamps_after t thread stamps (turned.Going machine) = stamps
-stamps_after t thread stamps (turned.Done reply) =
-    if t == thread then stamps ++ stamp_in reply ∷ [] else stamps
-
-abbrev pub landed : World → ℕ → Begun → List ℕ → Turn → World
-landed world thread b words (turned.Going machine) =
+-- the world after an access of the thread's call, which has left these words and led to this turn
+abbrev pub world_after : World → ℕ → Begun → List ℕ → Turn → World
+world_after world thread b words (turned.Going machine) =
     record {
       words = words;
       begun = slice_set world.begun thread (Some (record { machine = machine; first = b.first }));
       entries = world.entries;
       position = world.position + 1;
     }
-landed world thread b words (turned.Done reply) =
+world_after world thread b words (turned.Done reply) =
     record {
       words = words;
       begun = slice_set world.begun thread None;
@@ -156,7 +151,7 @@ landed world thread b words (turned.Done reply) =
 abbrev pub stepped : World → ℕ → Option Begun → World
 stepped world thread None = record world { position = world.position + 1 }
 stepped world thread (Some b) =
-    landed world thread b (words_after (next_access b.machine) world.words)
+    world_after world thread b (words_after (next_access b.machine) world.words)
     (after_access b.machine (seen_by (next_access b.machine) world.words))
 
 abbrev pub step : Scripted → World → ℕ → World

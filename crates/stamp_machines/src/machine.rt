@@ -17,7 +17,7 @@ ghost use Rattle.stamp_machines.specs.Place.{call_for};
 
 use crate::access::{Access, make};
 use crate::loaded_words::LoadedWords;
-use crate::lock_phase::{PhaseNext, accessed, passed, planned};
+use crate::lock_phase::{PhaseNext, decide_on, lock_access};
 use crate::shape::Shape;
 use crate::stage::{
     LockStep, Stage, StageNext, call_for, checked, copied, ended, first_stage, lock_loaded,
@@ -82,7 +82,8 @@ fn after_public(
         (phase_in shape.now call.now (phase_at call.now loaded.now (Stage.Public seen)))
         (λ p. LeadsIn p found (turn_in shape.now call.now loaded.now answer.new result)) }
 {
-    match passed(shape.limits, call, seen, found, answer) {
+    let (_, next) = decide_on(shape.limits, call, seen, found, answer);
+    match next {
         PhaseNext::Going(seen) => StageNext::Going(Stage::Public { seen }),
         PhaseNext::Done => StageNext::Done,
     }
@@ -110,13 +111,9 @@ fn after_locking(
         (phase_in shape.now call.now (phase_at call.now loaded.old (Stage.Locking lock_step seen)))
         (λ p. LeadsIn p found (turn_in shape.now call.now loaded.new answer.new result)) }
 {
-    match passed(
-        shape.record_limits(),
-        &call_for(lock_step),
-        seen,
-        found,
-        answer,
-    ) {
+    let limits = shape.record_limits();
+    let (_, next) = decide_on(limits, &call_for(lock_step), seen, found, answer);
+    match next {
         PhaseNext::Going(seen) => StageNext::Going(Stage::Locking { lock_step, seen }),
         PhaseNext::Done => ended(shape, call, lock_step, loaded, answer),
     }
@@ -199,7 +196,7 @@ impl Machine {
         ensures phase { IfSome (phase_of self.now) (λ p. Plans p.state result) }
     {
         match self.stage {
-            Stage::Public { seen } => planned(0, self.shape.limits, &self.call, seen),
+            Stage::Public { seen } => lock_access(0, self.shape.limits, &self.call, seen),
             Stage::LoadingLock => Access::Load(1),
             Stage::Copying { .. } => {
                 if self.loaded.len() < self.shape.words() {
@@ -209,7 +206,7 @@ impl Machine {
                 }
             }
             Stage::Locking { lock_step, seen } => {
-                planned(1, self.shape.record_limits(), &call_for(lock_step), seen)
+                lock_access(1, self.shape.record_limits(), &call_for(lock_step), seen)
             }
             Stage::Reading { .. } | Stage::Checking { .. } => Access::Load(2 + self.loaded.len()),
             Stage::Storing { stored, .. } => Access::Store(
@@ -235,7 +232,7 @@ impl Machine {
     {
         let mut machine = self;
         let mut answer = Reply::Done;
-        if machine.advance(found, &mut answer) {
+        if machine.go_on(found, &mut answer) {
             Turn::Done(answer)
         } else {
             Turn::Going(machine)
@@ -243,7 +240,8 @@ impl Machine {
     }
 
     /// Makes the planned access and goes on after it, in place. Tells whether the call has ended:
-    /// then its reply stands in `answer`, and where the machine stands is of no account.
+    /// then its reply stands in `answer`, and where the machine stands is of no account. An access of
+    /// a lock call on the public lock decides once, on the word found.
     #[inline(always)]
     pub(crate) fn access(&mut self, words: &mut [u64], answer: &mut Reply) -> bool
         requires memory { place_of (next_access self.old) < length words.old }
@@ -253,27 +251,25 @@ impl Machine {
             ≡ after_access self.old (seen_by (next_access self.old) words.old) }
         ensures call { self.new.call ≡ self.old.call }
     {
-        match self.stage {
-            Stage::Public { seen } => {
-                match accessed(0, self.shape.limits, &self.call, seen, words, answer) {
-                    PhaseNext::Going(seen) => {
-                        self.stage = Stage::Public { seen };
-                        false
-                    }
-                    PhaseNext::Done => true,
-                }
+        let Stage::Public { seen } = self.stage else {
+            let found = make(words, self.plan());
+            return self.go_on(found, answer);
+        };
+        let (word, next) = decide_on(self.shape.limits, &self.call, seen, words[0], answer);
+        words[0] = word;
+        match next {
+            PhaseNext::Going(seen) => {
+                self.stage = Stage::Public { seen };
+                false
             }
-            _ => {
-                let found = make(words, self.plan());
-                self.advance(found, answer)
-            }
+            PhaseNext::Done => true,
         }
     }
 
     /// Goes on as `resume` does, in place, and tells whether the call has ended. Then its reply
     /// stands in `answer`, and where the machine stands is of no account.
     #[inline(always)]
-    pub(crate) fn advance(&mut self, found: u64, answer: &mut Reply) -> bool
+    pub(crate) fn go_on(&mut self, found: u64, answer: &mut Reply) -> bool
         requires { IsFound self.old found }
         ensures after { turn_of self.new answer.new result ≡ after_access self.old found }
         ensures leads { IsTrue (is_lock_call self.old.call) →

@@ -19,7 +19,7 @@ pub fn run(alloc: Global, script: &Script) -> Result<Record, RunError>
 {
     let mut run = Run::start(alloc, script)?;
     for name in script.steps() {
-        run.advance(*name)?;
+        run.make_step(*name)?;
     }
     Ok(run.into_record())
 }

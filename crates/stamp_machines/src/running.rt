@@ -112,14 +112,14 @@ impl<'a> Run<'a> {
         ensures err { OnErr result (self.new ≡ self.old) }
         ensures full { (result ≡ Err RunError.TooManySteps) ↔ HasNoStepLeft self.old }
     {
-        let kind = self.moved(thread)?;
-        Ok(self.told(kind))
+        let kind = self.make_step(thread)?;
+        Ok(self.state.told(kind))
     }
 
-    /// One access, of which the kind is reported, without the entry of a call that has ended by it: it is
-    /// the last one.
+    /// One access, of which the kind alone is reported: the entry of a call that has ended by it is the
+    /// last one.
     #[inline(always)]
-    fn moved(&mut self, thread: u64) -> Result<StepKind, RunError>
+    pub(crate) fn make_step(&mut self, thread: u64) -> Result<StepKind, RunError>
         requires { thread < length self.old.script.threads }
         ensures ok { OnOk result (self.new ≡ with_step self.old thread) }
         ensures report { IfOk result
@@ -136,24 +136,6 @@ impl<'a> Run<'a> {
         self.state.reserve(at)?;
         let _ = self.steps.push(thread);
         Ok(self.state.step(self.script, at, position))
-    }
-
-    /// What a step of this kind did, with the entry of the call that has ended by it.
-    fn told(&self, kind: StepKind) -> Stepped
-        ensures { result ≡ told_by (completed_calls self.now.script self.now.names) kind }
-    {
-        self.state.told(kind)
-    }
-
-    /// One access, of which only the refusal is reported.
-    #[inline(always)]
-    pub(crate) fn advance(&mut self, thread: u64) -> Result<(), RunError>
-        requires { thread < length self.old.script.threads }
-        ensures ok { OnOk result (self.new ≡ with_step self.old thread) }
-        ensures full { (result ≡ Err RunError.TooManySteps) ↔ HasNoStepLeft self.old }
-    {
-        self.moved(thread)?;
-        Ok(())
     }
 
     /// What each run keeps to.

@@ -47,7 +47,6 @@ pub(crate) enum StepKind {
 ghost use Rattle.stamp_core.specs.declared.entry.Entry.{Entry};
 ghost use Rattle.stamp_machines.specs.StateFields.{stamps_at, begun_in, HasRoom};
 ghost use Rattle.stamp_machines.specs.World.{number_of, call_of, next_call, opening_word};
-ghost use Rattle.stamp_machines.specs.Landed.{IsSafeOn};
 
 fn number(workers: &[Worker], arg: Arg) -> u64
     ensures { result ≡ number_of (stamps_at workers.now) arg }
@@ -129,26 +128,6 @@ fn set_begun(workers: &mut [Worker], thread: usize, begun: Begun)
 }
 
 impl Begun {
-    ghost use Rattle.stamp_machines.specs.Access.{place_of, words_after, seen_by};
-    ghost use Rattle.stamp_machines.specs.Machine.{next_access, after_access, IsFound};
-    ghost use Rattle.stamp_machines.specs.MachineTurn.{turn_of};
-
-    /// Makes its next access, and tells whether it has ended by it. Then its reply stands in
-    /// `answer`.
-    #[inline(always)]
-    fn access(&mut self, words: &mut [u64], answer: &mut Reply) -> bool
-        requires memory { place_of (next_access self.old.machine) < length words.old }
-        requires word { IsFound self.old.machine
-            (seen_by (next_access self.old.machine) words.old) }
-        ensures words { words.new ≡ words_after (next_access self.old.machine) words.old }
-        ensures after { turn_of self.new.machine answer.new result
-            ≡ after_access self.old.machine (seen_by (next_access self.old.machine) words.old) }
-        ensures call { self.new.machine.call ≡ self.old.machine.call }
-        ensures first { self.new.first ≡ self.old.first }
-    {
-        self.machine.access(words, answer)
-    }
-
     /// The entry of a call that ends at this position.
     fn ended(&self, thread: usize, reply: &Reply, position: u64) -> Entry
         ensures { result ≡ record {
@@ -172,37 +151,6 @@ impl Begun {
 }
 
 impl Worker {
-    ghost use Rattle.stamp_machines.specs.Landed.{IsSafeOn, Landed};
-
-    /// Makes the next access of the call that the thread is in. Where it ends by it, its entry comes
-    /// after the others; there is room for it.
-    #[inline(always)]
-    fn land(
-        &mut self,
-        thread: usize,
-        words: &mut [u64],
-        answer: &mut Reply,
-        entries: &mut Vec<Entry>,
-        position: u64,
-    ) -> StepKind
-        requires safe { IfSome self.old.begun (λ b. IsSafeOn b words.old) }
-        requires room { vec_len self.old.stamps < vec_capacity self.old.stamps }
-        requires entries { vec_len entries.old < vec_capacity entries.old }
-        ensures landed { IfSome self.old.begun
-            (λ b. Landed b thread position words.old self.old.stamps.items entries.old.items
-            words.new self.new.begun self.new.stamps.items entries.new.items result) }
-    {
-        let Some(begun) = &mut self.begun else {
-            return StepKind::Idle;
-        };
-        if !begun.access(words, answer) {
-            return StepKind::Going;
-        }
-        keep(entries, begun, thread, answer, position);
-        self.end(stamp_in(answer));
-        StepKind::Ended
-    }
-
     /// The thread is in no call any more. There is room for the stamp that it answered.
     #[inline(never)]
     fn end(&mut self, stamp: u64)
@@ -251,13 +199,10 @@ fn opening_words(alloc: Global, shape: &Shape) -> Result<Vec<u64>, AllocError>
 }
 
 impl State {
-    ghost use Rattle.stamp_machines.specs.Access.{place_of, words_after, seen_by};
-    ghost use Rattle.stamp_machines.specs.Machine.{next_access, after_access, IsFound};
-    ghost use Rattle.stamp_machines.specs.World.{landed, stamps_after, stamps_of, current};
-    ghost use Rattle.stamp_machines.specs.World.{begun_with, step, opening_of};
+    ghost use Rattle.stamp_machines.specs.World.{stamps_of, current, begun_with, opening_of};
     ghost use Rattle.stamp_machines.specs.StateFields.{world_at, SameState};
-    ghost use Rattle.stamp_machines.specs.StateLanded.{StateLanded};
-    ghost use Rattle.stamp_machines.specs.StepKind.{told_by, IsOfKind};
+    ghost use Rattle.stamp_machines.specs.StateStep.{IsStep};
+    ghost use Rattle.stamp_machines.specs.StepKind.{told_by};
     ghost use Rattle.stamp_machines.specs.Invariant.{Invariant};
     ghost use Rattle.stamp_machines.specs.Script.{IsSound};
 
@@ -296,16 +241,14 @@ impl State {
         reserve_stamp(&mut self.workers, thread)
     }
 
-    /// Begins the thread's next call where it is in none. Tells whether it is in one then.
+    /// Begins the thread's next call, if it is in none and has one left.
     #[inline(always)]
-    fn begin(&mut self, script: &Script, thread: usize, position: u64) -> bool
+    fn begin(&mut self, script: &Script, thread: usize, position: u64)
         ghost gone: { List Entry }
         requires thread { thread < vec_len self.old.workers }
         requires workers { vec_len self.old.workers ≡ length script.now.threads }
         requires stamps { (t : ℕ) → stamps_at self.old.workers.items t
             ≡ stamps_of t (gone ++ self.old.entries.items) }
-        ensures begun { result ≡ is_some
-            (current script.now (world_at gone self.old position) thread) }
         ensures world { world_at gone self.new position
             ≡ begun_with (world_at gone self.old position) thread
             (current script.now (world_at gone self.old position) thread) }
@@ -317,35 +260,12 @@ impl State {
         ensures entries { self.new.entries ≡ self.old.entries }
     {
         if is_in_call(&self.workers, thread) {
-            return true;
+            return;
         }
         let Some(begun) = next_call(script, &self.workers, thread, position) else {
-            return false;
+            return;
         };
         set_begun(&mut self.workers, thread, begun);
-        true
-    }
-
-    /// Makes the next access of the call that the thread is in. There is room for what it may finish.
-    #[inline(always)]
-    fn land(&mut self, thread: usize, position: u64) -> StepKind
-        ghost gone: { List Entry }
-        requires safe { IfSome (slice_index_or (map begun_in self.old.workers.items) thread None)
-            (λ b. IsSafeOn b self.old.words.items) }
-        requires thread { thread < vec_len self.old.workers }
-        requires room { HasRoom (slice_get self.old.workers.items thread) }
-        requires entries { vec_len self.old.entries < vec_capacity self.old.entries }
-        ensures landed { IfSome (slice_index_or (map begun_in self.old.workers.items) thread None)
-            (λ b. StateLanded gone b thread position self.old self.new result) }
-        ensures workers { vec_len self.new.workers ≡ vec_len self.old.workers }
-    {
-        self.workers[thread].land(
-            thread,
-            &mut self.words,
-            &mut self.answer,
-            &mut self.entries,
-            position,
-        )
     }
 
     /// Makes one access of the thread's current call, if it has one. The entry of a call that ends
@@ -362,17 +282,21 @@ impl State {
             ≡ stamps_of t (gone ++ self.old.entries.items) }
         requires room { HasRoom (slice_get self.old.workers.items thread) }
         requires entries { vec_len self.old.entries < vec_capacity self.old.entries }
-        ensures world { world_at gone self.new (position + 1)
-            ≡ step script.now (world_at gone self.old position) thread }
+        ensures step { IsStep gone script.now self.old self.new thread position result }
         ensures workers { vec_len self.new.workers ≡ vec_len self.old.workers }
-        ensures stamps { (t : ℕ) → stamps_at self.new.workers.items t
-            ≡ stamps_of t (gone ++ self.new.entries.items) }
-        ensures report { IsOfKind script.now (world_at gone self.old position) thread result }
     {
-        if self.begin(script, thread, position) {
-            self.land(thread, position)
-        } else {
-            StepKind::Idle
+        self.begin(script, thread, position);
+        let worker = &mut self.workers[thread];
+        match &mut worker.begun {
+            None => StepKind::Idle,
+            Some(begun) => {
+                if !begun.machine.access(&mut self.words, &mut self.answer) {
+                    return StepKind::Going;
+                }
+                keep(&mut self.entries, begun, thread, &self.answer, position);
+                worker.end(stamp_in(&self.answer));
+                StepKind::Ended
+            }
         }
     }
 

@@ -51,5 +51,5 @@ returns-clause-ok c =
     rw c.steps.ensures.steps (take_more script.steps made 0 c.requires.few) in
     step-made script old c.step.new.self made (get_or c.steps.result.now made 0) c.step.result
     (after-reserved script c.args.state.now old made same c.requires.after) c.requires.few
-    (same.entries ∙ c.requires.none) names c.step.ensures.world c.step.ensures.workers
-    c.step.ensures.stamps c.step.ensures.report
+    (same.entries ∙ c.requires.none) names c.step.ensures.step.world c.step.ensures.workers
+    c.step.ensures.step.stamps c.step.ensures.step.report

@@ -5,15 +5,15 @@ use Rattle.stamp_machines.proofs.machine.after_locking.Goals as goal
 pub returns-in-Going-clause-phase : goal.returns-in-Going-clause-phase
 returns-in-Going-clause-phase c = (
   Still c.in-Going.seen,
-  rw (c.record_limits.ensures, c.call_for.ensures.call c.args.loaded.now) at
-      (c.in-Going.ensures.leads 1),
+  rw (c.record_limits-limits.ensures, c.call_for.ensures.call c.args.loaded.now, c.in-Going.is) at
+      (c.decide_on-next.ensures.leads 1),
   refl,
 )
 
 pub returns-in-Done-clause-phase : goal.returns-in-Done-clause-phase
 returns-in-Done-clause-phase c = (
-  Ended c.passed.new.answer,
-  rw (c.record_limits.ensures, c.call_for.ensures.call c.args.loaded.now) at
-      (c.in-Done.ensures.leads 1),
+  Ended c.decide_on-next.new.answer,
+  rw (c.record_limits-limits.ensures, c.call_for.ensures.call c.args.loaded.now, c.in-Done.is) at
+      (c.decide_on-next.ensures.leads 1),
   c.ended.ensures.next,
 )

@@ -1,62 +1,119 @@
-use Rattle.std.proofs.Common.{◌≡◌, ◌<◌, ◌++◌, ◌∙◌, length, true, map, sym, ap, arith}
-use Rattle.std.specs.Prelude.{is_some, Vec, vec_len, vec_capacity, slice_get}
-use Rattle.std.specs.declared.alloc.Global.{Global}
+use Rattle.std.proofs.Common.{◌≡◌, ◌∙◌, Some, length, sym, refl, ap, arith}
+use Rattle.std.specs.Prelude.{slice_index_or, slice_set}
 use Rattle.std.proofs.lemmas.Grind.{common_steps}
-use Rattle.std.proofs.lemmas.List.{length-map}
-use Rattle.stamp_core.specs.declared.entry.Entry.{Entry}
-use Rattle.stamp_machines.specs.World.{current, stamps_of}
-use Rattle.stamp_machines.specs.StateFields.{world_at, begun_in, HasRoom}
-use Rattle.stamp_machines.proofs.StateSteps.{taken, taken-safe}
+use Rattle.std.proofs.lemmas.List.{with_items_is, set-get_or}
+use Rattle.stamp_machines.specs.declared.machine.Turn.TheVariants.{Going, Done}
+use Rattle.stamp_machines.specs.declared.state.State.{State}
+use Rattle.stamp_machines.specs.declared.state.Worker.{Worker}
+use Rattle.stamp_machines.specs.Script.{Scripted}
+use Rattle.stamp_machines.proofs.StateSteps.{HasBegun, has-begun, worker-safe, step-made, idle-made}
 use Rattle.stamp_machines.proofs.state.State.step.Goals as goal
 
-pub land-requires : goal.land-requires
-land-requires g c =
-    let some : is_some
-    (current c.args.script.now (world_at g.gone c.args.self.now c.args.position) c.args.thread)
-    ≡ true = sym c.begin.ensures.begun ∙ c.if-begin.true in
-    let there : c.args.thread < length (map begun_in c.args.self.now.workers.items) =
-    rw length-map (grind (arith, common_steps)) in
-    let room : HasRoom (slice_get c.begin.new.self.workers.items c.args.thread) =
-    c.begin.ensures.room c.requires.1.1.1.1.1.1.0 in
-    let entries : vec_len c.begin.new.self.entries < vec_capacity c.begin.new.self.entries =
-    rw c.begin.ensures.entries c.requires.1.1.1.1.1.1.1 in (
-      taken-safe c.args.script.now (world_at g.gone c.args.self.now c.args.position)
-          (world_at g.gone c.begin.new.self c.args.position) c.args.thread c.requires.1.0
-          c.requires.0 c.requires.1.1.0 some there c.begin.ensures.world,
-      (rw c.begin.ensures.workers c.requires.1.1.1.0, (room, entries)),
-    )
+pub returns-in-None-clause-step : goal.returns-in-None-clause-step
+returns-in-None-clause-step g c =
+    let script : Scripted = c.args.script.now in
+    let old : State = c.args.self.now in
+    let mid : State = c.begin.new.self in
+    let worker : Worker = c.index_mut-worker.result.now in
+    let value : worker ≡ slice_index_or mid.workers.items c.args.thread worker =
+    c.index_mut-worker.ensures.value in
+    let begun : HasBegun g.gone script old mid c.args.thread c.args.position =
+    has-begun g.gone script old mid c.args.thread c.args.position c.requires.1.1.1.0
+    c.begin.ensures.workers c.begin.ensures.entries c.requires.1.1.1.1.1.0 c.begin.ensures.stamps
+    c.begin.ensures.world in
+    idle-made g.gone script old mid _ c.args.thread c.args.position worker begun
+    (ap (λ (w : Worker). w.begun) (sym value) ∙ c.in-None.is) refl
+    (ap (λ (w : Worker). slice_set mid.workers.items c.args.thread w) value
+    ∙ set-get_or mid.workers.items c.args.thread worker) refl
 
-pub returns-then-begin-clause-world : goal.returns-then-begin-clause-world
-returns-then-begin-clause-world g c =
-    let some : is_some
-    (current c.args.script.now (world_at g.gone c.args.self.now c.args.position) c.args.thread)
-    ≡ true = sym c.begin.ensures.begun ∙ c.if-begin.true in
-    let there : c.args.thread < length (map begun_in c.args.self.now.workers.items) =
-    rw length-map (grind (arith, common_steps)) in
-    (taken g.gone c.args.script.now c.args.self.now c.begin.new.self c.land.new.self c.args.thread
-    c.args.position c.land.result some there c.begin.ensures.world
-    c.land.ensures.landed).world
+pub access-requires-clause-memory : goal.access-requires-clause-memory
+access-requires-clause-memory g c =
+    let script : Scripted = c.args.script.now in
+    let old : State = c.args.self.now in
+    let mid : State = c.begin.new.self in
+    let worker : Worker = c.index_mut-worker.result.now in
+    let value : worker ≡ slice_index_or mid.workers.items c.args.thread worker =
+    c.index_mut-worker.ensures.value in
+    let begun : HasBegun g.gone script old mid c.args.thread c.args.position =
+    has-begun g.gone script old mid c.args.thread c.args.position c.requires.1.1.1.0
+    c.begin.ensures.workers c.begin.ensures.entries c.requires.1.1.1.1.1.0 c.begin.ensures.stamps
+    c.begin.ensures.world in
+    let is : (slice_index_or mid.workers.items c.args.thread worker).begun ≡ Some c.in-Some.begun =
+    rw (← value) c.in-Some.is in
+    let words : c.deref_mut.result.now ≡ mid.words.items = grind (arith, common_steps) in
+    rw words (worker-safe g.gone script old mid c.args.thread c.args.position worker c.in-Some.begun
+    begun c.requires.1.0 c.requires.0 c.requires.1.1.0 is).0
 
-pub returns-then-begin-clause-stamps : goal.returns-then-begin-clause-stamps
-returns-then-begin-clause-stamps g c =
-    let some : is_some
-    (current c.args.script.now (world_at g.gone c.args.self.now c.args.position) c.args.thread)
-    ≡ true = sym c.begin.ensures.begun ∙ c.if-begin.true in
-    let there : c.args.thread < length (map begun_in c.args.self.now.workers.items) =
-    rw length-map (grind (arith, common_steps)) in
-    λ t. (taken g.gone c.args.script.now c.args.self.now c.begin.new.self c.land.new.self
-    c.args.thread c.args.position c.land.result some there c.begin.ensures.world
-    c.land.ensures.landed).stamps t
-    (c.begin.ensures.stamps t ∙ c.requires.1.1.1.1.1.0 t
-    ∙ ap (λ (v : Vec Entry Global). stamps_of t (g.gone ++ v.items)) (sym c.begin.ensures.entries))
+pub access-requires-clause-word : goal.access-requires-clause-word
+access-requires-clause-word g c =
+    let script : Scripted = c.args.script.now in
+    let old : State = c.args.self.now in
+    let mid : State = c.begin.new.self in
+    let worker : Worker = c.index_mut-worker.result.now in
+    let value : worker ≡ slice_index_or mid.workers.items c.args.thread worker =
+    c.index_mut-worker.ensures.value in
+    let begun : HasBegun g.gone script old mid c.args.thread c.args.position =
+    has-begun g.gone script old mid c.args.thread c.args.position c.requires.1.1.1.0
+    c.begin.ensures.workers c.begin.ensures.entries c.requires.1.1.1.1.1.0 c.begin.ensures.stamps
+    c.begin.ensures.world in
+    let is : (slice_index_or mid.workers.items c.args.thread worker).begun ≡ Some c.in-Some.begun =
+    rw (← value) c.in-Some.is in
+    let words : c.deref_mut.result.now ≡ mid.words.items = grind (arith, common_steps) in
+    rw words (worker-safe g.gone script old mid c.args.thread c.args.position worker c.in-Some.begun
+    begun c.requires.1.0 c.requires.0 c.requires.1.1.0 is).1
 
-pub returns-then-begin-clause-report : goal.returns-then-begin-clause-report
-returns-then-begin-clause-report g c =
-    let some : is_some
-    (current c.args.script.now (world_at g.gone c.args.self.now c.args.position) c.args.thread)
-    ≡ true = sym c.begin.ensures.begun ∙ c.if-begin.true in
-    let there : c.args.thread < length (map begun_in c.args.self.now.workers.items) =
-    rw length-map (grind (arith, common_steps)) in
-    (taken g.gone c.args.script.now c.args.self.now c.begin.new.self c.land.new.self c.args.thread
-    c.args.position c.land.result some there c.begin.ensures.world
-    c.land.ensures.landed).report
+pub returns-then-not-access-clause-step : goal.returns-then-not-access-clause-step
+returns-then-not-access-clause-step g c =
+    let script : Scripted = c.args.script.now in
+    let old : State = c.args.self.now in
+    let mid : State = c.begin.new.self in
+    let worker : Worker = c.index_mut-worker.result.now in
+    let value : worker ≡ slice_index_or mid.workers.items c.args.thread worker =
+    c.index_mut-worker.ensures.value in
+    let begun : HasBegun g.gone script old mid c.args.thread c.args.position =
+    has-begun g.gone script old mid c.args.thread c.args.position c.requires.1.1.1.0
+    c.begin.ensures.workers c.begin.ensures.entries c.requires.1.1.1.1.1.0 c.begin.ensures.stamps
+    c.begin.ensures.world in
+    let is : (slice_index_or mid.workers.items c.args.thread worker).begun ≡ Some c.in-Some.begun =
+    rw (← value) c.in-Some.is in
+    let words : c.deref_mut.result.now ≡ mid.words.items = grind (arith, common_steps) in
+    let many : length c.access.new.words ≡ mid.words.len = grind (arith, common_steps) in
+    step-made g.gone script old mid _ c.args.thread c.args.position worker _ c.in-Some.begun
+    (Going c.access.new.self) begun is record {
+      words =
+          with_items_is mid.words c.access.new.words many
+          ∙ rw words at c.if-not-access.ensures.words;
+      turn = rw words at (sym c.if-not-access.ensures.after);
+      workers = refl;
+      begun = refl;
+      stamps = ap (λ (w : Worker). w.stamps.items) value;
+      entries = refl;
+    }
+
+pub returns-else-not-access-clause-step : goal.returns-else-not-access-clause-step
+returns-else-not-access-clause-step g c =
+    let script : Scripted = c.args.script.now in
+    let old : State = c.args.self.now in
+    let mid : State = c.begin.new.self in
+    let worker : Worker = c.index_mut-worker.result.now in
+    let value : worker ≡ slice_index_or mid.workers.items c.args.thread worker =
+    c.index_mut-worker.ensures.value in
+    let begun : HasBegun g.gone script old mid c.args.thread c.args.position =
+    has-begun g.gone script old mid c.args.thread c.args.position c.requires.1.1.1.0
+    c.begin.ensures.workers c.begin.ensures.entries c.requires.1.1.1.1.1.0 c.begin.ensures.stamps
+    c.begin.ensures.world in
+    let is : (slice_index_or mid.workers.items c.args.thread worker).begun ≡ Some c.in-Some.begun =
+    rw (← value) c.in-Some.is in
+    let words : c.deref_mut.result.now ≡ mid.words.items = grind (arith, common_steps) in
+    let many : length c.access.new.words ≡ mid.words.len = grind (arith, common_steps) in
+    step-made g.gone script old mid _ c.args.thread c.args.position worker c.end.new.self
+    c.in-Some.begun (Done c.access.new.answer) begun is record {
+      words =
+          with_items_is mid.words c.access.new.words many
+          ∙ rw words at c.if-not-access.ensures.words;
+      turn = rw words at (sym c.if-not-access.ensures.after);
+      workers = refl;
+      begun = c.end.ensures.begun;
+      stamps = rw (← value, ← c.stamp_in.ensures) c.end.ensures.stamps;
+      entries = rw c.if-not-access.ensures.call at c.keep.ensures;
+    }

@@ -2,6 +2,3 @@ use Rattle.stamp_machines.proofs.state.State.step.Given as goal
 
 abbrev pub ghost-begin : goal.ghost-begin
 ghost-begin g a = g.gone
-
-abbrev pub ghost-land : goal.ghost-land
-ghost-land g a = g.gone

@@ -8,7 +8,7 @@ use Rattle.stamp_machines.specs.StateFields.{world_at, stamps_at}
 use Rattle.std.proofs.lemmas.Grind.{common_steps}
 use Rattle.std.proofs.lemmas.List.{length-append}
 use Rattle.stamp_machines.proofs.RunFacts.{run-kept, same-kept, world-more}
-use Rattle.stamp_machines.proofs.running.Run.moved.Goals as goal
+use Rattle.stamp_machines.proofs.running.Run.make_step.Goals as goal
 
 pub step-requires : goal.step-requires
 step-requires c =
@@ -41,9 +41,9 @@ invariant_of-self-2 c =
     record {
       world = world-more c.self.inside.script.now c.self.inside.state c.reserve-2.new.self
           c.step.new.self c.self.inside.steps.items c.push.new.self.items c.args.thread
-          c.self.invariant.world c.reserve-2.ensures.same (rw here at c.step.ensures.world) more;
+          c.self.invariant.world c.reserve-2.ensures.same (rw here at c.step.ensures.step.world) more;
       sound = c.self.invariant.sound;
       workers = grind (arith, common_steps);
-      stamps = c.step.ensures.stamps;
+      stamps = c.step.ensures.step.stamps;
       few = rw (more, length-append) (grind (arith, common_steps));
     }

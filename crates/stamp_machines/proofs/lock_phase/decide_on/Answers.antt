@@ -6,7 +6,7 @@ use Rattle.stamp_core.specs.declared.decision.Decision.TheVariants.{Change, Wait
 use Rattle.stamp_machines.specs.PhaseState.{PhaseState}
 use Rattle.stamp_machines.proofs.LockCallSteps.{won, lost, not_seen}
 use Rattle.stamp_machines.proofs.CommonWords.{won-word}
-use Rattle.stamp_machines.proofs.lock_phase.tried.Goals as goal
+use Rattle.stamp_machines.proofs.lock_phase.decide_on.Goals as goal
 
 pub returns-then-is_seen-clause-leads : goal.returns-then-is_seen-clause-leads
 returns-then-is_seen-clause-leads c = λ at.
