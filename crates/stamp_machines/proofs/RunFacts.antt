@@ -14,8 +14,9 @@ use Rattle.stamp_core.specs.Word.{Represents, IsAdmitted, word_at}
 use Rattle.stamp_core.specs.History.{events_of}
 use Rattle.stamp_core.specs.Linearized.{history_of}
 use Rattle.stamp_machines.specs.Invariant.{Invariant, events_in}
-use Rattle.stamp_machines.specs.RunFields.{IsAt}
-use Rattle.stamp_core.specs.Record.{IsRecorded}
+use Rattle.stamp_machines.specs.RunFields.{course_of, IsAt}
+use Rattle.stamp_machines.specs.RunRecord.{IsRecordOf}
+use Rattle.stamp_core.specs.Record.{Recorded, recorded, IsRecorded}
 use Rattle.stamp_machines.proofs.StepsKeep.{always-kept, execution_of-more}
 use Rattle.stamp_machines.proofs.EntryOrder.{InOrder, always-in-order}
 use Rattle.stamp_machines.proofs.EntryCount.{completed-recorded}
@@ -76,6 +77,20 @@ run-reported r h report each =
       entries = known.entries;
       report = inr (each ∙ ap length same);
       suit = known.suit;
+    }
+
+-- a record with its entries is that of the names so far
+pub record-of : (r : Inside) → IsAt r → (report : List (ℕ × ℕ)) → (made : Recorded) →
+    made ≡ recorded r.script.now.limits r.script.now.width r.state.entries.items report →
+    IsRecordOf (course_of r) report made
+record-of r h report made is =
+    let order = run-in-order r h in
+    record {
+      calls =
+          is ∙ ap (λ (w : World). recorded r.script.now.limits r.script.now.width w.entries report)
+          h.world;
+      linearized = rw is order.linearized;
+      points = rw is order.points;
     }
 
 -- the word as it stands represents what the names so far have finished

@@ -6,7 +6,7 @@ use Rattle.stamp_core.specs.declared.call.Call.{Call}
 use Rattle.stamp_core.specs.declared.reply.Reply.{Reply}
 use Rattle.stamp_core.specs.declared.reply.Reply.TheVariants.{No}
 use Rattle.stamp_machines.specs.LockNumber.{IsAdmittedAt}
-use Rattle.stamp_machines.specs.PhaseNext.{IsChanging}
+use Rattle.stamp_machines.specs.PhaseNext.{IsChanging, IsLockPhase}
 use Rattle.stamp_machines.specs.Job.{Job, Getting, job_in, is_get, new_words, stored_reply}
 use Rattle.stamp_machines.specs.Place as places
 use Rattle.stamp_machines.specs.Place.{call_for}
@@ -92,8 +92,7 @@ IsLockStep shape call loaded (ReleaseFirst stamp) = IsWriter shape call
 IsLockStep shape call loaded Claim = IsWriter shape call
 
 abbrev pub IsStage : Shape → Call → List ℕ → Stage → Type 0
-IsStage shape call loaded (Public seen) =
-    (is_lock_call call ≡ true) × IsChanging shape.limits call seen
+IsStage shape call loaded (Public seen) = IsLockPhase shape.limits call seen
 IsStage shape call loaded LoadingLock = IsRecordCall shape call
 IsStage shape call loaded (Copying first) =
     IsRecordCall shape call × IsAdmittedAt (record_limits shape) first

@@ -1,5 +1,6 @@
 -- What an access of a lock call leads to.
-use Rattle.std.specs.Prelude.{◌≡◌, ℕ, ◌<◌, ◌^◌, Option, Some, None}
+use Rattle.std.specs.Prelude.{◌≡◌, ℕ, ◌<◌, ◌^◌, Option, Some, None, true}
+use Rattle.stamp_core.specs.Call.{is_lock_call}
 use Rattle.stamp_core.specs.Limits.{Bounds}
 use Rattle.stamp_core.specs.Word.{LockWord, IsAdmitted, word_at}
 use Rattle.stamp_core.specs.CountedDecision.{decision}
@@ -29,6 +30,10 @@ pub record Changing (limits : Bounds) (call : Call) (old : ℕ) : Type 0 where
 abbrev pub IsChanging : Bounds → Call → Option ℕ → Type 0
 IsChanging limits call None = Unit {0}
 IsChanging limits call (Some old) = Changing limits call old
+
+-- a lock call on its way, which has seen such a word, or has seen none
+abbrev pub IsLockPhase : Bounds → Call → Option ℕ → Type 0
+IsLockPhase limits call seen = (is_lock_call call ≡ true) × IsChanging limits call seen
 
 -- it goes on with such a word, or the stamp that it ended with is below 2^63
 abbrev pub IsPhaseNext : Bounds → Call → PhaseNext → Reply → Type 0

@@ -1,7 +1,10 @@
 -- The record that a script is run to.
-use Rattle.std.specs.Prelude.{[], map}
+use Rattle.std.specs.Prelude.{◌≡◌, ℕ, List, [], map, All}
+use Rattle.stamp_core.specs.declared.entry.Entry.{Entry}
+use Rattle.stamp_core.specs.Linearized.{IsLinearized}
 use Rattle.stamp_core.specs.Record.{Recorded, recorded}
 use Rattle.stamp_machines.specs.Interference.{cost}
+use Rattle.stamp_machines.specs.RunView.{RunView}
 use Rattle.stamp_machines.specs.Script.{Scripted}
 use Rattle.stamp_machines.specs.World.{completed_calls}
 
@@ -14,3 +17,10 @@ abbrev pub reported_record : Scripted → Recorded
 reported_record script =
     let entries = completed_calls script script.steps in
     recorded script.limits script.width entries (map (cost script script.steps) entries)
+
+-- the finished calls of a run, with this report; each takes effect at its last step
+pub record IsRecordOf (run : RunView) (report : List (ℕ × ℕ)) (r : Recorded) : Type 0 where
+  pub calls : r
+      ≡ recorded run.script.limits run.script.width (completed_calls run.script run.names) report
+  pub linearized : IsLinearized r
+  pub points : All (λ (e : Entry). e.point ≡ e.last) r.entries

@@ -1,12 +1,11 @@
 //! A lock call on its way: a load, and exchanges until one wins or the word found decides the call.
 //! It has seen the word that it is to change, or has seen none, and then has to load it.
 ghost use Rattle.std.specs.Prelude.{◌≡◌, ◌↔◌, ℕ, Some, IsTrue};
-ghost use Rattle.stamp_core.specs.Call.{is_lock_call};
 ghost use Rattle.stamp_core.specs.Word.{IsAdmitted, word_at};
 ghost use Rattle.stamp_machines.specs.LocalAccess.{with_lock, lock_after};
 ghost use Rattle.stamp_machines.specs.LockPhase.{phase_next, phase_after};
 ghost use Rattle.stamp_machines.specs.LockCallSteps.{Plans};
-ghost use Rattle.stamp_machines.specs.PhaseNext.{phase_turn, IsChanging, IsPhaseNext, LeadsOn};
+ghost use Rattle.stamp_machines.specs.PhaseNext.{phase_turn, IsLockPhase, IsPhaseNext, LeadsOn};
 
 use crate::access::Access;
 use stamp_core::{Call, Limits, LockDecision, Reply, decide_lock};
@@ -24,8 +23,7 @@ pub enum PhaseNext {
 /// call changes it to, and a load where none was seen.
 #[inline(always)]
 pub(crate) fn lock_access(at: usize, limits: Limits, call: &Call, seen: Option<u64>) -> Access
-    requires lock_call { IsTrue (is_lock_call call.now) }
-    requires seen { IsChanging limits call.now seen }
+    requires { IsLockPhase limits call.now seen }
     ensures next { result ≡ with_lock at (phase_next limits call.now seen) }
     ensures plans { Plans (record { at = at; limits = limits; call = call.now; seen = seen })
         result }
@@ -50,8 +48,7 @@ pub(crate) fn decide_on(
     found: u64,
     answer: &mut Reply,
 ) -> (u64, PhaseNext)
-    requires lock_call { IsTrue (is_lock_call call.now) }
-    requires seen { IsChanging limits call.now seen }
+    requires phase { IsLockPhase limits call.now seen }
     requires word { IsAdmitted limits (word_at limits found) }
     ensures word { result.0 ≡ lock_after (phase_next limits call.now seen) found }
     ensures turn { phase_turn result.1 answer.new ≡ phase_after limits call.now seen found }

@@ -12,7 +12,6 @@ ghost use Rattle.stamp_machines.specs.Access.{place_of, words_after, seen_by};
 ghost use Rattle.stamp_machines.specs.MachineTurn.{turn_of};
 ghost use Rattle.stamp_machines.specs.MachineFields.{phase_at, turn_in, lock_step_in, IsStage};
 ghost use Rattle.stamp_machines.specs.MachineFields.{IsLockStep, IsStageNext};
-ghost use Rattle.stamp_machines.specs.PhaseNext.{IsChanging};
 ghost use Rattle.stamp_machines.specs.Place.{call_for};
 
 use crate::access::{Access, make};

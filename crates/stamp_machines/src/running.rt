@@ -199,19 +199,12 @@ impl<'a> Run<'a> {
 }
 
 impl<'a> Run<'a> {
-    ghost use Rattle.stamp_core.specs.Linearized.{IsLinearized};
+    ghost use Rattle.stamp_machines.specs.RunRecord.{IsRecordOf};
     ghost use Rattle.stamp_machines.specs.World.{completed_calls};
 
     /// The finished calls as a record, with no report.
     pub(crate) fn into_record(self) -> Record
-        ensures record { result ≡ record {
-          limits = self.entry.script.limits;
-          width = self.entry.script.width;
-          entries = completed_calls self.entry.script self.entry.names;
-          report = [];
-        } }
-        ensures linearized { IsLinearized result }
-        ensures points { All (λ e. e.point ≡ e.last) result.entries }
+        ensures { IsRecordOf self.entry [] result }
     {
         Record::of(
             self.script.limits(),
@@ -220,23 +213,11 @@ impl<'a> Run<'a> {
         )
         .unwrap()
     }
-}
-
-impl<'a> Run<'a> {
-    ghost use Rattle.stamp_core.specs.Linearized.{IsLinearized};
-    ghost use Rattle.stamp_machines.specs.World.{completed_calls};
 
     /// The finished calls as a record, with a report that has a pair for each.
     pub(crate) fn into_reported(self, report: Vec<(u64, u64)>) -> Record
         requires { length report.items ≡ length (completed_calls self.script self.names) }
-        ensures record { result ≡ record {
-          limits = self.entry.script.limits;
-          width = self.entry.script.width;
-          entries = completed_calls self.entry.script self.entry.names;
-          report = report.items;
-        } }
-        ensures linearized { IsLinearized result }
-        ensures points { All (λ e. e.point ≡ e.last) result.entries }
+        ensures { IsRecordOf self.entry report.items result }
     {
         Record::of_reported(
             self.script.limits(),

@@ -127,29 +127,6 @@ fn set_begun(workers: &mut [Worker], thread: usize, begun: Begun)
     workers[thread].begun = Some(begun);
 }
 
-impl Begun {
-    /// The entry of a call that ends at this position.
-    fn ended(&self, thread: usize, reply: &Reply, position: u64) -> Entry
-        ensures { result ≡ record {
-          thread = thread;
-          call = self.now.machine.call;
-          reply = reply.now;
-          first = self.now.first;
-          point = position;
-          last = position;
-        } }
-    {
-        Entry {
-            thread: thread as u64,
-            call: self.machine.call(),
-            reply: *reply,
-            first: self.first,
-            point: position,
-            last: position,
-        }
-    }
-}
-
 impl Worker {
     /// The thread is in no call any more. There is room for the stamp that it answered.
     #[inline(never)]
@@ -177,9 +154,15 @@ fn keep(entries: &mut Vec<Entry>, begun: &Begun, thread: usize, answer: &Reply, 
           last = position;
         } ∷ [] }
 {
-    let entry = &begun.ended(thread, answer, position);
-    let (_call, _reply): (Call, Reply) = (entry.call, entry.reply);
-    let _ = entries.push(*entry);
+    let entry = Entry {
+        thread: thread as u64,
+        call: begun.machine.call(),
+        reply: *answer,
+        first: begun.first,
+        point: position,
+        last: position,
+    };
+    let _ = entries.push(entry);
 }
 
 fn opening_words(alloc: Global, shape: &Shape) -> Result<Vec<u64>, AllocError>

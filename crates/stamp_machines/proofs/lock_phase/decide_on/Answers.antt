@@ -29,7 +29,7 @@ returns-else-is_seen-clause-leads c = λ at.
     let other : c.args.seen ≢ Some c.args.found = λ e. let yes = c.is_seen.ensures.1 e in let no =
     c.if-is_seen.false in cc in
     lost p c.args.found (Change c.in-Change.new (reply_as c.in-Change.reply)) c.layout.ensures.in_range
-    c.requires.lock_call c.requires.word other says
+    c.requires.phase.0 c.requires.word other says
 
 pub returns-in-Wait-clause-leads : goal.returns-in-Wait-clause-leads
 returns-in-Wait-clause-leads c = λ at.
@@ -37,8 +37,8 @@ returns-in-Wait-clause-leads c = λ at.
     record { at = at; limits = c.args.limits; call = c.args.call.now; seen = c.args.seen } in
     let says : Decides p.limits (word_at p.limits c.args.found) p.call Wait =
     rw c.word.ensures at c.in-Wait.ensures.decides in
-    lost p c.args.found Wait c.layout.ensures.in_range c.requires.lock_call c.requires.word
-    (not_seen p.limits p.call c.args.seen c.args.found c.requires.seen
+    lost p c.args.found Wait c.layout.ensures.in_range c.requires.phase.0 c.requires.word
+    (not_seen p.limits p.call c.args.seen c.args.found c.requires.phase.1
     (rw c.word.ensures at c.in-Wait.ensures.number)) says
 
 pub returns-else-is_seen-clause-changing : goal.returns-else-is_seen-clause-changing

@@ -1,5 +1,5 @@
-use Rattle.std.proofs.Common.{◌≡◌, []}
-use Rattle.stamp_machines.proofs.RunFacts.{run-recorded, run-in-order}
+use Rattle.std.proofs.Common.{[]}
+use Rattle.stamp_machines.proofs.RunFacts.{run-recorded, record-of}
 use Rattle.stamp_machines.proofs.running.Run.into_record.Goals as goal
 
 pub unwrap-requires : goal.unwrap-requires
@@ -7,25 +7,8 @@ unwrap-requires c =
     c.of.ensures.some.1
     (rw (c.limits.ensures.limits, c.width.ensures.width) (run-recorded c.self.inside c.self.invariant))
 
-pub returns-clause-linearized : goal.returns-clause-linearized
-returns-clause-linearized c =
-    let made : c.unwrap.result ≡ record {
-      limits = c.limits.result;
-      width = c.width.result;
-      entries = c.self.inside.state.entries.items;
-      report = [];
-    } =
-    rw c.unwrap.ensures at c.of.ensures.same in
-    rw (made, c.limits.ensures.limits, c.width.ensures.width)
-    (run-in-order c.self.inside c.self.invariant).linearized
-
-pub returns-clause-points : goal.returns-clause-points
-returns-clause-points c =
-    let made : c.unwrap.result ≡ record {
-      limits = c.limits.result;
-      width = c.width.result;
-      entries = c.self.inside.state.entries.items;
-      report = [];
-    } =
-    rw c.unwrap.ensures at c.of.ensures.same in
-    rw made (run-in-order c.self.inside c.self.invariant).points
+pub returns : goal.returns
+returns c =
+    rw (← c.self.view_is)
+    (record-of c.self.inside c.self.invariant [] c.unwrap.result
+    (rw (c.unwrap.ensures, c.limits.ensures.limits, c.width.ensures.width) at c.of.ensures.same))
