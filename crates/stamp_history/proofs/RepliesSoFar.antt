@@ -15,11 +15,11 @@ use Rattle.stamp_core.specs.declared.call.Call.{Call}
 use Rattle.stamp_core.specs.declared.reply.Reply.{Reply}
 use Rattle.stamp_core.proofs.Replaying.{Replaying, none, more, waits, all}
 use Rattle.stamp_history.specs.ReplayText.{reply_data, replies_data}
-use Rattle.stamp_history.specs.StoredCall.{call_of}
-use Rattle.stamp_history.specs.declared.stored_call.StoredCall.{StoredCall}
+use Rattle.stamp_history.specs.SmallCall.{call_of}
+use Rattle.stamp_history.specs.declared.small_call.SmallCall.{SmallCall}
 use Rattle.stamp_history.proofs.Appending.{before}
 use Rattle.stamp_history.proofs.ItemsText.{next_written}
-use Rattle.stamp_history.proofs.StoredCalls.{CallAt}
+use Rattle.stamp_history.proofs.SmallCalls.{CallAt}
 
 -- how far the calls have come; the list of their replies was begun after an old text, and any later ones end it
 pub record RepliesSoFar (limits : Bounds) (calls : List Call) (i : ℕ) (word : LockWord) (old text : List ℕ) :
@@ -37,13 +37,13 @@ begins limits calls word old text represented opened = record {
   begun = λ later. before old (codes "[") (items_text (nat_lt 0 0) (items_of (map reply_data later))) opened;
 }
 
-pub waits_at : (limits : Bounds) (xs : List StoredCall) (i : ℕ) (call : Call) (word : LockWord)
+pub waits_at : (limits : Bounds) (xs : List SmallCall) (i : ℕ) (call : Call) (word : LockWord)
     (old text : List ℕ) → CallAt xs i call → RepliesSoFar limits (map call_of xs) i word old text →
     Steps limits word call None → WaitsAt limits (map call_of xs) i
 waits_at limits xs i call word old text there so_far steps =
     waits limits (map call_of xs) i word so_far.replies call so_far.replaying there.within there.at steps
 
-pub goes_on : (limits : Bounds) (xs : List StoredCall) (i : ℕ) (call : Call) (word next : LockWord) (reply : Reply)
+pub goes_on : (limits : Bounds) (xs : List SmallCall) (i : ℕ) (call : Call) (word next : LockWord) (reply : Reply)
     (old text mid grown : List ℕ) → CallAt xs i call → IsTrue (is_lock_call call) →
     mid ≡ text ++ comma_if (nat_lt 0 i) → grown ≡ mid ++ compact_text (reply_data reply) →
     RepliesSoFar limits (map call_of xs) i word old text → Steps limits word call (Some (next, reply)) →
@@ -57,7 +57,7 @@ goes_on limits xs i call word next reply old text mid grown there lock comma pie
       (sym (append_assoc so_far.replies (reply ∷ []) later));
 }
 
-pub ends : (limits : Bounds) (xs : List StoredCall) (i : ℕ) (word : LockWord) (old text new : List ℕ) →
+pub ends : (limits : Bounds) (xs : List SmallCall) (i : ℕ) (word : LockWord) (old text new : List ℕ) →
     i ≡ length xs → new ≡ text ++ codes "]" → RepliesSoFar limits (map call_of xs) i word old text →
     (replies : List Reply) × (new ≡ old ++ compact_text (replies_data replies)) ×
     IsReplayed limits (map call_of xs) replies word

@@ -2,7 +2,7 @@ pub mod Field
 pub mod Gives
 pub mod JsonValue
 pub mod LockCall
-pub mod StoredCall
+pub mod SmallCall
 pub mod Reading
 pub mod LimitFields
 pub mod ReplayFields

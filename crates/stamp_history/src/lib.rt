@@ -23,7 +23,7 @@ mod run_writing;
 mod script_calls;
 mod script_fields;
 mod script_reading;
-mod stored_call;
+mod small_call;
 mod text_kind;
 mod words_value;
 

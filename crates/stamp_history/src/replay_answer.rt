@@ -2,14 +2,14 @@
 
 ghost use Rattle.std.specs.Prelude.{◌≡◌, ◌<◌, length, map, IfErr};
 ghost use Rattle.stamp_history.specs.ReplayAnswer.{Answers, RepliesTo};
-ghost use Rattle.stamp_history.specs.StoredCall.{call_of};
+ghost use Rattle.stamp_history.specs.SmallCall.{call_of};
 
 use crate::answer_error::AnswerError;
 use crate::json_text::{push_comma, push_reply, push_text};
 use crate::read_error::ReadError;
-use crate::replay_reading::read_stored;
+use crate::replay_reading::read_small_calls;
 use crate::replay_writing::push_word;
-use crate::stored_call::StoredCall;
+use crate::small_call::SmallCall;
 use stamp_core::{Limits, Word, step};
 use std::alloc::Global;
 
@@ -17,14 +17,14 @@ use std::alloc::Global;
 fn push_replies_to(
     text: &mut Vec<u8>,
     limits: Limits,
-    calls: &[StoredCall],
+    calls: &[SmallCall],
 ) -> Result<Word, AnswerError>
     ensures { RepliesTo limits (map call_of calls.now) text.old.items text.new.items result }
 {
     push_text(text, "[")?;
     let mut word = Word::opening_in(limits.layout());
-    for (index, stored) in calls.iter().enumerate() {
-        let Some((next, reply)) = step(limits, word, stored.call()) else {
+    for (index, small) in calls.iter().enumerate() {
+        let Some((next, reply)) = step(limits, word, small.call()) else {
             return Err(AnswerError::Waits(index as u64));
         };
         push_comma(text, index)?;
@@ -43,7 +43,7 @@ pub fn replay_text(alloc: Global, bytes: &[u8]) -> Result<Vec<u8>, AnswerError>
     ensures memory { IfErr result (λ e. e ≡ AnswerError.Refused ReadError.Memory
         → 0 < length bytes.now) }
 {
-    let (limits, calls) = read_stored(alloc, bytes)?;
+    let (limits, calls) = read_small_calls(alloc, bytes)?;
     let mut text = Vec::new(alloc);
     push_text(&mut text, "{\"replies\":")?;
     let word = push_replies_to(&mut text, limits, &calls)?;

@@ -2,7 +2,7 @@
 
 ghost use Rattle.std.specs.Prelude.{◌≡◌};
 ghost use Rattle.serde_json.specs.View.{view, items_view};
-ghost use Rattle.stamp_history.specs.StoredCall.{call_of, stored_calls};
+ghost use Rattle.stamp_history.specs.SmallCall.{call_of, small_calls};
 ghost use Rattle.stamp_history.specs.Gives.{Gives};
 ghost use Rattle.stamp_history.specs.Reading.{each};
 ghost use Rattle.stamp_history.specs.ReplayFields as field;
@@ -11,7 +11,7 @@ use crate::field::Field;
 use crate::json_values::{has_keys, list_under};
 use crate::lock_calls::lock_call_of;
 use crate::read_error::ReadError;
-use crate::stored_call::StoredCall;
+use crate::small_call::SmallCall;
 use crate::text_kind::TextKind;
 use serde_json::Value;
 use std::alloc::Global;
@@ -44,14 +44,14 @@ fn listed_calls(value: &Value) -> Result<&[Value], ReadError>
     }
 }
 
-fn call_at(index: u64, value: &Value) -> Result<StoredCall, ReadError>
+fn call_at(index: u64, value: &Value) -> Result<SmallCall, ReadError>
     ensures { Gives ReadError.Memory call_of result (field.call_at index (view value.now)) }
 {
     lock_call_of(value).ok_or(TextKind::Replay.mistake(Field::Call(index)))
 }
 
-fn calls_in(alloc: Global, list: &[Value]) -> Result<Vec<StoredCall>, ReadError>
-    ensures { Gives ReadError.Memory stored_calls result
+fn calls_in(alloc: Global, list: &[Value]) -> Result<Vec<SmallCall>, ReadError>
+    ensures { Gives ReadError.Memory small_calls result
         (each field.call_at 0 (items_view list.now)) }
 {
     let mut calls = Vec::with_capacity(alloc, list.len())?;
@@ -61,10 +61,10 @@ fn calls_in(alloc: Global, list: &[Value]) -> Result<Vec<StoredCall>, ReadError>
     Ok(calls)
 }
 
-/// The calls under the key `calls`, stored small.
+/// The calls under the key `calls`, in little room.
 #[tactic(auto, unfolding(crate::specs::ReplayFields::calls))]
-pub(crate) fn read_calls(alloc: Global, value: &Value) -> Result<Vec<StoredCall>, ReadError>
-    ensures { Gives ReadError.Memory stored_calls result (field.calls (view value.now)) }
+pub(crate) fn read_calls(alloc: Global, value: &Value) -> Result<Vec<SmallCall>, ReadError>
+    ensures { Gives ReadError.Memory small_calls result (field.calls (view value.now)) }
 {
     calls_in(alloc, listed_calls(value)?)
 }

@@ -4,25 +4,25 @@ ghost use Rattle.std.specs.Prelude.{◌≡◌, ◌<◌, IsTrue, IfOk, IfErr, len
 ghost use Rattle.std.specs.List.{All};
 ghost use Rattle.stamp_core.specs.Call.{is_lock_call};
 ghost use Rattle.stamp_history.specs.Gives.{Gives};
-ghost use Rattle.stamp_history.specs.Replay.{replay_of, replay_view, stored_view};
-ghost use Rattle.stamp_history.specs.StoredCall.{call_of};
+ghost use Rattle.stamp_history.specs.Replay.{replay_of, replay_view, small_view};
+ghost use Rattle.stamp_history.specs.SmallCall.{call_of};
 
 use crate::json_values::json;
 use crate::limit_fields::read_limits;
 use crate::read_error::ReadError;
 use crate::replay_fields::{check_top, read_calls};
-use crate::stored_call::StoredCall;
+use crate::small_call::SmallCall;
 use crate::text_kind::TextKind;
 use stamp_core::{Call, Limits};
 use std::alloc::{AllocError, Global};
 
-/// The limits and the stored calls of a replay.
+/// The limits and the small calls of a replay.
 #[tactic(auto, unfolding(crate::specs::Replay::replay_of, crate::specs::Replay::replay_in))]
-pub(crate) fn read_stored(
+pub(crate) fn read_small_calls(
     alloc: Global,
     bytes: &[u8],
-) -> Result<(Limits, Vec<StoredCall>), ReadError>
-    ensures replay { Gives ReadError.Memory stored_view result (replay_of bytes.now) }
+) -> Result<(Limits, Vec<SmallCall>), ReadError>
+    ensures replay { Gives ReadError.Memory small_view result (replay_of bytes.now) }
     ensures some { IfOk result (λ _. 0 < length bytes.now) }
     ensures memory { IfErr result (λ e. e ≡ ReadError.Memory → 0 < length bytes.now) }
 {
@@ -33,12 +33,12 @@ pub(crate) fn read_stored(
     Ok((limits, calls))
 }
 
-fn calls_of(alloc: Global, stored: &[StoredCall]) -> Result<Vec<Call>, AllocError>
-    ensures calls { IfOk result (λ calls. calls.items ≡ map call_of stored.now) }
+fn calls_of(alloc: Global, small: &[SmallCall]) -> Result<Vec<Call>, AllocError>
+    ensures calls { IfOk result (λ calls. calls.items ≡ map call_of small.now) }
     ensures lock_call { IfOk result (λ calls. All (λ call. IsTrue (is_lock_call call)) calls.items) }
 {
-    let mut calls = Vec::with_capacity(alloc, stored.len())?;
-    for call in stored {
+    let mut calls = Vec::with_capacity(alloc, small.len())?;
+    for call in small {
         calls.push(call.call())?;
     }
     Ok(calls)
@@ -53,6 +53,6 @@ pub fn read_replay(alloc: Global, bytes: &[u8]) -> Result<(Limits, Vec<Call>), R
     ensures lock_call { IfOk result (λ read. All (λ call. IsTrue (is_lock_call call)) read.1.items) }
     ensures memory { IfErr result (λ e. e ≡ ReadError.Memory → 0 < length bytes.now) }
 {
-    let (limits, stored) = read_stored(alloc, bytes)?;
-    Ok((limits, calls_of(alloc, &stored)?))
+    let (limits, small) = read_small_calls(alloc, bytes)?;
+    Ok((limits, calls_of(alloc, &small)?))
 }

@@ -1,6 +1,6 @@
 use Rattle.std.proofs.Common.{◌≡◌, length, arith}
 use Rattle.std.proofs.lemmas.Grind.{common_steps}
-use Rattle.stamp_history.proofs.StoredCalls.{call_at_index}
+use Rattle.stamp_history.proofs.SmallCalls.{call_at_index}
 use Rattle.stamp_history.proofs.RepliesSoFar.{goes_on, ends}
 use Rattle.stamp_history.proofs.replay_answer.push_replies_to.Goals as goal
 

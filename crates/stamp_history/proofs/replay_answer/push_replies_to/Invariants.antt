@@ -1,5 +1,5 @@
 use Rattle.std.proofs.Common.{map}
-use Rattle.stamp_history.specs.StoredCall.{call_of}
+use Rattle.stamp_history.specs.SmallCall.{call_of}
 use Rattle.stamp_history.proofs.RepliesSoFar.{RepliesSoFar}
 use Rattle.stamp_history.proofs.replay_answer.push_replies_to.Given as goal
 

@@ -1,15 +1,15 @@
-//! Calls of the lock, stored small.
+//! Calls of the lock, in little room.
 
 ghost use Rattle.std.specs.Prelude.{◌≡◌, IsTrue};
 ghost use Rattle.stamp_core.specs.Call.{is_lock_call};
-ghost use Rattle.stamp_history.specs.StoredCall.{call_of};
+ghost use Rattle.stamp_history.specs.SmallCall.{call_of};
 
 use stamp_core::Call;
 
 /// A call of the lock in 16 bytes. A `Call` has room for the words of a record, and takes 280. Each
 /// variant is the one of its name there; beside it stands the method of Java's `StampedLock`.
 #[derive(Clone, Copy)]
-pub(crate) enum StoredCall {
+pub(crate) enum SmallCall {
     /// `tryWriteLock`.
     TryWrite,
     /// `tryReadLock`.
@@ -46,30 +46,30 @@ pub(crate) enum StoredCall {
     ReadCount,
 }
 
-impl StoredCall {
-    /// The call that is stored.
+impl SmallCall {
+    /// The call that it is.
     pub(crate) fn call(self) -> Call
         ensures call { result ≡ call_of self }
         ensures lock_call { IsTrue (is_lock_call result) }
     {
         match self {
-            StoredCall::TryWrite => Call::TryWrite,
-            StoredCall::TryRead => Call::TryRead,
-            StoredCall::WriteLock => Call::WriteLock,
-            StoredCall::ReadLock => Call::ReadLock,
-            StoredCall::Optimistic => Call::Optimistic,
-            StoredCall::Validate(stamp) => Call::Validate(stamp),
-            StoredCall::UnlockWrite(stamp) => Call::UnlockWrite(stamp),
-            StoredCall::UnlockRead(stamp) => Call::UnlockRead(stamp),
-            StoredCall::Unlock(stamp) => Call::Unlock(stamp),
-            StoredCall::ToWrite(stamp) => Call::ToWrite(stamp),
-            StoredCall::ToRead(stamp) => Call::ToRead(stamp),
-            StoredCall::ToOptimistic(stamp) => Call::ToOptimistic(stamp),
-            StoredCall::TryUnlockWrite => Call::TryUnlockWrite,
-            StoredCall::TryUnlockRead => Call::TryUnlockRead,
-            StoredCall::IsWriteLocked => Call::IsWriteLocked,
-            StoredCall::IsReadLocked => Call::IsReadLocked,
-            StoredCall::ReadCount => Call::ReadCount,
+            SmallCall::TryWrite => Call::TryWrite,
+            SmallCall::TryRead => Call::TryRead,
+            SmallCall::WriteLock => Call::WriteLock,
+            SmallCall::ReadLock => Call::ReadLock,
+            SmallCall::Optimistic => Call::Optimistic,
+            SmallCall::Validate(stamp) => Call::Validate(stamp),
+            SmallCall::UnlockWrite(stamp) => Call::UnlockWrite(stamp),
+            SmallCall::UnlockRead(stamp) => Call::UnlockRead(stamp),
+            SmallCall::Unlock(stamp) => Call::Unlock(stamp),
+            SmallCall::ToWrite(stamp) => Call::ToWrite(stamp),
+            SmallCall::ToRead(stamp) => Call::ToRead(stamp),
+            SmallCall::ToOptimistic(stamp) => Call::ToOptimistic(stamp),
+            SmallCall::TryUnlockWrite => Call::TryUnlockWrite,
+            SmallCall::TryUnlockRead => Call::TryUnlockRead,
+            SmallCall::IsWriteLocked => Call::IsWriteLocked,
+            SmallCall::IsReadLocked => Call::IsReadLocked,
+            SmallCall::ReadCount => Call::ReadCount,
         }
     }
 }
