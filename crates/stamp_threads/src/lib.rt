@@ -14,7 +14,6 @@ mod pass_view;
 mod patience;
 mod record_get;
 mod record_pass;
-mod record_put;
 mod record_rule;
 mod record_steps;
 mod record_view;

@@ -1,33 +1,14 @@
 //! A get, step by step.
-ghost use Rattle.std.specs.Prelude.{◌≡◌, ◌≤◌, IfOk, IfErr, length, ℕ, []};
-ghost use Rattle.stamp_threads.specs.declared.record_view.RecordPhase.TheVariants.{Idle, Reading};
-ghost use Rattle.stamp_threads.specs.Seats.{alone};
+ghost use Rattle.std.specs.Prelude.{◌≡◌, ◌≤◌, IfOk, IfErr, length};
+ghost use Rattle.stamp_threads.specs.declared.record_view.RecordPhase.TheVariants.{Idle};
 ghost use Rattle.stamp_threads.specs.RecordPass.{first_of, IsAtSeat};
-ghost use Rattle.stamp_threads.specs.RecordRule.{with_phase};
 ghost use Rattle.stamp_threads.specs.RecordCall.{WasGot, GetRefused};
 
 use crate::faults::GetFault;
 use crate::record_rule::ContentRule;
-use crate::record_steps::{RecordSeat, RecordTable, confirm, load_word, open};
+use crate::record_steps::{RecordSeat, RecordTable, confirm, load_all, open};
 use crate::record_view::RecordShape;
 use std::marker::Brand;
-
-/// Loads each of the words.
-#[inline(always)]
-fn load_all<P: ContentRule>(table: &RecordTable<P>, seat: &mut RecordSeat, into: &mut [u64])
-    requires seat { IsAtSeat table.now.table_id table.now.key.shape seat.old.table_id seat.old.me }
-    requires long { (length into.old ≡ table.now.key.shape.width) × (table.now.key.shape.width ≤ 16) }
-    requires reading { (version : ℕ) × ((first_of seat.old.me.0).phase ≡ Reading version []) }
-    ensures table { seat.new.table_id ≡ seat.old.table_id }
-    ensures long { length into.new ≡ length into.old }
-    ensures told { let v = first_of seat.old.me.0 in
-        (version : ℕ) → v.phase ≡ Reading version []
-        → seat.new.me ≡ alone (with_phase v (Reading version into.new)) }
-{
-    for i in 0..into.len() {
-        into[i] = load_word(table, seat, i);
-    }
-}
 
 /// Gets the words: one load, a load a word, and one load.
 #[inline(always)]

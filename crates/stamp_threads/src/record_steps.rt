@@ -1,6 +1,6 @@
 //! The steps on a record's words, by the seats of their table.
 ghost use Rattle.std.specs.Prelude.{◌≡◌, ◌+◌, ◌<◌, ◌≤◌, ◌==◌, MatchBool, true, false, length};
-ghost use Rattle.std.specs.Prelude.{slice_index, ℕ, List};
+ghost use Rattle.std.specs.Prelude.{slice_index, ℕ, List, []};
 ghost use Rattle.stamp_threads.specs.declared.record_view.RecordPhase.TheVariants.{Idle, Writing};
 ghost use Rattle.stamp_threads.specs.declared.record_view.RecordPhase.TheVariants.{Reading};
 ghost use Rattle.stamp_threads.specs.PassView.{after_split, split_off};
@@ -10,7 +10,7 @@ ghost use Rattle.stamp_threads.specs.RecordPass.{first_of, second_of, HasEntered
 ghost use Rattle.stamp_threads.specs.RecordPass.{IsAtSeat, AreAtSeat};
 ghost use Rattle.stamp_threads.specs.RecordRule.{Looked, Acquired, Released, stored_one, Opened};
 ghost use Rattle.stamp_threads.specs.RecordRule.{loaded_one, Confirmed, Overtaken, word_to_confirm};
-ghost use Rattle.stamp_threads.specs.RecordRule.{Met};
+ghost use Rattle.stamp_threads.specs.RecordRule.{Met, with_phase};
 
 use crate::lock_rule::{GivePass, PartSeats, ShareSeat};
 use crate::record_rule::{
@@ -78,6 +78,23 @@ pub fn store<P: ContentRule>(table: &RecordTable<P>, seat: &mut RecordSeat, plac
     table.store::<StoreStep>(seat, place + 1, word);
 }
 
+/// Stores each of the words.
+#[inline(always)]
+pub fn store_all<P: ContentRule>(table: &RecordTable<P>, seat: &mut RecordSeat, words: &[u64])
+    requires seat { IsAtSeat table.now.table_id table.now.key.shape seat.old.table_id seat.old.me }
+    requires long { (length words.now ≡ table.now.key.shape.width) × (table.now.key.shape.width ≤ 16) }
+    requires writing { (version : ℕ)
+        × ((first_of seat.old.me.0).phase ≡ Writing version words.now 0) }
+    ensures table { seat.new.table_id ≡ seat.old.table_id }
+    ensures told { let v = first_of seat.old.me.0 in
+        (version : ℕ) → v.phase ≡ Writing version words.now 0
+        → seat.new.me ≡ alone (with_phase v (Writing version words.now table.now.key.shape.width)) }
+{
+    for i in 0..words.len() {
+        store(table, seat, i, words[i]);
+    }
+}
+
 /// Releases write mode, by an exchange.
 #[inline(always)]
 pub fn release<C: WordsStep, P: ContentRule>(
@@ -124,6 +141,23 @@ pub fn load_word<P: ContentRule>(table: &RecordTable<P>, seat: &mut RecordSeat, 
     ensures told { seat.new.me ≡ alone (loaded_one (first_of seat.old.me.0) result) }
 {
     table.load::<LoadWordStep>(seat, place + 1)
+}
+
+/// Loads each of the words.
+#[inline(always)]
+pub fn load_all<P: ContentRule>(table: &RecordTable<P>, seat: &mut RecordSeat, into: &mut [u64])
+    requires seat { IsAtSeat table.now.table_id table.now.key.shape seat.old.table_id seat.old.me }
+    requires long { (length into.old ≡ table.now.key.shape.width) × (table.now.key.shape.width ≤ 16) }
+    requires reading { (version : ℕ) × ((first_of seat.old.me.0).phase ≡ Reading version []) }
+    ensures table { seat.new.table_id ≡ seat.old.table_id }
+    ensures long { length into.new ≡ length into.old }
+    ensures told { let v = first_of seat.old.me.0 in
+        (version : ℕ) → v.phase ≡ Reading version []
+        → seat.new.me ≡ alone (with_phase v (Reading version into.new)) }
+{
+    for i in 0..into.len() {
+        into[i] = load_word(table, seat, i);
+    }
 }
 
 /// Loads the lock word again. Where it is the word of the first load, these words stood together.

@@ -2,7 +2,7 @@
 ghost use Rattle.std.specs.Prelude.{◌≡◌, IfOk, IfErr, OnOk, IsTrue, true, false};
 ghost use Rattle.stamp_core.specs.Call.{is_lock_call};
 ghost use Rattle.stamp_core.specs.Word.{IsAdmitted, word_at};
-ghost use Rattle.stamp_core.specs.Decision.{Changes, Decides};
+ghost use Rattle.stamp_core.specs.Decision.{Decides};
 ghost use Rattle.stamp_core.specs.CountedDecision.{decision};
 ghost use Rattle.stamp_core.specs.LockDecision.{decision_as};
 ghost use Rattle.stamp_machines.specs.declared.machine.Turn.TheVariants as Turn;
@@ -10,13 +10,12 @@ ghost use Rattle.stamp_threads.specs.PassView.{after_split, split_off};
 ghost use Rattle.stamp_threads.specs.LockPass.{HasEntered, IsConsistentWith, IsNew};
 ghost use Rattle.stamp_threads.specs.Answered.{Answered, IsWaiting, LooksOnceOrTwice, try_form};
 ghost use Rattle.stamp_threads.specs.LostExchange.{LostExchange};
-ghost use Rattle.stamp_threads.specs.LockRule.{Loaded, Exchanged};
 ghost use Rattle.stamp_threads.specs.Underway.{GoesAsMachine, turn_once};
 ghost use Rattle.stamp_threads.specs.LockPassesMet.{LockPassesMet};
 ghost use Rattle.stamp_threads.specs.Closes.{Closes};
 
 use crate::lock_rule::{LockKey, LockPasses, LockRule};
-use crate::lock_steps;
+use crate::lock_steps::{self, exchange, load};
 use crate::lost::Lost;
 use crate::pass::Pass;
 use crate::patience::Patience;
@@ -121,30 +120,6 @@ impl RunningLock {
         }
     }
 
-    /// Loads the word. The call is made by it where it changes nothing.
-    #[inline(always)]
-    fn load(&self, pass: &mut Pass, call: &Call) -> u64
-        requires lock_call { IsTrue (is_lock_call call.now) }
-        requires table { pass.old.table ≡ self.now.table }
-        ensures table { pass.new.table ≡ self.now.table }
-        ensures told { Loaded self.now.limits call.now pass.old.view result pass.new.view }
-    {
-        lock_steps::load::<Brand>(&self.table.shared, &mut pass.seat, call)
-    }
-
-    /// Makes the call by an exchange. One that finds another word is as a load.
-    #[inline(always)]
-    fn exchange(&self, pass: &mut Pass, call: &Call, old: u64, new: Word) -> u64
-        requires lock_call { IsTrue (is_lock_call call.now) }
-        requires table { pass.old.table ≡ self.now.table }
-        requires changes { let limits = self.now.limits in
-            (reply : Reply) × Changes limits (word_at limits old) call.now new reply }
-        ensures table { pass.new.table ≡ self.now.table }
-        ensures told { Exchanged self.now.limits call.now old pass.old.view result pass.new.view }
-    {
-        lock_steps::exchange::<Brand>(&self.table.shared, &mut pass.seat, call, old, new.bits())
-    }
-
     /// Decides the call on this word. Each layout has its own code, where the masks are constants.
     #[inline(always)]
     fn decide(&self, call: &Call, word: u64) -> LockDecision
@@ -179,11 +154,12 @@ impl RunningLock {
             (turn_once self.now.limits (try_form call) result) }
     {
         let call = try_form(&call);
-        let loaded = self.load(pass, &call);
+        let table = &self.table.shared;
+        let loaded = load::<Brand>(table, &mut pass.seat, &call);
         match self.decide(&call, loaded) {
             LockDecision::Answer(reply) => Ok(reply.as_reply()),
             LockDecision::Change(new, reply) => {
-                let found = self.exchange(pass, &call, loaded, new);
+                let found = exchange::<Brand>(table, &mut pass.seat, &call, loaded, new.bits());
                 if found == loaded {
                     return Ok(reply.as_reply());
                 }
@@ -209,22 +185,23 @@ impl RunningLock {
         ensures machine { GoesAsMachine self.now.limits call pass.old.view pass.new.view
             (Turn.Done result) }
     {
+        let table = &self.table.shared;
         let mut patience = Patience::new();
-        let mut found = self.load(pass, &call);
+        let mut found = load::<Brand>(table, &mut pass.seat, &call);
         for _ in rt.forever() {
             match self.decide(&call, found) {
                 LockDecision::Answer(reply) => return reply.as_reply(),
                 LockDecision::Change(new, reply) => {
                     let old = found;
-                    found = self.exchange(pass, &call, old, new);
+                    found = exchange::<Brand>(table, &mut pass.seat, &call, old, new.bits());
                     if found == old {
                         return reply.as_reply();
                     }
                     patience.lose();
                 }
                 LockDecision::Wait => {
-                    patience.wait(rt, &self.table.shared, found);
-                    found = self.load(pass, &call);
+                    patience.wait(rt, table, found);
+                    found = load::<Brand>(table, &mut pass.seat, &call);
                 }
             }
         }

@@ -13,9 +13,8 @@ ghost use Rattle.atomic_table.specs.Table.{opening};
 use crate::faults::{GetFault, PutFault};
 use crate::record_get::get_words;
 use crate::record_pass::RecordPass;
-use crate::record_put::put_words;
 use crate::record_rule::{AnyContent, ContentRule, RecordRule};
-use crate::record_steps;
+use crate::record_steps::{self, acquire, look, release, store_all};
 use crate::record_view::{RecordKey, RecordPasses, RecordShape};
 use crate::record_word::{first_word, opening_word};
 use crate::running_lock::LockError;
@@ -192,12 +191,25 @@ impl<P: ContentRule> RuledRecord<P> {
         ensures err { let v = pass.old.view in let w = pass.new.view in
             IfErr result (λ fault. PutRefused self.now.shape v fault w) }
     {
-        put_words(
-            &self.table.shared,
-            self.shape,
-            &mut pass.seat,
-            words.as_slice(),
-        )
+        let table = &self.table.shared;
+        let layout = self.shape.limits.layout();
+        let words = words.as_slice();
+        let loaded = look::<Brand, P>(table, &mut pass.seat);
+        if layout.has_writer(loaded) {
+            return Err(PutFault::Busy(loaded));
+        }
+        if layout.writes_of(loaded) >= self.shape.limits.versions() {
+            return Err(PutFault::Spent(loaded));
+        }
+        let held = loaded + layout.writer_unit();
+        let found = acquire::<Brand, P>(table, &mut pass.seat, words, loaded, held);
+        if found != loaded {
+            return Err(PutFault::Lost { loaded, found });
+        }
+        store_all(table, &mut pass.seat, words);
+        let free = layout.released(held);
+        release::<Brand, P>(table, &mut pass.seat, words, held, free);
+        Ok(())
     }
 
     /// Gets the words, where nobody has write mode or comes in between: by one load, a load a word

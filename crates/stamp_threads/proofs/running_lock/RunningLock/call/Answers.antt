@@ -1,14 +1,26 @@
-use Rattle.std.proofs.Common.{◌∙◌, sym}
+use Rattle.std.proofs.Common.{◌∙◌, ap}
+use Rattle.stamp_core.specs.LockDecision.{reply_as}
+use Rattle.stamp_machines.proofs.LockCallSteps.{by_number}
+use Rattle.stamp_threads.specs.LockPass.{LockView, LockToken}
 use Rattle.stamp_threads.proofs.CallSteps.{exchange_won, exchange_lost}
 use Rattle.stamp_threads.proofs.Underway.{begins, is_answered, ends_by_answer, is_made}
 use Rattle.stamp_threads.proofs.Underway.{ends_by_change, loses_exchange, loads_again}
 use Rattle.stamp_threads.proofs.running_lock.RunningLock.call.Goals as goal
 
 pub loop-init : goal.loop-init
-loop-init g c = record {
-  table = c.load-found.ensures.table ∙ sym c.requires.table;
-  underway = begins _ _ _ _ _ c.requires.lock_call c.load-found.ensures.told;
-}
+loop-init g c =
+    let limits = c.self.invariant.0 ∙ ap (λ (l : LockView). l.limits) c.self.view_is in
+    let view = ap (λ (p : LockToken). p.view) c.pass.view_is in
+    record {
+      seat = c.load-found.ensures.seat;
+      underway = begins _ _ _ _ _ c.requires.lock_call (rw (limits, view) at c.load-found.ensures.told);
+    }
+
+pub exchange-found-requires-clause-changes : goal.exchange-found-requires-clause-changes
+exchange-found-requires-clause-changes g c =
+    let limits = c.self.invariant.0 ∙ ap (λ (l : LockView). l.limits) c.self.view_is in
+    rw (c.bits.ensures.bits, limits)
+    (reply_as c.in-Change.reply, by_number _ _ _ _ _ c.in-Change.ensures.decides)
 
 pub returns-in-Answer-clause-made : goal.returns-in-Answer-clause-made
 returns-in-Answer-clause-made g c =
@@ -22,30 +34,35 @@ returns-in-Answer-clause-machine g c =
 
 pub returns-then-found-old-clause-made : goal.returns-then-found-old-clause-made
 returns-then-found-old-clause-made g c =
+    let limits = c.self.invariant.0 ∙ ap (λ (l : LockView). l.limits) c.self.view_is in
     rw c.as_reply-then-found-old.ensures
     (is_made _ _ _ _ _ c.loop.invariant.underway _ _ c.in-Change.ensures.decides
     c.in-Change.ensures.number _
-    (exchange_won _ _ _ _ _ _ c.if-found-old.true c.exchange-found.ensures.told))
+    (exchange_won _ _ _ _ _ _ c.if-found-old.true (rw limits at c.exchange-found.ensures.told)))
 
 pub returns-then-found-old-clause-machine : goal.returns-then-found-old-clause-machine
 returns-then-found-old-clause-machine g c =
+    let limits = c.self.invariant.0 ∙ ap (λ (l : LockView). l.limits) c.self.view_is in
     rw c.as_reply-then-found-old.ensures
     (ends_by_change _ _ _ _ _ c.loop.invariant.underway _ _ c.in-Change.ensures.decides
     c.in-Change.ensures.number _
-    (exchange_won _ _ _ _ _ _ c.if-found-old.true c.exchange-found.ensures.told))
+    (exchange_won _ _ _ _ _ _ c.if-found-old.true (rw limits at c.exchange-found.ensures.told)))
 
 pub loop-preserved-in-Change : goal.loop-preserved-in-Change
 loop-preserved-in-Change g c =
-    let lost = exchange_lost _ _ _ _ _ _ c.if-found-old.false c.exchange-found.ensures.told in
+    let limits = c.self.invariant.0 ∙ ap (λ (l : LockView). l.limits) c.self.view_is in
+    let lost = exchange_lost _ _ _ _ _ _ c.if-found-old.false (rw limits at c.exchange-found.ensures.told) in
     record {
-      table = c.exchange-found.ensures.table ∙ sym c.requires.table;
+      seat = c.exchange-found.ensures.seat;
       underway = loses_exchange _ _ _ _ _ c.loop.invariant.underway _ _ c.in-Change.ensures.decides
           c.in-Change.ensures.number _ _ lost.0 lost.1;
     }
 
 pub loop-preserved : goal.loop-preserved
-loop-preserved g c = record {
-  table = c.load-found-in-Wait.ensures.table ∙ sym c.requires.table;
-  underway = loads_again _ _ _ _ _ c.loop.invariant.underway c.in-Wait.ensures.decides
-      c.in-Wait.ensures.number _ _ c.load-found-in-Wait.ensures.told;
-}
+loop-preserved g c =
+    let limits = c.self.invariant.0 ∙ ap (λ (l : LockView). l.limits) c.self.view_is in
+    record {
+      seat = c.load-found-in-Wait.ensures.seat;
+      underway = loads_again _ _ _ _ _ c.loop.invariant.underway c.in-Wait.ensures.decides
+          c.in-Wait.ensures.number _ _ (rw limits at c.load-found-in-Wait.ensures.told);
+    }

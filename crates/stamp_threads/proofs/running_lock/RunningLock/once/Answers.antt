@@ -1,82 +1,133 @@
-use Rattle.std.proofs.Common.{sym, inr}
+use Rattle.std.proofs.Common.{◌∙◌, ap, sym, inr}
+use Rattle.stamp_core.specs.LockDecision.{reply_as}
+use Rattle.stamp_machines.proofs.LockCallSteps.{by_number}
+use Rattle.stamp_threads.specs.LockPass.{LockView, LockToken}
 use Rattle.stamp_threads.proofs.CallSteps.{exchange_won, exchange_lost, never_waits}
 use Rattle.stamp_threads.proofs.Underway.{begins, is_answered, ends_by_answer, is_made}
 use Rattle.stamp_threads.proofs.Underway.{ends_by_change, loses_exchange, goes_to_change}
 use Rattle.stamp_threads.proofs.TwoAccesses.{twice_by_win, twice_by_answer, loses}
 use Rattle.stamp_threads.proofs.running_lock.RunningLock.once.Goals as goal
+use Rattle.stamp_threads.proofs.running_lock.RunningLock.once.Goals.{in-Answer-decide, in-Change-decide}
+
+pub exchange-found-requires-clause-changes : goal.exchange-found-requires-clause-changes
+exchange-found-requires-clause-changes c =
+    let limits = c.self.invariant.0 ∙ ap (λ (l : LockView). l.limits) c.self.view_is in
+    rw (c.bits.ensures.bits, limits)
+    (reply_as c.in-Change.reply, by_number _ _ _ _ _ c.in-Change.ensures.decides)
+
+pub returns-in-Answer-clause-machine : goal.returns-in-Answer-clause-machine
+returns-in-Answer-clause-machine c =
+    let limits = c.self.invariant.0 ∙ ap (λ (l : LockView). l.limits) c.self.view_is in
+    let view = ap (λ (p : LockToken). p.view) c.pass.view_is in
+    let told = rw (limits, view) at c.load-loaded.ensures.told in
+    let begun = begins _ _ _ _ _ (c.try_form-call.ensures.lock_call c.requires.lock_call) told in
+    rw (← c.try_form-call.ensures.form, c.as_reply.ensures)
+    (ends_by_answer _ _ _ _ _ begun _ c.in-Answer.ensures.number)
 
 pub returns-then-found-loaded-clause-ok : goal.returns-then-found-loaded-clause-ok
 returns-then-found-loaded-clause-ok c =
+    let limits = c.self.invariant.0 ∙ ap (λ (l : LockView). l.limits) c.self.view_is in
+    let view = ap (λ (p : LockToken). p.view) c.pass.view_is in
+    let told = rw (limits, view) at c.load-loaded.ensures.told in
+    let found = rw limits at c.exchange-found.ensures.told in
+    let won = exchange_won _ _ _ _ _ _ c.if-found-loaded.true found in
+    let begun = begins _ _ _ _ _ (c.try_form-call.ensures.lock_call c.requires.lock_call) told in
     rw (← c.try_form-call.ensures.form, c.as_reply-then-found-loaded.ensures)
-    (is_made _ _ _ _ _
-    (begins _ _ _ _ _ (c.try_form-call.ensures.lock_call c.requires.lock_call) c.load-loaded.ensures.told) _ _
-    c.in-Change.ensures.decides c.in-Change.ensures.number _
-    (exchange_won _ _ _ _ _ _ c.if-found-loaded.true c.exchange-found.ensures.told))
+    (is_made _ _ _ _ _ begun _ _ c.in-Change.ensures.decides c.in-Change.ensures.number _ won)
 
 pub returns-then-found-loaded-clause-looks : goal.returns-then-found-loaded-clause-looks
 returns-then-found-loaded-clause-looks c =
-    inr (twice_by_win _ _ _ _ _ _ _ c.load-loaded.ensures.told c.in-Change.ensures.decides _
-    (exchange_won _ _ _ _ _ _ c.if-found-loaded.true c.exchange-found.ensures.told))
+    let limits = c.self.invariant.0 ∙ ap (λ (l : LockView). l.limits) c.self.view_is in
+    let view = ap (λ (p : LockToken). p.view) c.pass.view_is in
+    let told = rw (limits, view) at c.load-loaded.ensures.told in
+    let found = rw limits at c.exchange-found.ensures.told in
+    let won = exchange_won _ _ _ _ _ _ c.if-found-loaded.true found in
+    inr (twice_by_win _ _ _ _ _ _ _ told c.in-Change.ensures.decides _ won)
 
 pub returns-then-found-loaded-clause-machine : goal.returns-then-found-loaded-clause-machine
 returns-then-found-loaded-clause-machine c =
+    let limits = c.self.invariant.0 ∙ ap (λ (l : LockView). l.limits) c.self.view_is in
+    let view = ap (λ (p : LockToken). p.view) c.pass.view_is in
+    let told = rw (limits, view) at c.load-loaded.ensures.told in
+    let found = rw limits at c.exchange-found.ensures.told in
+    let won = exchange_won _ _ _ _ _ _ c.if-found-loaded.true found in
+    let begun = begins _ _ _ _ _ (c.try_form-call.ensures.lock_call c.requires.lock_call) told in
     rw (← c.try_form-call.ensures.form, c.as_reply-then-found-loaded.ensures)
-    (ends_by_change _ _ _ _ _
-    (begins _ _ _ _ _ (c.try_form-call.ensures.lock_call c.requires.lock_call) c.load-loaded.ensures.told) _ _
-    c.in-Change.ensures.decides c.in-Change.ensures.number _
-    (exchange_won _ _ _ _ _ _ c.if-found-loaded.true c.exchange-found.ensures.told))
+    (ends_by_change _ _ _ _ _ begun _ _ c.in-Change.ensures.decides c.in-Change.ensures.number _ won)
 
 pub unreachable-requires : goal.unreachable-requires
 unreachable-requires c =
+    let limits = c.self.invariant.0 ∙ ap (λ (l : LockView). l.limits) c.self.view_is in
+    let found = rw limits at c.exchange-found.ensures.told in
+    let lost = exchange_lost _ _ _ _ _ _ c.if-found-loaded.false found in
     never_waits _ _ _ _ _ (c.try_form-call.ensures.lock_call c.requires.lock_call)
-    c.try_form-call.ensures.never
-    (exchange_lost _ _ _ _ _ _ c.if-found-loaded.false c.exchange-found.ensures.told).1
-    c.in-Wait-decide.ensures.decides
+    c.try_form-call.ensures.never lost.1 c.in-Wait-decide.ensures.decides
 
 pub unreachable-requires-in-Wait : goal.unreachable-requires-in-Wait
 unreachable-requires-in-Wait c =
+    let limits = c.self.invariant.0 ∙ ap (λ (l : LockView). l.limits) c.self.view_is in
+    let view = ap (λ (p : LockToken). p.view) c.pass.view_is in
+    let told = rw (limits, view) at c.load-loaded.ensures.told in
     never_waits _ _ _ _ _ (c.try_form-call.ensures.lock_call c.requires.lock_call)
-    c.try_form-call.ensures.never c.load-loaded.ensures.told c.in-Wait.ensures.decides
+    c.try_form-call.ensures.never told c.in-Wait.ensures.decides
 
-pub returns-in-Answer-decide-clause-ok : goal.returns-in-Answer-decide-clause-ok
-returns-in-Answer-decide-clause-ok c =
-    let lost = exchange_lost _ _ _ _ _ _ c.if-found-loaded.false c.exchange-found.ensures.told in
-    rw (← c.try_form-call.ensures.form, c.as_reply-in-Answer-decide.ensures)
-    (is_answered _ _ _ _ _
-    (loses_exchange _ _ _ _ _
-    (begins _ _ _ _ _ (c.try_form-call.ensures.lock_call c.requires.lock_call) c.load-loaded.ensures.told) _ _
-    c.in-Change.ensures.decides c.in-Change.ensures.number _ _ lost.0 lost.1) _
-    c.in-Answer-decide.ensures.decides)
+pub returns-after-decide-2-clause-ok : goal.returns-after-decide-2-clause-ok
+returns-after-decide-2-clause-ok c =
+    let limits = c.self.invariant.0 ∙ ap (λ (l : LockView). l.limits) c.self.view_is in
+    let view = ap (λ (p : LockToken). p.view) c.pass.view_is in
+    let told = rw (limits, view) at c.load-loaded.ensures.told in
+    let found = rw limits at c.exchange-found.ensures.told in
+    let lost = exchange_lost _ _ _ _ _ _ c.if-found-loaded.false found in
+    let begun = begins _ _ _ _ _ (c.try_form-call.ensures.lock_call c.requires.lock_call) told in
+    let on = loses_exchange _ _ _ _ _ begun _ _ c.in-Change.ensures.decides c.in-Change.ensures.number _ _
+    lost.0 lost.1 in
+    elim c.match-decide-2.branch [
+      | in-Answer-decide w ↦ rw (w.result-is, ← c.try_form-call.ensures.form, w.as_reply-in-Answer-decide.ensures)
+          (is_answered _ _ _ _ _ on _ w.in-Answer-decide.ensures.decides)
+      | in-Change-decide w ↦ rw w.result-is tt
+    ]
 
-pub returns-in-Answer-decide-clause-looks : goal.returns-in-Answer-decide-clause-looks
-returns-in-Answer-decide-clause-looks c =
-    let lost = exchange_lost _ _ _ _ _ _ c.if-found-loaded.false c.exchange-found.ensures.told in
-    inr (twice_by_answer _ _ _ _ _ _ _ c.load-loaded.ensures.told c.in-Change.ensures.decides _ _ _
-    lost.1 c.in-Answer-decide.ensures.decides)
+pub returns-after-decide-2-clause-looks : goal.returns-after-decide-2-clause-looks
+returns-after-decide-2-clause-looks c =
+    let limits = c.self.invariant.0 ∙ ap (λ (l : LockView). l.limits) c.self.view_is in
+    let view = ap (λ (p : LockToken). p.view) c.pass.view_is in
+    let told = rw (limits, view) at c.load-loaded.ensures.told in
+    let found = rw limits at c.exchange-found.ensures.told in
+    let lost = exchange_lost _ _ _ _ _ _ c.if-found-loaded.false found in
+    elim c.match-decide-2.branch [
+      | in-Answer-decide w ↦ rw w.result-is
+          (inr (twice_by_answer _ _ _ _ _ _ _ told c.in-Change.ensures.decides _ _ _ lost.1
+          w.in-Answer-decide.ensures.decides))
+      | in-Change-decide w ↦ rw w.result-is tt
+    ]
 
-pub returns-in-Answer-decide-clause-machine : goal.returns-in-Answer-decide-clause-machine
-returns-in-Answer-decide-clause-machine c =
-    let lost = exchange_lost _ _ _ _ _ _ c.if-found-loaded.false c.exchange-found.ensures.told in
-    rw (← c.try_form-call.ensures.form, c.as_reply-in-Answer-decide.ensures)
-    (ends_by_answer _ _ _ _ _
-    (loses_exchange _ _ _ _ _
-    (begins _ _ _ _ _ (c.try_form-call.ensures.lock_call c.requires.lock_call) c.load-loaded.ensures.told) _ _
-    c.in-Change.ensures.decides c.in-Change.ensures.number _ _ lost.0 lost.1) _
-    c.in-Answer-decide.ensures.number)
+pub returns-after-decide-2-clause-lost : goal.returns-after-decide-2-clause-lost
+returns-after-decide-2-clause-lost c =
+    let limits = c.self.invariant.0 ∙ ap (λ (l : LockView). l.limits) c.self.view_is in
+    let view = ap (λ (p : LockToken). p.view) c.pass.view_is in
+    let told = rw (limits, view) at c.load-loaded.ensures.told in
+    let found = rw limits at c.exchange-found.ensures.told in
+    let lost = exchange_lost _ _ _ _ _ _ c.if-found-loaded.false found in
+    elim c.match-decide-2.branch [
+      | in-Answer-decide w ↦ rw w.result-is tt
+      | in-Change-decide w ↦ rw (w.result-is, ← c.try_form-call.ensures.form)
+          (loses _ _ _ _ _ _ _ told c.in-Change.ensures.decides _ _ _ _
+          (λ e. c.if-found-loaded.false (sym e)) lost.1 w.in-Change-decide.ensures.decides)
+    ]
 
-pub returns-in-Change-decide-clause-lost : goal.returns-in-Change-decide-clause-lost
-returns-in-Change-decide-clause-lost c =
-    let lost = exchange_lost _ _ _ _ _ _ c.if-found-loaded.false c.exchange-found.ensures.told in
-    rw (← c.try_form-call.ensures.form)
-    (loses _ _ _ _ _ _ _ c.load-loaded.ensures.told c.in-Change.ensures.decides _ _ _ _
-    (λ e. c.if-found-loaded.false (sym e)) lost.1 c.in-Change-decide.ensures.decides)
-
-pub returns-in-Change-decide-clause-machine : goal.returns-in-Change-decide-clause-machine
-returns-in-Change-decide-clause-machine c =
-    let lost = exchange_lost _ _ _ _ _ _ c.if-found-loaded.false c.exchange-found.ensures.told in
-    rw (← c.try_form-call.ensures.form)
-    (goes_to_change _ _ _ _ _ _ _
-    (loses_exchange _ _ _ _ _
-    (begins _ _ _ _ _ (c.try_form-call.ensures.lock_call c.requires.lock_call) c.load-loaded.ensures.told) _ _
-    c.in-Change.ensures.decides c.in-Change.ensures.number _ _ lost.0 lost.1)
-    c.in-Change-decide.ensures.number)
+pub returns-after-decide-2-clause-machine : goal.returns-after-decide-2-clause-machine
+returns-after-decide-2-clause-machine c =
+    let limits = c.self.invariant.0 ∙ ap (λ (l : LockView). l.limits) c.self.view_is in
+    let view = ap (λ (p : LockToken). p.view) c.pass.view_is in
+    let told = rw (limits, view) at c.load-loaded.ensures.told in
+    let found = rw limits at c.exchange-found.ensures.told in
+    let lost = exchange_lost _ _ _ _ _ _ c.if-found-loaded.false found in
+    let begun = begins _ _ _ _ _ (c.try_form-call.ensures.lock_call c.requires.lock_call) told in
+    let on = loses_exchange _ _ _ _ _ begun _ _ c.in-Change.ensures.decides c.in-Change.ensures.number _ _
+    lost.0 lost.1 in
+    elim c.match-decide-2.branch [
+      | in-Answer-decide w ↦ rw (w.result-is, ← c.try_form-call.ensures.form, w.as_reply-in-Answer-decide.ensures)
+          (ends_by_answer _ _ _ _ _ on _ w.in-Answer-decide.ensures.number)
+      | in-Change-decide w ↦ rw (w.result-is, ← c.try_form-call.ensures.form)
+          (goes_to_change _ _ _ _ _ _ _ on w.in-Change-decide.ensures.number)
+    ]

@@ -1,14 +1,14 @@
-use Rattle.std.proofs.Common.{◌≡◌, ℕ, [], take}
-use Rattle.stamp_threads.specs.declared.record_view.RecordPhase.TheVariants.{Reading}
+use Rattle.std.proofs.Common.{◌≡◌, ℕ}
+use Rattle.stamp_threads.specs.declared.record_view.RecordPhase.TheVariants.{Writing}
 use Rattle.stamp_threads.specs.Seats.{alone}
 use Rattle.stamp_threads.specs.RecordPass.{first_of}
 use Rattle.stamp_threads.specs.RecordRule.{with_phase}
-use Rattle.stamp_threads.proofs.record_get.load_all.Given as goal
+use Rattle.stamp_threads.proofs.record_steps.store_all.Given as goal
 
 abbrev pub invariant-loop-i : goal.invariant-loop-i
 invariant-loop-i g l = record {
   table : l.seat.table_id ≡ l.initial.seat.table_id;
-  told : (version : ℕ) → (first_of l.initial.seat.me.0).phase ≡ Reading version [] →
+  told : (version : ℕ) → (first_of l.initial.seat.me.0).phase ≡ Writing version l.words 0 →
       l.seat.me ≡ alone (with_phase (first_of l.initial.seat.me.0)
-      (Reading version (take l.i l.into)));
+      (Writing version l.words l.i));
 }

@@ -1,5 +1,5 @@
 use Rattle.std.proofs.Common.{[]}
-use Rattle.stamp_threads.proofs.record_put.put_words.Given as goal
+use Rattle.stamp_threads.proofs.running_record.RuledRecord.put_once.Given as goal
 
 abbrev pub ghosts-look : goal.ghosts-look
 ghosts-look g a = record { shape = a.table.now.key.shape; words = [] }

@@ -1,6 +1,6 @@
 use Rattle.std.proofs.Common.{take, ap, arith, length-take-le}
 use Rattle.stamp_threads.specs.RecordPass.{first_of, Seated}
-use Rattle.stamp_threads.proofs.record_get.load_all.Goals as goal
+use Rattle.stamp_threads.proofs.record_steps.load_all.Goals as goal
 
 pub load_word-requires-clause-reading : goal.load_word-requires-clause-reading
 load_word-requires-clause-reading g c =
