@@ -38,5 +38,5 @@ closes lock id v me words slots word is end at =
       given = part.given;
       roots = r.roots;
       rooted = r.passes.entries;
-      closed = r.closed;
+      one_root = r.one_root;
     }

@@ -118,7 +118,7 @@ module _ {enterable : Bool} (P : List ℕ → Type 0) (shape : RecordShape) (s :
         record {
           log = log';
           roots = r.roots;
-          closed = r.closed;
+          one_root = r.one_root;
           legal = legal;
           wide = r.wide;
           word_is = r.word_is ∙ sym (same_word shape.limits.layout (puts log') (puts r.log)

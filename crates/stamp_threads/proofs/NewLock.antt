@@ -31,7 +31,7 @@ pub opens : {enterable : Bool} (limits : Bounds) (word : ℕ) → RepresentsAt l
 opens limits word represents = record {
   log = [];
   roots = 1;
-  closed = λ _. refl;
+  one_root = λ _. refl;
   one_word = refl;
   legal = record { calls = tt; legal = tt };
   represents = represents;

@@ -79,7 +79,7 @@ opens shape first is narrow =
     record {
       log = [];
       roots = 1;
-      closed = λ _. refl;
+      one_root = λ _. refl;
       legal = (first_consistent shape.width).legal;
       wide = length-take-le (shape.width + 1) (first ∷ replicate 16 0) (omega arith);
       word_is = get_or-take (shape.width + 1) (first ∷ replicate 16 0) 0 0 (omega arith) ∙ is;
@@ -134,7 +134,7 @@ module _ (words : List ℕ) where
       record {
         log = log;
         roots = 1;
-        closed = λ _. refl;
+        one_root = λ _. refl;
         legal = one_put width;
         wide = omega arith;
         word_is = is;

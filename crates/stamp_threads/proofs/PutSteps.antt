@@ -85,7 +85,7 @@ module _ {enterable : Bool} (P : List ℕ → Type 0) (shape : RecordShape) (s :
       record {
         log = log';
         roots = r.roots;
-        closed = r.closed;
+        one_root = r.one_root;
         legal = legal_marked shape.width r.log v.name r.legal;
         wide = length-set s.words 0 held ∙ r.wide;
         word_is = get_or-set_same s.words 0 held 0 (let z = r.wide in omega arith) ∙
@@ -160,7 +160,7 @@ module _ {enterable : Bool} (P : List ℕ → Type 0) (shape : RecordShape) (s :
           record {
             log = r.log;
             roots = r.roots;
-            closed = r.closed;
+            one_root = r.one_root;
             legal = r.legal;
             wide = length-set s.words (stored + 1) x ∙ r.wide;
             word_is = get_or-set_other s.words (stored + 1) 0 x 0 (λ e. omega arith) ∙ r.word_is;
@@ -215,7 +215,7 @@ module _ {enterable : Bool} (P : List ℕ → Type 0) (shape : RecordShape) (s :
         record {
           log = log';
           roots = r.roots;
-          closed = r.closed;
+          one_root = r.one_root;
           legal = legal;
           wide = length-set s.words 0 free ∙ r.wide;
           word_is = get_or-set_same s.words 0 free 0 (omega arith) ∙

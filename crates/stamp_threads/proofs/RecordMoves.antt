@@ -30,15 +30,15 @@ use Rattle.stamp_threads.proofs.RecordSteps.{Brings, passes_after, consistent_af
 
 -- the views alone change
 with_views : {enterable : Bool} (P : List ℕ → Type 0) (shape : RecordShape) (s : State (Unit {0}) (List RecordPassView))
-    (r : IsKept enterable P shape s) (roots : ℕ) (closed : enterable ≡ false → roots ≡ 1)
+    (r : IsKept enterable P shape s) (roots : ℕ) (one_root : enterable ≡ false → roots ≡ 1)
     (views : List (List RecordPassView)) →
     AreSeated (Fits P shape.width s.words r.log) roots r.log views →
     (is_locked r.log ≡ true → HasWriter r.log views) →
     IsKept enterable P shape record { words = s.words; homes = s.homes; views = views }
-with_views P shape s r roots closed views passes writer = record {
+with_views P shape s r roots one_root views passes writer = record {
   log = r.log;
   roots = roots;
-  closed = closed;
+  one_root = one_root;
   legal = r.legal;
   wide = r.wide;
   word_is = r.word_is;
@@ -136,7 +136,7 @@ split_kept : {enterable : Bool} (P : List ℕ → Type 0) (shape : RecordShape) 
     }
 split_kept P shape s r id v here idle =
     let f = r.passes.fits id 0 v (v ∷ [], here, refl) in
-    with_views P shape s r r.roots r.closed (set s.views id (after_split v ∷ []) ++ (split_off v ∷ []) ∷ [])
+    with_views P shape s r r.roots r.one_root (set s.views id (after_split v ∷ []) ++ (split_off v ∷ []) ∷ [])
     (gives (Fits P shape.width s.words r.log) r.roots r.log s.views r.passes id v here
     (fits-after_split P shape.width s.words r.log v f)
     (fits-split_off P shape.width s.words r.log v idle f))
@@ -183,7 +183,7 @@ join_kept : {enterable : Bool} (P : List ℕ → Type 0) (shape : RecordShape) (
     Joins (IsKept enterable P shape) id (v ∷ []) other (u ∷ []) (v ∷ u ∷ []) []
 join_kept P shape id v other u idle still s r at away there =
     let views' : List (List RecordPassView) = set s.views id (v ∷ u ∷ []) in
-    with_views P shape s r r.roots r.closed (set views' other [])
+    with_views P shape s r r.roots r.one_root (set views' other [])
     (together (Fits P shape.width s.words r.log) r.roots r.log s.views r.passes id v other u at away there)
     (λ l. writer_stays r.log views' other (u ∷ []) there (one_idle u still)
     (writer_stays r.log s.views id (v ∷ []) at (one_idle v idle) (r.writer l) (v ∷ u ∷ [])) [])
@@ -204,7 +204,7 @@ part_kept : {enterable : Bool} (P : List ℕ → Type 0) (shape : RecordShape) (
     v.phase ≡ Idle →
     u.phase ≡ Idle → Splits (IsKept enterable P shape) id (v ∷ u ∷ []) (v ∷ []) (u ∷ [])
 part_kept P shape id v u idle still s r at =
-    with_views P shape s r r.roots r.closed (set s.views id (v ∷ []) ++ (u ∷ []) ∷ [])
+    with_views P shape s r r.roots r.one_root (set s.views id (v ∷ []) ++ (u ∷ []) ∷ [])
     (parted (Fits P shape.width s.words r.log) r.roots r.log s.views r.passes id v u at)
     (λ l. writer_beside r.log s.views id (v ∷ u ∷ []) at (two_idle v u idle still) (r.writer l)
     (v ∷ []) (u ∷ []))
@@ -258,7 +258,7 @@ allows_meet enterable P shape slots id me is idle still s r _ at _ =
       subst (λ (words : List ℕ). IsKept enterable P shape
           record { words = words; homes = s.homes; views = set s.views id ws })
           (sym (set-get_or s.words 0 0))
-          (with_views P shape s r r.roots r.closed (set s.views id ws)
+          (with_views P shape s r r.roots r.one_root (set s.views id ws)
           (passes_after P shape s r id vs ws here same s.words r.log grows brings
           (λ _ _ _ _ _ h. h))
           (λ l. writer_stays r.log s.views id vs here (two_idle v u idle still) (r.writer l) ws)),

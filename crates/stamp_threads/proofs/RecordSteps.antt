@@ -181,7 +181,7 @@ module _ {enterable : Bool} (P : List ℕ → Type 0) (shape : RecordShape) (s :
     only_views = record {
       log = r.log;
       roots = r.roots;
-      closed = r.closed;
+      one_root = r.one_root;
       legal = r.legal;
       wide = r.wide;
       word_is = r.word_is;

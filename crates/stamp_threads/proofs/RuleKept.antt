@@ -67,7 +67,7 @@ module _ {enterable : Bool} (limits : Bounds) (s : State (Unit {0}) (List LockPa
   kept_after word homes legal represents = record {
     log = log';
     roots = r.roots;
-    closed = r.closed;
+    one_root = r.one_root;
     one_word = length-set s.words 0 word ∙ r.one_word;
     legal = legal;
     represents = subst (λ (n : ℕ). RepresentsAt limits n (events_after limits log'))

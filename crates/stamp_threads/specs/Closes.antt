@@ -15,4 +15,4 @@ pub record Closes (lock : LockView) (v : LockPassView) (word : ℕ) : Type 0 whe
   pub given : HasGivenAll v.name v.splits log
   pub roots : ℕ
   pub rooted : AreRooted roots log
-  pub closed : lock.enterable ≡ false → roots ≡ 1
+  pub one_root : lock.enterable ≡ false → roots ≡ 1

@@ -21,7 +21,7 @@ use Rattle.stamp_threads.specs.LockPassesMet.{LockPassesMet}
 pub record IsKept (enterable : Bool) (limits : Bounds) (s : State (Unit {0}) (List LockPassView)) : Type 0 where
   pub log : LockLog
   pub roots : ℕ
-  pub closed : enterable ≡ false → roots ≡ 1
+  pub one_root : enterable ≡ false → roots ≡ 1
   pub one_word : length s.words ≡ 1
   pub legal : IsLegalLog limits log
   pub represents : RepresentsAt limits (slice_index s.words 0) (events_after limits log)

@@ -72,7 +72,7 @@ pub record IsKept (enterable : Bool) (P : List ℕ → Type 0) (shape : RecordSh
     (s : State (Unit {0}) (List RecordPassView)) : Type 0 where
   pub log : RecordLog
   pub roots : ℕ
-  pub closed : enterable ≡ false → roots ≡ 1
+  pub one_root : enterable ≡ false → roots ≡ 1
   pub legal : IsLegalRecord shape.width log
   pub wide : length s.words ≡ shape.width + 1
   pub word_is : slice_index s.words 0 ≡ word_after shape.limits.layout log

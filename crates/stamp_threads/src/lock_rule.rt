@@ -73,22 +73,22 @@ impl<C: CallStep> Play<(), LockPasses> for ExchangeStep<C> {
 }
 
 /// A load by a seat that holds two passes.
-pub struct MeetStep<C> {
+pub struct MeetLockStep<C> {
     of: PhantomData<C>,
 }
 
-impl<C: CallStep> Play<(), LockPasses> for MeetStep<C> {
+impl<C: CallStep> Play<(), LockPasses> for MeetLockStep<C> {
     ghost use Rattle.stamp_threads.specs.LockRule.{MeetTells};
 
     ghost then = { MeetTells C.limits };
 }
 
 /// A load that makes a seat.
-pub struct EnterStep<C> {
+pub struct EnterLockStep<C> {
     of: PhantomData<C>,
 }
 
-impl<C: CallStep> Play<(), LockPasses> for EnterStep<C> {
+impl<C: CallStep> Play<(), LockPasses> for EnterLockStep<C> {
     ghost use Rattle.stamp_threads.specs.LockRule.{EnterTells};
 
     ghost then = { EnterTells C.limits };

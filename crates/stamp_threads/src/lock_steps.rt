@@ -10,8 +10,8 @@ ghost use Rattle.stamp_threads.specs.LockRule.{Loaded, Exchanged};
 ghost use Rattle.stamp_threads.specs.LockPassesMet.{LockPassesMet};
 
 use crate::lock_rule::{
-    CallStep, EnterStep, ExchangeStep, GivePass, LoadStep, LockKey, LockPasses, LockRule, MeetStep,
-    PartSeats, ShareSeat,
+    CallStep, EnterLockStep, ExchangeStep, GivePass, LoadStep, LockKey, LockPasses, LockRule,
+    MeetLockStep, PartSeats, ShareSeat,
 };
 use atomic_table::{Seat, Shared};
 use stamp_core::{Call, Reply};
@@ -66,7 +66,7 @@ pub fn enter<C: CallStep>(table: &LockTable) -> LockSeat
     ensures seat { IsAtSeat table.now.table_id result.table_id result.me }
     ensures entered { HasEntered table.now.key.limits (first_of result.me.0) }
 {
-    let (_, seat) = table.load_new_seat::<EnterStep<C>>(0);
+    let (_, seat) = table.load_new_seat::<EnterLockStep<C>>(0);
     seat
 }
 
@@ -90,7 +90,7 @@ pub fn load_both<C: CallStep>(table: &LockTable, seat: &mut LockSeat)
     ensures met { let old = seat.old.me.0 in let new = seat.new.me.0 in
         LockPassesMet table.now.key.limits (first_of old) (second_of old) (first_of new) (second_of new) }
 {
-    table.load::<MeetStep<C>>(seat, 0);
+    table.load::<MeetLockStep<C>>(seat, 0);
 }
 
 /// Puts both passes on one seat.

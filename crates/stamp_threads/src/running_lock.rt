@@ -97,7 +97,7 @@ impl RunningLock {
     }
 
     /// As `new`, of a lock that threads may also `enter`.
-    pub fn enterable(alloc: Global, limits: Limits) -> Result<(RunningLock, Pass), LockError>
+    pub fn new_enterable(alloc: Global, limits: Limits) -> Result<(RunningLock, Pass), LockError>
         ensures { IfOk result (λ r. IsNew limits true r.0 r.1) }
     {
         RunningLock::of_key(

@@ -87,7 +87,7 @@ impl RuledRecord<AnyContent> {
     ) -> Result<(RunningRecord, RecordPass), LockError>
         requires { (1 ≤ width) × (width ≤ 16) }
         ensures shape { IfOk result (λ r. r.0.shape ≡ record { limits = limits; width = width }) }
-        ensures closed { IfOk result (λ r. r.0.enterable ≡ false) }
+        ensures enterable { IfOk result (λ r. r.0.enterable ≡ false) }
         ensures table { IfOk result (λ r. r.1.table ≡ r.0.table) }
         ensures pass { IfOk result (λ r. r.1.view ≡ first_pass) }
         ensures consistent { IfOk result (λ r. IsConsistentWith width r.1.view) }
@@ -109,13 +109,13 @@ impl<P: ContentRule> RuledRecord<P> {
         requires version { 1 ≤ limits.versions }
         requires good { P.holds first }
         ensures made { IfOk result (λ r. IsHolding limits first r.0 r.1) }
-        ensures closed { IfOk result (λ r. r.0.enterable ≡ false) }
+        ensures enterable { IfOk result (λ r. r.0.enterable ≡ false) }
     {
         Self::of_put(alloc, limits, first, false)
     }
 
     /// As `holding`, of a record that threads may also `enter`.
-    pub fn enterable(
+    pub fn holding_enterable(
         alloc: Global,
         limits: Limits,
         first: Words,

@@ -15,7 +15,7 @@ pub fn enterable_lock(alloc: Global) -> Result<(RunningLock, Pass), Fail>
     ensures table { IfOk result (λ r. r.1.table ≡ r.0.table) }
     ensures enterable { IfOk result (λ r. r.0.enterable ≡ true) }
 {
-    match RunningLock::enterable(alloc, Limits::new(127, 1_000_000)?) {
+    match RunningLock::new_enterable(alloc, Limits::new(127, 1_000_000)?) {
         Ok((lock, pass)) => Ok((lock, pass)),
         Err(_) => Err(Fail::from("no memory for the lock")),
     }
@@ -40,8 +40,11 @@ fn a_pass_that_enters_finds_what_is_held_and_releases_nothing(rt: HostRuntime) -
 #[test]
 fn entering_a_record_takes_no_version(rt: HostRuntime) -> Result<(), Fail> {
     let limits = Limits::new(1, 2)?;
-    let Ok((shared, mut pass)) = RuledRecord::<AnyContent>::enterable(rt.alloc(), limits, pair(1))
-    else {
+    let Ok((shared, mut pass)) = RuledRecord::<AnyContent>::holding_enterable(
+        rt.alloc(),
+        limits,
+        pair(1),
+    ) else {
         return Err(Fail::from("no memory for the record"));
     };
     let mut second = shared.enter();

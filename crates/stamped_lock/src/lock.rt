@@ -41,7 +41,7 @@ impl StampedLock {
     pub fn with_limits(alloc: Global, limits: Limits) -> Result<StampedLock, LockError>
         ensures { IfOk result (λ lock. lock.limits ≡ limits) }
     {
-        let (running, first) = RunningLock::enterable(alloc, limits)?;
+        let (running, first) = RunningLock::new_enterable(alloc, limits)?;
         drop(first);
         Ok(StampedLock { running })
     }

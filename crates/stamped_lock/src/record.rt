@@ -57,7 +57,7 @@ impl<const N: usize, P: ContentRule> StampedRecord<N, P> {
         let Some(words) = Words::new(&first) else {
             unreachable!()
         };
-        let (shared, pass) = RuledRecord::enterable(alloc, limits, words)?;
+        let (shared, pass) = RuledRecord::holding_enterable(alloc, limits, words)?;
         drop(pass);
         Ok(StampedRecord { shared })
     }

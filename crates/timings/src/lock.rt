@@ -81,7 +81,7 @@ pub fn time<R: AllocGlobal + Clock + Eprint + Threads + Wait + Sync>(
     let Ok(limits) = Limits::new(127, 1 << 50) else {
         return Ok(());
     };
-    let Ok((lock, _)) = RunningLock::enterable(rt.alloc(), limits) else {
+    let Ok((lock, _)) = RunningLock::new_enterable(rt.alloc(), limits) else {
         return Ok(());
     };
     let Ok(handled) = StampedLock::with_limits(rt.alloc(), limits) else {

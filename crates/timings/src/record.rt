@@ -77,7 +77,7 @@ impl<const N: usize> Timed<N> {
     {
         let limits = Limits::new(127, 1 << 50).ok()?;
         let words = Words::new(&[0; N])?;
-        let (running, _) = RunningRecord::enterable(alloc, limits, words).ok()?;
+        let (running, _) = RunningRecord::holding_enterable(alloc, limits, words).ok()?;
         Some(Timed {
             running,
             handled: StampedRecord::new(alloc, [0; N]).ok()?,
