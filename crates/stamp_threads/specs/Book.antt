@@ -1,6 +1,6 @@
 -- The book of a lock: calls that were made one at a time, each entered with its reply.
 use Rattle.std.specs.Prelude.{ℕ, ◌≡◌, ◌≤◌, ◌<◌, List, [], ◌∷◌, ◌++◌, length, slice_index_or}
-use Rattle.std.specs.Prelude.{Option, None, IsSome, Result, Ok, Err}
+use Rattle.std.specs.Prelude.{Option, None, IsSome, Result, Ok, Err, IfOk, OnErr}
 use Rattle.std.specs.List.{All}
 use Rattle.stamp_core.specs.LockEvent.{LockEvent}
 use Rattle.stamp_core.specs.Limits.{Bounds, AreInRange}
@@ -54,6 +54,13 @@ IsDue b call (Ok reply) = Replies (transition_in b call) reply × (length b.entr
 IsDue b call (Err Waits) = transition_in b call ≡ None
 IsDue b call (Err Full) = IsSome (transition_in b call) × (length b.entries ≡ b.most)
 IsDue b call (Err Memory) = IsSome (transition_in b call) × (length b.entries < b.most)
+
+-- b' is the book b after this call: the answer was due, and the call is entered where it was made; where
+-- it was refused, the book is as before
+pub record Acted (b : Booked) (thread : ℕ) (call : Call) (answer : Result Reply BookError) (b' : Booked) : Type 0 where
+  pub due : IsDue b call answer
+  pub ok : IfOk answer (λ reply. b' ≡ with_call b thread call reply)
+  pub err : OnErr answer (b' ≡ b)
 
 -- the entry begins, takes effect and ends at this number
 pub record IsEntryAt (k : ℕ) (e : Entry) : Type 0 where

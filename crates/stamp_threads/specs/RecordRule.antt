@@ -241,9 +241,16 @@ opening_pass None = first_pass
 opening_pass (Some words) =
     record first_pass { observed = opening_log (Some words); own = put_of words ∷ [] }
 
--- a record of these words, and its first pass, which has put them
-pub record IsHolding (limits : Bounds) (first : List ℕ) (r : RecordView) (p : RecordToken) : Type 0 where
-  pub shape : r.shape ≡ record { limits = limits; width = length first }
+-- a record may begin with these words: they keep to its rule, and there is a version for their put
+pub record MayBegin (P : List ℕ → Type 0) (limits : Bounds) (first : List ℕ) : Type 0 where
+  pub version : 1 ≤ limits.versions
+  pub obeys : P first
+
+-- a new record of this shape, and its first pass, which has put these words, if there are any
+pub record IsNew (limits : Bounds) (width : ℕ) (enterable : Bool) (first : Option (List ℕ))
+    (r : RecordView) (p : RecordToken) : Type 0 where
+  pub has_shape : r.shape ≡ record { limits = limits; width = width }
+  pub opens : r.enterable ≡ enterable
   pub table : p.table ≡ r.table
-  pub pass : p.view ≡ opening_pass (Some first)
-  pub consistent : IsConsistentWith (length first) p.view
+  pub view : p.view ≡ opening_pass first
+  pub consistent : IsConsistentWith width p.view

@@ -5,6 +5,7 @@ use Rattle.atomic_table.specs.Seated.{TableId}
 use mathlib.Core.Option.{some}
 use lib.ListN.{get_elem?}
 use Rattle.atomic_table.specs.Table.{Me}
+use Rattle.atomic_table.specs.declared.shared.Seat.{Seat}
 use Rattle.stamp_threads.specs.declared.pass_view.PassView.{PassView}
 use Rattle.stamp_threads.specs.declared.pass_view.LogEntry.{LogEntry}
 use Rattle.stamp_threads.specs.PassName.{HasGiven, IsRooted, AreRooted}
@@ -44,6 +45,10 @@ module _ {V : Type 0} where
   -- the seat holds both
   abbrev pub both : V → V → Me (Unit {0}) (List V)
   both v w = (v ∷ w ∷ [], [])
+
+  -- the seat is one of this table, and this pass stands there alone
+  abbrev pub StandsAlone : TableId → Seat (Unit {0}) (List V) → V → Type 0
+  StandsAlone table seat v = (seat.table_id ≡ table) × (seat.me ≡ alone v)
 
 module _ {E P : Type 0} where
   -- the seat is one of this table, which has so many words, and one pass stands there alone

@@ -3,8 +3,8 @@ ghost use Rattle.std.specs.Prelude.{◌≡◌, ◌<◌, ◌≤◌, [], IfOk, OnE
 ghost use Rattle.stamp_core.specs.Call.{is_lock_call};
 ghost use Rattle.stamp_core.specs.Record.{recorded};
 ghost use Rattle.stamp_core.specs.Word.{Represents};
-ghost use Rattle.stamp_threads.specs.Book.{booked, entry_at, past_of, with_call};
-ghost use Rattle.stamp_threads.specs.Book.{IsDue, IsBook, IsOfBook};
+ghost use Rattle.stamp_threads.specs.Book.{booked, entry_at, past_of};
+ghost use Rattle.stamp_threads.specs.Book.{Acted, IsBook, IsOfBook};
 
 use crate::book_error::BookError;
 use stamp_core::{Call, Entry, Limits, Record, Reply, Word, step};
@@ -65,29 +65,16 @@ impl Book {
     pub fn act(&mut self, thread: u64, call: Call) -> Result<Reply, BookError>
         requires lock_call { IsTrue (is_lock_call call) }
         requires thread { thread < 64 }
-        ensures due { IsDue self.old call result }
-        ensures ok { IfOk result (λ reply. self.new ≡ with_call self.old thread call reply) }
-        ensures err { OnErr result (self.new ≡ self.old) }
+        ensures { Acted self.old thread call result self.new }
     {
-        self.enter(thread, &call)
-    }
-
-    /// `act` of a call by reference, of which the proof can speak more than once.
-    fn enter(&mut self, thread: u64, call: &Call) -> Result<Reply, BookError>
-        requires lock_call { IsTrue (is_lock_call call.now) }
-        requires thread { thread < 64 }
-        ensures due { IsDue self.old call.now result }
-        ensures ok { IfOk result (λ reply. self.new ≡ with_call self.old thread call.now reply) }
-        ensures err { OnErr result (self.new ≡ self.old) }
-    {
-        let Some((word, reply)) = step(self.limits, self.word, *call) else {
+        let Some((word, reply)) = step(self.limits, self.word, call) else {
             return Err(BookError::Waits);
         };
         let at = self.entries.len() as u64;
         if at == self.most {
             return Err(BookError::Full);
         }
-        self.entries.push(entry_at(at, thread, call, &reply))?;
+        self.entries.push(entry_at(at, thread, &call, &reply))?;
         self.word = word;
         Ok(reply)
     }

@@ -4,7 +4,7 @@ ghost use Rattle.stamp_core.specs.Call.{is_lock_call};
 ghost use Rattle.stamp_core.specs.Word.{word_at};
 ghost use Rattle.stamp_core.specs.Decision.{Changes};
 ghost use Rattle.stamp_threads.specs.PassView.{after_split, split_off};
-ghost use Rattle.stamp_threads.specs.Seats.{alone, both};
+ghost use Rattle.stamp_threads.specs.Seats.{both, StandsAlone};
 ghost use Rattle.stamp_threads.specs.LockPass.{first_of, second_of, HasEntered, IsAtSeat, AreAtSeat};
 ghost use Rattle.stamp_threads.specs.LockRule.{Loaded, Exchanged};
 ghost use Rattle.stamp_threads.specs.LockPassesMet.{LockPassesMet};
@@ -73,10 +73,8 @@ pub fn enter<C: CallStep>(table: &LockTable) -> LockSeat
 /// A new seat, whose pass has a name that the first one gives.
 pub fn split(table: &LockTable, seat: &mut LockSeat) -> LockSeat
     requires seat { IsAtSeat table.now.table_id seat.old.table_id seat.old.me }
-    ensures table { (seat.new.table_id ≡ seat.old.table_id)
-        × (result.table_id ≡ seat.old.table_id) }
-    ensures given { seat.new.me ≡ alone (after_split (first_of seat.old.me.0)) }
-    ensures new { result.me ≡ alone (split_off (first_of seat.old.me.0)) }
+    ensures given { StandsAlone seat.old.table_id seat.new (after_split (first_of seat.old.me.0)) }
+    ensures new { StandsAlone seat.old.table_id result (split_off (first_of seat.old.me.0)) }
 {
     table.split_seat::<GivePass>(seat)
 }
@@ -106,10 +104,8 @@ pub fn share_seat(table: &LockTable, seat: &mut LockSeat, other: LockSeat)
 /// Puts the two passes of a seat on two seats.
 pub fn part_seats(table: &LockTable, seat: &mut LockSeat) -> LockSeat
     requires seat { AreAtSeat table.now.table_id seat.old.table_id seat.old.me }
-    ensures table { (seat.new.table_id ≡ seat.old.table_id)
-        × (result.table_id ≡ seat.old.table_id) }
-    ensures first { seat.new.me ≡ alone (first_of seat.old.me.0) }
-    ensures second { result.me ≡ alone (second_of seat.old.me.0) }
+    ensures first { StandsAlone seat.old.table_id seat.new (first_of seat.old.me.0) }
+    ensures second { StandsAlone seat.old.table_id result (second_of seat.old.me.0) }
 {
     table.split_seat::<PartSeats>(seat)
 }

@@ -4,7 +4,7 @@ ghost use Rattle.std.specs.Prelude.{slice_index, ℕ, List, []};
 ghost use Rattle.stamp_threads.specs.declared.record_view.RecordPhase.TheVariants.{Idle, Writing};
 ghost use Rattle.stamp_threads.specs.declared.record_view.RecordPhase.TheVariants.{Reading};
 ghost use Rattle.stamp_threads.specs.PassView.{after_split, split_off};
-ghost use Rattle.stamp_threads.specs.Seats.{alone, both};
+ghost use Rattle.stamp_threads.specs.Seats.{alone, both, StandsAlone};
 ghost use Rattle.stamp_threads.specs.RecordWord.{word_with, writer_unit};
 ghost use Rattle.stamp_threads.specs.RecordPass.{first_of, second_of, HasEntered};
 ghost use Rattle.stamp_threads.specs.RecordPass.{IsAtSeat, AreAtSeat};
@@ -197,10 +197,8 @@ pub fn enter<C: WordsStep, P: ContentRule>(table: &RecordTable<P>) -> RecordSeat
 pub fn split<P: ContentRule>(table: &RecordTable<P>, seat: &mut RecordSeat) -> RecordSeat
     requires seat { IsAtSeat table.now.table_id table.now.key.shape seat.old.table_id seat.old.me }
     requires idle { (first_of seat.old.me.0).phase ≡ Idle }
-    ensures table { (seat.new.table_id ≡ seat.old.table_id)
-        × (result.table_id ≡ seat.old.table_id) }
-    ensures given { seat.new.me ≡ alone (after_split (first_of seat.old.me.0)) }
-    ensures new { result.me ≡ alone (split_off (first_of seat.old.me.0)) }
+    ensures given { StandsAlone seat.old.table_id seat.new (after_split (first_of seat.old.me.0)) }
+    ensures new { StandsAlone seat.old.table_id result (split_off (first_of seat.old.me.0)) }
 {
     table.split_seat::<GivePass>(seat)
 }
@@ -236,10 +234,8 @@ pub fn part_seats<P: ContentRule>(table: &RecordTable<P>, seat: &mut RecordSeat)
     requires seat { AreAtSeat table.now.table_id table.now.key.shape seat.old.table_id seat.old.me }
     requires idle { ((first_of seat.old.me.0).phase ≡ Idle)
         × ((second_of seat.old.me.0).phase ≡ Idle) }
-    ensures table { (seat.new.table_id ≡ seat.old.table_id)
-        × (result.table_id ≡ seat.old.table_id) }
-    ensures first { seat.new.me ≡ alone (first_of seat.old.me.0) }
-    ensures second { result.me ≡ alone (second_of seat.old.me.0) }
+    ensures first { StandsAlone seat.old.table_id seat.new (first_of seat.old.me.0) }
+    ensures second { StandsAlone seat.old.table_id result (second_of seat.old.me.0) }
 {
     table.split_seat::<PartSeats>(seat)
 }

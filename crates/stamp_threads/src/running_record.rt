@@ -1,13 +1,13 @@
 //! The record that threads share.
-ghost use Rattle.std.specs.Prelude.{◌≡◌, ◌+◌, ◌≤◌, ◌-◌, ◌∷◌, [], IfOk, IfErr, Some, length, take};
+ghost use Rattle.std.specs.Prelude.{◌≡◌, ◌+◌, ◌≤◌, ◌-◌, ◌∷◌, [], IfOk, IfErr, Some, None, length, take};
 ghost use Rattle.std.specs.Prelude.{true, false};
 ghost use Rattle.stamp_core.specs.declared.call.Call.TheVariants.{Put};
 ghost use Rattle.stamp_core.specs.declared.reply.Reply.TheVariants.{Done};
 ghost use Rattle.stamp_threads.specs.PassView.{after_split, split_off};
-ghost use Rattle.stamp_threads.specs.RecordPass.{HasEntered, IsConsistentWith, first_pass};
+ghost use Rattle.stamp_threads.specs.RecordPass.{HasEntered, IsConsistentWith};
 ghost use Rattle.stamp_threads.specs.RecordCall.{RecordAnswered, PutRefused};
 ghost use Rattle.stamp_threads.specs.RecordCall.{WasGot, GetRefused, GotOrRefused, RecordPassesMet};
-ghost use Rattle.stamp_threads.specs.RecordRule.{opening_pass, IsKept, IsHolding};
+ghost use Rattle.stamp_threads.specs.RecordRule.{opening_pass, IsKept, IsNew, MayBegin};
 ghost use Rattle.atomic_table.specs.Table.{opening};
 
 use crate::faults::{GetFault, PutFault};
@@ -86,11 +86,7 @@ impl RuledRecord<AnyContent> {
         width: usize,
     ) -> Result<(RunningRecord, RecordPass), LockError>
         requires { (1 ≤ width) × (width ≤ 16) }
-        ensures shape { IfOk result (λ r. r.0.shape ≡ record { limits = limits; width = width }) }
-        ensures enterable { IfOk result (λ r. r.0.enterable ≡ false) }
-        ensures table { IfOk result (λ r. r.1.table ≡ r.0.table) }
-        ensures pass { IfOk result (λ r. r.1.view ≡ first_pass) }
-        ensures consistent { IfOk result (λ r. IsConsistentWith width r.1.view) }
+        ensures { IfOk result (λ r. IsNew limits width false None r.0 r.1) }
     {
         let mut row = [0u64; 17];
         row[0] = opening_word(limits.layout());
@@ -106,10 +102,8 @@ impl<P: ContentRule> RuledRecord<P> {
         limits: Limits,
         first: Words,
     ) -> Result<(RuledRecord<P>, RecordPass), LockError>
-        requires version { 1 ≤ limits.versions }
-        requires good { P.holds first }
-        ensures made { IfOk result (λ r. IsHolding limits first r.0 r.1) }
-        ensures enterable { IfOk result (λ r. r.0.enterable ≡ false) }
+        requires { MayBegin P.holds limits first }
+        ensures { IfOk result (λ r. IsNew limits (length first) false (Some first) r.0 r.1) }
     {
         Self::of_put(alloc, limits, first, false)
     }
@@ -120,10 +114,8 @@ impl<P: ContentRule> RuledRecord<P> {
         limits: Limits,
         first: Words,
     ) -> Result<(RuledRecord<P>, RecordPass), LockError>
-        requires version { 1 ≤ limits.versions }
-        requires good { P.holds first }
-        ensures made { IfOk result (λ r. IsHolding limits first r.0 r.1) }
-        ensures enterable { IfOk result (λ r. r.0.enterable ≡ true) }
+        requires { MayBegin P.holds limits first }
+        ensures { IfOk result (λ r. IsNew limits (length first) true (Some first) r.0 r.1) }
     {
         Self::of_put(alloc, limits, first, true)
     }
@@ -135,10 +127,8 @@ impl<P: ContentRule> RuledRecord<P> {
         first: Words,
         enterable: bool,
     ) -> Result<(RuledRecord<P>, RecordPass), LockError>
-        requires version { 1 ≤ limits.versions }
-        requires good { P.holds first }
-        ensures made { IfOk result (λ r. IsHolding limits first r.0 r.1) }
-        ensures enterable { IfOk result (λ r. r.0.enterable ≡ enterable) }
+        requires { MayBegin P.holds limits first }
+        ensures { IfOk result (λ r. IsNew limits (length first) enterable (Some first) r.0 r.1) }
     {
         let width = first.len();
         let row = row_of(first_word(limits.layout()), first.as_slice());
@@ -158,11 +148,7 @@ impl<P: ContentRule> RuledRecord<P> {
             (record { limits = limits; width = length words.now - 1 })
             (opening words.now [] (opening_pass first ∷ [])) }
         requires consistent { IsConsistentWith (length words.now - 1) (opening_pass first) }
-        ensures shape { IfOk result (λ r.
-            r.0.shape ≡ record { limits = limits; width = length words.now - 1 }) }
-        ensures enterable { IfOk result (λ r. r.0.enterable ≡ enterable) }
-        ensures table { IfOk result (λ r. r.1.table ≡ r.0.table) }
-        ensures pass { IfOk result (λ r. r.1.view ≡ opening_pass first) }
+        ensures { IfOk result (λ r. IsNew limits (length words.now - 1) enterable first r.0 r.1) }
     {
         let key = key_of(limits, words.len() - 1, first, enterable);
         match Table::of_words(alloc, words, &key) {

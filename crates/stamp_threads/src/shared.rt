@@ -1,7 +1,7 @@
 //! A book that threads share.
 ghost use Rattle.std.specs.Prelude.{◌≡◌, ◌<◌, IfOk, OnErr, IsTrue};
 ghost use Rattle.stamp_core.specs.Call.{is_lock_call};
-ghost use Rattle.stamp_threads.specs.Book.{with_call, IsBook, IsDue, IsAnswer, IsOfBook};
+ghost use Rattle.stamp_threads.specs.Book.{Acted, IsBook, IsAnswer, IsOfBook};
 
 use crate::book::Book;
 use crate::book_error::BookError;
@@ -48,9 +48,7 @@ impl Shared {
     fn act_on(&self, book: &mut Book, thread: u64, call: &Call) -> Result<Reply, BookError>
         requires lock_call { IsTrue (is_lock_call call.now) }
         requires thread { thread < 64 }
-        ensures due { IsDue book.old call.now result }
-        ensures ok { IfOk result (λ reply. book.new ≡ with_call book.old thread call.now reply) }
-        ensures err { OnErr result (book.new ≡ book.old) }
+        ensures acted { Acted book.old thread call.now result book.new }
         ensures book { IsBook book.old }
     {
         let before = book.word();

@@ -5,8 +5,8 @@ use Rattle.stamp_threads.proofs.running_record.RuledRecord.split_off.Goals as go
 
 pub invariant_of-pass : goal.invariant_of-pass
 invariant_of-pass g c =
-    let words = sym (ap (λ (t : TableId). t.words) c.split-seat.ensures.table.0) in
-    rw c.split-seat.ensures.given (
+    let words = sym (ap (λ (t : TableId). t.words) c.split-seat.ensures.given.0) in
+    rw c.split-seat.ensures.given.1 (
       refl,
       c.pass.invariant.1,
       λ width is. (splits_consistent width _ c.pass.invariant.1
@@ -15,8 +15,8 @@ invariant_of-pass g c =
 
 pub invariant_of-result : goal.invariant_of-result
 invariant_of-result g c =
-    let words = sym (ap (λ (t : TableId). t.words) c.split-seat.ensures.table.1) in
-    rw c.split-seat.ensures.new (
+    let words = sym (ap (λ (t : TableId). t.words) c.split-seat.ensures.new.0) in
+    rw c.split-seat.ensures.new.1 (
       refl,
       c.pass.invariant.1,
       λ width is. (splits_consistent width _ c.pass.invariant.1
@@ -24,5 +24,5 @@ invariant_of-result g c =
     )
 
 pub returns-clause-all_consistent : goal.returns-clause-all_consistent
-returns-clause-all_consistent g c = rw (c.split-seat.ensures.given, c.split-seat.ensures.new)
+returns-clause-all_consistent g c = rw (c.split-seat.ensures.given.1, c.split-seat.ensures.new.1)
     (splits_consistent _ _ c.pass.invariant.1 (c.pass.invariant.2 _ (search rules)))

@@ -1,7 +1,7 @@
 use Rattle.std.proofs.Common.{◌≡◌, ◌<◌, length, arith}
 use Rattle.std.proofs.lemmas.Grind.{common_steps}
 use Rattle.stamp_threads.proofs.BookSteps.{admitted, kept_more}
-use Rattle.stamp_threads.proofs.book.Book.enter.Goals as goal
+use Rattle.stamp_threads.proofs.book.Book.act.Goals as goal
 
 pub step-requires-clause-admitted : goal.step-requires-clause-admitted
 step-requires-clause-admitted c = admitted _ _ c.self.invariant
@@ -13,5 +13,5 @@ invariant_of-self-2 c =
     let room : length c.self.inside.entries.items < c.self.inside.most =
     grind (arith, common_steps) in
     rw (c.in_ok-push.ensures.items, c.entry_at.ensures, here)
-    (kept_more _ c.args.thread c.args.call.now c.self.invariant.book c.requires.lock_call
+    (kept_more _ c.args.thread c.args.call c.self.invariant.book c.requires.lock_call
     c.self.inside.word _ c.requires.thread room c.self.invariant.represented c.in-Some.ensures)
