@@ -75,7 +75,7 @@ arguments_again (PutIf expected words) fits =
     (item_again 1 1 (words_data words) no_items (omega arith) (words_again words fits.1) (no_items_again 1))
 arguments_again _ fits = no_items_again 1
 
-call_again : (c : Call) → CallIsU64 c → ReadsAgain 2 (call_data c)
+pub call_again : (c : Call) → CallIsU64 c → ReadsAgain 2 (call_data c)
 call_again c fits = array_again 1 (item (string (call_name c)) (arguments c))
     (item_again 0 1 (string (call_name c)) (arguments c) (omega arith) (name_again c) (arguments_again c fits))
 
@@ -104,7 +104,7 @@ content_again ws fit =
       utf8 = again.utf8;
     }
 
-reply_again : (r : Reply) → ReplyIsU64 r → ReadsAgain 2 (reply_data r)
+pub reply_again : (r : Reply) → ReplyIsU64 r → ReadsAgain 2 (reply_data r)
 reply_again (Stamp n) fits = shallow (number_data n) (number_again n fits)
 reply_again Yes fits = shallow (string (codes "yes")) (string_again (codes "yes") refl)
 reply_again No fits = shallow (string (codes "no")) (string_again (codes "no") refl)

@@ -5,11 +5,6 @@ use Rattle.stamp_core.specs.Limits.{Bounds, bounds}
 use Rattle.stamp_core.specs.declared.entry.Entry.{Entry}
 use Rattle.stamp_core.specs.declared.layout.Layout.{Layout}
 
--- a record of these parts
-abbrev pub made : Layout → ℕ → ℕ → ℕ → List Entry → List (ℕ × ℕ) → Recorded
-made l readers versions width entries report =
-    record { limits = bounds l readers versions; width = width; entries = entries; report = report }
-
 pub same_limits : (limits : Bounds) (l : Layout) (readers versions : ℕ) → l ≡ limits.layout → readers ≡
     limits.readers → versions ≡ limits.versions → bounds l readers versions ≡ limits
 same_limits limits l readers versions e1 e2 e3 = rw (e1, e2, e3) refl

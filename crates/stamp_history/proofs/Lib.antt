@@ -19,5 +19,7 @@ pub mod PairLengths
 pub mod KnownHistory
 pub mod ReadAgain
 pub mod EntriesReadAgain
+pub mod FieldsFound
+pub mod FieldsReadAgain
 pub mod HistoryAgain
 pub mod HistoryReadsAgain

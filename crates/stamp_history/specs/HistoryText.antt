@@ -98,10 +98,12 @@ after_entries limits width report =
     (member (codes "versions") (number_data limits.versions)
     (member (codes "width") (number_data width) no_members)))))
 
+-- an object of entries and of what comes after them
+abbrev pub with_entries : Data → Bounds → ℕ → List (ℕ × ℕ) → Data
+with_entries entries limits width report = object (member (codes "entries") entries (after_entries limits width report))
+
 abbrev pub history_data : Recorded → Data
-history_data r =
-    object (member (codes "entries") (entries_data r.entries)
-    (after_entries r.limits r.width r.report))
+history_data r = with_entries (entries_data r.entries) r.limits r.width r.report
 
 -- without spaces
 unfoldable pub history_text : Recorded → List ℕ

@@ -98,7 +98,8 @@ fn push_arguments(text: &mut Vec<u8>, call: &Call) -> Result<(), AllocError>
     }
 }
 
-fn push_call(text: &mut Vec<u8>, call: &Call) -> Result<(), AllocError>
+/// Appends a call.
+pub fn push_call(text: &mut Vec<u8>, call: &Call) -> Result<(), AllocError>
     ensures text { OnOk result (text.new.items
         ≡ text.old.items ++ compact_text (call_data call.now)) }
     ensures fits { OnOk result (CallIsU64 call.now) }
@@ -195,8 +196,8 @@ fn push_report(text: &mut Vec<u8>, report: &[(u64, u64)]) -> Result<(), AllocErr
     Ok(())
 }
 
-/// Appends what comes after the entries, and the end of the object.
-pub(crate) fn push_after_entries(
+/// Appends what comes after the entries in the text of a history, and the end of the object.
+pub fn push_after_entries(
     text: &mut Vec<u8>,
     limits: &Limits,
     width: u64,

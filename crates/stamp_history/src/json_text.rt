@@ -1,8 +1,9 @@
 //! JSON values appended to a text.
 
-ghost use Rattle.std.specs.Prelude.{◌≡◌, ◌++◌, OnOk, nat_lt};
+ghost use Rattle.std.specs.Prelude.{◌≡◌, ◌≤◌, ◌++◌, OnOk, length, nat_lt};
 ghost use Rattle.std.specs.List.{All};
 ghost use Rattle.serde_json.specs.Written.{comma_if, compact_text};
+ghost use Rattle.stamp_core.specs.Record.{ReplyFits};
 ghost use Rattle.stamp_history.specs.HistoryLaws.{IsU64, ReplyIsU64};
 ghost use Rattle.stamp_history.specs.ReplayText.{number_data, words_data, reply_data};
 
@@ -11,7 +12,7 @@ use stamp_core::{Reply, Words};
 use std::alloc::AllocError;
 
 /// Appends a piece of text as it is.
-pub(crate) fn push_text(text: &mut Vec<u8>, piece: &str) -> Result<(), AllocError>
+pub fn push_text(text: &mut Vec<u8>, piece: &str) -> Result<(), AllocError>
     ensures { OnOk result (text.new.items ≡ text.old.items ++ piece.now) }
 {
     text.extend_from_slice(piece.as_bytes())
@@ -28,7 +29,7 @@ pub(crate) fn push_number(text: &mut Vec<u8>, number: u64) -> Result<(), AllocEr
 }
 
 /// Appends what stands before the number, and the number.
-pub(crate) fn push_numbered(text: &mut Vec<u8>, before: &str, number: u64) -> Result<(), AllocError>
+pub fn push_numbered(text: &mut Vec<u8>, before: &str, number: u64) -> Result<(), AllocError>
     ensures text { OnOk result (text.new.items
         ≡ text.old.items ++ (before.now ++ compact_text (number_data number))) }
     ensures fits { IsU64 number }
@@ -48,7 +49,7 @@ pub(crate) fn push_comma_if(text: &mut Vec<u8>, is_later: bool) -> Result<(), Al
 }
 
 /// Appends the comma before an item that is not the first.
-pub(crate) fn push_comma(text: &mut Vec<u8>, index: usize) -> Result<(), AllocError>
+pub fn push_comma(text: &mut Vec<u8>, index: usize) -> Result<(), AllocError>
     ensures { OnOk result (text.new.items ≡ text.old.items ++ comma_if (nat_lt 0 index)) }
 {
     push_comma_if(text, index > 0)
@@ -73,7 +74,10 @@ pub(crate) fn push_words(text: &mut Vec<u8>, words: &Words) -> Result<(), AllocE
     ensures text { OnOk result (text.new.items
         ≡ text.old.items ++ compact_text (words_data words.now)) }
     ensures fits { OnOk result (All IsU64 words.now) }
+    ensures some { 1 ≤ length words.now }
+    ensures few { length words.now ≤ 16 }
 {
+    let _count = words.len();
     push_numbers(text, words.as_slice())
 }
 
@@ -89,10 +93,11 @@ fn push_count(text: &mut Vec<u8>, count: u64) -> Result<(), AllocError>
 
 /// Appends the reply.
 #[tactic(auto, unfolding(serde_json::proofs::OnLiterals::serde_json_on_literals))]
-pub(crate) fn push_reply(text: &mut Vec<u8>, reply: &Reply) -> Result<(), AllocError>
+pub fn push_reply(text: &mut Vec<u8>, reply: &Reply) -> Result<(), AllocError>
     ensures text { OnOk result (text.new.items
         ≡ text.old.items ++ compact_text (reply_data reply.now)) }
     ensures fits { OnOk result (ReplyIsU64 reply.now) }
+    ensures words { OnOk result (ReplyFits reply.now) }
 {
     match reply {
         Reply::Stamp(stamp) => push_number(text, *stamp),

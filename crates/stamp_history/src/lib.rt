@@ -1,5 +1,5 @@
 //! Replays, scripts and recorded histories as JSON, and what a replay answered as JSON; and the parts of
-//! which the reading of a history is made, for texts that have them too.
+//! which the reading and the writing of a history are made, for texts that have them too.
 #![tactic(auto)]
 
 mod answer_error;
@@ -33,7 +33,8 @@ pub use history_calls::history_call_of;
 pub use history_entries::reply_of;
 pub use history_fields::{check_format, listed_entries, read_width};
 pub use history_reading::read_history;
-pub use history_writing::write_history;
+pub use history_writing::{push_after_entries, push_call, write_history};
+pub use json_text::{push_comma, push_numbered, push_reply, push_text};
 pub use json_values::{has_keys, has_members, json, whole_under};
 pub use limit_fields::read_limits;
 pub use read_error::ReadError;
