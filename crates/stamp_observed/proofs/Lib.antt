@@ -3,3 +3,5 @@ pub mod Following
 pub mod Seen
 pub mod Known
 pub mod OneFault
+pub mod ObservedParts
+pub mod ReadsAgain

@@ -5,3 +5,5 @@ pub mod Suited
 pub mod ObservedFault
 pub mod ObservedLaws
 pub mod Span
+pub mod ObservedText
+pub mod ObservationFits

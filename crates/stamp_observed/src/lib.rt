@@ -6,7 +6,9 @@ pub mod laws;
 mod observations;
 mod observed_fields;
 mod observed_reading;
+mod observed_writing;
 mod spans;
 
 pub use judging::{Cause, ObservedFault, fault_of};
 pub use observed_reading::read_observed;
+pub use observed_writing::write_observed;
