@@ -12,7 +12,7 @@ use Rattle.stamp_observed.specs.declared.judging.Cause.{Cause}
 use Rattle.stamp_observed.specs.declared.judging.Cause.TheVariants.{Interval, Overlap}
 use Rattle.stamp_observed.specs.declared.judging.ObservedFault.{ObservedFault}
 use Rattle.stamp_observed.specs.ObservedFault.{AreSeen, Breaks, IsFirstFault}
-use Rattle.stamp_observed.specs.ObservedLaws.{FaultsAreExact, OneVerdict}
+use Rattle.stamp_observed.specs.ObservedLaws.{ObservedFaultsAreExact, OneObservedVerdict}
 use Rattle.stamp_observed.proofs.Seen.{more}
 
 seen_take : (es : List Observation) (n : ℕ) → n ≤ length es → AreSeen es → AreSeen (take n es)
@@ -46,7 +46,7 @@ not_with h i cause fault seen =
 within : (h : ObservedHistory) (i : ℕ) (cause : Cause) → IsFirstFault h i cause → i < length h.entries
 within h i cause fault = slice_get_within h.entries i fault.entry fault.is_entry
 
-pub faults_are_exact : FaultsAreExact
+pub faults_are_exact : ObservedFaultsAreExact
 faults_are_exact h i cause fault observed =
     not_with h i cause fault (seen_take h.entries (i + 1) (omega (arith, within h i cause fault))
     (record { intervals = observed.intervals; apart = observed.apart }))
@@ -95,7 +95,7 @@ one_fault h a b x y = by (order a.entry b.entry)
     by (inr (inl gt)) = absurd (not_before h b.entry a.entry b.cause a.cause y x gt)
     by (inr (inr e)) = same a b e (same_place h a.entry b.entry a.cause b.cause x y e)
 
-pub one_verdict : OneVerdict
+pub one_verdict : OneObservedVerdict
 one_verdict h None None x y = refl
 one_verdict h None (Some b) x y = absurd (faults_are_exact h b.entry b.cause y x)
 one_verdict h (Some a) None x y = absurd (faults_are_exact h a.entry a.cause x y)

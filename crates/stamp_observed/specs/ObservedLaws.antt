@@ -6,9 +6,9 @@ use Rattle.stamp_observed.specs.declared.judging.ObservedFault.{ObservedFault}
 use Rattle.stamp_observed.specs.ObservedFault.{IsFirstFault, IsJudged}
 
 -- What has a fault can't have been observed.
-abbrev pub FaultsAreExact : Type 0
-FaultsAreExact = (h : ObservedHistory) (i : ℕ) (cause : Cause) → IsFirstFault h i cause → ¬ IsObserved h
+abbrev pub ObservedFaultsAreExact : Type 0
+ObservedFaultsAreExact = (h : ObservedHistory) (i : ℕ) (cause : Cause) → IsFirstFault h i cause → ¬ IsObserved h
 
 -- Of each observed history there is one verdict at most.
-abbrev pub OneVerdict : Type 0
-OneVerdict = (h : ObservedHistory) (a b : Option ObservedFault) → IsJudged h a → IsJudged h b → a ≡ b
+abbrev pub OneObservedVerdict : Type 0
+OneObservedVerdict = (h : ObservedHistory) (a b : Option ObservedFault) → IsJudged h a → IsJudged h b → a ≡ b

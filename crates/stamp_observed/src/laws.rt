@@ -1,13 +1,13 @@
 //! Laws of the faults of observed histories. Each function does nothing; its contract is the law, over the
 //! definitions alone.
-ghost use Rattle.stamp_observed.specs.ObservedLaws.{FaultsAreExact, OneVerdict};
+ghost use Rattle.stamp_observed.specs.ObservedLaws.{ObservedFaultsAreExact, OneObservedVerdict};
 
 /// What has a fault can't have been observed.
 pub fn faults_are_exact()
-    ensures { FaultsAreExact }
+    ensures { ObservedFaultsAreExact }
 {}
 
 /// There is one verdict at most: `fault_of` answers it.
 pub fn one_verdict()
-    ensures { OneVerdict }
+    ensures { OneObservedVerdict }
 {}
