@@ -1,16 +1,19 @@
 -- Reading items one after the other, as a loop does.
-use Rattle.std.proofs.Common.{◌≡◌, ◌∙◌, ℕ, ◌+◌, List, [], ◌∷◌, ◌++◌, Option, Some, None, Result, Ok}
-use Rattle.std.proofs.Common.{Err, refl, ap, sym, subst, append_assoc}
+use Rattle.std.proofs.Common.{◌≡◌, ◌<◌, ◌∙◌, ℕ, ◌+◌, List, [], ◌∷◌, ◌++◌, Option, Some, None, Result, Ok}
+use Rattle.std.proofs.Common.{Err, length, get_or, drop, refl, ap, sym, subst, append_assoc}
 use Rattle.std.specs.List.{All}
 use Rattle.std.proofs.lemmas.List.Elements.{All-nil, All-cons, All-append}
 use Rattle.stamp_history.specs.declared.read_error.ReadError.{ReadError}
 use Rattle.serde_json.specs.Data.{Data, Items, item}
+use Rattle.serde_json.specs.View.{view, items_view}
+use Rattle.serde_json.specs.declared.value.Value.{Value}
 use Rattle.stamp_core.specs.declared.call.Call.{Call}
 use Rattle.stamp_history.specs.declared.field.Field.TheVariants as part
 use Rattle.stamp_history.specs.declared.read_error.ReadError.TheVariants.{NotScript}
 use Rattle.stamp_history.specs.LockCall.{lock_call}
 use Rattle.stamp_history.specs.Reading.{◌>>=◌, each, kind}
 use Rattle.stamp_history.specs.ReplayFields.{call_at}
+use Rattle.stamp_history.proofs.ItemByItem.{next_left}
 
 -- what was read before, and what is still read
 abbrev pub with_front : {A : Type 0} → List A → Result (List A) ReadError → Result (List A) ReadError
@@ -29,6 +32,20 @@ front_more {A} one front next i d ds x whole read pushed before =
         with_front front (later >>= λ ys. Ok (x ∷ ys))
     moved (Ok ys) = ap Ok (append_assoc front (x ∷ []) ys)
     moved (Err e) = refl
+
+-- the values before value i were read, and these are what they gave
+abbrev pub IsReadTo : {A : Type 0} → (ℕ → Data → Result A ReadError) → List Value → ℕ → List A → Type 0
+IsReadTo one list i front = with_front front (each one i (items_view (drop i list))) ≡ each one 0 (items_view list)
+
+-- one value more was read
+pub read_more : {A : Type 0} (one : ℕ → Data → Result A ReadError) (list : List Value) (i : ℕ) (value : Value)
+    (front next : List A) (x : A) → i < length list → value ≡ get_or list i value → Ok x ≡ one i (view value) → next ≡
+    front ++ x ∷ [] → IsReadTo one list i front → IsReadTo one list (i + 1) next
+read_more one list i value front next x lt here read pushed before =
+    front_more one front next i (view value) (items_view (drop (i + 1) list)) x (each one 0 (items_view list))
+    (sym read) pushed
+    (subst (λ vs. with_front front (each one i (items_view vs)) ≡ each one 0 (items_view list))
+    (next_left list i value value lt here) before)
 
 -- what holds of each, and of one more
 pub All-pushed : {A : Type 0} (P : A → Type 0) (xs : List A) (x : A) (ys : List A) → ys ≡ xs ++ x ∷ [] → All P xs →
