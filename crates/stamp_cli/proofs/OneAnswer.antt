@@ -20,8 +20,8 @@ use Rattle.stamp_cli.specs.declared.orders.Order.{Order}
 use Rattle.stamp_cli.specs.declared.orders.Order.TheVariants as order
 use Rattle.stamp_cli.specs.Answer.{LineView, IsWaitFault, IsReplayAnswer, IsInputAnswer, IsCheckAnswer, IsMigrateAnswer}
 use Rattle.stamp_cli.specs.Answer.{AnswersReplay, AnswersRun, AnswersReportedRun, AnswersCheck, AnswersMigrate}
-use Rattle.stamp_cli.specs.Answer.{IsStampAnswer, IsAccepted, IsAnswer}
-use Rattle.stamp_cli.specs.CheckText.{verdict_text, verdict_of}
+use Rattle.stamp_cli.specs.Answer.{IsStampAnswer, IsAccepted, IsOrderAnswer}
+use Rattle.stamp_cli.specs.CheckText.{check_verdict_text, verdict_of}
 use Rattle.stamp_cli.specs.Source.{most_bytes}
 use Rattle.stamp_cli.specs.StampText.{kind_text}
 use Rattle.stamp_core.proofs.OneStampKind.{one_kind}
@@ -120,7 +120,7 @@ one_check : (r : Result Recorded ReadError) (a b : Result LineView ServeFault) �
     IsCheckAnswer r b → a ≡ b
 one_check (Ok h) (Ok a) (Ok b) x y =
     let same = one_verdict h x.found y.found x.is y.is in
-    ap Ok (same_line a b (x.says ∙ ap verdict_text same ∙ sym y.says) (x.verdict ∙ ap verdict_of same ∙ sym y.verdict))
+    ap Ok (same_line a b (x.says ∙ ap check_verdict_text same ∙ sym y.says) (x.verdict ∙ ap verdict_of same ∙ sym y.verdict))
 one_check (Ok h) (Ok a) (Err e) x y = absurd y
 one_check (Ok h) (Err e) b x y = absurd x
 one_check (Err e) a b x y = x ∙ sym y
@@ -146,8 +146,8 @@ one_text : (IsSo : List ℕ → Result (List ℕ) ServeFault → Type 0) → IsO
     IsAccepted (IsInputAnswer IsSo input) b → a ≡ b
 one_text IsSo once input a b x y = one_accepted (IsInputAnswer IsSo input) (one_to_input IsSo once input) a b x y
 
-pub one_answer : (o : Order) (input : List ℕ) (a b : Result LineView ServeFault) → IsAnswer o input a →
-    IsAnswer o input b → a ≡ b
+pub one_answer : (o : Order) (input : List ℕ) (a b : Result LineView ServeFault) → IsOrderAnswer o input a →
+    IsOrderAnswer o input b → a ≡ b
 one_answer order.Replay input a b x y = one_text AnswersReplay one_to_replay input a b x y
 one_answer order.Run input a b x y = one_text AnswersRun one_to_run input a b x y
 one_answer order.RunReported input a b x y = one_text AnswersReportedRun one_to_reported_run input a b x y

@@ -12,12 +12,12 @@ use Rattle.stamp_cli.specs.declared.faults.ServeFault.{ServeFault}
 use Rattle.stamp_cli.specs.Answer.{IsReplayAnswer, AnswersReplay, UnlessMemory}
 use Rattle.stamp_cli.specs.Refusal.{unanswered}
 
-pub of_text : (found : Result Replay ReadError) (line : List ℕ) → text.IsAnswer found (Ok line) →
+pub of_text : (found : Result Replay ReadError) (line : List ℕ) → text.IsReplayTextAnswer found (Ok line) →
     IsReplayAnswer found (Ok line)
 of_text (Ok replay) line is = is
 of_text (Err e) line is = absurd is
 
-of_fault : (found : Result Replay ReadError) (f : AnswerError) → text.IsAnswer found (Err f) →
+of_fault : (found : Result Replay ReadError) (f : AnswerError) → text.IsReplayTextAnswer found (Err f) →
     IsReplayAnswer found (Err (unanswered f))
 of_fault (Ok replay) (Waits i) is = record { call = i; waits = is; named = refl }
 of_fault (Ok replay) (Refused e) is = absurd is
@@ -25,7 +25,7 @@ of_fault (Err e) f is = ap (λ (g : AnswerError). Err (unanswered g)) is
 
 -- a fault that was passed on
 pub handed_on : (input : List ℕ) (r : Result (Vec ℕ Global) ServeFault) (f : AnswerError) →
-    IsErrAnd r (λ e. e ≡ unanswered f) → (f ≢ Refused read.Memory → text.IsAnswer (replay_of input) (Err f)) →
+    IsErrAnd r (λ e. e ≡ unanswered f) → (f ≢ Refused read.Memory → text.IsReplayTextAnswer (replay_of input) (Err f)) →
     UnlessMemory (AnswersReplay input) r
 handed_on input (Ok line) f handed is = absurd handed
 handed_on input (Err e) f handed is = λ other.

@@ -23,7 +23,7 @@ use Rattle.stamp_cli.specs.declared.orders.Order.TheVariants as order
 use Rattle.stamp_cli.specs.declared.line.Line as made
 use Rattle.stamp_cli.specs.declared.line.Verdict.{Verdict}
 use Rattle.stamp_cli.specs.declared.line.Verdict.TheVariants.{Accepted}
-use Rattle.stamp_cli.specs.CheckText.{verdict_text, verdict_of}
+use Rattle.stamp_cli.specs.CheckText.{check_verdict_text, verdict_of}
 use Rattle.stamp_cli.specs.Refusal.{refusal}
 use Rattle.stamp_cli.specs.Source.{most_bytes, most_reads, most_taken, Reads, ReadsNone}
 use Rattle.stamp_cli.specs.StampText.{IsStampText}
@@ -57,7 +57,7 @@ script_answer record_of (Err e) = Err (refusal e)
 pub record IsJudged (history : Recorded) (line : LineView) : Type 0 where
   pub found : Result ℕ Bad
   pub is : IsVerdict history found
-  pub says : line.text ≡ verdict_text found
+  pub says : line.text ≡ check_verdict_text found
   pub verdict : line.verdict ≡ verdict_of found
 
 -- and if that is a history: its verdict
@@ -112,14 +112,14 @@ IsAccepted IsSo (Ok line) = IsSo (Ok line.text) × (line.verdict ≡ Accepted)
 IsAccepted IsSo (Err fault) = IsSo (Err fault)
 
 -- the answer to an order, without the line feed
-abbrev pub IsAnswer : Order → List ℕ → Result LineView ServeFault → Type 0
-IsAnswer order.Replay input answer = IsAccepted (IsInputAnswer AnswersReplay input) answer
-IsAnswer order.Run input answer = IsAccepted (IsInputAnswer AnswersRun input) answer
-IsAnswer order.RunReported input answer = IsAccepted (IsInputAnswer AnswersReportedRun input) answer
-IsAnswer order.Check input answer = IsInputAnswer AnswersCheck input answer
-IsAnswer order.Migrate input answer = IsAccepted (IsInputAnswer AnswersMigrate input) answer
-IsAnswer (order.Stamp n) input answer = IsAccepted (IsStampAnswer One n) answer
-IsAnswer (order.StampIn layout n) input answer = IsAccepted (IsStampAnswer layout n) answer
+abbrev pub IsOrderAnswer : Order → List ℕ → Result LineView ServeFault → Type 0
+IsOrderAnswer order.Replay input answer = IsAccepted (IsInputAnswer AnswersReplay input) answer
+IsOrderAnswer order.Run input answer = IsAccepted (IsInputAnswer AnswersRun input) answer
+IsOrderAnswer order.RunReported input answer = IsAccepted (IsInputAnswer AnswersReportedRun input) answer
+IsOrderAnswer order.Check input answer = IsInputAnswer AnswersCheck input answer
+IsOrderAnswer order.Migrate input answer = IsAccepted (IsInputAnswer AnswersMigrate input) answer
+IsOrderAnswer (order.Stamp n) input answer = IsAccepted (IsStampAnswer One n) answer
+IsOrderAnswer (order.StampIn layout n) input answer = IsAccepted (IsStampAnswer layout n) answer
 
 -- input is what an order reads of a source
 abbrev pub IsRead : Order → Option (List ℕ) → Option (List ℕ) → List ℕ → Type 0
@@ -157,7 +157,7 @@ pub record Answers (order : Order) (old new : Option (List ℕ)) (taken : ℕ) (
   pub input : List ℕ
   pub reads : IsRead order old new input
   pub whole : length input ≡ taken
-  pub is : IsAnswer order input answer
+  pub is : IsOrderAnswer order input answer
 
 -- memory aside, the fact holds of what a function returned
 abbrev pub UnlessMemory : (Result (List ℕ) ServeFault → Type 0) → Result (Vec ℕ Global) ServeFault → Type 0

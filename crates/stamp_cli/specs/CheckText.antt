@@ -18,9 +18,9 @@ ok_text n = codes "ok " ++ decimal n
 abbrev pub bad_text : Bad → List ℕ
 bad_text bad = codes "bad " ++ decimal bad.entry ++ codes " " ++ why_text bad.why
 
-abbrev pub verdict_text : Result ℕ Bad → List ℕ
-verdict_text (Ok n) = ok_text n
-verdict_text (Err bad) = bad_text bad
+abbrev pub check_verdict_text : Result ℕ Bad → List ℕ
+check_verdict_text (Ok n) = ok_text n
+check_verdict_text (Err bad) = bad_text bad
 
 abbrev pub verdict_of : Result ℕ Bad → Verdict
 verdict_of (Ok n) = verdict.Accepted

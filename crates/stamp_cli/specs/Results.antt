@@ -1,11 +1,12 @@
 -- The results of a call's reads or writes. A source keeps those of all its reads, and a sink of its writes.
 use Rattle.std.specs.Prelude.{ℕ, ◌+◌, ◌-◌, ◌≡◌, ◌↔◌, ◌⊎◌, ◌≤◌, ◌++◌, List, [], ◌∷◌, length, take, drop, sum_by, All}
-use Rattle.std.specs.Prelude.{Bool, true, false, not, Result, Ok, Err, IfOk, is_err}
+use Rattle.std.specs.Prelude.{Bool, true, false, not, Result, Ok, Err, IfOk, IfErr, is_err, Vec}
 use Rattle.std.specs.List.{list_any}
+use Rattle.std.specs.declared.alloc.Global.{Global}
 use Rattle.std.specs.declared.io.Error.{Error}
 use Rattle.stamp_cli.specs.TakesNone.{takes_none}
 use Rattle.stamp_cli.specs.declared.faults.ServeFault.{ServeFault}
-use Rattle.stamp_cli.specs.declared.faults.ServeFault.TheVariants.{ReadFault}
+use Rattle.stamp_cli.specs.declared.faults.ServeFault.TheVariants.{ReadFault, Memory}
 
 -- the first one first
 abbrev pub Results : Type 0
@@ -51,6 +52,18 @@ LastTakesNone old new = (earlier : Results) × (drop (length old) new ≡ earlie
 -- those that were made since went to the end: the last one took no byte, or together they took the most that they may
 abbrev pub ReadsToTheEnd : Results → Results → ℕ → Type 0
 ReadsToTheEnd old new most = LastTakesNone old new ⊎ (taken_since old new ≡ most)
+
+-- it ended in the fault of reading exactly where a read failed
+abbrev pub FailsWithARead : {A E : Type 0} → E → Results → Results → Result A E → Type 0
+FailsWithARead read_fault old new result = (result ≡ Err read_fault) ↔ (any_since is_err old new ≡ true)
+
+-- what was read of an input, if it was, is all that the reads took
+abbrev pub GivesAllTaken : Results → Results → Result (Vec ℕ Global) ServeFault → Type 0
+GivesAllTaken old new result = IfOk result (λ input. length input.items ≡ taken_since old new)
+
+-- no other fault than these two ends the reading of an input
+abbrev pub IsReadOrMemoryFault : {A : Type 0} → Result A ServeFault → Type 0
+IsReadOrMemoryFault result = IfErr result (λ e. (e ≡ ReadFault) ⊎ (e ≡ Memory))
 
 -- one read was made; an input, whose length is given, has room for what it took, and grew by it
 pub record ReadsOnce (old new : Results) (room before after : ℕ) (more : Result Bool ServeFault) : Type 0 where

@@ -1,7 +1,7 @@
 -- What a command did to its source and to its sink. The faults of its ends are given: a command may have its own.
-use Rattle.std.specs.Prelude.{◌≡◌, ◌≢◌, ◌↔◌, ℕ, true, List, Option, Result, Err, IfErr, is_err}
+use Rattle.std.specs.Prelude.{◌≡◌, ◌≢◌, ◌↔◌, ℕ, true, List, Option, Result, Err, IfErr}
 use Rattle.std.specs.Io.KnownBytes.{Keeps}
-use Rattle.stamp_cli.specs.Results.{Results, MakesAtMost, ReadsToTheEnd, any_since}
+use Rattle.stamp_cli.specs.Results.{Results, MakesAtMost, FailsWithARead, ReadsToTheEnd, any_since}
 use Rattle.stamp_cli.specs.Source.{TakesAtMost}
 use Rattle.stamp_cli.specs.TakesNone.{takes_none}
 
@@ -13,7 +13,7 @@ pub record HasRead {A E : Type 0} (read_fault memory : E) (left left' : Option (
   pub reads : MakesAtMost old new most bytes
   pub took : TakesAtMost left left' bytes
   pub ends : result ≢ Err read_fault → result ≢ Err memory → ReadsToTheEnd old new bytes
-  pub failed : (result ≡ Err read_fault) ↔ (any_since is_err old new ≡ true)
+  pub failed : FailsWithARead read_fault old new result
 
 -- it ended in the fault of writing exactly where a write failed or took no byte, and in no other where it wrote
 pub record HasWritten {A E : Type 0} (write_fault : E) (sent sent' : Option (List ℕ)) (old new : Results)

@@ -1,13 +1,13 @@
 //! The line that answers an order.
 
-ghost use Rattle.std.specs.Prelude.{◌≡◌, ◌≢◌, ◌↔◌, ◌⊎◌, ◌+◌, ◌<◌, ◌≤◌, length, true, false};
-ghost use Rattle.std.specs.Prelude.{IfOk, IfErr, OnOk, Ok, Err, is_err};
+ghost use Rattle.std.specs.Prelude.{◌≡◌, ◌≢◌, ◌<◌, ◌≤◌, length, false};
+ghost use Rattle.std.specs.Prelude.{IfOk, IfErr, OnOk, Ok, Err};
 ghost use Rattle.stamp_cli.specs.Refusal.{is_of_end};
 ghost use Rattle.stamp_cli.specs.Serving.{HasRead};
-ghost use Rattle.stamp_cli.specs.Results.{MakesAtMost, ReadsToTheEnd, any_since, taken_since};
+ghost use Rattle.stamp_cli.specs.Results.{FailsWithARead, GivesAllTaken, IsReadOrMemoryFault, MakesAtMost, ReadsToTheEnd, taken_since};
 ghost use Rattle.stamp_cli.specs.Source.{TakesAtMost, most_bytes};
 ghost use Rattle.stamp_cli.specs.Answer.{Answers, AnswersCheck, AnswersMigrate, AnswersReplay, AnswersReportedRun, AnswersRun};
-ghost use Rattle.stamp_cli.specs.Answer.{IsAnswer, IsInputAnswer, IsRead, LineUnlessMemory, UnlessMemory, line_in, most_reads_of, most_taken_of};
+ghost use Rattle.stamp_cli.specs.Answer.{IsOrderAnswer, IsInputAnswer, IsRead, LineUnlessMemory, UnlessMemory, line_in, most_reads_of, most_taken_of};
 
 use crate::check_text::verdict_line;
 use crate::faults::ServeFault;
@@ -94,11 +94,10 @@ fn input_of<S: Source>(alloc: Global, order: Order, source: &mut S) -> Result<Ve
     ensures reads { MakesAtMost (S.reads source.old) (S.reads source.new) (most_reads_of order) (most_taken_of order) }
     ensures took { TakesAtMost (S.left source.old) (S.left source.new) (most_taken_of order) }
     ensures read { IfOk result (λ input. IsRead order (S.left source.old) (S.left source.new) input.items) }
-    ensures whole { IfOk result (λ input. length input.items ≡ taken_since (S.reads source.old) (S.reads source.new)) }
+    ensures whole { GivesAllTaken (S.reads source.old) (S.reads source.new) result }
     ensures ends { OnOk result (ReadsToTheEnd (S.reads source.old) (S.reads source.new) (most_taken_of order)) }
-    ensures failed { (result ≡ Err ServeFault.ReadFault)
-        ↔ (any_since is_err (S.reads source.old) (S.reads source.new) ≡ true) }
-    ensures only { IfErr result (λ e. (e ≡ ServeFault.ReadFault) ⊎ (e ≡ ServeFault.Memory)) }
+    ensures failed { FailsWithARead ServeFault.ReadFault (S.reads source.old) (S.reads source.new) result }
+    ensures only { IsReadOrMemoryFault result }
 {
     match order {
         Order::Stamp(_) | Order::StampIn(_, _) => Ok(Vec::new(alloc)),
@@ -110,7 +109,7 @@ fn input_of<S: Source>(alloc: Global, order: Order, source: &mut S) -> Result<Ve
 
 /// The line that answers the order on what it read.
 fn line_on(alloc: Global, order: Order, input: &[u8]) -> Result<Line, ServeFault>
-    ensures answer { LineUnlessMemory (IsAnswer order input.now) result }
+    ensures answer { LineUnlessMemory (IsOrderAnswer order input.now) result }
     ensures inner { IfErr result (λ e. is_of_end e ≡ false) }
 {
     match order {

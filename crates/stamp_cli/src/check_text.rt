@@ -1,7 +1,7 @@
 //! The verdict on a history, in words.
 
 ghost use Rattle.std.specs.Prelude.{◌≡◌, Some, Ok, Err, IfOk};
-ghost use Rattle.stamp_cli.specs.CheckText.{why_text, bad_text, ok_text, verdict_text, verdict_of};
+ghost use Rattle.stamp_cli.specs.CheckText.{why_text, bad_text, ok_text, check_verdict_text, verdict_of};
 
 use crate::line::{Line, Verdict, accepted};
 use stamp_history::{Bad, Why};
@@ -48,7 +48,7 @@ impl fmt::Display for BadText {
 
 /// The line of a verdict.
 pub(crate) fn verdict_line(alloc: Global, found: Result<u64, Bad>) -> Result<Line, AllocError>
-    ensures text { IfOk result (λ line. line.text.items ≡ verdict_text found) }
+    ensures text { IfOk result (λ line. line.text.items ≡ check_verdict_text found) }
     ensures verdict { IfOk result (λ line. line.verdict ≡ verdict_of found) }
 {
     match found {

@@ -1,8 +1,8 @@
 //! The input of a command, read to its end.
 
-ghost use Rattle.std.specs.Prelude.{◌≡◌, ◌↔◌, ◌⊎◌, ◌-◌, ◌<◌, ◌≤◌, length, vec_len, true};
-ghost use Rattle.std.specs.Prelude.{IfOk, IfErr, OnOk, Err, is_err};
-ghost use Rattle.stamp_cli.specs.Results.{MakesAtMost, ReadsOnce, ReadsToTheEnd, any_since, taken_since};
+ghost use Rattle.std.specs.Prelude.{◌≡◌, ◌-◌, ◌<◌, ◌≤◌, length, vec_len};
+ghost use Rattle.std.specs.Prelude.{IfOk, OnOk};
+ghost use Rattle.stamp_cli.specs.Results.{FailsWithARead, GivesAllTaken, IsReadOrMemoryFault, MakesAtMost, ReadsOnce, ReadsToTheEnd};
 ghost use Rattle.stamp_cli.specs.Source.{most_bytes, most_reads, most_taken, Reads, ReadsMore, TakesAtMost};
 
 use crate::faults::ServeFault;
@@ -34,7 +34,7 @@ fn read_more<S: Source>(
     ensures more { IfOk result (λ more. ReadsMore (S.left source.old) (S.left source.new)
         input.old.items input.new.items more) }
     ensures took { TakesAtMost (S.left source.old) (S.left source.new) (most_taken - vec_len input.old) }
-    ensures only { IfErr result (λ e. (e ≡ ServeFault.ReadFault) ⊎ (e ≡ ServeFault.Memory)) }
+    ensures only { IsReadOrMemoryFault result }
 {
     let room = chunk.len().min(MOST_BYTES + 1 - input.len());
     let Ok(taken) = source.read(&mut chunk[..room]) else {
@@ -50,11 +50,10 @@ pub fn read_input<S: Source>(alloc: Global, source: &mut S) -> Result<Vec<u8>, S
     ensures reads { MakesAtMost (S.reads source.old) (S.reads source.new) most_reads most_taken }
     ensures took { TakesAtMost (S.left source.old) (S.left source.new) most_taken }
     ensures read { IfOk result (λ input. Reads (S.left source.old) (S.left source.new) input.items) }
-    ensures whole { IfOk result (λ input. length input.items ≡ taken_since (S.reads source.old) (S.reads source.new)) }
+    ensures whole { GivesAllTaken (S.reads source.old) (S.reads source.new) result }
     ensures ends { OnOk result (ReadsToTheEnd (S.reads source.old) (S.reads source.new) most_taken) }
-    ensures failed { (result ≡ Err ServeFault.ReadFault)
-        ↔ (any_since is_err (S.reads source.old) (S.reads source.new) ≡ true) }
-    ensures only { IfErr result (λ e. (e ≡ ServeFault.ReadFault) ⊎ (e ≡ ServeFault.Memory)) }
+    ensures failed { FailsWithARead ServeFault.ReadFault (S.reads source.old) (S.reads source.new) result }
+    ensures only { IsReadOrMemoryFault result }
 {
     let mut input = Vec::new(alloc);
     let mut chunk = zeros(alloc, CHUNK)?;

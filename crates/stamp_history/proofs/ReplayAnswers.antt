@@ -8,7 +8,7 @@ use Rattle.stamp_core.specs.Replayed.{IsReplayed}
 use Rattle.stamp_core.specs.declared.reply.Reply.{Reply}
 use Rattle.stamp_history.specs.Replay.{Replay, replay_of}
 use Rattle.stamp_history.specs.ReplayText.{replayed_data, replayed_text}
-use Rattle.stamp_history.specs.ReplayAnswer.{IsAnswer, Answers, RepliesTo}
+use Rattle.stamp_history.specs.ReplayAnswer.{IsReplayTextAnswer, Answers, RepliesTo}
 use Rattle.stamp_history.specs.declared.read_error.ReadError.{ReadError}
 use Rattle.stamp_history.specs.declared.read_error.ReadError.TheVariants.{Memory}
 use Rattle.stamp_history.specs.declared.answer_error.AnswerError.{AnswerError}
@@ -18,7 +18,7 @@ use Rattle.stamp_history.specs.declared.answer_error.AnswerError.TheVariants.{Re
 pub answered : (bytes : List ℕ) (replay : Replay) → replay_of bytes ≡ Ok replay →
     (replies : List Reply) (word : LockWord) → IsReplayed replay.limits replay.calls replies word → (number : ℕ) →
     number ≡ word.bits → {text : List ℕ} → text ≡ compact_text (replayed_data replies number) →
-    IsAnswer (replay_of bytes) (Ok text)
+    IsReplayTextAnswer (replay_of bytes) (Ok text)
 unfolding replayed_text
 answered bytes replay reading replies word replayed number bits {text} is =
     rw reading (record {
@@ -45,6 +45,6 @@ waited bytes replay old new (Err g) f reading handed replies =
     subst (λ (h : AnswerError). Answers bytes (Err h)) (sym handed) (λ other. by f other replies)
   where
     by : (h : AnswerError) → h ≢ Refused Memory → RepliesTo replay.limits replay.calls old new (Err h) →
-        IsAnswer (replay_of bytes) (Err h)
+        IsReplayTextAnswer (replay_of bytes) (Err h)
     by (Waits i) other waits = rw reading waits
     by (Refused e) other memory = absurd (other (ap Refused memory))

@@ -22,17 +22,17 @@ pub record IsReplayedText (replay : Replay) (text : List ℕ) : Type 0 where
   pub is : text ≡ replayed_text replies word.bits
 
 -- the answer to a reading: the text of the replies, the call that waits, or the reading's refusal
-abbrev pub IsAnswer : Result Replay ReadError → Result (List ℕ) AnswerError → Type 0
-IsAnswer (Ok replay) (Ok text) = IsReplayedText replay text
-IsAnswer (Ok replay) (Err (Waits i)) = WaitsAt replay.limits replay.calls i
-IsAnswer (Ok replay) (Err (Refused e)) = ⊥
-IsAnswer (Err e) (Ok text) = ⊥
-IsAnswer (Err e) (Err fault) = fault ≡ Refused e
+abbrev pub IsReplayTextAnswer : Result Replay ReadError → Result (List ℕ) AnswerError → Type 0
+IsReplayTextAnswer (Ok replay) (Ok text) = IsReplayedText replay text
+IsReplayTextAnswer (Ok replay) (Err (Waits i)) = WaitsAt replay.limits replay.calls i
+IsReplayTextAnswer (Ok replay) (Err (Refused e)) = ⊥
+IsReplayTextAnswer (Err e) (Ok text) = ⊥
+IsReplayTextAnswer (Err e) (Err fault) = fault ≡ Refused e
 
 -- memory aside
 abbrev pub Answers : List ℕ → Result (Vec ℕ Global) AnswerError → Type 0
-Answers bytes (Ok text) = IsAnswer (replay_of bytes) (Ok text.items)
-Answers bytes (Err fault) = fault ≢ Refused Memory → IsAnswer (replay_of bytes) (Err fault)
+Answers bytes (Ok text) = IsReplayTextAnswer (replay_of bytes) (Ok text.items)
+Answers bytes (Err fault) = fault ≢ Refused Memory → IsReplayTextAnswer (replay_of bytes) (Err fault)
 
 -- to calls: the list of the replies, appended to a text, and the word; or the call that waits
 abbrev pub RepliesTo : Bounds → List Call → List ℕ → List ℕ → Result LockWord AnswerError → Type 0
