@@ -11,3 +11,4 @@ mod walk;
 
 pub use checking::{Bad, Why, check};
 pub use migration::{BadReply, migrate};
+pub use walk::first_content;

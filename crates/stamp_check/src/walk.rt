@@ -38,8 +38,8 @@ fn is_above(before: Option<u64>, n: u64) -> bool
     }
 }
 
-/// Zeros; one of them where there is no record.
-pub(crate) fn first_content(width: u64) -> Words
+/// What a record of this width holds at first: zeros. Where there is no record it is one zero.
+pub fn first_content(width: u64) -> Words
     ensures { 0 < width → width ≤ 16 → result ≡ zeros width }
 {
     if width == 0 || width > 16 {

@@ -1,6 +1,6 @@
 //! Lock and record, taken through the entries of a history.
-ghost use Rattle.std.specs.Prelude.{◌≡◌, ◌≤◌, ◌<◌, [], ◌++◌, ◌∷◌, List, ℕ, IsTrue, ◌==◌, if◌then◌else◌, Some, None};
-ghost use Rattle.stamp_core.specs.Content.{zeros, content_next, RecordReplies};
+ghost use Rattle.std.specs.Prelude.{◌≡◌, ◌≤◌, [], ◌++◌, ◌∷◌, List, ℕ, IsTrue, ◌==◌, if◌then◌else◌, Some, None};
+ghost use Rattle.stamp_core.specs.Content.{content_next, RecordReplies};
 ghost use Rattle.stamp_core.specs.Call.{is_lock_call, call_suits};
 ghost use Rattle.stamp_core.specs.Word.{IsAdmitted};
 ghost use Rattle.stamp_core.specs.declared.entry.Entry.{Entry};
@@ -9,6 +9,7 @@ ghost use Rattle.stamp_picture.specs.Due.{IsDue, ContentAnswers};
 ghost use Rattle.stamp_picture.specs.Track.{IsTrack, Advances, Shows, Answers};
 
 use crate::state::{Mode, State};
+use stamp_check::first_content;
 use stamp_core::{Call, Entry, Limits, Reply, Word, Words, step};
 
 /// The lock and the record after some entries.
@@ -18,16 +19,6 @@ pub(crate) struct Track {
     pub(crate) word: Word,
     /// What the record holds. Without a record it is one zero, which nothing reads.
     pub(crate) content: Words,
-}
-
-fn first_content(width: u64) -> Words
-    ensures { 0 < width → width ≤ 16 → result ≡ zeros width }
-{
-    if width == 0 || width > 16 {
-        Words::zeros(1)
-    } else {
-        Words::zeros(width as usize)
-    }
 }
 
 fn next_content(content: &Words, entry: &Entry) -> Words
