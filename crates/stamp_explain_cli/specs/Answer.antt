@@ -38,12 +38,9 @@ IsExplainAnswer most (Ok h) (Ok told) = IsTold h most told
 IsExplainAnswer most (Ok h) (Err fault) = ⊥
 IsExplainAnswer most (Err e) answer = answer ≡ Err (refusal e)
 
+-- without the line feed
 abbrev pub AnswersExplain : ℕ → List ℕ → Result ToldView ServeFault → Type 0
 AnswersExplain most input answer = IsExplainAnswer most (observed_of input) answer
-
--- the answer to an input, without the line feed
-abbrev pub IsAnswer : ℕ → List ℕ → Result ToldView ServeFault → Type 0
-IsAnswer most input answer = IsInputAnswer (AnswersExplain most) input answer
 
 -- a source was read as input, by reads that took this many bytes, and this is the answer to all of them
 pub record Answers (most : ℕ) (old new : Option (List ℕ)) (taken : ℕ) (answer : Result ToldView ServeFault) :
@@ -51,7 +48,7 @@ pub record Answers (most : ℕ) (old new : Option (List ℕ)) (taken : ℕ) (ans
   pub input : List ℕ
   pub reads : Reads old new input
   pub whole : length input ≡ taken
-  pub is : IsAnswer most input answer
+  pub is : IsInputAnswer (AnswersExplain most) input answer
 
 -- memory aside, the fact holds of what a function returned
 abbrev pub ToldUnlessMemory : (Result ToldView ServeFault → Type 0) → Result made.Told ServeFault → Type 0

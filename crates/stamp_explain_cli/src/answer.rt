@@ -1,11 +1,12 @@
 //! The line that answers an observed history, and what is said of it.
 
 ghost use Rattle.std.specs.Prelude.{◌≡◌, ◌≢◌, false, IfOk, IfErr, Ok, Err};
+ghost use Rattle.stamp_cli.specs.Answer.{IsInputAnswer};
 ghost use Rattle.stamp_cli.specs.Refusal.{is_of_end};
 ghost use Rattle.stamp_cli.specs.Results.{taken_since};
 ghost use Rattle.stamp_cli.specs.Serving.{HasRead};
 ghost use Rattle.stamp_cli.specs.Source.{most_reads, most_taken};
-ghost use Rattle.stamp_explain_cli.specs.Answer.{Answers, IsAnswer, ToldUnlessMemory, told_in};
+ghost use Rattle.stamp_explain_cli.specs.Answer.{Answers, AnswersExplain, ToldUnlessMemory, told_in};
 
 use crate::finding::finding_of;
 use crate::finding_text::line_of_finding;
@@ -36,7 +37,7 @@ pub(crate) struct Told {
 /// The line that answers what was read, and what is said of it.
 #[tactic(auto, using(stamp_cli::proofs::Refusals::inner))]
 fn told_on(alloc: Global, most: u64, input: &[u8]) -> Result<Told, ServeFault>
-    ensures answer { ToldUnlessMemory (IsAnswer most input.now) result }
+    ensures answer { ToldUnlessMemory (IsInputAnswer (AnswersExplain most) input.now) result }
     ensures inner { IfErr result (λ e. is_of_end e ≡ false) }
 {
     let observed = read_observed(alloc, within(input)?)?;

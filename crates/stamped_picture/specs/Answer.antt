@@ -60,7 +60,7 @@ IsUndrawn window history (TooMany n) = IsCrowded history window n
 IsUndrawn window history (Serve fault) = ⊥
 
 -- the input is a history, and this is its picture
-pub record IsAnswer (style : List ℕ) (order : PictureOrder) (input : List ℕ) (drawing : DrawingView) : Type 0 where
+pub record IsPictureAnswer (style : List ℕ) (order : PictureOrder) (input : List ℕ) (drawing : DrawingView) : Type 0 where
   pub within : length input ≤ most_bytes
   pub history : Recorded
   pub read : history_of input ≡ Ok history
@@ -80,7 +80,7 @@ IsRefused window input (TooMany n) = IsTooMany window input n
 
 -- the answer to an input
 abbrev pub IsAnswered : List ℕ → PictureOrder → List ℕ → Result DrawingView PictureFault → Type 0
-IsAnswered style order input (Ok drawing) = IsAnswer style order input drawing
+IsAnswered style order input (Ok drawing) = IsPictureAnswer style order input drawing
 IsAnswered style order input (Err fault) = IsRefused order.window input fault
 
 -- a source was read as input, by reads that took this many bytes, and this is the answer to all of them

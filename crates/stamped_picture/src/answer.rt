@@ -8,7 +8,7 @@ ghost use Rattle.stamp_cli.specs.Source.{most_reads, most_taken};
 ghost use Rattle.stamp_cli.specs.declared.faults.ServeFault.TheVariants.{Memory, ReadFault, WriteFault};
 ghost use Rattle.stamped_picture.specs.declared.faults.PictureFault.TheVariants.{Serve};
 ghost use Rattle.stamped_picture.specs.Answer.{IsSvg, IsDrawnAs, IsDrawnText, IsUndrawn};
-ghost use Rattle.stamped_picture.specs.Answer.{Answers, IsAnswer, IsRefused, drawing_in, is_of_end, verdict_in};
+ghost use Rattle.stamped_picture.specs.Answer.{Answers, IsPictureAnswer, IsRefused, drawing_in, is_of_end, verdict_in};
 
 use crate::faults::PictureFault;
 use crate::orders::{Form, PictureOrder};
@@ -91,7 +91,7 @@ fn answer(
     style: &str,
     input: &[u8],
 ) -> Result<Drawing, PictureFault>
-    ensures drawn { IfOk result (λ drawing. IsAnswer style.now order input.now (drawing_in drawing)) }
+    ensures drawn { IfOk result (λ drawing. IsPictureAnswer style.now order input.now (drawing_in drawing)) }
     ensures refused { IfErr result (λ e. e ≢ Serve Memory → IsRefused order.window input.now e) }
     ensures inner { IfErr result (λ e. is_of_end e ≡ false) }
 {
