@@ -5,3 +5,5 @@
 mod fault_tests;
 #[cfg(test)]
 mod reading_tests;
+#[cfg(test)]
+mod writing_tests;
