@@ -302,6 +302,7 @@ timeline_alike h g i timeline is timelines = record {
       record {
         each = λ j has. open_alike h g i timeline.returns.items k j is (o.each j has);
         whole = λ j it. o.whole j (open_alike g h i timeline.returns.items k j (turned h g i is) it);
+        in_order = o.in_order;
       };
 }
 

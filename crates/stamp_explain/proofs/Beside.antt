@@ -25,13 +25,15 @@ use Rattle.stamp_explain.specs.declared.node.Step.{Step}
 use Rattle.stamp_explain.specs.declared.store.Store.{Store}
 use Rattle.stamp_explain.specs.declared.asking.Asking.{Asking}
 use Rattle.stamp_explain.specs.Observed.{ObservedHistory, IsObserved, IsBefore, MayReply, AreOfOneObject}
-use Rattle.stamp_explain.specs.Observer.{observes_at, observes_in}
+use Rattle.stamp_explain.specs.Observer.{asks_at, asks_in, observes_at, observes_in}
 use Rattle.stamp_explain.specs.Search.{LockState, LockSteps, IsReturnAt, after_call}
 use Rattle.stamp_explain.specs.Configuration.{Configuration, ReachesMoreBeside}
 use Rattle.stamp_explain.specs.Node.{IsReached, IsAt, HasGone, IsOpening}
 use Rattle.stamp_explain.specs.Timeline.{AreOpen, IsAwaitedAt}
 use Rattle.stamp_explain.specs.Node.{ClearsBit}
 use Rattle.stamp_explain.specs.Expand.{Suffice, LeadsBy, Took, IsNotInEffect, IsTakenTo, Enters, nodes_of}
+use Rattle.stamp_explain.specs.Expand.{IsChoiceOf, IsNoChoice}
+use Rattle.stamp_explain.specs.Expand.IsNoChoice.{of_other, questions, comes_later, stays}
 use Rattle.stamp_explain.specs.Possible.{without_return, answering}
 use Rattle.stamp_explain.specs.Asking.{Adds, AreAsked, AreLed, AreMore, AreReplies, Gets, GetsMore}
 use Rattle.stamp_explain.specs.Asking.{IsAnswered, IsAsking, IsReachedBeside, LeadsBeside, NoneIsAtOnceBeside}
@@ -50,7 +52,8 @@ use Rattle.stamp_explain.proofs.Exploring.{Searches, searches_first, searches_mo
 use Rattle.stamp_explain.proofs.Exploring.{named, contains_at}
 use Rattle.stamp_explain.proofs.Succeeding.{Awaits, Tries, awaited_at, past_of, leads_past, suffices_past}
 use Rattle.stamp_explain.proofs.Succeeding.{leads_at_once, suffices_at_once, suffice_open}
-use Rattle.stamp_explain.proofs.Succeeding.{none_tried, tried_none, tried_some, tried_other, tried_later, took_leads}
+use Rattle.stamp_explain.proofs.Succeeding.{NoneOfFirst, none_tried, tried_none, tried_some, tried_other, tried_later}
+use Rattle.stamp_explain.proofs.Succeeding.{tried_question, choice_leads}
 
 abbrev pub is_begun : ℕ → Observation → Bool
 is_begun last e = not (nat_lt last e.first)
@@ -171,15 +174,18 @@ took_other asking node i w a awaits reached took other same =
     took.takes a reached.state reached.taken (awaited_at asking.seen asking.timeline node a awaits) reached.stands in
     other (sym to.index ∙ same_Some to.effect.index asking.place (sym to.took ∙ same))
 
-pub at_once_leads : (asking : Asking) (node : Node) (a : Observation) (i : ℕ) (w : Next) →
-    Awaits asking.seen asking.timeline node a → IsReached asking.seen (Some asking.place) asking.timeline.returns.items
-    node →
-    bit_at node.threads a.thread ≢ 1 → observes_at asking.seen.entries i ≡ true →
-    Took asking.seen asking.timeline.returns.items node i (Some w) → i ≢ asking.place → LeadsBeside asking node w
-at_once_leads asking node a i w awaits reached bit observes took other = record {
-  leads = leads_at_once asking.seen (Some asking.place) asking.timeline node a i w awaits bit observes
-      (λ same. other (sym (same_Some asking.place i same))) took;
-  other = took_other asking node i w a awaits reached took other;
+pub at_once_leads : (asking : Asking) (node : Node) (a : Observation) (calls : List ℕ) (k : ℕ) (w : Next) →
+    Awaits asking.seen asking.timeline node a →
+    IsReached asking.seen (Some asking.place) asking.timeline.returns.items node →
+    bit_at node.threads a.thread ≢ 1 → AreOpen asking.seen asking.timeline.returns.items node.past calls →
+    NoneOfFirst asking.seen (Some asking.place) asking.timeline.returns.items node calls k → k < length calls →
+    observes_at asking.seen.entries (get_or calls k 0) ≡ true →
+    Took asking.seen asking.timeline.returns.items node (get_or calls k 0) (Some w) →
+    get_or calls k 0 ≢ asking.place → LeadsBeside asking node w
+at_once_leads asking node a calls k w awaits reached bit are before inside observes took other = record {
+  leads = leads_at_once asking.seen (Some asking.place) asking.timeline node a calls k w awaits bit are before inside
+      observes (λ same. other (sym (same_Some asking.place (get_or calls k 0) same))) took;
+  other = took_other asking node (get_or calls k 0) w a awaits reached took other;
 }
 
 pub at_once_suffices : (asking : Asking) (node : Node) (a : Observation) (i : ℕ) (w : Next) → IsAsking asking →
@@ -311,29 +317,60 @@ beside_other asking node calls k nexts is more other = record {
       other it.awaited it.entry it.is_awaited it.is_entry (it.objects.1 alike));
 }
 
+-- a question that is under way is one with each reply of the call that is asked
+beside_question : (asking : Asking) (node : Node) (calls : List ℕ) (k : ℕ) (nexts : List Next) →
+    TriesBeside asking node calls k nexts → k < length calls →
+    get_or calls (length calls - 1 - k) 0 ≢ asking.place →
+    asks_at asking.seen.entries (get_or calls (length calls - 1 - k) 0) ≡ true →
+    TriesBeside asking node calls (k + 1) nexts
+beside_question asking node calls k nexts is more other question = record {
+  led = is.led;
+  tries = λ reply h answered none. tried_question h (Some asking.place) asking.timeline.returns.items node calls k
+      nexts (is.tries reply h answered none) more (λ e at. ap asks_in (sym (other_there h asking.seen asking.place
+      (get_or calls (length calls - 1 - k) 0) e
+      (turned asking.seen h asking.place (alike_of asking reply h answered)) other at)) ∙ question);
+}
+
+-- a call that is no choice leads to no node
+pub beside_not : (asking : Asking) (node : Node) (calls : List ℕ) (k : ℕ) (nexts : List Next) (awaited : ℕ) →
+    TriesBeside asking node calls k nexts → k < length calls →
+    get_or calls (length calls - 1 - k) 0 ≢ asking.place →
+    ((a : Observation) → IsAwaitedAt asking.seen asking.timeline.returns.items node.past a →
+    slice_get asking.seen.entries awaited ≡ Some a) →
+    IsNoChoice asking.seen (Some asking.place) asking.timeline.returns.items node calls awaited
+    (get_or calls (length calls - 1 - k) 0) → TriesBeside asking node calls (k + 1) nexts
+beside_not asking node calls k nexts awaited is more other read (of_other differs) =
+    beside_other asking node calls k nexts is more (λ a e here at. differs a e (read a here) at)
+beside_not asking node calls k nexts awaited is more other read (questions question) =
+    beside_question asking node calls k nexts is more other question
+beside_not asking node calls k nexts awaited is more other read (comes_later out) =
+    beside_later asking node calls k nexts is more other out
+beside_not asking node calls k nexts awaited is more other read (stays took) =
+    beside_none asking node calls k nexts is more other took
+
 pub beside_some : (asking : Asking) (node : Node) (a : Observation) (calls : List ℕ) (k : ℕ) (nexts : List Next)
     (w : Next) → Awaits asking.seen asking.timeline node a →
     IsReached asking.seen (Some asking.place) asking.timeline.returns.items node →
     bit_at node.threads a.thread ≢ 1 → NoneIsAtOnceBeside asking node →
     AreOpen asking.seen asking.timeline.returns.items node.past calls → TriesBeside asking node calls k nexts →
-    k < length calls → get_or calls (length calls - 1 - k) 0 ≢ asking.place →
-    ¬ IsOutOfTurn asking.seen (Some asking.place) node calls (get_or calls (length calls - 1 - k) 0) →
-    Took asking.seen asking.timeline.returns.items node (get_or calls (length calls - 1 - k) 0) (Some w) →
-    ((e : Observation) → slice_get asking.seen.entries (get_or calls (length calls - 1 - k) 0) ≡ Some e →
-    AreOfOneObject a e) → TriesBeside asking node calls (k + 1) (nexts ++ w ∷ [])
-beside_some asking node a calls k nexts w awaits reached bit none_at_once are is more other turn took alike = record {
-  led = record {
-    each = each_push (LeadsBeside asking node) nexts w is.led.each (record {
-      leads = took_leads asking.seen (Some asking.place) asking.timeline node a calls
-          (get_or calls (length calls - 1 - k) 0) w awaits bit none_at_once are turn took alike;
-      other = took_other asking node (get_or calls (length calls - 1 - k) 0) w a awaits reached took other;
-    });
-  };
-  tries = λ reply h answered none. tried_some h (Some asking.place) asking.timeline.returns.items node calls k nexts w
-      (is.tries reply h answered none) more
-      (took_alike asking.seen h asking.place asking.timeline.returns.items node (get_or calls (length calls - 1 - k) 0)
-      (Some w) (alike_of asking reply h answered) other took);
-}
+    k < length calls → get_or calls (length calls - 1 - k) 0 ≢ asking.place → (awaited : ℕ) →
+    slice_get asking.seen.entries awaited ≡ Some a →
+    IsChoiceOf asking.seen (Some asking.place) asking.timeline.returns.items node calls awaited
+    (get_or calls (length calls - 1 - k) 0) w → TriesBeside asking node calls (k + 1) (nexts ++ w ∷ [])
+beside_some asking node a calls k nexts w awaits reached bit none_at_once are is more other awaited at choice =
+    record {
+      led = record {
+        each = each_push (LeadsBeside asking node) nexts w is.led.each (record {
+          leads = choice_leads asking.seen (Some asking.place) asking.timeline node a calls
+              (get_or calls (length calls - 1 - k) 0) w awaits bit none_at_once are awaited at choice;
+          other = took_other asking node (get_or calls (length calls - 1 - k) 0) w a awaits reached choice.took other;
+        });
+      };
+      tries = λ reply h answered none. tried_some h (Some asking.place) asking.timeline.returns.items node calls k
+          nexts w (is.tries reply h answered none) more
+          (took_alike asking.seen h asking.place asking.timeline.returns.items node
+          (get_or calls (length calls - 1 - k) 0) (Some w) (alike_of asking reply h answered) other choice.took);
+    }
 
 pub suffice_beside : (asking : Asking) (node : Node) (calls : List ℕ) (k : ℕ) (nexts : List Next) (reply : Reply)
     (h : ObservedHistory) → IsAsking asking → node.past < length asking.timeline.returns.items →

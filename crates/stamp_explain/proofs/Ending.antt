@@ -2,7 +2,7 @@
 use Rattle.std.proofs.Common.{◌≡◌, ◌≢◌, ◌⊎◌, ℕ, ◌+◌, ◌<◌, ◌≤◌, zero, suc, true, false, List, [], ◌∷◌, length}
 use Rattle.std.proofs.Common.{get_or, refl, sym, ◌∙◌, ap, subst, inl, inr, arith}
 use Rattle.std.specs.List.{All, AllPairs}
-use Rattle.std.specs.List.Sorted.{IsPermutation, IsSorted}
+use Rattle.std.specs.List.Sorted.{IsPermutation, IsSorted, IsNonDecreasingBy}
 use Rattle.std.specs.declared.cmp.Ordering.{Ordering}
 use Rattle.std.specs.declared.cmp.Ordering.TheVariants.{Less, Equal}
 use Rattle.std.specs.Ordering.{nat_cmp, ordering_then, is_lt}
@@ -74,6 +74,31 @@ all_pairs : (xs : List (ℕ × ℕ)) → IsChain xs → AllPairs NotAfter xs
 all_pairs [] chain = pairs_none NotAfter
 all_pairs (x ∷ xs) chain = pairs_cons NotAfter x xs (all_after x xs chain) (all_pairs xs (shorter x xs chain))
 
+sorted_pairs : (xs : List (ℕ × ℕ)) → IsSorted pair_cmp xs → AllPairs NotAfter xs
+unfolding IsChain
+sorted_pairs xs sorted = all_pairs xs (λ k d lt. not_after (get_or xs k d) (get_or xs (suc k) d)
+    (subst (λ (n : ℕ). is_lt (pair_cmp (get_or xs n d) (get_or xs k d)) ≡ false) (more k)
+    (sorted k d (omega arith) (omega (arith, lt)))))
+  where
+    more : (k : ℕ) → k + 1 ≡ suc k
+    more k = omega arith
+
+no_less : (p q : ℕ × ℕ) → NotAfter p q → p.0 ≤ q.0
+unfolding NotAfter
+no_less p q (inl less) = omega (arith, less)
+no_less p q (inr (same, le)) = omega (arith, same)
+
+-- so the first numbers of pairs that are in order rise
+pub sorted_rise : (xs : List (ℕ × ℕ)) → IsSorted pair_cmp xs → IsNonDecreasingBy (λ (p : ℕ × ℕ). p.0) xs
+sorted_rise xs sorted i j d le lt = by (which i j le)
+  where
+    which : (i j : ℕ) → i ≤ j → (i < j) ⊎ (i ≡ j)
+    which i j le = grind arith
+
+    by : (i < j) ⊎ (i ≡ j) → (get_or xs i d).0 ≤ (get_or xs j d).0
+    by (inl less) = no_less (get_or xs i d) (get_or xs j d) (sorted_pairs xs sorted i j d less lt)
+    by (inr same) = omega (arith, ap (λ (n : ℕ). (get_or xs n d).0) same)
+
 get_place : (xs : List (ℕ × ℕ)) (k : ℕ) (d : ℕ × ℕ) → get_or (places_of xs) k d.1 ≡ (get_or xs k d).1
 get_place [] k d = refl
 get_place (x ∷ xs) zero d = refl
@@ -92,24 +117,15 @@ strictly p q (inr (same, le)) apart = inr (same, by (three p.1 q.1))
 pub sorted_ends : (entries : List Observation) (keys ends : List (ℕ × ℕ)) →
     AreKeys EndsAt entries (length entries) keys → IsPermutation keys ends → IsSorted pair_cmp ends →
     AreEnds entries ends
-unfolding IsChain
 sorted_ends entries keys ends are moved sorted = record {
   each = λ p has. are.each p (Contains-permutation ends keys p (IsPermutation-sym keys ends moved) has);
   whole = λ i e n at has. Contains-permutation keys ends (n, i) moved (are.whole i e n (within i e at) at has);
-  in_order = λ i j d lt inside. strictly (get_or ends i d) (get_or ends j d) (pairs i j d lt inside)
-      (apart i j d lt inside);
+  in_order = λ i j d lt inside. strictly (get_or ends i d) (get_or ends j d)
+      (sorted_pairs ends sorted i j d lt inside) (apart i j d lt inside);
 }
   where
     within : (i : ℕ) (e : Observation) → slice_get entries i ≡ Some e → i < length entries
     within i e at = slice_get_within entries i e at
-
-    pairs : AllPairs NotAfter ends
-    pairs = all_pairs ends (λ k d lt. not_after (get_or ends k d) (get_or ends (suc k) d)
-        (subst (λ (n : ℕ). is_lt (pair_cmp (get_or ends n d) (get_or ends k d)) ≡ false) (more k)
-        (sorted k d (omega arith) (omega (arith, lt)))))
-      where
-        more : (k : ℕ) → k + 1 ≡ suc k
-        more k = omega arith
 
     apart : (i j : ℕ) (d : ℕ × ℕ) → i < j → j < length ends → (get_or ends i d).1 ≢ (get_or ends j d).1
     apart i j d lt inside same = permuted_once keys ends moved are.once i j d.1 lt

@@ -2,24 +2,25 @@
 use Rattle.std.proofs.Common.{◌≡◌, ◌≢◌, ◌⊎◌, ℕ, ◌+◌, ◌<◌, ◌≤◌, suc, Bool, true, false, List, [], ◌∷◌}
 use Rattle.std.proofs.Common.{◌++◌, length, get_or, refl, sym, ◌∙◌, ap, subst, inl, inr, arith, Option, Some}
 use Rattle.std.proofs.Common.{zero, None, Vec, Global, cond}
-use Rattle.std.specs.Prelude.{slice_get, filter, nat_le, MatchOption}
+use Rattle.std.specs.Prelude.{slice_get, filter, take, nat_le, MatchOption}
 use Rattle.std.specs.List.{All, AllPairs, Contains}
-use Rattle.std.specs.List.Sorted.{IsPermutation}
+use Rattle.std.specs.List.Sorted.{IsPermutation, IsSorted}
 use Rattle.std.proofs.lemmas.List.Elements.{Contains-get_or, Contains-push, Contains-push_cases, Contains-append_left}
 use Rattle.std.proofs.lemmas.List.Sorted.{Contains-permutation, IsPermutation-sym}
-use Rattle.std.proofs.lemmas.List.{length-append, length-map, get_or_append_left}
+use Rattle.std.proofs.lemmas.List.{length-append, length-map, get_or_append_left, take_all}
 use Rattle.std.proofs.lemmas.Bool.Decides.{nat_tests}
 use Rattle.std.proofs.lemmas.Option.{same_Some, slice_get-get_or, get_or_from_slice_get, slice_get_within, none-some}
 use Rattle.stamp_explain.specs.declared.observed.Observation.{Observation}
 use Rattle.stamp_explain.specs.declared.observed.Returned.{Returned}
 use Rattle.stamp_explain.specs.declared.timeline.Timeline.{Timeline}
 use Rattle.stamp_explain.specs.Observed.{ObservedHistory, IsBefore}
-use Rattle.stamp_explain.specs.Search.{AreReturns, AreInOrder, ReturnsNoLater, IsReturnAt}
+use Rattle.stamp_explain.specs.Search.{AreReturns, AreInOrder, ReturnsNoLater, IsReturnAt, StandsBefore}
 use Rattle.stamp_explain.specs.Timeline.{IsOpenAt, AreOpen, IsTimeline}
 use Rattle.stamp_explain.specs.TimelineKeys.{AreKeys, AreRising, AreRanked, AreRanks, AreTimelineKeys, AreOpens}
 use Rattle.stamp_explain.specs.TimelineKeys.{IsKept, AreKept}
 use Rattle.stamp_explain.specs.TimelineKeys.{IsBegun, BeginsMore, EndsAt, BeginsAt, places_of}
 use Rattle.stamp_explain.proofs.Lists.{none_in_empty, contains_cases, contains_first, contains_rest}
+use Rattle.stamp_explain.proofs.Ending.{pair_cmp, sorted_rise}
 use Rattle.stamp_explain.proofs.Entering.{read_last}
 use Rattle.stamp_explain.proofs.Keyed.{placed_once, rising_has, rising_from, placed_pairs, key_of_place, place_of_key}
 
@@ -231,8 +232,9 @@ pub record OpensAt (h : ObservedHistory) (ends begins : List (ℕ × ℕ)) (rank
 pub opens_at : (h : ObservedHistory) (ends begins : List (ℕ × ℕ)) (ranks : List ℕ) (k from to : ℕ) (c : ℕ × ℕ)
     (old more sorted : List (ℕ × ℕ)) → AreTimelineKeys h ends begins ranks → k < length ends →
     AreKept h.entries ends begins ranks k from old → BeginsMore begins ranks (get_or ends k c).0 from to old more →
-    IsPermutation (filter (is_left k) more) sorted → OpensAt h ends begins ranks k to sorted
-opens_at h ends begins ranks k from to c old more sorted is lt kept begins_more moved = record {
+    IsPermutation (filter (is_left k) more) sorted → IsSorted pair_cmp sorted →
+    OpensAt h ends begins ranks k to sorted
+opens_at h ends begins ranks k from to c old more sorted is lt kept begins_more moved orders = record {
   kept = record {
     inside = begins_more.inside;
     each = λ p has. later p (of_more p (from_sorted p has).0);
@@ -242,6 +244,9 @@ opens_at h ends begins ranks k from to c old more sorted is lt kept begins_more 
   calls = record {
     each = λ i has. calls i (key_of_place sorted i has);
     whole = λ i it. whole i it (begin_of i it);
+    in_order = placed_pairs (λ (i j : ℕ). ¬ StandsBefore (places_of ends) j i) sorted
+        (λ p q has_p has_q le before. no_sooner p q has_p has_q le before.place before.first before.later)
+        (sorted_rise sorted orders);
   };
 }
   where
@@ -340,6 +345,44 @@ opens_at h ends begins ranks k from to c old more sorted is lt kept begins_more 
           last,
           subst (λ (o : Option Returned). MatchOption o ⊥ (λ (x : Returned). x.last < e.first)) has before,
         ))
+
+    -- of two calls that are kept the one with the lesser rank returned sooner
+    no_sooner : (p q : ℕ × ℕ) → Contains sorted p → Contains sorted q → p.0 ≤ q.0 → (m : ℕ) →
+        Contains (take m (places_of ends)) q.1 → ¬ Contains (take m (places_of ends)) p.1 → ⊥
+    no_sooner p q has_p has_q le m first later = by (which m (length (places_of ends)))
+      where
+        of_p : IsKept h.entries ends ranks k p
+        of_p = of_more p (from_sorted p has_p).0
+
+        of_q : IsKept h.entries ends ranks k q
+        of_q = of_more q (from_sorted q has_q).0
+
+        which : (m n : ℕ) → (m ≤ n) ⊎ (n < m)
+        which m n = grind arith
+
+        not_less : (a b : ℕ) → ¬ (a < b) → b ≤ a
+        not_less a b misses = grind arith
+
+        ranks_differ : (n : ℕ) → n ≤ length (places_of ends) → Contains (take n (places_of ends)) q.1 →
+            ¬ Contains (take n (places_of ends)) p.1 → ⊥
+        ranks_differ n small has misses = absurd (omega (
+          arith,
+          le,
+          of_p.rank,
+          of_q.rank,
+          (is.ranked.past q.1 n (slice_get_within h.entries q.1 of_q.entry of_q.is_entry) small).0 has,
+          not_less (get_or ranks p.1 0) n (λ less. misses ((is.ranked.past p.1 n
+              (slice_get_within h.entries p.1 of_p.entry of_p.is_entry) small).1 less)),
+        ))
+
+        by : (m ≤ length (places_of ends)) ⊎ (length (places_of ends) < m) → ⊥
+        by (inl small) = ranks_differ m small first later
+        by (inr over) =
+            let all : take m (places_of ends) ≡ take (length (places_of ends)) (places_of ends) =
+            take_all m (places_of ends) (omega (arith, over)) ∙
+            sym (take_all (length (places_of ends)) (places_of ends) (omega arith)) in
+            ranks_differ (length (places_of ends)) (omega arith) (subst (λ (xs : List ℕ). Contains xs q.1) all first)
+            (λ has. later (subst (λ (xs : List ℕ). Contains xs p.1) (sym all) has))
 
     begin_of : (i : ℕ) (it : IsOpenAt h (places_of ends) k i) → Contains begins (it.entry.first, i)
     begin_of i it = rising_has is.begin_keys begins (it.entry.first, i) is.begins_rise

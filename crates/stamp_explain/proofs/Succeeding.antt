@@ -1,13 +1,13 @@
 -- The nodes that come next.
 use Rattle.std.proofs.Common.{◌≡◌, ◌≢◌, ◌⊎◌, ℕ, ◌+◌, ◌-◌, ◌<◌, ◌≤◌, suc, List, [], ◌∷◌}
 use Rattle.std.proofs.Common.{zero, ◌++◌, length, get_or, refl, sym, ◌∙◌, ap, subst, inl, inr, arith, None}
-use Rattle.std.proofs.Common.{Option, Some, Vec, Global}
+use Rattle.std.proofs.Common.{Option, Some, Vec, Global, Bool}
 use Rattle.std.specs.Prelude.{slice_get, take, drop, MatchOption, true, false}
 use Rattle.std.proofs.lemmas.List.{take_all, get_or-drop, length-drop}
-use Rattle.std.specs.List.{Contains}
+use Rattle.std.specs.List.{All, Contains}
 use Rattle.std.specs.Int.{bit_at}
 use Rattle.std.proofs.Math.Seq.{take-suc, drop-cons}
-use Rattle.std.proofs.lemmas.List.Elements.{Contains-append_left, Contains-get_or, Contains-push}
+use Rattle.std.proofs.lemmas.List.Elements.{All-drop, Contains-append_left, Contains-get_or, Contains-push}
 use Rattle.std.proofs.lemmas.Option.{none-some, same_Some, slice_get_read, slice_get-get_or, slice_get_within}
 use Rattle.stamp_explain.specs.declared.observed.Observation.{Observation}
 use Rattle.stamp_explain.specs.declared.observed.Returned.{Returned}
@@ -19,15 +19,18 @@ use Rattle.stamp_explain.specs.Observed.{ObservedHistory, IsObserved, HasReturne
 use Rattle.stamp_explain.specs.Observed.{AreOfOneObject}
 use Rattle.stamp_explain.specs.Explained.{Effect}
 use Rattle.stamp_explain.specs.Observer.{changes_nothing, observes_by, observes, observes_in, observes_at}
+use Rattle.stamp_explain.specs.Observer.{asks_by, asks_in, asks_at, is_open_question}
 use Rattle.stamp_explain.specs.Search.{AreInOrder, IsAlikeSooner, LockState, LockSteps, MayTake, IsReturnAt}
+use Rattle.stamp_explain.specs.Search.{StandsBefore}
 use Rattle.stamp_explain.specs.Turn.{IsAhead, IsOutOfTurn}
 use Rattle.stamp_core.specs.Call.{is_lock_call}
-use Rattle.stamp_explain.specs.Configuration.{IsAtOnce, IsInTurn, IsTried}
+use Rattle.stamp_explain.specs.Configuration.{IsAtOnce, IsFirstAtOnce, IsInTurn, IsTried}
 use Rattle.stamp_explain.specs.Node.{IsNext, AreTaken, StandsFor}
 use Rattle.stamp_explain.specs.Timeline.{IsTimeline, IsAwaitedAt, IsOpenAt, AreOpen}
 use Rattle.stamp_explain.specs.Node.{ClearsBit}
 use Rattle.stamp_explain.specs.Expand.{Hope, GoesOn, Expands, Leads, LeadsBy, IsTakenTo, Took}
-use Rattle.stamp_explain.specs.Expand.{IsNotInEffect, NoneIsAtOnceAt, Suffice}
+use Rattle.stamp_explain.specs.Expand.{IsChoiceOf, IsNoChoice, IsNotInEffect, NoneIsAtOnceAt, Suffice}
+use Rattle.stamp_explain.specs.Expand.IsNoChoice.{of_other, questions, comes_later, stays}
 use Rattle.stamp_explain.proofs.Alike.{alike_in_as_many, may_in_turn}
 use Rattle.stamp_explain.proofs.Finding.{ArePending, first_of_pending, not_before_itself}
 use Rattle.stamp_explain.proofs.Completing.{IsAwaited}
@@ -35,6 +38,7 @@ use Rattle.stamp_explain.proofs.Searching.{CompletesIn, GoesPast, GoesOnBy, goes
 use Rattle.stamp_explain.proofs.Standing.{taken_by_bit, taken_past}
 use Rattle.stamp_explain.proofs.Staying.{observers_change_nothing}
 use Rattle.stamp_explain.proofs.Observing.{TakesAtOnce, takes_at_once}
+use Rattle.stamp_explain.proofs.Questions.{without_question}
 use Rattle.stamp_explain.proofs.Expanding.{next_open, orderly, next_awaited, in_take, open_may, same_read}
 use Rattle.stamp_explain.proofs.Lists.{none_in_empty, contains_cases, contains_first, each_push, either_in}
 use Rattle.stamp_explain.proofs.Lists.{pairs_drop}
@@ -51,18 +55,18 @@ MakesOrWaits h asked returns node calls x u taken nexts =
     IsOutOfTurn h asked node calls x.index ⊎ Makes h returns node u (x.index ∷ taken) nexts
 
 -- of whatever the node stands for, the last k of these calls were tried: each of the awaited one's object that may
--- take effect leads to one of these nodes, or is out of turn
+-- take effect, and is no question under way, leads to one of these nodes, or is out of turn
 pub record Tries (h : ObservedHistory) (asked : Option ℕ) (returns : List ℕ) (node : Node) (calls : List ℕ) (k : ℕ)
     (nexts : List Next) : Type 0 where
   pub tried : (a : Observation) (s : LockState) (taken : List ℕ) → IsAwaitedAt h returns node.past a →
       StandsFor h returns node s taken → (x : Effect) (u : LockState) →
-      MayTake (LockSteps h.limits) h.entries a s taken x u → AreOfOneObject a x.entry → (p : ℕ) → p < length calls →
-      length calls ≤ p + k → get_or calls p 0 ≡ x.index → MakesOrWaits h asked returns node calls x u taken nexts
+      MayTake (LockSteps h.limits) h.entries a s taken x u → AreOfOneObject a x.entry →
+      is_open_question x.entry ≡ false → (p : ℕ) → p < length calls → length calls ≤ p + k → get_or calls p 0 ≡ x.index → MakesOrWaits h asked returns node calls x u taken nexts
 
 pub none_tried : (h : ObservedHistory) (asked : Option ℕ) (returns : List ℕ) (node : Node) (calls : List ℕ) →
     Tries h asked returns node calls 0 []
 none_tried h asked returns node calls = record {
-  tried = λ a s taken awaited stands x u may alike p lt le is. absurd (omega (arith, lt, le));
+  tried = λ a s taken awaited stands x u may alike asks_not p lt le is. absurd (omega (arith, lt, le));
 }
 
 last_or_less : (p k n : ℕ) → n ≤ p + (k + 1) → p < n → k < n → (n ≤ p + k) ⊎ (p ≡ n - 1 - k)
@@ -75,11 +79,11 @@ one_more_tried : (h : ObservedHistory) (asked : Option ℕ) (returns : List ℕ)
     ((a : Observation) (s : LockState) (taken : List ℕ) → IsAwaitedAt h returns node.past a →
     StandsFor h returns node s taken → (x : Effect) (u : LockState) →
     MayTake (LockSteps h.limits) h.entries a s taken x u → AreOfOneObject a x.entry →
-    get_or calls (length calls - 1 - k) 0 ≡ x.index → MakesOrWaits h asked returns node calls x u taken new) →
-    Tries h asked returns node calls (k + 1) new
+    is_open_question x.entry ≡ false → get_or calls (length calls - 1 - k) 0 ≡ x.index →
+    MakesOrWaits h asked returns node calls x u taken new) → Tries h asked returns node calls (k + 1) new
 one_more_tried h asked returns node calls k old new tries more kept makes = record {
-  tried = λ a s taken awaited stands x u may alike p lt le is.
-      by a s taken awaited stands x u may alike p lt is (last_or_less p k (length calls) le lt more);
+  tried = λ a s taken awaited stands x u may alike asks_not p lt le is.
+      by a s taken awaited stands x u may alike asks_not p lt is (last_or_less p k (length calls) le lt more);
 }
   where
     stays : (x : Effect) (u : LockState) (taken : List ℕ) → MakesOrWaits h asked returns node calls x u taken old →
@@ -89,13 +93,13 @@ one_more_tried h asked returns node calls k old new tries more kept makes = reco
 
     by : (a : Observation) (s : LockState) (taken : List ℕ) → IsAwaitedAt h returns node.past a →
         StandsFor h returns node s taken → (x : Effect) (u : LockState) →
-        MayTake (LockSteps h.limits) h.entries a s taken x u → AreOfOneObject a x.entry → (p : ℕ) →
-        p < length calls → get_or calls p 0 ≡ x.index → (length calls ≤ p + k) ⊎ (p ≡ length calls - 1 - k) →
-        MakesOrWaits h asked returns node calls x u taken new
-    by a s taken awaited stands x u may alike p lt is (inl le) =
-        stays x u taken (tries.tried a s taken awaited stands x u may alike p lt le is)
-    by a s taken awaited stands x u may alike p lt is (inr same) =
-        makes a s taken awaited stands x u may alike (ap (λ (n : ℕ). get_or calls n 0) (sym same) ∙ is)
+        MayTake (LockSteps h.limits) h.entries a s taken x u → AreOfOneObject a x.entry →
+        is_open_question x.entry ≡ false → (p : ℕ) → p < length calls → get_or calls p 0 ≡ x.index →
+        (length calls ≤ p + k) ⊎ (p ≡ length calls - 1 - k) → MakesOrWaits h asked returns node calls x u taken new
+    by a s taken awaited stands x u may alike asks_not p lt is (inl le) =
+        stays x u taken (tries.tried a s taken awaited stands x u may alike asks_not p lt le is)
+    by a s taken awaited stands x u may alike asks_not p lt is (inr same) =
+        makes a s taken awaited stands x u may alike asks_not (ap (λ (n : ℕ). get_or calls n 0) (sym same) ∙ is)
 
 -- it can't take effect
 pub tried_none : (h : ObservedHistory) (asked : Option ℕ) (returns : List ℕ) (node : Node) (calls : List ℕ) (k : ℕ)
@@ -103,7 +107,7 @@ pub tried_none : (h : ObservedHistory) (asked : Option ℕ) (returns : List ℕ)
     Took h returns node (get_or calls (length calls - 1 - k) 0) None → Tries h asked returns node calls (k + 1) nexts
 tried_none h asked returns node calls k nexts tries more took =
     one_more_tried h asked returns node calls k nexts nexts tries more (λ w has. has)
-    (λ a s taken awaited stands x u may alike is. absurd (took.takes a s taken awaited stands x u may (sym is)))
+    (λ a s taken awaited stands x u may alike asks_not is. absurd (took.takes a s taken awaited stands x u may (sym is)))
 
 -- it is of the other object
 pub tried_other : (h : ObservedHistory) (asked : Option ℕ) (returns : List ℕ) (node : Node) (calls : List ℕ) (k : ℕ)
@@ -113,8 +117,21 @@ pub tried_other : (h : ObservedHistory) (asked : Option ℕ) (returns : List ℕ
     Tries h asked returns node calls (k + 1) nexts
 tried_other h asked returns node calls k nexts tries more other =
     one_more_tried h asked returns node calls k nexts nexts tries more (λ w has. has)
-    (λ a s taken awaited stands x u may alike is. absurd (other a x.entry awaited
+    (λ a s taken awaited stands x u may alike asks_not is. absurd (other a x.entry awaited
     (ap (λ (i : ℕ). slice_get h.entries i) is ∙ may.effect.is_entry) alike))
+
+-- it is a question that is under way
+pub tried_question : (h : ObservedHistory) (asked : Option ℕ) (returns : List ℕ) (node : Node) (calls : List ℕ)
+    (k : ℕ) (nexts : List Next) → Tries h asked returns node calls k nexts → k < length calls →
+    ((e : Observation) → slice_get h.entries (get_or calls (length calls - 1 - k) 0) ≡ Some e →
+    is_open_question e ≡ true) → Tries h asked returns node calls (k + 1) nexts
+tried_question h asked returns node calls k nexts tries more question =
+    one_more_tried h asked returns node calls k nexts nexts tries more (λ w has. has)
+    (λ a s taken awaited stands x u may alike asks_not is. absurd (false_true (sym asks_not ∙
+    question x.entry (ap (λ (i : ℕ). slice_get h.entries i) is ∙ may.effect.is_entry))))
+  where
+    false_true : false ≡ true → ⊥
+    false_true h = cc
 
 -- another goes ahead of it
 pub tried_later : (h : ObservedHistory) (asked : Option ℕ) (returns : List ℕ) (node : Node) (calls : List ℕ) (k : ℕ)
@@ -123,7 +140,7 @@ pub tried_later : (h : ObservedHistory) (asked : Option ℕ) (returns : List ℕ
     Tries h asked returns node calls (k + 1) nexts
 tried_later h asked returns node calls k nexts tries more out =
     one_more_tried h asked returns node calls k nexts nexts tries more (λ w has. has)
-    (λ a s taken awaited stands x u may alike is. inl (subst (IsOutOfTurn h asked node calls) is out))
+    (λ a s taken awaited stands x u may alike asks_not is. inl (subst (IsOutOfTurn h asked node calls) is out))
 
 -- it takes effect
 pub tried_some : (h : ObservedHistory) (asked : Option ℕ) (returns : List ℕ) (node : Node) (calls : List ℕ) (k : ℕ)
@@ -132,10 +149,25 @@ pub tried_some : (h : ObservedHistory) (asked : Option ℕ) (returns : List ℕ)
     Tries h asked returns node calls (k + 1) (nexts ++ w ∷ [])
 tried_some h asked returns node calls k nexts w tries more took =
     one_more_tried h asked returns node calls k nexts (nexts ++ w ∷ []) tries more
-    (λ v has. Contains-append_left nexts (w ∷ []) v has) (λ a s taken awaited stands x u may alike is.
+    (λ v has. Contains-append_left nexts (w ∷ []) v has) (λ a s taken awaited stands x u may alike asks_not is.
     let some : IsTakenTo h returns node a (get_or calls (length calls - 1 - k) 0) s taken w =
     took.takes a s taken awaited stands in
     inr (w, (Contains-push nexts w, (some.past, some.only x u may (sym is)))))
+
+-- it is no choice
+pub tried_not : (h : ObservedHistory) (asked : Option ℕ) (returns : List ℕ) (node : Node) (calls : List ℕ) (k : ℕ)
+    (nexts : List Next) (awaited : ℕ) → Tries h asked returns node calls k nexts → k < length calls →
+    ((a : Observation) → IsAwaitedAt h returns node.past a → slice_get h.entries awaited ≡ Some a) →
+    IsNoChoice h asked returns node calls awaited (get_or calls (length calls - 1 - k) 0) →
+    Tries h asked returns node calls (k + 1) nexts
+tried_not h asked returns node calls k nexts awaited tries more read (of_other other) =
+    tried_other h asked returns node calls k nexts tries more (λ a e is at. other a e (read a is) at)
+tried_not h asked returns node calls k nexts awaited tries more read (questions is) =
+    tried_question h asked returns node calls k nexts tries more (λ e at. ap asks_in (sym at) ∙ is)
+tried_not h asked returns node calls k nexts awaited tries more read (comes_later out) =
+    tried_later h asked returns node calls k nexts tries more out
+tried_not h asked returns node calls k nexts awaited tries more read (stays took) =
+    tried_none h asked returns node calls k nexts tries more took
 
 -- what is known of a node whose return is awaited
 pub record Awaits (h : ObservedHistory) (timeline : Timeline) (node : Node) (a : Observation) : Type 0 where
@@ -188,7 +220,7 @@ not_yet h timeline node a s taken is bit stands has =
 pub leads_by_call : (h : ObservedHistory) (asked : Option ℕ) (timeline : Timeline) (node : Node) (a : Observation)
     (i : ℕ) (s : LockState) (taken : List ℕ) (w : Next) → Awaits h timeline node a →
     bit_at node.threads a.thread ≢ 1 → StandsFor h timeline.returns.items node s taken →
-    (to : IsTakenTo h timeline.returns.items node a i s taken w) → IsTried h asked a s taken to.effect →
+    (to : IsTakenTo h timeline.returns.items node a i s taken w) → IsTried h asked timeline.returns.items a s taken to.effect →
     LeadsBy h asked timeline.returns.items node w.node s taken w.took
 leads_by_call h asked timeline node a i s taken w is bit stands to tried =
     subst (λ (o : Option ℕ). LeadsBy h asked timeline.returns.items node w.node s taken o) (sym to.took) (record {
@@ -386,6 +418,7 @@ bound_ahead e f ahead =
 record Completes (h : ObservedHistory) (timeline : Timeline) (node : Node) (a : Observation) (s : LockState)
     (taken : List ℕ) (u : LockState) (left : ℕ) (x : Effect) : Type 0 where
   object : AreOfOneObject a x.entry
+  asks_not : is_open_question x.entry ≡ false
   may : MayTake (LockSteps h.limits) h.entries a s taken x u
   rest : CompletesIn (LockSteps h.limits) h.entries (get_or timeline.returns.items node.past 0 ∷
       drop (suc node.past) timeline.returns.items) u (x.index ∷ taken) left
@@ -400,6 +433,7 @@ completes_ahead : (h : ObservedHistory) (asked : Option ℕ) (timeline : Timelin
     (record { index = out.first; entry = out.goes.entry; reply = x.reply })
 completes_ahead h asked timeline node a calls s taken u left x is are stands it out same = record {
   object = it.object ∙ ap is_lock_call (sym ahead.call);
+  asks_not = ap (asks_by out.goes.entry.call) ahead.at_first;
   may = may_in_turn h.limits h.entries a s u taken x out.first out.goes.entry it.may out.goes.is_entry sooner fresh
       begun;
   rest = alike_in_as_many h.limits h.entries a (i ∷ drop (suc node.past) returns) s u taken x out.first
@@ -453,7 +487,7 @@ one_turn : (h : ObservedHistory) (asked : Option ℕ) (timeline : Timeline) (nod
     Completes h timeline node a s taken u left y → GoesOn h timeline.returns.items nexts most) →
     GoesOn h timeline.returns.items nexts most
 one_turn h asked timeline node a calls k nexts s taken most u left x is are all stands tries fewer it again =
-    by (tries.tried a s taken (awaited_at h timeline node a is) stands x u it.may it.object at.0 at.1
+    by (tries.tried a s taken (awaited_at h timeline node a is) stands x u it.may it.object it.asks_not at.0 at.1
     (omega (arith, all)) (same_read calls at.0 0 x.index at.1 ∙ at.2))
   where
     returns : List ℕ
@@ -494,27 +528,92 @@ in_turn h asked timeline node a calls k nexts s taken most u left (suc n) x is a
     (λ y less more. in_turn h asked timeline node a calls k nexts s taken most u left n y is are all stands tries fewer
     (omega (arith, few, less)) more)
 
--- else an open call of the same object takes effect
+-- else an open call of the same object takes effect, which is no question under way; or the node can be completed in
+-- fewer steps
+suffice_step : (h : ObservedHistory) (asked : Option ℕ) (timeline : Timeline) (node : Node) (a : Observation)
+    (calls : List ℕ) (k : ℕ) (nexts : List Next) → Awaits h timeline node a → bit_at node.threads a.thread ≢ 1 →
+    AreOpen h timeline.returns.items node.past calls → length calls ≤ k →
+    Tries h asked timeline.returns.items node calls k nexts → (n : ℕ) →
+    ((m : ℕ) → suc m ≤ n → Hope h timeline.returns.items node m → GoesOn h timeline.returns.items nexts m) →
+    Hope h timeline.returns.items node n → GoesOn h timeline.returns.items nexts n
+suffice_step h asked timeline node a calls k nexts is bit are all tries n again hope =
+    goes (goes_on h.limits h.entries i a (drop (suc node.past) returns) hope.state hope.taken n
+    (the_awaited h timeline node a is) (steps_of h timeline node a n is hope))
+  where
+    returns : List ℕ
+    returns = timeline.returns.items
+
+    i : ℕ
+    i = get_or returns node.past 0
+
+    to_come : List ℕ
+    to_come = i ∷ drop (suc node.past) returns
+
+    are_returns : All (IsReturnAt h.entries) to_come
+    are_returns = subst (All (IsReturnAt h.entries)) (left_of h timeline node a is)
+        (All-drop (IsReturnAt h.entries) node.past returns is.timeline_is.are.each)
+
+    -- the same node can be completed in fewer steps
+    hope_without : (on : GoesOnBy h.limits h.entries i a (drop (suc node.past) returns) hope.state hope.taken n) →
+        is_open_question on.effect.entry ≡ true → Hope h returns node on.left
+    hope_without on asking =
+        let P : List ℕ → Type 0 = λ (xs : List ℕ). CompletesIn (LockSteps h.limits) h.entries xs hope.state hope.taken
+        on.left in
+        let can : CompletesIn (LockSteps h.limits) h.entries (drop node.past returns) hope.state hope.taken on.left =
+        subst P (sym (left_of h timeline node a is)) (without_question h to_come hope.state on.state hope.taken
+        on.effect on.left are_returns on.may.effect on.may.steps asking on.completes) in
+        record {
+          state = hope.state;
+          taken = hope.taken;
+          stands = hope.stands;
+          rest = can.rest;
+          by = can.by;
+          steps = can.steps;
+        }
+
+    later : (m : ℕ) → suc m ≤ n → GoesOn h returns nexts m → GoesOn h returns nexts n
+    later m fewer on = record {
+      next = on.next;
+      left = on.left;
+      among = on.among;
+      fewer = omega (arith, on.fewer, fewer);
+      hope = on.hope;
+    }
+
+    goes : GoesPast (LockSteps h.limits) h.entries i (drop (suc node.past) returns) hope.state hope.taken n ⊎
+        GoesOnBy h.limits h.entries i a (drop (suc node.past) returns) hope.state hope.taken n →
+        GoesOn h returns nexts n
+    goes (inl past) = absurd (not_yet h timeline node a hope.state hope.taken is bit hope.stands past.in_effect)
+    goes (inr on) = by (is_open_question on.effect.entry) refl
+      where
+        fewer : suc on.left ≤ n
+        fewer = omega (arith, on.fewer)
+
+        by : (b : Bool) → is_open_question on.effect.entry ≡ b → GoesOn h returns nexts n
+        by true asking = later on.left fewer (again on.left fewer (hope_without on asking))
+        by false asks_not = in_turn h asked timeline node a calls k nexts hope.state hope.taken n on.state on.left
+            (bound on.effect.entry.returned) on.effect is are all hope.stands tries fewer (omega arith)
+            (record { object = on.alike; asks_not = asks_not; may = on.may; rest = on.completes })
+
+suffice_bounded : (h : ObservedHistory) (asked : Option ℕ) (timeline : Timeline) (node : Node) (a : Observation)
+    (calls : List ℕ) (k : ℕ) (nexts : List Next) → Awaits h timeline node a → bit_at node.threads a.thread ≢ 1 →
+    AreOpen h timeline.returns.items node.past calls → length calls ≤ k →
+    Tries h asked timeline.returns.items node calls k nexts → (most n : ℕ) → n ≤ most →
+    Hope h timeline.returns.items node n → GoesOn h timeline.returns.items nexts n
+suffice_bounded h asked timeline node a calls k nexts is bit are all tries zero n few hope =
+    suffice_step h asked timeline node a calls k nexts is bit are all tries n
+    (λ m fewer less. absurd (omega (arith, few, fewer))) hope
+suffice_bounded h asked timeline node a calls k nexts is bit are all tries (suc most) n few hope =
+    suffice_step h asked timeline node a calls k nexts is bit are all tries n
+    (λ m fewer less. suffice_bounded h asked timeline node a calls k nexts is bit are all tries most m
+    (omega (arith, few, fewer)) less) hope
+
 suffice_taken : (h : ObservedHistory) (asked : Option ℕ) (timeline : Timeline) (node : Node) (a : Observation)
-    (calls : List ℕ) (k : ℕ)
-    (nexts : List Next) → Awaits h timeline node a → bit_at node.threads a.thread ≢ 1 →
+    (calls : List ℕ) (k : ℕ) (nexts : List Next) → Awaits h timeline node a → bit_at node.threads a.thread ≢ 1 →
     AreOpen h timeline.returns.items node.past calls → length calls ≤ k →
     Tries h asked timeline.returns.items node calls k nexts → Suffice h timeline.returns.items node nexts
 suffice_taken h asked timeline node a calls k nexts is bit are all tries n hope =
-    goes (goes_on h.limits h.entries i a (drop (suc node.past) timeline.returns.items) hope.state hope.taken n
-    (the_awaited h timeline node a is) (steps_of h timeline node a n is hope))
-  where
-    i : ℕ
-    i = get_or timeline.returns.items node.past 0
-
-    goes : GoesPast (LockSteps h.limits) h.entries i (drop (suc node.past) timeline.returns.items) hope.state
-        hope.taken n ⊎
-        GoesOnBy h.limits h.entries i a (drop (suc node.past) timeline.returns.items) hope.state hope.taken n →
-        GoesOn h timeline.returns.items nexts n
-    goes (inl past) = absurd (not_yet h timeline node a hope.state hope.taken is bit hope.stands past.in_effect)
-    goes (inr on) = in_turn h asked timeline node a calls k nexts hope.state hope.taken n on.state on.left
-        (bound on.effect.entry.returned) on.effect is are all hope.stands tries (omega (arith, on.fewer))
-        (omega arith) (record { object = on.alike; may = on.may; rest = on.completes })
+    suffice_bounded h asked timeline node a calls k nexts is bit are all tries n n (omega arith) hope
 
 -- of the first k of these calls none takes effect at once
 pub record NoneOfFirst (h : ObservedHistory) (asked : Option ℕ) (returns : List ℕ) (node : Node) (calls : List ℕ)
@@ -591,6 +690,40 @@ none_at_once h asked timeline node calls k are all before = record {
       (same_read calls it.0 0 x.index it.1 ∙ it.2) may;
 }
 
+-- of those that may take effect at once this one returned first
+first_at_once : (h : ObservedHistory) (asked : Option ℕ) (timeline : Timeline) (node : Node) (a : Observation)
+    (s : LockState) (taken calls : List ℕ) (k : ℕ) (x : Effect) → Awaits h timeline node a →
+    StandsFor h timeline.returns.items node s taken → AreOpen h timeline.returns.items node.past calls →
+    NoneOfFirst h asked timeline.returns.items node calls k → k < length calls → get_or calls k 0 ≡ x.index →
+    IsAtOnce asked x → IsFirstAtOnce h asked timeline.returns.items a s taken x
+first_at_once h asked timeline node a s taken calls k x is stands are before inside here at_once = record {
+  at_once = at_once;
+  first = λ y t too may. by y t too may (are.whole y.index (open_may h returns node.past node.threads a s t taken y
+      is.at stands.in_effect may));
+}
+  where
+    returns : List ℕ
+    returns = timeline.returns.items
+
+    three : (p k : ℕ) → (p < k) ⊎ ((p ≡ k) ⊎ (k < p))
+    three p k = grind arith
+
+    by : (y : Effect) (t : LockState) → IsAtOnce asked y → MayTake (LockSteps h.limits) h.entries a s taken y t →
+        Contains calls y.index → ¬ StandsBefore returns y.index x.index
+    by y t too may (p, lt, at) sooner = which (three p k)
+      where
+        there : get_or calls p 0 ≡ y.index
+        there = same_read calls p 0 y.index lt ∙ at
+
+        which : (p < k) ⊎ ((p ≡ k) ⊎ (k < p)) → ⊥
+        which (inl less) =
+            before.none a s taken (awaited_at h timeline node a is) stands y t too p less lt there may
+        which (inr (inl same)) = sooner.later (subst (λ (j : ℕ). Contains (take sooner.place returns) j)
+            (sym there ∙ ap (λ (m : ℕ). get_or calls m 0) same ∙ here) sooner.first)
+        which (inr (inr more)) = are.in_order k p 0 more lt
+            (subst (λ (j : ℕ). StandsBefore returns j (get_or calls k 0)) (sym there)
+            (subst (λ (j : ℕ). StandsBefore returns y.index j) (sym here) sooner))
+
 -- a call that is not out of turn is in turn
 is_in_turn : (h : ObservedHistory) (asked : Option ℕ) (timeline : Timeline) (node : Node) (a : Observation)
     (s : LockState) (taken calls : List ℕ) (x : Effect) → Awaits h timeline node a →
@@ -627,15 +760,14 @@ is_in_turn h asked timeline node a s taken calls x is are stands at turn j e oth
     }))
 
 -- a node comes next where a call is chosen
-pub took_leads : (h : ObservedHistory) (asked : Option ℕ) (timeline : Timeline) (node : Node) (a : Observation)
+pub choice_leads : (h : ObservedHistory) (asked : Option ℕ) (timeline : Timeline) (node : Node) (a : Observation)
     (calls : List ℕ) (i : ℕ) (w : Next) → Awaits h timeline node a → bit_at node.threads a.thread ≢ 1 →
     NoneIsAtOnceAt h asked timeline.returns.items node → AreOpen h timeline.returns.items node.past calls →
-    ¬ IsOutOfTurn h asked node calls i → Took h timeline.returns.items node i (Some w) →
-    ((e : Observation) → slice_get h.entries i ≡ Some e → AreOfOneObject a e) →
-    Leads h asked timeline.returns.items node w
-took_leads h asked timeline node a calls i w is bit none are turn took alike = record {
+    (awaited : ℕ) → slice_get h.entries awaited ≡ Some a →
+    IsChoiceOf h asked timeline.returns.items node calls awaited i w → Leads h asked timeline.returns.items node w
+choice_leads h asked timeline node a calls i w is bit none are awaited at choice = record {
   inside = is.inside;
-  leads = λ s taken stands. to s taken stands (took.takes a s taken (awaited_at h timeline node a is) stands);
+  leads = λ s taken stands. to s taken stands (choice.took.takes a s taken (awaited_at h timeline node a is) stands);
 }
   where
     to : (s : LockState) (taken : List ℕ) → StandsFor h timeline.returns.items node s taken →
@@ -643,9 +775,11 @@ took_leads h asked timeline node a calls i w is bit none are turn took alike = r
         LeadsBy h asked timeline.returns.items node w.node s taken w.took
     to s taken stands it = leads_by_call h asked timeline node a i s taken w is bit stands it (inr (record {
       none = none.none a s taken (awaited_at h timeline node a is) stands;
-      object = alike it.effect.entry (ap (λ (j : ℕ). slice_get h.entries j) (sym it.index) ∙ it.may.effect.is_entry);
+      object = choice.object a it.effect.entry at (ap (λ (j : ℕ). slice_get h.entries j) (sym it.index) ∙
+          it.may.effect.is_entry);
+      asks_not = ap asks_in (sym it.may.effect.is_entry) ∙ ap (asks_at h.entries) it.index ∙ choice.asks_not;
       in_turn = is_in_turn h asked timeline node a s taken calls it.effect is are stands it.may.effect.is_entry
-          (subst (λ (j : ℕ). ¬ IsOutOfTurn h asked node calls j) (sym it.index) turn);
+          (subst (λ (j : ℕ). ¬ IsOutOfTurn h asked node calls j) (sym it.index) choice.in_turn);
     }))
 
 -- an observation tells that it changed nothing
@@ -670,21 +804,27 @@ observing h returns node a i w s taken observer to =
     ap observes_in (sym to.may.effect.is_entry) ∙ ap (observes_at h.entries) to.index ∙ observer
 
 pub leads_at_once : (h : ObservedHistory) (asked : Option ℕ) (timeline : Timeline) (node : Node) (a : Observation)
-    (i : ℕ) (w : Next) → Awaits h timeline node a → bit_at node.threads a.thread ≢ 1 →
-    observes_at h.entries i ≡ true → asked ≢ Some i → Took h timeline.returns.items node i (Some w) →
-    Leads h asked timeline.returns.items node w
-leads_at_once h asked timeline node a i w is bit observer other took = record {
+    (calls : List ℕ) (k : ℕ) (w : Next) → Awaits h timeline node a → bit_at node.threads a.thread ≢ 1 →
+    AreOpen h timeline.returns.items node.past calls → NoneOfFirst h asked timeline.returns.items node calls k →
+    k < length calls → observes_at h.entries (get_or calls k 0) ≡ true → asked ≢ Some (get_or calls k 0) →
+    Took h timeline.returns.items node (get_or calls k 0) (Some w) → Leads h asked timeline.returns.items node w
+leads_at_once h asked timeline node a calls k w is bit are before inside observer other took = record {
   inside = is.inside;
   leads = λ s taken stands. by s taken stands (took.takes a s taken (awaited_at h timeline node a is) stands);
 }
   where
+    i : ℕ
+    i = get_or calls k 0
+
     by : (s : LockState) (taken : List ℕ) → StandsFor h timeline.returns.items node s taken →
         IsTakenTo h timeline.returns.items node a i s taken w →
         LeadsBy h asked timeline.returns.items node w.node s taken w.took
-    by s taken stands to = leads_by_call h asked timeline node a i s taken w is bit stands to (inl (record {
-      tells = observing h timeline.returns.items node a i w s taken observer to;
-      other = λ same. other (same ∙ ap (λ (k : ℕ). Some k) to.index);
-    }))
+    by s taken stands to = leads_by_call h asked timeline node a i s taken w is bit stands to (inl
+        (first_at_once h asked timeline node a s taken calls k to.effect is stands are before inside (sym to.index)
+        (record {
+          tells = observing h timeline.returns.items node a i w s taken observer to;
+          other = λ same. other (same ∙ ap (λ (k : ℕ). Some k) to.index);
+        })))
 
 pub suffices_at_once : (h : ObservedHistory) (timeline : Timeline) (node : Node) (a : Observation) (i : ℕ)
     (w : Next) → Awaits h timeline node a → observes_at h.entries i ≡ true →
@@ -716,13 +856,17 @@ suffices_at_once h timeline node a i w is observer takes n hope =
         (subst (λ (t : LockState). StandsFor h timeline.returns.items w.node t (x.index ∷ hope.taken)) same took.stands)
         (subst P (ap (λ (m : ℕ). drop m timeline.returns.items) (sym took.past)) once.completes)
 
-pub expands_at_once : (h : ObservedHistory) (timeline : Timeline) (node : Node) (a : Observation) (i : ℕ) (w : Next) →
-    Awaits h timeline node a → bit_at node.threads a.thread ≢ 1 → observes_at h.entries i ≡ true →
-    Took h timeline.returns.items node i (Some w) → Expands h timeline.returns.items node (w ∷ [])
-expands_at_once h timeline node a i w is bit observer takes = record {
+pub expands_at_once : (h : ObservedHistory) (timeline : Timeline) (node : Node) (a : Observation) (calls : List ℕ)
+    (k : ℕ) (w : Next) → Awaits h timeline node a → bit_at node.threads a.thread ≢ 1 →
+    AreOpen h timeline.returns.items node.past calls → NoneOfFirst h None timeline.returns.items node calls k →
+    k < length calls → observes_at h.entries (get_or calls k 0) ≡ true →
+    Took h timeline.returns.items node (get_or calls k 0) (Some w) →
+    Expands h timeline.returns.items node (w ∷ [])
+expands_at_once h timeline node a calls k w is bit are before inside observer takes = record {
   each = λ v has. subst (λ (n : Next). Leads h None timeline.returns.items node n) (only_one w v has)
-      (leads_at_once h None timeline node a i w is bit observer (λ same. none-some i same) takes);
-  whole = suffices_at_once h timeline node a i w is observer takes;
+      (leads_at_once h None timeline node a calls k w is bit are before inside observer
+      (λ same. none-some (get_or calls k 0) same) takes);
+  whole = suffices_at_once h timeline node a (get_or calls k 0) w is observer takes;
 }
 
 -- the awaited call is read
@@ -832,23 +976,27 @@ chooses_none h returns node calls = record {
 pub chooses_one : (h : ObservedHistory) (timeline : Timeline) (node : Node) (a : Observation) (calls : List ℕ) (k : ℕ)
     (nexts : List Next) (w : Next) → Awaits h timeline node a → bit_at node.threads a.thread ≢ 1 →
     NoneIsAtOnceAt h None timeline.returns.items node → AreOpen h timeline.returns.items node.past calls →
-    Chooses h timeline.returns.items node calls k nexts → k < length calls →
-    ¬ IsOutOfTurn h None node calls (get_or calls (length calls - 1 - k) 0) →
-    Took h timeline.returns.items node (get_or calls (length calls - 1 - k) 0) (Some w) →
-    ((e : Observation) → slice_get h.entries (get_or calls (length calls - 1 - k) 0) ≡ Some e → AreOfOneObject a e) →
+    Chooses h timeline.returns.items node calls k nexts → k < length calls → (awaited : ℕ) →
+    slice_get h.entries awaited ≡ Some a →
+    IsChoiceOf h None timeline.returns.items node calls awaited (get_or calls (length calls - 1 - k) 0) w →
     Chooses h timeline.returns.items node calls (k + 1) (nexts ++ w ∷ [])
-chooses_one h timeline node a calls k nexts w is bit none are chooses more turn took alike = record {
+chooses_one h timeline node a calls k nexts w is bit none are chooses more awaited at choice = record {
   led = each_push (Leads h None timeline.returns.items node) nexts w chooses.led
-      (took_leads h None timeline node a calls (get_or calls (length calls - 1 - k) 0) w is bit none are turn took
-      alike);
-  tries = tried_some h None timeline.returns.items node calls k nexts w chooses.tries more took;
+      (choice_leads h None timeline node a calls (get_or calls (length calls - 1 - k) 0) w is bit none are awaited at
+      choice);
+  tries = tried_some h None timeline.returns.items node calls k nexts w chooses.tries more choice.took;
 }
 
 -- the others lead to none
 pub chooses_not : (h : ObservedHistory) (returns : List ℕ) (node : Node) (calls : List ℕ) (k : ℕ)
-    (nexts : List Next) → Chooses h returns node calls k nexts → Tries h None returns node calls (k + 1) nexts →
+    (nexts : List Next) (awaited : ℕ) → Chooses h returns node calls k nexts → k < length calls →
+    ((a : Observation) → IsAwaitedAt h returns node.past a → slice_get h.entries awaited ≡ Some a) →
+    IsNoChoice h None returns node calls awaited (get_or calls (length calls - 1 - k) 0) →
     Chooses h returns node calls (k + 1) nexts
-chooses_not h returns node calls k nexts chooses tries = record { led = chooses.led; tries = tries }
+chooses_not h returns node calls k nexts awaited chooses more read none = record {
+  led = chooses.led;
+  tries = tried_not h None returns node calls k nexts awaited chooses.tries more read none;
+}
 
 -- where the awaited call is not in effect an open call takes effect
 pub expands_open : (h : ObservedHistory) (timeline : Timeline) (node : Node) (calls : List ℕ) (k : ℕ)

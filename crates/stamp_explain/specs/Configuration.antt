@@ -1,5 +1,5 @@
 -- The configurations that a search for an order reaches, and what one has looked at that gives up.
-use Rattle.std.specs.Prelude.{ℕ, ◌≡◌, ◌≢◌, ◌≤◌, ◌+◌, ◌++◌, ◌⊎◌, ◌↔◌, List, [], ◌∷◌, length, slice_get, true}
+use Rattle.std.specs.Prelude.{ℕ, ◌≡◌, ◌≢◌, ◌≤◌, ◌+◌, ◌++◌, ◌⊎◌, ◌↔◌, List, [], ◌∷◌, length, slice_get, true, false}
 use Rattle.std.specs.Prelude.{Option, Some, None}
 use Rattle.std.specs.List.{All, AllPairs, Contains}
 use Rattle.stamp_core.specs.LockEvent.{LockEvent, counts}
@@ -11,10 +11,11 @@ use Rattle.stamp_core.specs.declared.reply.Reply.{Reply}
 use Rattle.stamp_core.specs.declared.reply.Reply.TheVariants.{Yes}
 use Rattle.stamp_explain.specs.declared.observed.Observation.{Observation}
 use Rattle.stamp_explain.specs.Observed.{ObservedHistory, AreOfOneObject, IsBefore, of_lock, of_record}
-use Rattle.stamp_explain.specs.Observer.{observes}
+use Rattle.stamp_explain.specs.Observer.{observes, is_open_question}
 use Rattle.stamp_explain.specs.Explained.{Effect, IsExplained}
 use Rattle.stamp_explain.specs.Turn.{IsAhead}
-use Rattle.stamp_explain.specs.Search.{LockState, LockSteps, CanComplete, MayTake, AreReturns, opening}
+use Rattle.stamp_explain.specs.Search.{LockState, LockSteps, CanComplete, MayTake, AreReturns, StandsBefore}
+use Rattle.stamp_explain.specs.Search.{opening}
 
 -- whose words the record holds after a call, which stands at this place of the history, and its reply
 abbrev pub put_after : Option ℕ → ℕ → Call → Reply → Option ℕ
@@ -27,6 +28,13 @@ pub record IsAtOnce (asked : Option ℕ) (x : Effect) : Type 0 where
   pub tells : observes x.entry ≡ true
   pub other : asked ≢ Some x.index
 
+-- of those that may take effect so, the one that returned first
+pub record IsFirstAtOnce (h : ObservedHistory) (asked : Option ℕ) (returns : List ℕ) (awaited : Observation)
+    (s : LockState) (taken : List ℕ) (x : Effect) : Type 0 where
+  pub at_once : IsAtOnce asked x
+  pub first : (y : Effect) (t : LockState) → IsAtOnce asked y →
+      MayTake (LockSteps h.limits) h.entries awaited s taken y t → ¬ StandsBefore returns y.index x.index
+
 -- none of them may take effect
 abbrev pub NoneIsAtOnce : ObservedHistory → Option ℕ → Observation → LockState → List ℕ → Type 0
 NoneIsAtOnce h asked awaited s taken = (x : Effect) (t : LockState) → IsAtOnce asked x →
@@ -37,16 +45,19 @@ abbrev pub IsInTurn : ObservedHistory → Option ℕ → Observation → List �
 IsInTurn h asked awaited taken x = (i : ℕ) (e : Observation) → asked ≢ Some i → slice_get h.entries i ≡ Some e →
     IsAhead e x.entry → ¬ IsBefore awaited e → Contains taken i
 
--- where none takes effect at once, one of the awaited one's object is chosen: of those that are alike, in turn
+-- where none takes effect at once, one of the awaited one's object is chosen: of those that are alike, in turn. A
+-- question that is under way is left out
 pub record IsChosen (h : ObservedHistory) (asked : Option ℕ) (awaited : Observation) (s : LockState) (taken : List ℕ)
     (x : Effect) : Type 0 where
   pub none : NoneIsAtOnce h asked awaited s taken
   pub object : AreOfOneObject awaited x.entry
+  pub asks_not : is_open_question x.entry ≡ false
   pub in_turn : IsInTurn h asked awaited taken x
 
 -- of the open calls this one is tried
-abbrev pub IsTried : ObservedHistory → Option ℕ → Observation → LockState → List ℕ → Effect → Type 0
-IsTried h asked awaited s taken x = IsAtOnce asked x ⊎ IsChosen h asked awaited s taken x
+abbrev pub IsTried : ObservedHistory → Option ℕ → List ℕ → Observation → LockState → List ℕ → Effect → Type 0
+IsTried h asked returns awaited s taken x =
+    IsFirstAtOnce h asked returns awaited s taken x ⊎ IsChosen h asked awaited s taken x
 
 -- a way through a search from the opening: a call in effect returns; where one that is not in effect is to
 -- return, an open call that is tried takes effect. It leads to the returns to come, what lock and record are in, the
@@ -58,7 +69,7 @@ pub data Reaches (h : ObservedHistory) (asked : Option ℕ) (returns : List ℕ)
       Reaches h asked returns (i ∷ to_come) s put taken → Contains taken i → Reaches h asked returns to_come s put taken
   goes_on_by : {i : ℕ} {to_come : List ℕ} {s : LockState} {put : Option ℕ} {taken : List ℕ} →
       Reaches h asked returns (i ∷ to_come) s put taken → (awaited : Observation) (x : Effect) (t : LockState) →
-      slice_get h.entries i ≡ Some awaited → ¬ Contains taken i → IsTried h asked awaited s taken x →
+      slice_get h.entries i ≡ Some awaited → ¬ Contains taken i → IsTried h asked returns awaited s taken x →
       MayTake (LockSteps h.limits) h.entries awaited s taken x t →
       Reaches h asked returns (i ∷ to_come) t (put_after put x.index x.entry.call x.reply) (x.index ∷ taken)
 

@@ -13,7 +13,9 @@ use Rattle.stamp_explain.specs.declared.store.Store.{Store}
 use Rattle.stamp_explain.specs.declared.found.Found.{Found}
 use Rattle.stamp_explain.specs.declared.found.Found.TheVariants.{Order, Nothing, Undecided}
 use Rattle.stamp_explain.specs.declared.timeline.Timeline.{Timeline}
-use Rattle.stamp_explain.specs.Observed.{ObservedHistory, IsObserved}
+use Rattle.stamp_explain.specs.Observed.{ObservedHistory, IsObserved, AreOfOneObject}
+use Rattle.stamp_explain.specs.Observer.{asks_at}
+use Rattle.stamp_explain.specs.Turn.{IsOutOfTurn}
 use Rattle.stamp_explain.specs.Explained.{Effect, IsEffectOf, IsExplained}
 use Rattle.stamp_explain.specs.Search.{LockState, LockSteps, MayTake, IsCompletedBy}
 use Rattle.stamp_explain.specs.Configuration.{GivesUp, IsGivenUp, IsTried, NoneIsAtOnce, put_after}
@@ -56,7 +58,7 @@ pub record LeadsByCall (h : ObservedHistory) (asked : Option ℕ) (returns : Lis
   pub not_yet : ¬ Contains taken (slice_index returns node.past)
   pub effect : Effect
   pub index : effect.index ≡ i
-  pub tried : IsTried h asked awaited s taken effect
+  pub tried : IsTried h asked returns awaited s taken effect
   pub state : LockState
   pub may : MayTake (LockSteps h.limits) h.entries awaited s taken effect state
   pub put : w.writer ≡ put_after node.writer effect.index effect.entry.call effect.reply
@@ -135,6 +137,29 @@ Takes h returns node a i s taken (Some w) = IsTakenTo h returns node a i s taken
 pub record Took (h : ObservedHistory) (returns : List ℕ) (node : Node) (i : ℕ) (found : Option Next) : Type 0 where
   pub takes : (a : Observation) (s : LockState) (taken : List ℕ) → IsAwaitedAt h returns node.past a →
       StandsFor h returns node s taken → Takes h returns node a i s taken found
+
+-- an open call is no choice: it is not of the awaited one's object, is a question that is under way, comes after one
+-- that is alike, or can't take effect
+pub data IsNoChoice (h : ObservedHistory) (asked : Option ℕ) (returns : List ℕ) (node : Node) (calls : List ℕ)
+    (awaited i : ℕ) : Type 0 where
+  of_other : ((a e : Observation) → slice_get h.entries awaited ≡ Some a → slice_get h.entries i ≡ Some e →
+      ¬ AreOfOneObject a e) → IsNoChoice h asked returns node calls awaited i
+  questions : asks_at h.entries i ≡ true → IsNoChoice h asked returns node calls awaited i
+  comes_later : IsOutOfTurn h asked node calls i → IsNoChoice h asked returns node calls awaited i
+  stays : Took h returns node i None → IsNoChoice h asked returns node calls awaited i
+
+-- or it is one, and leads to this node
+pub record IsChoiceOf (h : ObservedHistory) (asked : Option ℕ) (returns : List ℕ) (node : Node) (calls : List ℕ)
+    (awaited i : ℕ) (w : Next) : Type 0 where
+  pub object : (a e : Observation) → slice_get h.entries awaited ≡ Some a → slice_get h.entries i ≡ Some e →
+      AreOfOneObject a e
+  pub asks_not : asks_at h.entries i ≡ false
+  pub in_turn : ¬ IsOutOfTurn h asked node calls i
+  pub took : Took h returns node i (Some w)
+
+abbrev pub IsChoice : ObservedHistory → Option ℕ → List ℕ → Node → List ℕ → ℕ → ℕ → Option Next → Type 0
+IsChoice h asked returns node calls awaited i None = IsNoChoice h asked returns node calls awaited i
+IsChoice h asked returns node calls awaited i (Some w) = IsChoiceOf h asked returns node calls awaited i w
 
 -- what a search finds that looks at so many configurations before it gives up
 abbrev pub IsSearched : ObservedHistory → ℕ → Found → Type 0

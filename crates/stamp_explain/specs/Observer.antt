@@ -38,7 +38,33 @@ changes_nothing Get _ = true
 changes_nothing (PutIf expected words) No = true
 changes_nothing _ _ = false
 
--- the call has returned, and tells so
+-- a call that changes nothing by any reply
+abbrev pub is_question : Call → Bool
+is_question Optimistic = true
+is_question (Validate s) = true
+is_question IsWriteLocked = true
+is_question IsReadLocked = true
+is_question ReadCount = true
+is_question Get = true
+is_question _ = false
+
+-- it is under way, and such a call
+abbrev pub asks_by : Call → Option Returned → Bool
+asks_by call None = is_question call
+asks_by call (Some r) = false
+
+abbrev pub is_open_question : Observation → Bool
+is_open_question e = asks_by e.call e.returned
+
+abbrev pub asks_in : Option Observation → Bool
+asks_in None = false
+asks_in (Some e) = is_open_question e
+
+-- so is the call of this entry
+abbrev pub asks_at : List Observation → ℕ → Bool
+asks_at entries i = asks_in (slice_get entries i)
+
+-- the call has returned, and its reply tells that it changed nothing
 abbrev pub observes_by : Call → Option Returned → Bool
 observes_by call None = false
 observes_by call (Some r) = changes_nothing call r.reply

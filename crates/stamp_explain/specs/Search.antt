@@ -1,5 +1,6 @@
 -- A search for an order, return by return. Its objects are given by their steps: state, call and reply, next state.
-use Rattle.std.specs.Prelude.{ℕ, ◌≡◌, ◌≤◌, ◌⊎◌, ◌++◌, Bool, true, false, List, [], ◌∷◌, slice_get, Some, MatchOption}
+use Rattle.std.specs.Prelude.{ℕ, ◌≡◌, ◌≤◌, ◌⊎◌, ◌++◌, Bool, true, false, List, [], ◌∷◌, take, slice_get, Some}
+use Rattle.std.specs.Prelude.{MatchOption}
 use Rattle.std.specs.List.{All, AllPairs, Contains}
 use Rattle.stamp_core.specs.LockEvent.{LockEvent}
 use Rattle.stamp_core.specs.Call.{is_lock_call}
@@ -91,6 +92,12 @@ pub record AreReturns (entries : List Observation) (returns : List ℕ) : Type 0
   pub each : All (IsReturnAt entries) returns
   pub whole : (i : ℕ) (e : Observation) → slice_get entries i ≡ Some e → HasReturned e → Contains returns i
   pub in_order : AllPairs (AreInOrder entries) returns
+
+-- the first stands in this list before the second, which may stand in it later, or not at all
+pub record StandsBefore (xs : List ℕ) (i j : ℕ) : Type 0 where
+  pub place : ℕ
+  pub first : Contains (take place xs) i
+  pub later : ¬ Contains (take place xs) j
 
 -- lock and record by their steps: the events so far and the content
 abbrev pub LockState : Type 0

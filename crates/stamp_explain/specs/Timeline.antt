@@ -5,7 +5,7 @@ use Rattle.std.specs.Global.{Global}
 use Rattle.stamp_explain.specs.declared.observed.Observation.{Observation}
 use Rattle.stamp_explain.specs.declared.timeline.Timeline.{Timeline}
 use Rattle.stamp_explain.specs.Observed.{ObservedHistory, IsBefore}
-use Rattle.stamp_explain.specs.Search.{AreReturns}
+use Rattle.stamp_explain.specs.Search.{AreReturns, StandsBefore}
 
 -- the call of this entry may take effect before this return: it is not past, and it began no later than the
 -- awaited call returned
@@ -15,10 +15,11 @@ pub record IsOpenAt (h : ObservedHistory) (returns : List ℕ) (past i : ℕ) : 
   pub still : ¬ Contains (take past returns) i
   pub begun : (a : Observation) → slice_get h.entries (slice_index returns past) ≡ Some a → ¬ IsBefore a entry
 
--- all that may, and no other
+-- all that may, and no other, in the order of their returns
 pub record AreOpen (h : ObservedHistory) (returns : List ℕ) (past : ℕ) (calls : List ℕ) : Type 0 where
   pub each : (i : ℕ) → Contains calls i → IsOpenAt h returns past i
   pub whole : (i : ℕ) → IsOpenAt h returns past i → Contains calls i
+  pub in_order : AllPairs (λ (i j : ℕ). ¬ StandsBefore returns j i) calls
 
 pub record IsTimeline (h : ObservedHistory) (timeline : Timeline) : Type 0 where
   pub are : AreReturns h.entries timeline.returns.items

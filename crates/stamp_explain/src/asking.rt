@@ -15,13 +15,12 @@ ghost use Rattle.stamp_explain.specs.Asking.{Adds, AreAsked, AreLed, AreMore, Ar
 
 use crate::cut::seen_at;
 use crate::node::{Next, Node, Origin, has_bit, without_bit};
-use crate::observed::{Observation, Observed, Returned, are_of_one_object};
+use crate::observed::{Observation, Observed, Returned};
 use crate::observer::observes_at;
-use crate::search::{opening, take_of};
+use crate::search::{choice_of, opening, take_of};
 use crate::stepping::step_of;
 use crate::store::Store;
 use crate::timeline::{Timeline, timeline_of};
-use crate::turn::is_out_of_turn;
 use stamp_core::Reply;
 use std::alloc::{AllocError, Global};
 
@@ -162,8 +161,7 @@ fn observed_beside(asking: &Asking, node: &Node) -> Option<Next>
     None
 }
 
-/// The nodes that come next where another open call of the awaited one's object takes effect: of those that
-/// are alike, the one that returned first.
+/// The nodes that come next where another open call takes effect, one for each choice.
 fn choices_beside(asking: &Asking, node: &Node, nexts: &mut Vec<Next>) -> Result<(), AllocError>
     requires at { MayGoOnBeside asking.now node.now }
     requires awaited { IsNotInEffect asking.now.seen asking.now.timeline.returns.items node.now }
@@ -178,11 +176,9 @@ fn choices_beside(asking: &Asking, node: &Node, nexts: &mut Vec<Next>) -> Result
     let calls = asking.timeline.opens[node.past].as_slice();
     for k in 0..calls.len() {
         let i = calls[calls.len() - 1 - k];
-        if i != asking.place
-            && are_of_one_object(&asking.seen, awaited, i)
-            && !is_out_of_turn(&asking.seen, Some(asking.place), node, calls, i)
-        {
-            if let Some(next) = take_of(&asking.seen, node, i) {
+        if i != asking.place {
+            let asked = Some(asking.place);
+            if let Some(next) = choice_of(&asking.seen, asked, node, calls, awaited, i) {
                 nexts.push(next)?;
             }
         }

@@ -1,7 +1,7 @@
 //! Calls whose reply tells that they changed nothing.
 ghost use Rattle.std.specs.Prelude.{◌≡◌, ◌==◌};
 ghost use Rattle.stamp_core.specs.declared.reply.Reply.TheVariants.{Stamp};
-ghost use Rattle.stamp_explain.specs.Observer.{is_stamp, changes_nothing, observes, observes_at};
+ghost use Rattle.stamp_explain.specs.Observer.{is_stamp, changes_nothing, is_question, is_open_question, asks_at, observes, observes_at};
 
 use crate::observed::{Observation, Observed};
 use stamp_core::{Call, Reply};
@@ -38,6 +38,54 @@ fn changes_nothing(call: &Call, reply: &Reply) -> bool
         | Call::ReadCount
         | Call::Get => true,
         Call::ReadLock | Call::Put(_) => false,
+    }
+}
+
+/// Whether the call changes nothing by any reply.
+fn is_question(call: &Call) -> bool
+    ensures { result ≡ is_question call.now }
+{
+    match *call {
+        Call::Optimistic
+        | Call::Validate(_)
+        | Call::IsWriteLocked
+        | Call::IsReadLocked
+        | Call::ReadCount
+        | Call::Get => true,
+        Call::TryWrite
+        | Call::TryRead
+        | Call::WriteLock
+        | Call::ReadLock
+        | Call::UnlockWrite(_)
+        | Call::UnlockRead(_)
+        | Call::Unlock(_)
+        | Call::ToWrite(_)
+        | Call::ToRead(_)
+        | Call::ToOptimistic(_)
+        | Call::TryUnlockWrite
+        | Call::TryUnlockRead
+        | Call::Put(_)
+        | Call::PutIf(_, _) => false,
+    }
+}
+
+/// Whether it is under way, and such a call.
+fn is_open_question(entry: &Observation) -> bool
+    ensures { result ≡ is_open_question entry.now }
+{
+    match &entry.returned {
+        None => is_question(&entry.call),
+        Some(_) => false,
+    }
+}
+
+/// Whether the call of this entry is such a one.
+pub(crate) fn asks_at(observed: &Observed, i: usize) -> bool
+    ensures { result ≡ asks_at observed.now.entries i }
+{
+    match observed.entries().get(i) {
+        None => false,
+        Some(entry) => is_open_question(entry),
     }
 }
 

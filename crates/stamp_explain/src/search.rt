@@ -7,12 +7,12 @@ ghost use Rattle.stamp_explain.specs.Search.{AreReturns};
 ghost use Rattle.stamp_explain.specs.Node.{IsOpening};
 ghost use Rattle.stamp_explain.specs.Timeline.{IsTimeline, IsOpenAt};
 ghost use Rattle.stamp_explain.specs.Store.{Keeps};
-ghost use Rattle.stamp_explain.specs.Expand.{MayGoOn, Expands, Took, IsNotInEffect, NoneIsAtOnceAt, IsSearched, LooksAt, waiting_from};
+ghost use Rattle.stamp_explain.specs.Expand.{MayGoOn, Expands, Took, IsChoice, IsNotInEffect, NoneIsAtOnceAt, IsSearched, LooksAt, waiting_from};
 
 use crate::found::Found;
 use crate::node::{Next, Node, Origin, Waiting, has_bit, with_bit, without_bit};
 use crate::observed::{Observed, are_of_one_object};
-use crate::observer::observes_at;
+use crate::observer::{asks_at, observes_at};
 use crate::order::order_to;
 use crate::stepping::step_of;
 use crate::store::Store;
@@ -110,9 +110,38 @@ fn forced(observed: &Observed, timeline: &Timeline, node: &Node) -> Option<Next>
     None
 }
 
-/// The nodes that come next where an open call has to take effect. Only those of the awaited call's
-/// object, lock or record, are tried, and of those that are alike the one that returned first. The node
-/// of the call which returns first comes last.
+/// What becomes of a node where the call of this entry is chosen: nothing, where it can't take effect, is
+/// not of the awaited call's object, lock or record, is a question that is under way, or where one that is
+/// alike returned sooner.
+#[inline(always)]
+pub(crate) fn choice_of(
+    observed: &Observed,
+    asked: Option<usize>,
+    node: &Node,
+    calls: &[usize],
+    awaited: usize,
+    i: usize,
+) -> Option<Next>
+    requires observed { IsObserved observed.now }
+    requires admitted { IsAdmitted observed.now.limits (word_at observed.now.limits node.now.bits) }
+    requires awaited { awaited < length observed.now.entries }
+    requires inside { i < length observed.now.entries }
+    ensures { (returns : List ℕ) → AreReturns observed.now.entries returns
+        → IsOpenAt observed.now returns node.now.past i
+        → IsChoice observed.now asked returns node.now calls.now awaited i result }
+{
+    if !are_of_one_object(observed, awaited, i) || asks_at(observed, i) {
+        return None;
+    }
+    let next = take_of(observed, node, i)?;
+    if is_out_of_turn(observed, asked, node, calls, i) {
+        return None;
+    }
+    Some(next)
+}
+
+/// The nodes that come next where an open call has to take effect, one for each choice. The node of the
+/// call which returns first comes last.
 fn choices(
     observed: &Observed,
     timeline: &Timeline,
@@ -129,12 +158,8 @@ fn choices(
     let calls = timeline.opens[node.past].as_slice();
     for k in 0..calls.len() {
         let i = calls[calls.len() - 1 - k];
-        if are_of_one_object(observed, awaited, i)
-            && !is_out_of_turn(observed, None, node, calls, i)
-        {
-            if let Some(next) = take_of(observed, node, i) {
-                nexts.push(next)?;
-            }
+        if let Some(next) = choice_of(observed, None, node, calls, awaited, i) {
+            nexts.push(next)?;
         }
     }
     Ok(())

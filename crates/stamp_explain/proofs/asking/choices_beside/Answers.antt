@@ -1,32 +1,21 @@
 use Rattle.std.proofs.Common.{◌≡◌, ◌<◌, ◌+◌, ◌-◌, ℕ, List, [], ◌∷◌, ◌++◌, length, get_or, sym, ◌∙◌, ap, subst}
 use Rattle.std.proofs.Common.{arith}
-use Rattle.std.proofs.Common.{Vec, Global, true, false}
+use Rattle.std.proofs.Common.{Vec, Global}
 use Rattle.std.proofs.lemmas.Option.{slice_get_within}
 use Rattle.stamp_explain.specs.declared.node.Next.{Next}
 use Rattle.stamp_explain.specs.Timeline.{AreOpen, IsOpenAt}
 use Rattle.stamp_explain.proofs.Succeeding.{AwaitsOne, awaits_one, awaited_at}
-use Rattle.stamp_explain.proofs.Succeeding.{open_read, opens_read, open_within, awaited_read}
+use Rattle.stamp_explain.proofs.Succeeding.{open_read, opens_read, awaited_read}
 use Rattle.stamp_explain.proofs.Answering.{timeline_alike}
 use Rattle.stamp_explain.proofs.Beside.{awaited_inside, TriesBeside, beside_some}
-use Rattle.stamp_explain.proofs.Beside.{beside_later, beside_none, beside_asked, beside_other}
+use Rattle.stamp_explain.proofs.Beside.{beside_asked, beside_not}
 use Rattle.stamp_explain.proofs.Beside.{suffice_beside, alike_of}
 use Rattle.stamp_explain.proofs.asking.choices_beside.Goals as goal
-use Rattle.stamp_explain.proofs.asking.choices_beside.Goals.{then-i-asking+then-are_of_one_object+then-not-is_out_of_turn+in-Some+in_ok-push}
-use Rattle.stamp_explain.proofs.asking.choices_beside.Goals.{then-i-asking+then-are_of_one_object+then-not-is_out_of_turn+in_default}
-use Rattle.stamp_explain.proofs.asking.choices_beside.Goals.{else-i-asking}
-use Rattle.stamp_explain.proofs.asking.choices_beside.Goals.{else-i-asking-via-then-i-asking+then-are_of_one_object+else-not-is_out_of_turn}
-use Rattle.stamp_explain.proofs.asking.choices_beside.Goals.{else-i-asking-via-then-i-asking+else-are_of_one_object}
-use Rattle.stamp_explain.proofs.asking.choices_beside.Goals.{else-i-asking-via-else-i-asking}
+use Rattle.stamp_explain.proofs.asking.choices_beside.Goals.{then-i-asking+in-Some+in_ok-push}
+use Rattle.stamp_explain.proofs.asking.choices_beside.Goals.{then-i-asking+in_default, else-i-asking}
 
-pub are_of_one_object-requires-clause-other : goal.are_of_one_object-requires-clause-other
-are_of_one_object-requires-clause-other c =
-    let calls : List ℕ = c.as_slice-calls.result.now in
-    open_within c.args.asking.now.seen c.args.asking.now.timeline c.args.node.now.past c.index.result.now calls
-    (length calls - 1 - c.loop-k.k) c.requires.at.asks.timeline c.requires.at.past c.index.ensures
-    c.as_slice-calls.ensures.value (omega (arith, c.loop-k-test.true))
-
-pub take_of-requires-clause-inside : goal.take_of-requires-clause-inside
-take_of-requires-clause-inside c =
+pub choice_of-requires-clause-inside : goal.choice_of-requires-clause-inside
+choice_of-requires-clause-inside c =
     let calls : List ℕ = c.as_slice-calls.result.now in
     let within : length calls - 1 - c.loop-k.k < length calls = omega (arith, c.loop-k-test.true) in
     let it : IsOpenAt c.args.asking.now.seen c.args.asking.now.timeline.returns.items c.args.node.now.past
@@ -36,9 +25,6 @@ take_of-requires-clause-inside c =
     c.as_slice-calls.ensures.value within in
     slice_get_within c.args.asking.now.seen.entries (get_or calls (length calls - 1 - c.loop-k.k) 0) it.entry
     it.is_entry
-
-false_true : false ≡ true → ⊥
-false_true h = cc
 
 pub loop-k-preserved : goal.loop-k-preserved
 loop-k-preserved c =
@@ -59,41 +45,28 @@ loop-k-preserved c =
     awaits_one asking.seen asking.timeline node c.requires.at.asks.observed c.requires.at.asks.timeline
     c.requires.at.past c.requires.awaited in
     elim c.if-i-asking.branch [
-      | then-i-asking+then-are_of_one_object+then-not-is_out_of_turn+in-Some+in_ok-push w ↦
+      | then-i-asking+in-Some+in_ok-push w ↦
           let same : c.if-i-asking.nexts.items ≡ nexts ++ w.in-Some.next ∷ [] =
           ap (λ (v : Vec Next Global). v.items) w.nexts-is ∙ w.in_ok-push.ensures.items in
           subst (λ (ns : List Next). TriesBeside asking node calls (k + 1) ns) (sym same)
           (beside_some asking node one.entry calls k nexts w.in-Some.next one.awaits c.requires.at.reached.reached
           one.bit c.requires.at_once are c.loop-k.invariant c.loop-k-test.true
-          (λ same. omega (arith, same, w.if-i-asking.true))
-          (λ out. false_true (sym w.if-not-is_out_of_turn.true ∙ w.is_out_of_turn.ensures.1 out))
-          (w.in-Some.ensures returns c.requires.at.asks.timeline.are it)
-          (λ e at. (w.are_of_one_object.ensures one.entry e (awaited_read asking.seen returns node.past
-          c.index-awaited.result.now one.entry (awaited_at asking.seen asking.timeline node one.entry one.awaits)
-          c.index-awaited.ensures) at).0 w.if-are_of_one_object.true))
-      | then-i-asking+then-are_of_one_object+then-not-is_out_of_turn+in_default w ↦
+          (λ same. omega (arith, same, w.if-i-asking.true)) c.index-awaited.result.now
+          (awaited_read asking.seen returns node.past c.index-awaited.result.now one.entry
+          (awaited_at asking.seen asking.timeline node one.entry one.awaits) c.index-awaited.ensures)
+          (w.in-Some.ensures returns c.requires.at.asks.timeline.are it))
+      | then-i-asking+in_default w ↦
           let same : c.if-i-asking.nexts.items ≡ nexts = ap (λ (v : Vec Next Global). v.items) w.nexts-is in
           subst (λ (ns : List Next). TriesBeside asking node calls (k + 1) ns) (sym same)
-          (beside_none asking node calls k nexts c.loop-k.invariant c.loop-k-test.true
+          (beside_not asking node calls k nexts c.index-awaited.result.now c.loop-k.invariant c.loop-k-test.true
           (λ same. omega (arith, same, w.if-i-asking.true))
-          (w.in_default.ensures returns c.requires.at.asks.timeline.are it))
+          (λ a awaited. awaited_read asking.seen returns node.past c.index-awaited.result.now a awaited
+          c.index-awaited.ensures) (w.in_default.ensures returns c.requires.at.asks.timeline.are it))
       | else-i-asking w ↦
           let same : c.if-i-asking.nexts.items ≡ nexts = ap (λ (v : Vec Next Global). v.items) w.nexts-is in
           subst (λ (ns : List Next). TriesBeside asking node calls (k + 1) ns) (sym same)
-          (elim w.else-i-asking.branch [
-            | else-i-asking-via-then-i-asking+then-are_of_one_object+else-not-is_out_of_turn v ↦
-                beside_later asking node calls k nexts c.loop-k.invariant c.loop-k-test.true
-                (λ same. omega (arith, same, v.if-i-asking.true))
-                (v.is_out_of_turn.ensures.0 v.if-not-is_out_of_turn.false)
-            | else-i-asking-via-then-i-asking+else-are_of_one_object v ↦
-                beside_other asking node calls k nexts c.loop-k.invariant c.loop-k-test.true
-                (λ a e awaited at alike. false_true (sym v.if-are_of_one_object.false ∙
-                (v.are_of_one_object.ensures a e (awaited_read asking.seen returns node.past
-                c.index-awaited.result.now a awaited c.index-awaited.ensures) at).1 alike))
-            | else-i-asking-via-else-i-asking v ↦
-                let here : get_or calls (length calls - 1 - k) 0 ≡ asking.place = omega (arith, v.if-i-asking.false) in
-                beside_asked asking node calls k nexts c.loop-k.invariant c.loop-k-test.true here
-          ])
+          (let here : get_or calls (length calls - 1 - k) 0 ≡ asking.place = omega (arith, w.if-i-asking.false) in
+          beside_asked asking node calls k nexts c.loop-k.invariant c.loop-k-test.true here)
     ]
 
 pub returns-clause-whole : goal.returns-clause-whole
@@ -106,6 +79,6 @@ returns-clause-whole c = λ reply h is none.
     c.as_slice-calls.ensures.value)
     (omega (arith, c.loop-k-test.false)) is (c.loop-k.invariant.tries reply h is none)
 
-pub are_of_one_object-requires-clause-one : goal.are_of_one_object-requires-clause-one
-are_of_one_object-requires-clause-one c = awaited_inside c.args.asking.now c.args.node.now c.index-awaited.result.now
+pub choice_of-requires-clause-awaited : goal.choice_of-requires-clause-awaited
+choice_of-requires-clause-awaited c = awaited_inside c.args.asking.now c.args.node.now c.index-awaited.result.now
     c.requires.at.asks c.requires.at.past c.index-awaited.ensures

@@ -19,8 +19,11 @@ returns-in-Some-clause-leads c =
     let there : AwaitsOne asking.seen asking.timeline node =
     awaits_one asking.seen asking.timeline node c.requires.at.asks.observed c.requires.at.asks.timeline
     c.requires.at.past c.requires.awaited in
-    at_once_leads asking node there.entry (get_or c.as_slice-i-items.result.now c.loop-i.i-index 0) c.in-Some.next
-    there.awaits c.requires.at.reached.reached there.bit (sym c.observes_at.ensures ∙ c.if-observes_at.true)
+    at_once_leads asking node there.entry c.as_slice-i-items.result.now c.loop-i.i-index c.in-Some.next
+    there.awaits c.requires.at.reached.reached there.bit
+    (opens_read asking.seen asking.timeline node.past c.index.result.now c.as_slice-i-items.result.now
+    c.requires.at.asks.timeline c.requires.at.past c.index.ensures c.as_slice-i-items.ensures.value)
+    c.loop-i.invariant c.loop-i-test.true (sym c.observes_at.ensures ∙ c.if-observes_at.true)
     (c.in-Some.ensures asking.timeline.returns.items c.requires.at.asks.timeline.are
     (open_read asking.seen asking.timeline node.past c.index.result.now c.as_slice-i-items.result.now
     c.loop-i.i-index c.requires.at.asks.timeline c.requires.at.past c.index.ensures c.as_slice-i-items.ensures.value

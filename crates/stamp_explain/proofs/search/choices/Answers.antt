@@ -1,34 +1,20 @@
-use Rattle.std.proofs.Common.{◌≡◌, ◌<◌, ◌+◌, ◌-◌, ℕ, true, false, List, [], ◌∷◌, ◌++◌, length, get_or, sym, ◌∙◌, ap}
-use Rattle.std.proofs.Common.{subst, arith, Vec, Global, None}
+use Rattle.std.proofs.Common.{◌≡◌, ◌<◌, ◌+◌, ◌-◌, ℕ, List, [], ◌∷◌, ◌++◌, length, get_or, sym, ◌∙◌, ap}
+use Rattle.std.proofs.Common.{subst, arith, Vec, Global}
 use Rattle.stamp_explain.specs.declared.node.Next.{Next}
 use Rattle.stamp_explain.specs.Timeline.{IsOpenAt}
 use Rattle.stamp_explain.specs.Timeline.{AreOpen}
 use Rattle.stamp_explain.proofs.Succeeding.{AwaitsOne, awaits_one, awaited_at}
-use Rattle.stamp_explain.proofs.Succeeding.{Chooses, chooses_one, chooses_not, tried_none, tried_other, tried_later}
+use Rattle.stamp_explain.proofs.Succeeding.{Chooses, chooses_one, chooses_not}
 use Rattle.stamp_explain.proofs.Succeeding.{expands_open, opens_read, open_read, open_within, awaited_read}
 use Rattle.stamp_explain.proofs.search.choices.Goals as goal
-use Rattle.stamp_explain.proofs.search.choices.Goals.{then-are_of_one_object+then-not-is_out_of_turn+in-Some+in_ok-push}
-use Rattle.stamp_explain.proofs.search.choices.Goals.{then-are_of_one_object+then-not-is_out_of_turn+in_default}
-use Rattle.stamp_explain.proofs.search.choices.Goals.{else-are_of_one_object}
-use Rattle.stamp_explain.proofs.search.choices.Goals.{else-are_of_one_object-via-then-are_of_one_object+else-not-is_out_of_turn}
-use Rattle.stamp_explain.proofs.search.choices.Goals.{else-are_of_one_object-via-else-are_of_one_object}
+use Rattle.stamp_explain.proofs.search.choices.Goals.{in-Some+in_ok-push, in_default}
 
-pub are_of_one_object-requires-clause-other : goal.are_of_one_object-requires-clause-other
-are_of_one_object-requires-clause-other c =
+pub choice_of-requires-clause-inside : goal.choice_of-requires-clause-inside
+choice_of-requires-clause-inside c =
     let calls : List ℕ = c.as_slice-calls.result.now in
     open_within c.args.observed.now c.args.timeline.now c.args.node.now.past c.index.result.now calls
     (length calls - 1 - c.loop-k.k) c.requires.at.is_timeline c.requires.at.past c.index.ensures
     c.as_slice-calls.ensures.value (omega (arith, c.loop-k-test.true))
-
-pub take_of-requires-clause-inside : goal.take_of-requires-clause-inside
-take_of-requires-clause-inside c =
-    let calls : List ℕ = c.as_slice-calls.result.now in
-    open_within c.args.observed.now c.args.timeline.now c.args.node.now.past c.index.result.now calls
-    (length calls - 1 - c.loop-k.k) c.requires.at.is_timeline c.requires.at.past c.index.ensures
-    c.as_slice-calls.ensures.value (omega (arith, c.loop-k-test.true))
-
-false_true : false ≡ true → ⊥
-false_true h = cc
 
 pub loop-k-preserved : goal.loop-k-preserved
 loop-k-preserved c =
@@ -48,40 +34,22 @@ loop-k-preserved c =
     let one : AwaitsOne h c.args.timeline.now node =
     awaits_one h c.args.timeline.now node c.requires.at.observed c.requires.at.is_timeline c.requires.at.past
     c.requires.awaited in
-    elim c.if-are_of_one_object.branch [
-      | then-are_of_one_object+then-not-is_out_of_turn+in-Some+in_ok-push w ↦
-          let same : c.if-are_of_one_object.nexts.items ≡ nexts ++ w.in-Some.next ∷ [] =
+    elim c.match-choice_of.branch [
+      | in-Some+in_ok-push w ↦
+          let same : c.match-choice_of.nexts.items ≡ nexts ++ w.in-Some.next ∷ [] =
           ap (λ (v : Vec Next Global). v.items) w.nexts-is ∙ w.in_ok-push.ensures.items in
           subst (λ (ns : List Next). Chooses h returns node calls (k + 1) ns) (sym same)
           (chooses_one h c.args.timeline.now node one.entry calls k nexts w.in-Some.next one.awaits one.bit
-          c.requires.at_once are c.loop-k.invariant c.loop-k-test.true
-          (λ out. false_true (sym w.if-not-is_out_of_turn.true ∙ w.is_out_of_turn.ensures.1 out))
-          (w.in-Some.ensures returns c.requires.at.is_timeline.are it)
-          (λ e at. (c.are_of_one_object.ensures one.entry e (awaited_read h returns node.past
-          c.index-awaited.result.now one.entry (awaited_at h c.args.timeline.now node one.entry one.awaits)
-          c.index-awaited.ensures) at).0 w.if-are_of_one_object.true))
-      | then-are_of_one_object+then-not-is_out_of_turn+in_default w ↦
-          let same : c.if-are_of_one_object.nexts.items ≡ nexts =
-          ap (λ (v : Vec Next Global). v.items) w.nexts-is in
+          c.requires.at_once are c.loop-k.invariant c.loop-k-test.true c.index-awaited.result.now
+          (awaited_read h returns node.past c.index-awaited.result.now one.entry
+          (awaited_at h c.args.timeline.now node one.entry one.awaits) c.index-awaited.ensures)
+          (w.in-Some.ensures returns c.requires.at.is_timeline.are it))
+      | in_default w ↦
+          let same : c.match-choice_of.nexts.items ≡ nexts = ap (λ (v : Vec Next Global). v.items) w.nexts-is in
           subst (λ (ns : List Next). Chooses h returns node calls (k + 1) ns) (sym same)
-          (chooses_not h returns node calls k nexts c.loop-k.invariant
-          (tried_none h None returns node calls k nexts c.loop-k.invariant.tries c.loop-k-test.true
-          (w.in_default.ensures returns c.requires.at.is_timeline.are it)))
-      | else-are_of_one_object w ↦
-          let same : c.if-are_of_one_object.nexts.items ≡ nexts =
-          ap (λ (v : Vec Next Global). v.items) w.nexts-is in
-          subst (λ (ns : List Next). Chooses h returns node calls (k + 1) ns) (sym same)
-          (chooses_not h returns node calls k nexts c.loop-k.invariant (elim w.else-are_of_one_object.branch [
-            | else-are_of_one_object-via-then-are_of_one_object+else-not-is_out_of_turn v ↦
-                tried_later h None returns node calls k nexts c.loop-k.invariant.tries c.loop-k-test.true
-                (v.is_out_of_turn.ensures.0 v.if-not-is_out_of_turn.false)
-            | else-are_of_one_object-via-else-are_of_one_object v ↦
-                tried_other h None returns node calls k nexts c.loop-k.invariant.tries c.loop-k-test.true
-                (λ a e awaited at alike. false_true (sym v.if-are_of_one_object.false ∙
-                (c.are_of_one_object.ensures a e
-                (awaited_read h returns node.past c.index-awaited.result.now a awaited c.index-awaited.ensures) at).1
-                alike))
-          ]))
+          (chooses_not h returns node calls k nexts c.index-awaited.result.now c.loop-k.invariant c.loop-k-test.true
+          (λ a awaited. awaited_read h returns node.past c.index-awaited.result.now a awaited c.index-awaited.ensures)
+          (w.in_default.ensures returns c.requires.at.is_timeline.are it))
     ]
 
 pub returns : goal.returns

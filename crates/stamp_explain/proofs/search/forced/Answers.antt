@@ -23,11 +23,14 @@ pub returns-in-Some-clause-one : goal.returns-in-Some-clause-one
 returns-in-Some-clause-one c =
     expands_at_once c.args.observed.now c.args.timeline.now c.args.node.now
     (get_or c.entries.result.now c.index.result.now c.index-entries-index.result)
-    (get_or c.as_slice-i-items.result.now c.loop-i.i-index 0) c.in-Some.next
+    c.as_slice-i-items.result.now c.loop-i.i-index c.in-Some.next
     (awaits_of c.args.observed.now c.args.timeline.now c.args.node.now c.index.result.now c.entries.result.now
     c.index-entries-index.result c.requires.observed c.requires.is_timeline c.requires.past c.index.ensures
     c.entries.ensures.entries)
     (λ bit. false_true (sym c.if-has_bit.false ∙ c.has_bit.ensures.1 bit))
+    (opens_read c.args.observed.now c.args.timeline.now c.args.node.now.past c.index-2.result.now
+    c.as_slice-i-items.result.now c.requires.is_timeline c.requires.past c.index-2.ensures
+    c.as_slice-i-items.ensures.value) c.loop-i.invariant c.loop-i-test.true
     (sym c.observes_at.ensures ∙ c.if-observes_at.true)
     (c.in-Some.ensures c.args.timeline.now.returns.items c.requires.is_timeline.are
     (open_read c.args.observed.now c.args.timeline.now c.args.node.now.past c.index-2.result.now

@@ -28,7 +28,8 @@ loop-past-preserved c =
     subst (λ (xs : List (ℕ × ℕ)). IsPermutation xs sorted) left c.sort_unstable.ensures.permutation in
     let at : OpensAt h ends begins ranks k c.in_ok-begun.begun sorted =
     opens_at h ends begins ranks k c.loop-past.begun c.in_ok-begun.begun (0, 0) c.loop-past.kept.items more sorted
-    c.requires c.loop-past-test.true c.loop-past.invariant.0 c.in_ok-begun.ensures moved in
+    c.requires c.loop-past-test.true c.loop-past.invariant.0 c.in_ok-begun.ensures moved
+    c.sort_unstable.ensures.sorted in
     let calls : c.in_ok-calls_alone.field-0.items ≡ places_of sorted = c.in_ok-calls_alone.ensures ∙
     ap places_of c.as_slice.ensures.value in
     let opens : AreOpens h (places_of ends) (c.loop-past.opens.items ++ c.in_ok-calls_alone.field-0 ∷ []) =

@@ -1,0 +1,105 @@
+-- Questions that are under way: an order needs none of them.
+use Rattle.std.proofs.Common.{◌≡◌, ◌≢◌, ◌⊎◌, ℕ, List, ◌∷◌, get_or, refl, sym, ◌∙◌, ap, subst, inl, inr, Option, None, Some}
+use Rattle.std.proofs.Common.{true, false}
+use Rattle.std.specs.Prelude.{slice_get}
+use Rattle.std.specs.List.{All, Contains}
+use Rattle.std.proofs.lemmas.Option.{same_Some}
+use Rattle.stamp_core.specs.declared.call.Call.{Call}
+use Rattle.stamp_core.specs.declared.call.Call.TheVariants.{TryWrite, TryRead, WriteLock, ReadLock, Optimistic}
+use Rattle.stamp_core.specs.declared.call.Call.TheVariants.{Validate, UnlockWrite, UnlockRead, Unlock, ToWrite}
+use Rattle.stamp_core.specs.declared.call.Call.TheVariants.{ToRead, ToOptimistic, TryUnlockWrite, TryUnlockRead}
+use Rattle.stamp_core.specs.declared.call.Call.TheVariants.{IsWriteLocked, IsReadLocked, ReadCount, Get, Put, PutIf}
+use Rattle.stamp_core.specs.declared.reply.Reply.{Reply}
+use Rattle.stamp_explain.specs.declared.observed.Observation.{Observation}
+use Rattle.stamp_explain.specs.declared.observed.Returned.{Returned}
+use Rattle.stamp_explain.specs.Observed.{ObservedHistory}
+use Rattle.stamp_explain.specs.Observer.{changes_nothing, is_question, asks_by, is_open_question}
+use Rattle.stamp_explain.specs.Explained.{Effect, IsEffectOf, history_of, indices_of}
+use Rattle.stamp_explain.specs.Search.{IsReturnAt, LockState, LockSteps, Runs}
+use Rattle.stamp_explain.proofs.Lists.{contains_cases, contains_rest}
+use Rattle.stamp_explain.proofs.Searching.{CompletesIn}
+use Rattle.stamp_explain.proofs.Staying.{observers_change_nothing}
+
+-- a call that changes nothing by any reply
+question_changes_nothing : (call : Call) (reply : Reply) → is_question call ≡ true → changes_nothing call reply ≡ true
+question_changes_nothing call reply asks = by call asks
+  where
+    false_true : false ≡ true → ⊥
+    false_true h = cc
+
+    by : (call : Call) → is_question call ≡ true → changes_nothing call reply ≡ true
+    by TryWrite asks = absurd (false_true asks)
+    by TryRead asks = absurd (false_true asks)
+    by WriteLock asks = absurd (false_true asks)
+    by ReadLock asks = absurd (false_true asks)
+    by Optimistic asks = refl
+    by (Validate s) asks = refl
+    by (UnlockWrite s) asks = absurd (false_true asks)
+    by (UnlockRead s) asks = absurd (false_true asks)
+    by (Unlock s) asks = absurd (false_true asks)
+    by (ToWrite s) asks = absurd (false_true asks)
+    by (ToRead s) asks = absurd (false_true asks)
+    by (ToOptimistic s) asks = absurd (false_true asks)
+    by TryUnlockWrite asks = absurd (false_true asks)
+    by TryUnlockRead asks = absurd (false_true asks)
+    by IsWriteLocked asks = refl
+    by IsReadLocked asks = refl
+    by ReadCount asks = refl
+    by Get asks = refl
+    by (Put words) asks = absurd (false_true asks)
+    by (PutIf expected words) asks = absurd (false_true asks)
+
+-- an open question is under way, and is one
+open_question : (e : Observation) → is_open_question e ≡ true → (e.returned ≡ None) × (is_question e.call ≡ true)
+open_question e asks = by e.returned refl asks
+  where
+    false_true : false ≡ true → ⊥
+    false_true h = cc
+
+    by : (o : Option Returned) → e.returned ≡ o → asks_by e.call o ≡ true →
+        (e.returned ≡ None) × (is_question e.call ≡ true)
+    by None at asks = (at, asks)
+    by (Some r) at asks = absurd (false_true asks)
+
+-- what an order completes after a question under way, it completes without it
+pub without_question : (h : ObservedHistory) (returns : List ℕ) (s u : LockState) (taken : List ℕ) (x : Effect)
+    (left : ℕ) → All (IsReturnAt h.entries) returns → IsEffectOf h.entries x →
+    LockSteps h.limits s (x.entry.call, x.reply) u → is_open_question x.entry ≡ true →
+    CompletesIn (LockSteps h.limits) h.entries returns u (x.index ∷ taken) left →
+    CompletesIn (LockSteps h.limits) h.entries returns s taken left
+without_question h returns s u taken x left are effect steps asks can = record {
+  rest = can.rest;
+  by = record {
+    effects = can.by.effects;
+    once = can.by.once;
+    fresh = λ k d lt has. can.by.fresh k d lt (contains_rest x.index taken (get_or can.rest k d).index has);
+    returned = λ k d lt. back (get_or returns k d) (are k d lt) (can.by.returned k d lt);
+    ordered = can.by.ordered;
+    runs = subst (λ (t : LockState). Runs (LockSteps h.limits) t (history_of can.rest)) same can.by.runs;
+  };
+  steps = can.steps;
+}
+  where
+    question : (x.entry.returned ≡ None) × (is_question x.entry.call ≡ true)
+    question = open_question x.entry asks
+
+    same : u ≡ s
+    same = observers_change_nothing h.limits x.entry.call x.reply s u
+        (question_changes_nothing x.entry.call x.reply question.1) steps
+
+    apart : (i : ℕ) → IsReturnAt h.entries i → x.index ≢ i
+    apart i at is = none_some at.returned.0 (sym question.0 ∙
+        ap (λ (o : Observation). o.returned) (same_Some x.entry at.entry (sym effect.is_entry ∙
+        ap (λ (k : ℕ). slice_get h.entries k) is ∙ at.is_entry)) ∙ at.returned.1)
+      where
+        none_some : (r : Returned) → None ≡ Some r → ⊥
+        none_some r h = cc
+
+    back : (i : ℕ) → IsReturnAt h.entries i → Contains (x.index ∷ taken) i ⊎ Contains (indices_of can.rest) i →
+        Contains taken i ⊎ Contains (indices_of can.rest) i
+    back i at (inr has) = inr has
+    back i at (inl has) = by (contains_cases x.index taken i has)
+      where
+        by : (x.index ≡ i) ⊎ Contains taken i → Contains taken i ⊎ Contains (indices_of can.rest) i
+        by (inl is) = absurd (apart i at is)
+        by (inr rest) = inl rest
