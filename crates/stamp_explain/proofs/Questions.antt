@@ -1,9 +1,10 @@
 -- Questions that are under way: an order needs none of them.
-use Rattle.std.proofs.Common.{◌≡◌, ◌≢◌, ◌⊎◌, ℕ, List, ◌∷◌, get_or, refl, sym, ◌∙◌, ap, subst, inl, inr, Option, None, Some}
+use Rattle.std.proofs.Common.{◌≡◌, ◌≢◌, ◌⊎◌, ℕ, ◌+◌, List, ◌∷◌, length, get_or, refl, sym, ◌∙◌, ap, subst, inl, inr, Option, None, Some}
 use Rattle.std.proofs.Common.{true, false}
 use Rattle.std.specs.Prelude.{slice_get}
 use Rattle.std.specs.List.{All, Contains}
 use Rattle.std.proofs.lemmas.Option.{same_Some}
+use Rattle.stamp_core.specs.Limits.{Bounds}
 use Rattle.stamp_core.specs.declared.call.Call.{Call}
 use Rattle.stamp_core.specs.declared.call.Call.TheVariants.{TryWrite, TryRead, WriteLock, ReadLock, Optimistic}
 use Rattle.stamp_core.specs.declared.call.Call.TheVariants.{Validate, UnlockWrite, UnlockRead, Unlock, ToWrite}
@@ -12,10 +13,10 @@ use Rattle.stamp_core.specs.declared.call.Call.TheVariants.{IsWriteLocked, IsRea
 use Rattle.stamp_core.specs.declared.reply.Reply.{Reply}
 use Rattle.stamp_explain.specs.declared.observed.Observation.{Observation}
 use Rattle.stamp_explain.specs.declared.observed.Returned.{Returned}
-use Rattle.stamp_explain.specs.Observed.{ObservedHistory}
 use Rattle.stamp_explain.specs.Observer.{changes_nothing, is_question, asks_by, is_open_question}
 use Rattle.stamp_explain.specs.Explained.{Effect, IsEffectOf, history_of, indices_of}
 use Rattle.stamp_explain.specs.Search.{IsReturnAt, LockState, LockSteps, Runs}
+use Rattle.stamp_explain.specs.ExplainLaws.{OpenQuestionsAreNotNeeded}
 use Rattle.stamp_explain.proofs.Lists.{contains_cases, contains_rest}
 use Rattle.stamp_explain.proofs.Searching.{CompletesIn}
 use Rattle.stamp_explain.proofs.Staying.{observers_change_nothing}
@@ -62,12 +63,12 @@ open_question e asks = by e.returned refl asks
     by (Some r) at asks = absurd (false_true asks)
 
 -- what an order completes after a question under way, it completes without it
-pub without_question : (h : ObservedHistory) (returns : List ℕ) (s u : LockState) (taken : List ℕ) (x : Effect)
-    (left : ℕ) → All (IsReturnAt h.entries) returns → IsEffectOf h.entries x →
-    LockSteps h.limits s (x.entry.call, x.reply) u → is_open_question x.entry ≡ true →
-    CompletesIn (LockSteps h.limits) h.entries returns u (x.index ∷ taken) left →
-    CompletesIn (LockSteps h.limits) h.entries returns s taken left
-without_question h returns s u taken x left are effect steps asks can = record {
+pub without_question : (limits : Bounds) (entries : List Observation) (returns : List ℕ) (s u : LockState)
+    (taken : List ℕ) (x : Effect) (left : ℕ) → All (IsReturnAt entries) returns → IsEffectOf entries x →
+    LockSteps limits s (x.entry.call, x.reply) u → is_open_question x.entry ≡ true →
+    CompletesIn (LockSteps limits) entries returns u (x.index ∷ taken) left →
+    CompletesIn (LockSteps limits) entries returns s taken left
+without_question limits entries returns s u taken x left are effect steps asks can = record {
   rest = can.rest;
   by = record {
     effects = can.by.effects;
@@ -75,7 +76,7 @@ without_question h returns s u taken x left are effect steps asks can = record {
     fresh = λ k d lt has. can.by.fresh k d lt (contains_rest x.index taken (get_or can.rest k d).index has);
     returned = λ k d lt. back (get_or returns k d) (are k d lt) (can.by.returned k d lt);
     ordered = can.by.ordered;
-    runs = subst (λ (t : LockState). Runs (LockSteps h.limits) t (history_of can.rest)) same can.by.runs;
+    runs = subst (λ (t : LockState). Runs (LockSteps limits) t (history_of can.rest)) same can.by.runs;
   };
   steps = can.steps;
 }
@@ -84,18 +85,18 @@ without_question h returns s u taken x left are effect steps asks can = record {
     question = open_question x.entry asks
 
     same : u ≡ s
-    same = observers_change_nothing h.limits x.entry.call x.reply s u
+    same = observers_change_nothing limits x.entry.call x.reply s u
         (question_changes_nothing x.entry.call x.reply question.1) steps
 
-    apart : (i : ℕ) → IsReturnAt h.entries i → x.index ≢ i
+    apart : (i : ℕ) → IsReturnAt entries i → x.index ≢ i
     apart i at is = none_some at.returned.0 (sym question.0 ∙
         ap (λ (o : Observation). o.returned) (same_Some x.entry at.entry (sym effect.is_entry ∙
-        ap (λ (k : ℕ). slice_get h.entries k) is ∙ at.is_entry)) ∙ at.returned.1)
+        ap (λ (k : ℕ). slice_get entries k) is ∙ at.is_entry)) ∙ at.returned.1)
       where
         none_some : (r : Returned) → None ≡ Some r → ⊥
         none_some r h = cc
 
-    back : (i : ℕ) → IsReturnAt h.entries i → Contains (x.index ∷ taken) i ⊎ Contains (indices_of can.rest) i →
+    back : (i : ℕ) → IsReturnAt entries i → Contains (x.index ∷ taken) i ⊎ Contains (indices_of can.rest) i →
         Contains taken i ⊎ Contains (indices_of can.rest) i
     back i at (inr has) = inr has
     back i at (inl has) = by (contains_cases x.index taken i has)
@@ -103,3 +104,10 @@ without_question h returns s u taken x left are effect steps asks can = record {
         by : (x.index ≡ i) ⊎ Contains taken i → Contains taken i ⊎ Contains (indices_of can.rest) i
         by (inl is) = absurd (apart i at is)
         by (inr rest) = inl rest
+
+pub open_questions_are_not_needed : OpenQuestionsAreNotNeeded
+open_questions_are_not_needed limits entries to_come s t taken x are effect asks steps can =
+    let left : CompletesIn (LockSteps limits) entries to_come s taken (length to_come + length can.rest) =
+    without_question limits entries to_come s t taken x (length to_come + length can.rest) are effect steps asks
+    (record { rest = can.rest; by = can.by; steps = refl }) in
+    record { rest = left.rest; by = left.by }

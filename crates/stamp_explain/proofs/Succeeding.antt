@@ -560,7 +560,7 @@ suffice_step h asked timeline node a calls k nexts is bit are all tries n again 
         let P : List ℕ → Type 0 = λ (xs : List ℕ). CompletesIn (LockSteps h.limits) h.entries xs hope.state hope.taken
         on.left in
         let can : CompletesIn (LockSteps h.limits) h.entries (drop node.past returns) hope.state hope.taken on.left =
-        subst P (sym (left_of h timeline node a is)) (without_question h to_come hope.state on.state hope.taken
+        subst P (sym (left_of h timeline node a is)) (without_question h.limits h.entries to_come hope.state on.state hope.taken
         on.effect on.left are_returns on.may.effect on.may.steps asking on.completes) in
         record {
           state = hope.state;

@@ -8,16 +8,17 @@ use Rattle.stamp_core.specs.declared.reply.Reply.{Reply}
 use Rattle.stamp_explain.specs.declared.observed.Observation.{Observation}
 use Rattle.stamp_explain.specs.Observed.{ObservedHistory, IsObserved, HasReturned, IsInterval, IsBefore, AreOfOneObject}
 use Rattle.stamp_explain.specs.Observed.{of_lock, of_record}
-use Rattle.stamp_explain.specs.Explained.{Effect, IsExplained}
+use Rattle.stamp_explain.specs.Explained.{Effect, IsEffectOf, IsExplained}
 use Rattle.stamp_core.specs.Record.{Recorded}
 use Rattle.stamp_core.specs.Linearized.{IsLinearized}
 use Rattle.stamp_explain.specs.Points.{IsRecordOf}
 use Rattle.stamp_explain.specs.Cut.{cut, seen_at, IsStuck}
 use Rattle.stamp_explain.specs.Search.{LockState, FindsOrder, CanComplete, MayTake, AreReturns, AreReturnsOf}
 use Rattle.stamp_explain.specs.Search.{LockSteps, LockAlone, RecordAlone, opening, IsFirstReturn, IsAlikeSooner}
+use Rattle.stamp_explain.specs.Search.{IsReturnAt}
 use Rattle.stamp_explain.specs.Configuration.{Configuration, IsAlive, GivesUp}
 use Rattle.stamp_core.specs.Content.{zeros}
-use Rattle.stamp_explain.specs.Observer.{changes_nothing}
+use Rattle.stamp_explain.specs.Observer.{changes_nothing, is_open_question}
 
 -- Each cut of an explained history is explained.
 abbrev pub CutsStayExplained : Type 0
@@ -94,6 +95,15 @@ AlikeInTurn =
     slice_get entries k ≡ Some e → IsAlikeSooner e x.entry → ¬ Contains taken k → ¬ IsBefore awaited e →
     Contains to_come k →
     MayGoBy limits entries awaited to_come s t taken (record { index = k; entry = e; reply = x.reply })
+
+-- A question that is under way is left out: what can be completed after it can be completed without it.
+abbrev pub OpenQuestionsAreNotNeeded : Type 0
+OpenQuestionsAreNotNeeded =
+    (limits : Bounds) (entries : List Observation) (to_come : List ℕ) (s t : LockState) (taken : List ℕ)
+    (x : Effect) →
+    All (IsReturnAt entries) to_come → IsEffectOf entries x → is_open_question x.entry ≡ true →
+    LockSteps limits s (x.entry.call, x.reply) t → CanComplete (LockSteps limits) entries to_come t (x.index ∷ taken) →
+    CanComplete (LockSteps limits) entries to_come s taken
 
 -- A record of an observed history that is linearized explains it.
 abbrev pub PointsExplain : Type 0
