@@ -6,7 +6,7 @@ use Rattle.std.specs.List.{Contains}
 use Rattle.std.proofs.lemmas.List.{length-append, length-drop, nil_from_length}
 use Rattle.std.proofs.lemmas.Option.{slice_get_within}
 use Rattle.stamp_explain.specs.Observed.{ObservedHistory}
-use Rattle.stamp_explain.specs.Search.{IsReturnAt, LockState, opening}
+use Rattle.stamp_explain.specs.Search.{IsReturnAt, LockState, first_state}
 use Rattle.stamp_explain.specs.Configuration.{AreOne, Configuration, GivesUp, GoesOnFrom, number_after}
 use Rattle.stamp_explain.specs.Configuration.Reaches.{begins}
 use Rattle.stamp_explain.specs.ExplainLaws.{NoDeadEndIsDecided}
@@ -77,7 +77,7 @@ no_dead_end_is_decided h most alive enough g =
     g.searched.unended most first (omega (arith, g.searched.many)) (nil_from_length last.to_come none_to_come)
   where
     first : Configuration h None g.returns
-    first = record { to_come = g.returns; state = opening h.width; put = None; taken = []; way = begins }
+    first = record { to_come = g.returns; state = first_state h.width; put = None; taken = []; way = begins }
 
     at : ℕ → Configuration h None g.returns
     at k = get_or g.searched.looked k first

@@ -11,7 +11,7 @@ use Rattle.stamp_core.specs.declared.reply.Reply.{Reply}
 use Rattle.stamp_core.specs.History.{History}
 use Rattle.stamp_explain.specs.declared.observed.Observation.{Observation}
 use Rattle.stamp_explain.specs.declared.observed.Returned.{Returned}
-use Rattle.stamp_explain.specs.Observed.{IsBefore, MayReply}
+use Rattle.stamp_explain.specs.Observed.{IsBefore, AllowsReply}
 use Rattle.stamp_explain.specs.Explained.{Effect, IsEffectOf, history_of, indices_of, AreApart, RespectsBefore}
 use Rattle.stamp_explain.specs.Search.{Runs, IsCompletedBy, CanComplete, MayTake, LockState, LockSteps}
 use Rattle.stamp_explain.specs.Search.{IsFirstReturn, IsAlikeSooner}
@@ -116,11 +116,11 @@ not_sooner e f z alike not before = not (subst (λ (o : Option Returned). MatchO
     less : alike.first.last < z.first
     less = omega (arith, later, alike.sooner)
 
-one_reply_of : (e : Observation) (r : Returned) (reply : Reply) → e.returned ≡ Some r → MayReply e reply →
+one_reply_of : (e : Observation) (r : Returned) (reply : Reply) → e.returned ≡ Some r → AllowsReply e reply →
     r.reply ≡ reply
 one_reply_of e r reply at may = MatchOption-at_some (Unit {0}) (λ (q : Returned). q.reply ≡ reply) r at may
 
-may_reply_alike : (e f : Observation) (reply : Reply) → IsAlikeSooner e f → MayReply f reply → MayReply e reply
+may_reply_alike : (e f : Observation) (reply : Reply) → IsAlikeSooner e f → AllowsReply f reply → AllowsReply e reply
 may_reply_alike e f reply alike may =
     subst (λ (o : Option Returned). MatchOption o (Unit {0}) (λ (r : Returned). r.reply ≡ reply)) (sym alike.at_first)
     (alike.reply ∙ one_reply_of f alike.later reply alike.at_later may)
@@ -158,7 +158,7 @@ replaced_completes limits entries a to_come s t taken x k e xs first may by at a
 
     reply : r.old.reply ≡ x.reply
     reply = sym (one_reply_of e alike.first r.old.reply alike.at_first
-        (subst (λ (o : Observation). MayReply o r.old.reply) entry is.replies)) ∙
+        (subst (λ (o : Observation). AllowsReply o r.old.reply) entry is.replies)) ∙
         one_reply_of e alike.first x.reply alike.at_first (may_reply_alike e x.entry x.reply alike may.effect.replies)
 
     apart : All (AreApart r.old) r.others

@@ -12,10 +12,10 @@ use Rattle.stamp_explain.specs.declared.timeline.Timeline.{Timeline}
 use Rattle.stamp_explain.specs.declared.asking.Asking.{Asking}
 use Rattle.stamp_explain.specs.Observed.{ObservedHistory, IsObserved, IsInterval}
 use Rattle.stamp_explain.specs.Explained.{IsExplained}
-use Rattle.stamp_explain.specs.Cut.{returned_by, known_of, known_from, begun_by, seen_at, place_of}
+use Rattle.stamp_explain.specs.Cut.{returned_by, known_of, known_from, begun_by, seen_at, place_then}
 use Rattle.stamp_explain.specs.Possible.{ArePossible, AreAllPossible, GetsBeside, IsUndecidedAtGotten}
 use Rattle.stamp_explain.specs.Possible.{IsUndecidedAtReply}
-use Rattle.stamp_explain.specs.Possible.{IsUndecidedAtSome, answering, with_reply, without_return}
+use Rattle.stamp_explain.specs.Possible.{IsUndecidedAtSome, returned_with, with_reply, without_return}
 use Rattle.stamp_explain.specs.Timeline.{IsTimeline}
 use Rattle.stamp_explain.specs.Asking.{AreReplies, Gets, IsAskingAt}
 use Rattle.stamp_explain.proofs.Replying.{possible_is_seen}
@@ -48,7 +48,7 @@ after_first last begun e rest = cond begun (e ∷ begun_by last rest) (begun_by 
 -- it stands there
 pub seen_place : (last b n : ℕ) (es : List Observation) (i : ℕ) (e : Observation) → slice_get es i ≡ Some e →
     is_begun last e ≡ true → ((m : ℕ) → m ≡ n + i → known_of last b m e ≡ e) →
-    slice_get (begun_by last (known_from last b n es)) (place_of last i es) ≡ Some e
+    slice_get (begun_by last (known_from last b n es)) (place_then last i es) ≡ Some e
 seen_place last b n [] i e at begun known = absurd (none-some e at)
 seen_place last b n (x ∷ es) zero e at begun known =
     ap (λ (t : Bool). slice_get (after_first last t (known_of last b n x) (known_from last b (n + 1) es)) 0)
@@ -61,15 +61,15 @@ seen_place last b n (x ∷ es) (suc i) e at begun known = by (is_begun last x) r
     (seen_place last b (n + 1) es i e at begun (λ m is. known m (omega (arith, is))))
   where
     by : (t : Bool) → is_begun last x ≡ t →
-        slice_get (begun_by last (known_from last b (n + 1) es)) (place_of last i es) ≡ Some e →
-        slice_get (begun_by last (known_from last b n (x ∷ es))) (place_of last (suc i) (x ∷ es)) ≡ Some e
+        slice_get (begun_by last (known_from last b (n + 1) es)) (place_then last i es) ≡ Some e →
+        slice_get (begun_by last (known_from last b n (x ∷ es))) (place_then last (suc i) (x ∷ es)) ≡ Some e
     by t is rest =
         ap (λ (u : Bool). slice_get (after_first last u (known_of last b n x) (known_from last b (n + 1) es))
-        (place_of last (suc i) (x ∷ es))) (begun_kept last b n x ∙ is) ∙
+        (place_then last (suc i) (x ∷ es))) (begun_kept last b n x ∙ is) ∙
         ap (λ (u : Bool). slice_get (after_first last t (known_of last b n x) (known_from last b (n + 1) es))
         (length (cond u (x ∷ begun_by last (take i es)) (begun_by last (take i es))))) is ∙ step t rest
       where
-        step : (t : Bool) → slice_get (begun_by last (known_from last b (n + 1) es)) (place_of last i es) ≡ Some e →
+        step : (t : Bool) → slice_get (begun_by last (known_from last b (n + 1) es)) (place_then last i es) ≡ Some e →
             slice_get (after_first last t (known_of last b n x) (known_from last b (n + 1) es))
             (length (cond t (x ∷ begun_by last (take i es)) (begun_by last (take i es)))) ≡ Some e
         step true rest = rest
@@ -79,7 +79,7 @@ seen_place last b n (x ∷ es) (suc i) e at begun known = by (is_begun last x) r
 pub seen_set : (last b n : ℕ) (es : List Observation) (i : ℕ) (e y : Observation) → slice_get es i ≡ Some e →
     is_begun last e ≡ true → is_begun last y ≡ true → ((m : ℕ) → m ≡ n + i → known_of last b m y ≡ y) →
     begun_by last (known_from last b n (set es i y)) ≡
-    set (begun_by last (known_from last b n es)) (place_of last i es) y
+    set (begun_by last (known_from last b n es)) (place_then last i es) y
 seen_set last b n [] i e y at begun too known = absurd (none-some e at)
 seen_set last b n (x ∷ es) zero e y at begun too known =
     ap (λ (o : Observation). after_first last (is_begun last o) o (known_from last b (n + 1) es))
@@ -91,19 +91,19 @@ seen_set last b n (x ∷ es) (suc i) e y at begun too known = by (is_begun last 
     (seen_set last b (n + 1) es i e y at begun too (λ m is. known m (omega (arith, is))))
   where
     by : (t : Bool) → is_begun last x ≡ t → begun_by last (known_from last b (n + 1) (set es i y)) ≡
-        set (begun_by last (known_from last b (n + 1) es)) (place_of last i es) y →
+        set (begun_by last (known_from last b (n + 1) es)) (place_then last i es) y →
         begun_by last (known_from last b n (x ∷ set es i y)) ≡
-        set (begun_by last (known_from last b n (x ∷ es))) (place_of last (suc i) (x ∷ es)) y
+        set (begun_by last (known_from last b n (x ∷ es))) (place_then last (suc i) (x ∷ es)) y
     by t is rest =
         ap (λ (u : Bool). after_first last u (known_of last b n x) (known_from last b (n + 1) (set es i y)))
         (begun_kept last b n x ∙ is) ∙ step t rest ∙
         sym (ap (λ (u : Bool). set (after_first last u (known_of last b n x) (known_from last b (n + 1) es))
-        (place_of last (suc i) (x ∷ es)) y) (begun_kept last b n x ∙ is) ∙
+        (place_then last (suc i) (x ∷ es)) y) (begun_kept last b n x ∙ is) ∙
         ap (λ (u : Bool). set (after_first last t (known_of last b n x) (known_from last b (n + 1) es))
         (length (cond u (x ∷ begun_by last (take i es)) (begun_by last (take i es)))) y) is)
       where
         step : (t : Bool) → begun_by last (known_from last b (n + 1) (set es i y)) ≡
-            set (begun_by last (known_from last b (n + 1) es)) (place_of last i es) y →
+            set (begun_by last (known_from last b (n + 1) es)) (place_then last i es) y →
             after_first last t (known_of last b n x) (known_from last b (n + 1) (set es i y)) ≡
             set (after_first last t (known_of last b n x) (known_from last b (n + 1) es))
             (length (cond t (x ∷ begun_by last (take i es)) (begun_by last (take i es)))) y
@@ -116,17 +116,17 @@ begun_then e r le = grind (arith, nat_tests)
 
 pub asked_there : (h : ObservedHistory) (i : ℕ) (e : Observation) (r : Returned) → slice_get h.entries i ≡ Some e →
     e.returned ≡ Some r → e.first ≤ r.last →
-    slice_get (seen_at r.last (i + 1) h).entries (place_of r.last i h.entries) ≡ Some e
+    slice_get (seen_at r.last (i + 1) h).entries (place_then r.last i h.entries) ≡ Some e
 asked_there h i e r at returned le = seen_place r.last (i + 1) 0 h.entries i e at (begun_then e r le)
     (λ m is. known_kept e r (i + 1) m returned (omega (arith, is)))
 
 pub seen_answered : (h : ObservedHistory) (i : ℕ) (e : Observation) (r : Returned) (reply : Reply) →
     slice_get h.entries i ≡ Some e → e.returned ≡ Some r → e.first ≤ r.last →
     seen_at r.last (i + 1) (with_reply i e r reply h) ≡
-    with_reply (place_of r.last i h.entries) e r reply (seen_at r.last (i + 1) h)
+    with_reply (place_then r.last i h.entries) e r reply (seen_at r.last (i + 1) h)
 seen_answered h i e r reply at returned le = ap (λ (es : List Observation). record h { entries = es })
-    (seen_set r.last (i + 1) 0 h.entries i e (answering e r reply) at (begun_then e r le) (begun_then e r le)
-    (λ m is. known_kept (answering e r reply) (record r { reply = reply }) (i + 1) m refl (omega (arith, is))))
+    (seen_set r.last (i + 1) 0 h.entries i e (returned_with e r reply) at (begun_then e r le) (begun_then e r le)
+    (λ m is. known_kept (returned_with e r reply) (record r { reply = reply }) (i + 1) m refl (omega (arith, is))))
 
 -- a call returns no sooner than it begins
 pub ended : (h : ObservedHistory) (i : ℕ) (e : Observation) (r : Returned) → IsObserved h →
@@ -137,17 +137,17 @@ ended h i e r observed at returned = subst (λ (o : Option Returned). MatchOptio
 -- a search for its replies is given this
 pub asked_as_seen : (h seen : ObservedHistory) (i place : ℕ) (e : Observation) (r : Returned)
     (read : List Observation) → IsObserved h → slice_get h.entries i ≡ Some e → e.returned ≡ Some r →
-    read ≡ h.entries → place ≡ place_of r.last i read → seen ≡ seen_at r.last (i + 1) h →
+    read ≡ h.entries → place ≡ place_then r.last i read → seen ≡ seen_at r.last (i + 1) h →
     slice_get seen.entries place ≡ Some e
 asked_as_seen h seen i place e r read observed at returned same is_place is_seen =
     ap (λ (g : ObservedHistory). slice_get g.entries place) is_seen ∙
     ap (λ (k : ℕ). slice_get (seen_at r.last (i + 1) h).entries k)
-    (is_place ∙ ap (λ (es : List Observation). place_of r.last i es) same) ∙
+    (is_place ∙ ap (λ (es : List Observation). place_then r.last i es) same) ∙
     asked_there h i e r at returned (ended h i e r observed at returned)
 
 pub asked_at : (h seen before : ObservedHistory) (timeline : Timeline) (i place : ℕ) (e : Observation) (r : Returned)
     (read : List Observation) → IsObserved h → slice_get h.entries i ≡ Some e → e.returned ≡ Some r →
-    read ≡ h.entries → place ≡ place_of r.last i read → seen ≡ seen_at r.last (i + 1) h →
+    read ≡ h.entries → place ≡ place_then r.last i read → seen ≡ seen_at r.last (i + 1) h →
     before ≡ without_return place e seen → IsTimeline seen timeline →
     IsAskingAt h i e r (record { seen = seen; before = before; timeline = timeline; place = place })
 asked_at h seen before timeline i place e r read observed at returned same is_place is_seen is_before timelines =
@@ -162,7 +162,7 @@ asked_at h seen before timeline i place e r read observed at returned same is_pl
         before = is_before;
       };
       seen = is_seen;
-      place = is_place ∙ ap (λ (es : List Observation). place_of r.last i es) same;
+      place = is_place ∙ ap (λ (es : List Observation). place_then r.last i es) same;
       is_entry = asked_as_seen h seen i place e r read observed at returned same is_place is_seen;
     }
 
@@ -194,15 +194,15 @@ undecided_by h i most e r asking replies at returned asks are some =
     let is_return : r ≡ one.return = same_Some r one.return (sym returned ∙
     ap (λ (o : Observation). o.returned) is_entry ∙ one.returned) in
     let is_asked : gets.entry ≡ e = same_Some gets.entry e (sym gets.is_entry ∙ asks.is_entry) in
-    let seen : GetsBeside (seen_at r.last (i + 1) h) (place_of r.last i h.entries) e some.0 =
-    subst (λ (o : Observation). GetsBeside (seen_at r.last (i + 1) h) (place_of r.last i h.entries) o some.0) is_asked
+    let seen : GetsBeside (seen_at r.last (i + 1) h) (place_then r.last i h.entries) e some.0 =
+    subst (λ (o : Observation). GetsBeside (seen_at r.last (i + 1) h) (place_then r.last i h.entries) o some.0) is_asked
     (subst (λ (k : ℕ). GetsBeside (seen_at r.last (i + 1) h) k gets.entry some.0) asks.place
     (subst (λ (g : ObservedHistory). GetsBeside g asking.place gets.entry some.0) asks.seen gets.gets)) in
     record {
       reply = some.0;
       undecided = one;
       gets = subst (λ (o : Observation). GetsBeside (seen_at one.return.last (i + 1) h)
-          (place_of one.return.last i h.entries) o some.0) is_entry
-          (subst (λ (q : Returned). GetsBeside (seen_at q.last (i + 1) h) (place_of q.last i h.entries) e some.0)
+          (place_then one.return.last i h.entries) o some.0) is_entry
+          (subst (λ (q : Returned). GetsBeside (seen_at q.last (i + 1) h) (place_then q.last i h.entries) e some.0)
           is_return seen);
     }

@@ -21,11 +21,11 @@ use Rattle.stamp_explain.specs.declared.timeline.Timeline.{Timeline}
 use Rattle.stamp_explain.specs.Observed.{ObservedHistory, HasReturned}
 use Rattle.stamp_explain.specs.Explained.{Effect}
 use Rattle.stamp_explain.specs.Search.{LockState, LockSteps, MayTake, IsReturnAt, AreReturns, ReturnsNoLater}
-use Rattle.stamp_explain.specs.Node.{IsNext, HasNext, AreTaken, IsAt, StandsFor, words_put, words_put_at, content_by}
-use Rattle.stamp_explain.specs.Node.{IsOpening}
+use Rattle.stamp_explain.specs.Node.{IsNext, HasNext, AreTaken, IsStateBy, StandsFor, words_put, words_put_at, content_by}
+use Rattle.stamp_explain.specs.Node.{IsFirstNode}
 use Rattle.stamp_explain.specs.Timeline.{IsTimeline, IsOpenAt, AreOpen}
 use Rattle.stamp_explain.specs.Expand.{Took, Takes}
-use Rattle.stamp_explain.specs.Possible.{with_reply, without_return, answering}
+use Rattle.stamp_explain.specs.Possible.{with_reply, without_return, returned_with}
 use Rattle.stamp_explain.proofs.Replying.{IsAlike, IsAlikeBy, alike_self, alike_answering, alike_before, place}
 
 -- they are alike, and the same at all other places
@@ -41,9 +41,9 @@ pub alike_with_reply : (h : ObservedHistory) (i : ℕ) (e : Observation) (r : Re
 alike_with_reply h i e r reply at returned = record {
   limits = refl;
   width = refl;
-  many = length-set h.entries i (answering e r reply);
-  each = λ k d. place h.entries i e (answering e r reply) at (alike_answering e r reply returned) k d;
-  others = λ k d other. get_or-set_other h.entries i k (answering e r reply) d other;
+  many = length-set h.entries i (returned_with e r reply);
+  each = λ k d. place h.entries i e (returned_with e r reply) at (alike_answering e r reply returned) k d;
+  others = λ k d other. get_or-set_other h.entries i k (returned_with e r reply) d other;
 }
 
 pub alike_turned : (e k : Observation) → IsAlike e k → IsAlike k e
@@ -206,14 +206,14 @@ content_alike h g (Some k) is = by (inside k (length h.entries))
         read None None at at_g = neither at at_g
 
 pub at_same : (h g : ObservedHistory) (bits : ℕ) (writer : Option ℕ) (s : LockState) → AreSameCalls h g →
-    IsAt h bits writer s → IsAt g bits writer s
+    IsStateBy h bits writer s → IsStateBy g bits writer s
 at_same h g bits writer s is at = record {
   word = subst (λ (l : Bounds). Represents l (word_at l bits) s.0) (sym is.limits) at.word;
   content = content_alike h g writer is ∙ at.content;
 }
 
 pub at_alike : (h g : ObservedHistory) (i bits : ℕ) (writer : Option ℕ) (s : LockState) → AreAlike h g i →
-    IsAt h bits writer s → IsAt g bits writer s
+    IsStateBy h bits writer s → IsStateBy g bits writer s
 at_alike h g i bits writer s is at = at_same h g bits writer s (same_calls_of h g i is) at
 
 pub stands_alike : (h g : ObservedHistory) (i : ℕ) (returns : List ℕ) (node : Node) (s : LockState)
@@ -223,13 +223,13 @@ stands_alike h g i returns node s taken is stands = record {
   in_effect = taken_alike h g i (take node.past returns) node.threads taken is stands.in_effect;
 }
 
-pub opening_alike : (h g : ObservedHistory) (i : ℕ) (node : Node) → AreAlike h g i → IsOpening h node →
-    IsOpening g node
+pub opening_alike : (h g : ObservedHistory) (i : ℕ) (node : Node) → AreAlike h g i → IsFirstNode h node →
+    IsFirstNode g node
 opening_alike h g i node is opens = record {
   past = opens.past;
   writer = opens.writer;
   threads = opens.threads;
-  at = subst (λ (w : ℕ). IsAt g node.bits node.writer ([], zeros w)) (sym is.width)
+  at = subst (λ (w : ℕ). IsStateBy g node.bits node.writer ([], zeros w)) (sym is.width)
       (at_alike h g i node.bits node.writer ([], zeros h.width) is opens.at);
 }
 

@@ -24,19 +24,19 @@ use Rattle.stamp_explain.specs.declared.node.Next.{Next}
 use Rattle.stamp_explain.specs.declared.node.Step.{Step}
 use Rattle.stamp_explain.specs.declared.store.Store.{Store}
 use Rattle.stamp_explain.specs.declared.asking.Asking.{Asking}
-use Rattle.stamp_explain.specs.Observed.{ObservedHistory, IsObserved, IsBefore, MayReply, AreOfOneObject}
+use Rattle.stamp_explain.specs.Observed.{ObservedHistory, IsObserved, IsBefore, AllowsReply, AreOfOneObject}
 use Rattle.stamp_explain.specs.Observer.{asks_at, asks_in, observes_at, observes_in}
 use Rattle.stamp_explain.specs.Search.{LockState, LockSteps, IsReturnAt, after_call}
 use Rattle.stamp_explain.specs.Configuration.{Configuration, ReachesMoreBeside}
-use Rattle.stamp_explain.specs.Node.{IsReached, IsAt, HasGone, IsOpening}
+use Rattle.stamp_explain.specs.Node.{IsReached, IsStateBy, HasGone, IsFirstNode}
 use Rattle.stamp_explain.specs.Timeline.{AreOpen, IsAwaitedAt}
 use Rattle.stamp_explain.specs.Node.{ClearsBit}
-use Rattle.stamp_explain.specs.Expand.{Suffice, LeadsBy, Took, IsNotInEffect, IsTakenTo, Enters, nodes_of}
+use Rattle.stamp_explain.specs.Expand.{Suffice, ComesNextBy, Took, IsNotInEffect, IsTakenTo, Enters, nodes_of}
 use Rattle.stamp_explain.specs.Expand.{IsChoiceOf, IsNoChoice}
 use Rattle.stamp_explain.specs.Expand.IsNoChoice.{of_other, questions, comes_later, stays}
-use Rattle.stamp_explain.specs.Possible.{without_return, answering}
+use Rattle.stamp_explain.specs.Possible.{without_return, returned_with}
 use Rattle.stamp_explain.specs.Asking.{Adds, AreAsked, AreLed, AreMore, AreReplies, Gets, GetsMore}
-use Rattle.stamp_explain.specs.Asking.{IsAnswered, IsAsking, IsReachedBeside, LeadsBeside, NoneIsAtOnceBeside}
+use Rattle.stamp_explain.specs.Asking.{IsSeenWith, IsAsking, IsReachedBeside, ComesNextBeside, NoneIsAtOnceBeside}
 use Rattle.stamp_explain.specs.Asking.{SufficeBeside, SufficeUnless}
 use Rattle.stamp_explain.specs.Turn.{IsOutOfTurn}
 use Rattle.stamp_explain.proofs.Lists.{each_push, none_in_empty, contains_cases, pairs_none}
@@ -112,13 +112,13 @@ counted_none last k es e n lt at begun is = record {
     late = grind (arith, nat_tests)
 
 -- what is seen with another reply
-pub alike_of : (asking : Asking) (reply : Reply) (h : ObservedHistory) → IsAnswered asking reply h →
+pub alike_of : (asking : Asking) (reply : Reply) (h : ObservedHistory) → IsSeenWith asking reply h →
     AreAlike asking.seen h asking.place
 alike_of asking reply h is = subst (λ (g : ObservedHistory). AreAlike asking.seen g asking.place) (sym is.is)
     (alike_with_reply asking.seen asking.place is.entry is.return reply is.is_entry is.returned)
 
 pub observed_of : (asking : Asking) (reply : Reply) (h : ObservedHistory) → IsAsking asking →
-    IsAnswered asking reply h → IsObserved h
+    IsSeenWith asking reply h → IsObserved h
 observed_of asking reply h asks is = subst IsObserved (sym is.is)
     (replied_is_observed asking.seen asking.place is.entry is.return reply is.is_entry is.returned asks.observed)
 
@@ -129,7 +129,7 @@ pub record AwaitsToo (asking : Asking) (h : ObservedHistory) (node : Node) (a : 
   pub thread : entry.thread ≡ a.thread
 
 pub awaits_too : (asking : Asking) (reply : Reply) (h : ObservedHistory) (node : Node) (a : Observation) →
-    IsAsking asking → IsAnswered asking reply h → Awaits asking.seen asking.timeline node a → AwaitsToo asking h node a
+    IsAsking asking → IsSeenWith asking reply h → Awaits asking.seen asking.timeline node a → AwaitsToo asking h node a
 awaits_too asking reply h node a asks is awaits =
     let alike : AreAlike asking.seen h asking.place = alike_of asking reply h is in
     let b : (b : Observation) × ((slice_get h.entries (get_or asking.timeline.returns.items node.past 0) ≡ Some b) ×
@@ -149,7 +149,7 @@ awaits_too asking reply h node a asks is awaits =
 pub past_leads : (asking : Asking) (node : Node) (a : Observation) (threads : ℕ) →
     Awaits asking.seen asking.timeline node a → bit_at node.threads a.thread ≡ 1 → ClearsBit node.threads threads
     a.thread →
-    LeadsBeside asking node (past_of node threads)
+    ComesNextBeside asking node (past_of node threads)
 past_leads asking node a threads awaits bit clears = record {
   leads = leads_past asking.seen (Some asking.place) asking.timeline node a threads awaits bit clears;
   other = λ e. none-some asking.place e;
@@ -181,7 +181,7 @@ pub at_once_leads : (asking : Asking) (node : Node) (a : Observation) (calls : L
     NoneOfFirst asking.seen (Some asking.place) asking.timeline.returns.items node calls k → k < length calls →
     observes_at asking.seen.entries (get_or calls k 0) ≡ true →
     Took asking.seen asking.timeline.returns.items node (get_or calls k 0) (Some w) →
-    get_or calls k 0 ≢ asking.place → LeadsBeside asking node w
+    get_or calls k 0 ≢ asking.place → ComesNextBeside asking node w
 at_once_leads asking node a calls k w awaits reached bit are before inside observes took other = record {
   leads = leads_at_once asking.seen (Some asking.place) asking.timeline node a calls k w awaits bit are before inside
       observes (λ same. other (sym (same_Some asking.place (get_or calls k 0) same))) took;
@@ -211,7 +211,7 @@ awaited_inside asking node i asks inside read =
 -- of the last k of these calls, those beside the one asked were tried
 pub record TriesBeside (asking : Asking) (node : Node) (calls : List ℕ) (k : ℕ) (nexts : List Next) : Type 0 where
   pub led : AreLed asking node nexts
-  pub tries : (reply : Reply) (h : ObservedHistory) → IsAnswered asking reply h →
+  pub tries : (reply : Reply) (h : ObservedHistory) → IsSeenWith asking reply h →
       Took h asking.timeline.returns.items node asking.place None →
       Tries h (Some asking.place) asking.timeline.returns.items node calls k nexts
 
@@ -283,7 +283,7 @@ record SeenToo (asking : Asking) (node : Node) (i : ℕ) (a e : Observation) : T
   pub objects : AreOfOneObject awaited entry ↔ AreOfOneObject a e
 
 seen_too : (asking : Asking) (reply : Reply) (h : ObservedHistory) (node : Node) (i : ℕ) (a e : Observation) →
-    IsAnswered asking reply h → IsAwaitedAt h asking.timeline.returns.items node.past a →
+    IsSeenWith asking reply h → IsAwaitedAt h asking.timeline.returns.items node.past a →
     slice_get h.entries i ≡ Some e → SeenToo asking node i a e
 seen_too asking reply h node i a e is awaited at =
     let alike : AreAlike h asking.seen asking.place = turned asking.seen h asking.place (alike_of asking reply h is) in
@@ -360,7 +360,7 @@ pub beside_some : (asking : Asking) (node : Node) (a : Observation) (calls : Lis
 beside_some asking node a calls k nexts w awaits reached bit none_at_once are is more other awaited at choice =
     record {
       led = record {
-        each = each_push (LeadsBeside asking node) nexts w is.led.each (record {
+        each = each_push (ComesNextBeside asking node) nexts w is.led.each (record {
           leads = choice_leads asking.seen (Some asking.place) asking.timeline node a calls
               (get_or calls (length calls - 1 - k) 0) w awaits bit none_at_once are awaited at choice;
           other = took_other asking node (get_or calls (length calls - 1 - k) 0) w a awaits reached choice.took other;
@@ -375,7 +375,7 @@ beside_some asking node a calls k nexts w awaits reached bit none_at_once are is
 pub suffice_beside : (asking : Asking) (node : Node) (calls : List ℕ) (k : ℕ) (nexts : List Next) (reply : Reply)
     (h : ObservedHistory) → IsAsking asking → node.past < length asking.timeline.returns.items →
     IsNotInEffect asking.seen asking.timeline.returns.items node →
-    AreOpen h asking.timeline.returns.items node.past calls → length calls ≤ k → IsAnswered asking reply h →
+    AreOpen h asking.timeline.returns.items node.past calls → length calls ≤ k → IsSeenWith asking reply h →
     Tries h (Some asking.place) asking.timeline.returns.items node calls k nexts →
     Suffice h asking.timeline.returns.items node nexts
 suffice_beside asking node calls k nexts reply h asks inside awaited are all is tries =
@@ -395,8 +395,8 @@ suffice_beside asking node calls k nexts reply h asks inside awaited are all is 
 
 -- the entry that was asked, with the reply
 asked_entry : (asking : Asking) (reply : Reply) (h : ObservedHistory) (f : Observation) →
-    (is : IsAnswered asking reply h) → slice_get h.entries asking.place ≡ Some f →
-    f ≡ answering is.entry is.return reply
+    (is : IsSeenWith asking reply h) → slice_get h.entries asking.place ≡ Some f →
+    f ≡ returned_with is.entry is.return reply
 asked_entry asking reply h f is at = same_Some f y (sym at ∙
     ap (λ (g : ObservedHistory). slice_get g.entries asking.place) is.is ∙
     slice_get-get_or (set asking.seen.entries asking.place y) asking.place y
@@ -404,14 +404,14 @@ asked_entry asking reply h f is at = same_Some f y (sym at ∙
     ap (λ (o : Observation). Some o) (get_or-set_same asking.seen.entries asking.place y y within))
   where
     y : Observation
-    y = answering is.entry is.return reply
+    y = returned_with is.entry is.return reply
 
     within : asking.place < length asking.seen.entries
     within = slice_get_within asking.seen.entries asking.place is.entry is.is_entry
 
 -- where the awaited call had returned before it began, it isn't open
 pub not_begun : (asking : Asking) (node : Node) (a e : Observation) (reply : Reply) (h : ObservedHistory) →
-    IsAsking asking → IsAnswered asking reply h → Awaits asking.seen asking.timeline node a →
+    IsAsking asking → IsSeenWith asking reply h → Awaits asking.seen asking.timeline node a →
     slice_get asking.seen.entries asking.place ≡ Some e → IsBefore a e →
     Took h asking.timeline.returns.items node asking.place None
 not_begun asking node a e reply h asks is awaits at before = record {
@@ -432,12 +432,12 @@ not_begun asking node a e reply h asks is awaits at before = record {
 -- what was found of the call while it is under way
 abbrev pub WentBefore : Asking → Node → Option Step → Type 0
 WentBefore asking node found = (e : Observation) (s : LockState) →
-    slice_get asking.before.entries asking.place ≡ Some e → IsAt asking.before node.bits node.writer s →
+    slice_get asking.before.entries asking.place ≡ Some e → IsStateBy asking.before node.bits node.writer s →
     HasGone asking.before asking.place e node.writer s found
 
 -- it gets no other reply
 pub asked_takes : (asking : Asking) (node : Node) (found : Option Step) (reply : Reply) (h : ObservedHistory) →
-    IsAsking asking → IsAnswered asking reply h → WentBefore asking node found →
+    IsAsking asking → IsSeenWith asking reply h → WentBefore asking node found →
     ((step : Step) → found ≡ Some step → step.reply ≢ reply) → Took h asking.timeline.returns.items node
     asking.place None
 asked_takes asking node found reply h asks is went others = record {
@@ -445,20 +445,20 @@ asked_takes asking node found reply h asks is went others = record {
       let alike : AreAlike asking.seen h asking.place = alike_of asking reply h is in
       let at_x : slice_get h.entries asking.place ≡ Some x.entry =
       ap (λ (k : ℕ). slice_get h.entries k) (sym same) ∙ may.effect.is_entry in
-      let is_x : x.entry ≡ answering is.entry is.return reply = asked_entry asking reply h x.entry is at_x in
-      let at : IsAt (without_return asking.place is.entry asking.seen) node.bits node.writer s =
+      let is_x : x.entry ≡ returned_with is.entry is.return reply = asked_entry asking reply h x.entry is at_x in
+      let at : IsStateBy (without_return asking.place is.entry asking.seen) node.bits node.writer s =
       at_same asking.seen (without_return asking.place is.entry asking.seen) node.bits node.writer s
       (same_calls_before asking.seen asking.place is.entry is.is_entry)
       (at_alike h asking.seen asking.place node.bits node.writer s (turned asking.seen h asking.place alike)
       stands.at) in
-      let replied : reply ≡ x.reply = subst (λ (o : Observation). MayReply o x.reply) is_x may.effect.replies in
+      let replied : reply ≡ x.reply = subst (λ (o : Observation). AllowsReply o x.reply) is_x may.effect.replies in
       let steps : LockSteps asking.seen.limits s (is.entry.call, x.reply) u =
       subst (λ (o : Observation). LockSteps asking.seen.limits s (o.call, x.reply) u) is_x
       (subst (λ (l : Bounds). LockSteps l s (x.entry.call, x.reply) u) alike.limits may.steps) in
       by found refl s u x.reply replied steps
       (subst (λ (g : ObservedHistory). HasGone g asking.place y node.writer s found) before (went y s here (subst (λ
       (g : ObservedHistory).
-      IsAt g node.bits node.writer s) (sym before) at)));
+      IsStateBy g node.bits node.writer s) (sym before) at)));
 }
   where
     y : Observation
@@ -530,7 +530,7 @@ asked_gets asking node step a asks is awaits begun went = record {
     next = after_call asking.seen.limits is.reached.state (asks.entry.call, step.reply);
     steps = (subst (λ (g : ObservedHistory). HasGone g asking.place y node.writer is.reached.state (Some step))
         asks.before
-        (went y is.reached.state here (subst (λ (g : ObservedHistory). IsAt g node.bits node.writer is.reached.state)
+        (went y is.reached.state here (subst (λ (g : ObservedHistory). IsStateBy g node.bits node.writer is.reached.state)
         (sym asks.before) (at_same asking.seen (without_return asking.place asks.entry asking.seen) node.bits
         node.writer is.reached.state (same_calls_before asking.seen asking.place asks.entry asks.is_entry)
         is.reached.stands.at)))).steps;
@@ -599,15 +599,15 @@ asked_suits asking asks e at = subst (λ (g : ObservedHistory). IsTrue (call_sui
         ap (λ (o : Observation). Some o) (get_or-set_same asking.seen.entries asking.place y y within)) ∙
         ap (λ (g : ObservedHistory). slice_get g.entries asking.place) (sym asks.before) ∙ at)
 
--- a search without the call begins at the opening
-opening_beside : (asking : Asking) (node : Node) → IsOpening asking.seen node → IsReachedBeside asking node
+-- a search without the call begins at the first_state
+opening_beside : (asking : Asking) (node : Node) → IsFirstNode asking.seen node → IsReachedBeside asking node
 opening_beside asking node is = record {
   reached = opening_reached asking.seen (Some asking.place) asking.timeline.returns.items node is;
   still = none_in_empty asking.place;
 }
 
 leads_beside : (asking : Asking) (node : Node) (next : Next) → IsReachedBeside asking node →
-    LeadsBeside asking node next → IsReachedBeside asking next.node
+    ComesNextBeside asking node next → IsReachedBeside asking next.node
 leads_beside asking node next is leads = by next.took refl (leads.leads.leads s taken is.reached.stands)
   where
     h : ObservedHistory
@@ -622,7 +622,7 @@ leads_beside asking node next is leads = by next.took refl (leads.leads.leads s 
     taken : List ℕ
     taken = is.reached.taken
 
-    by : (o : Option ℕ) → next.took ≡ o → LeadsBy h (Some asking.place) returns node next.node s taken o →
+    by : (o : Option ℕ) → next.took ≡ o → ComesNextBy h (Some asking.place) returns node next.node s taken o →
         IsReachedBeside asking next.node
     by None at l = record {
       reached = record {
@@ -671,11 +671,11 @@ pub record Walks (asking : Asking) (looked : ℕ) (store : Store) (waiting : Lis
   pub reached : (v : Node) → Contains store.nodes.items v → IsReachedBeside asking v
   pub once : AllPairs (λ (a b : Reply). a ≢ b) replies
   pub gets : (reply : Reply) → Contains replies reply → Gets asking reply
-  pub searches : (reply : Reply) (h : ObservedHistory) → IsAnswered asking reply h → ¬ Contains replies reply →
+  pub searches : (reply : Reply) (h : ObservedHistory) → IsSeenWith asking reply h → ¬ Contains replies reply →
       Searches h asking.timeline.returns.items store waiting
 
 pub walks_first : (asking : Asking) (old new : Store) (waiting : List ℕ) (next : Next) → old.nodes.items ≡ [] →
-    IsOpening asking.seen next.node → Enters old new 0 [] waiting (next ∷ []) → Walks asking 0 new waiting []
+    IsFirstNode asking.seen next.node → Enters old new 0 [] waiting (next ∷ []) → Walks asking 0 new waiting []
 walks_first asking old new waiting next empty is enters = record {
   explores = explores_first old new waiting next empty enters;
   reached = λ v has. subst (IsReachedBeside asking) (only_first old new waiting next empty enters v has)

@@ -11,7 +11,7 @@ use Rattle.stamp_core.specs.declared.call.Call.{Call}
 use Rattle.stamp_core.specs.declared.reply.Reply.{Reply}
 use Rattle.stamp_explain.specs.declared.observed.Observation.{Observation}
 use Rattle.stamp_explain.specs.declared.observed.Returned.{Returned}
-use Rattle.stamp_explain.specs.Observed.{ObservedHistory, IsBefore, MayReply}
+use Rattle.stamp_explain.specs.Observed.{ObservedHistory, IsBefore, AllowsReply}
 use Rattle.stamp_explain.specs.Explained.{Effect, IsEffectOf, history_of, indices_of, AreApart, RespectsBefore}
 use Rattle.stamp_explain.specs.Explained.{IsExplainedBy, IsExplained}
 use Rattle.stamp_explain.specs.Cut.{returned_by, known_from, cut, IsStuck}
@@ -24,7 +24,7 @@ pub record IsLessKnown (e k : Observation) : Type 0 where
   pub first : k.first ≡ e.first
   pub returned : (r : Returned) → k.returned ≡ Some r → e.returned ≡ Some r
 
-less_may : (e k : Observation) (reply : Reply) → IsLessKnown e k → MayReply e reply → MayReply k reply
+less_may : (e k : Observation) (reply : Reply) → IsLessKnown e k → AllowsReply e reply → AllowsReply k reply
 less_may e k reply less may = by k.returned refl
   where
     by : (o : Option Returned) → k.returned ≡ o → MatchOption o (Unit {0}) (λ (r : Returned). r.reply ≡ reply)

@@ -9,7 +9,7 @@ use Rattle.stamp_core.specs.declared.reply.Reply.{Reply}
 use Rattle.stamp_explain.specs.declared.observed.Observation.{Observation}
 use Rattle.stamp_explain.specs.Observed.{ObservedHistory}
 use Rattle.stamp_explain.specs.Explained.{Effect}
-use Rattle.stamp_explain.specs.Search.{LockState, LockSteps, MayTake, after_call, opening}
+use Rattle.stamp_explain.specs.Search.{LockState, LockSteps, MayTake, after_call, first_state}
 use Rattle.stamp_explain.specs.Configuration.{Reaches, put_after}
 use Rattle.stamp_explain.specs.Configuration.Reaches.{begins, goes_past, goes_on_by}
 use Rattle.stamp_explain.specs.ExplainLaws.{TheOrderDecides}
@@ -60,7 +60,7 @@ one_effect h a b s taken x y t u put may other same = (state, puts)
         ap (λ (r : Reply). put_after put y.index y.entry.call r) reply
 
 none_decides : (h : ObservedHistory) (asked : Option ℕ) (returns : List ℕ) (s : LockState) {ys : List ℕ} {t : LockState}
-    {other : Option ℕ} {also : List ℕ} → s ≡ opening h.width → Reaches h asked returns ys t other also → [] ≡ also →
+    {other : Option ℕ} {also : List ℕ} → s ≡ first_state h.width → Reaches h asked returns ys t other also → [] ≡ also →
     IsSame s None t other
 none_decides h asked returns s is begins same = (is, refl)
 none_decides h asked returns s is (goes_past way has) same = none_decides h asked returns s is way same
@@ -93,7 +93,7 @@ one_decides h asked returns a s t put taken x may before
 
 decides : (h : ObservedHistory) (asked : Option ℕ) (returns : List ℕ) {xs : List ℕ} {s : LockState} {put : Option ℕ}
     {taken : List ℕ} → Reaches h asked returns xs s put taken → Decides h asked returns taken s put
-decides h asked returns begins ys t other also way = none_decides h asked returns (opening h.width) refl way
+decides h asked returns begins ys t other also way = none_decides h asked returns (first_state h.width) refl way
 decides h asked returns (goes_past way has) ys t other also that = decides h asked returns way ys t other also that
 decides h asked returns (goes_on_by {i} {to_come} {s} {put} {taken} way awaited x t is_awaited not_yet tried may) ys u
     other

@@ -24,7 +24,7 @@ use Rattle.stamp_explain.specs.declared.node.Step.{Step}
 use Rattle.stamp_explain.specs.Observed.{ObservedHistory, IsObserved, IsBefore, IsInterval, DoNotOverlap}
 use Rattle.stamp_explain.specs.Explained.{Effect}
 use Rattle.stamp_explain.specs.Search.{LockState, LockSteps, MayTake, AreReturns, after_call}
-use Rattle.stamp_explain.specs.Node.{IsNext, AreTaken, StandsFor, Goes, HasGone}
+use Rattle.stamp_explain.specs.Node.{IsNext, AreTaken, StandsFor, Does, HasGone}
 use Rattle.stamp_explain.specs.Timeline.{IsOpenAt}
 use Rattle.stamp_explain.specs.Node.{SetsBit}
 use Rattle.stamp_explain.specs.Expand.{Takes}
@@ -257,7 +257,7 @@ taken_to h returns node a i s taken threads step is bit gone sets = record {
     e : Observation
     e = is.it.entry
 
-    went : Goes h i e node.writer s step
+    went : Does h i e node.writer s step
     went = gone e is.it.is_entry
 
     effect : Effect

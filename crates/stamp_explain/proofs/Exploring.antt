@@ -20,10 +20,10 @@ use Rattle.stamp_explain.specs.declared.store.Store.{Store}
 use Rattle.stamp_explain.specs.Observed.{ObservedHistory}
 use Rattle.stamp_explain.specs.Explained.{Effect, IsExplained, IsExplainedBy, history_of, indices_of}
 use Rattle.stamp_explain.specs.Search.{LockSteps, IsCompletedBy, AreReturns, IsReturnAt}
-use Rattle.stamp_explain.specs.Search.{opening}
+use Rattle.stamp_explain.specs.Search.{first_state}
 use Rattle.stamp_explain.specs.Configuration.{Reaches}
 use Rattle.stamp_explain.specs.Configuration.Reaches.{begins}
-use Rattle.stamp_explain.specs.Node.{AreTaken, IsOpening, StandsFor, IsReached}
+use Rattle.stamp_explain.specs.Node.{AreTaken, IsFirstNode, StandsFor, IsReached}
 use Rattle.stamp_explain.specs.Store.{Keeps}
 use Rattle.stamp_explain.specs.Expand.{Hope, GoesOn, Suffice, Enters, IsPlaced, nodes_of}
 use Rattle.stamp_explain.proofs.Lists.{none_in_empty, contains_cases, contains_first, contains_rest}
@@ -33,7 +33,7 @@ use Rattle.stamp_explain.proofs.Entering.{read_left}
 
 -- what an order of the whole history is to a search
 pub completed_from : (h : ObservedHistory) (returns : List ℕ) (rest : List Effect) → AreReturns h.entries returns →
-    IsCompletedBy (LockSteps h.limits) h.entries returns (opening h.width) [] rest → IsExplainedBy h rest
+    IsCompletedBy (LockSteps h.limits) h.entries returns (first_state h.width) [] rest → IsExplainedBy h rest
 completed_from h returns rest are by = record {
   effects = by.effects;
   once = by.once;
@@ -48,7 +48,7 @@ completed_from h returns rest are by = record {
     right (inr has) = has
 
 pub explained_by : (h : ObservedHistory) (returns : List ℕ) → AreReturns h.entries returns →
-    (explained : IsExplained h) → IsCompletedBy (LockSteps h.limits) h.entries returns (opening h.width) []
+    (explained : IsExplained h) → IsCompletedBy (LockSteps h.limits) h.entries returns (first_state h.width) []
     explained.order
 explained_by h returns are explained =
     let by = explained.by in
@@ -69,16 +69,16 @@ pub record Explores (looked : ℕ) (store : Store) (waiting : List ℕ) : Type 0
   pub inside : All (λ (p : ℕ). p < length store.nodes.items) waiting
   pub count : looked + length waiting ≡ length store.nodes.items
 
--- nothing of what can be completed from the opening is lost
+-- nothing of what can be completed from the first_state is lost
 pub record Searches (h : ObservedHistory) (returns : List ℕ) (store : Store) (waiting : List ℕ) : Type 0 where
   pub loses : LosesNothing (Hope h returns) (Contains store.nodes.items) (IsPlaced store.nodes.items waiting)
   pub first : Node
-  pub is_first : IsOpening h first
+  pub is_first : IsFirstNode h first
   pub at_first : slice_get store.nodes.items 0 ≡ Some first
 
--- the opening is a node that is reached, and hopes for any order
-pub opening_stands : (h : ObservedHistory) (returns : List ℕ) (node : Node) → IsOpening h node →
-    StandsFor h returns node (opening h.width) []
+-- the first_state is a node that is reached, and hopes for any order
+pub opening_stands : (h : ObservedHistory) (returns : List ℕ) (node : Node) → IsFirstNode h node →
+    StandsFor h returns node (first_state h.width) []
 opening_stands h returns node is = record {
   at = is.at;
   in_effect = subst (λ (n : ℕ). AreTaken h.entries (take n returns) node.threads []) (sym is.past)
@@ -93,18 +93,18 @@ opening_stands h returns node is = record {
     no_bit : (t : ℕ) → bit_at 0 t ≡ 1 → ⊥
     no_bit t bit = absurd (omega (arith, bit_at-zero t, bit))
 
-pub opening_way : (h : ObservedHistory) (asked : Option ℕ) (returns : List ℕ) (node : Node) → IsOpening h node →
-    Reaches h asked returns (drop node.past returns) (opening h.width) node.writer []
+pub opening_way : (h : ObservedHistory) (asked : Option ℕ) (returns : List ℕ) (node : Node) → IsFirstNode h node →
+    Reaches h asked returns (drop node.past returns) (first_state h.width) node.writer []
 opening_way h asked returns node is =
-    subst (λ (put : Option ℕ). Reaches h asked returns (drop node.past returns) (opening h.width) put [])
-    (sym is.writer) (subst (λ (n : ℕ). Reaches h asked returns (drop n returns) (opening h.width) None []) (sym is.past)
+    subst (λ (put : Option ℕ). Reaches h asked returns (drop node.past returns) (first_state h.width) put [])
+    (sym is.writer) (subst (λ (n : ℕ). Reaches h asked returns (drop n returns) (first_state h.width) None []) (sym is.past)
     begins)
 
 abbrev pub opening_reached : (h : ObservedHistory) (asked : Option ℕ) (returns : List ℕ) (node : Node) →
-    IsOpening h node → IsReached h
+    IsFirstNode h node → IsReached h
     asked returns node
 opening_reached h asked returns node is = record {
-  state = opening h.width;
+  state = first_state h.width;
   taken = [];
   inside = omega (arith, is.past);
   stands = opening_stands h returns node is;
@@ -168,7 +168,7 @@ only_first old new waiting next empty enters v has =
     which w (inr none) = absurd (none_in_empty w none)
 
 pub searches_first : (h : ObservedHistory) (returns : List ℕ) (old new : Store) (waiting : List ℕ) (next : Next) →
-    old.nodes.items ≡ [] → IsOpening h next.node → Enters old new 0 [] waiting (next ∷ []) →
+    old.nodes.items ≡ [] → IsFirstNode h next.node → Enters old new 0 [] waiting (next ∷ []) →
     Searches h returns new waiting
 searches_first h returns old new waiting next empty is enters = record {
   loses = record {
@@ -334,11 +334,11 @@ found_nothing h returns store waiting are is none explained =
     is.first (length (drop is.first.past returns) + length explained.order)
     (contains_at store.nodes.items 0 is.first is.at_first)
     (record {
-      state = opening h.width;
+      state = first_state h.width;
       taken = [];
       stands = opening_stands h returns is.first is.is_first;
       rest = explained.order;
-      by = subst (λ (n : ℕ). IsCompletedBy (LockSteps h.limits) h.entries (drop n returns) (opening h.width) []
+      by = subst (λ (n : ℕ). IsCompletedBy (LockSteps h.limits) h.entries (drop n returns) (first_state h.width) []
           explained.order) (sym is.is_first.past) (explained_by h returns are explained);
       steps = refl;
     })

@@ -16,7 +16,7 @@ use Rattle.stamp_explain.specs.Cut.{known_of, known_from, returned_by, cut, seen
 use Rattle.stamp_explain.specs.TimelineKeys.{IsSooner, AreEnds, EndsAt}
 use Rattle.stamp_explain.specs.Configuration.{IsGivenUp}
 use Rattle.stamp_explain.specs.Order.{IsOrderOf}
-use Rattle.stamp_explain.specs.Expand.{IsFound}
+use Rattle.stamp_explain.specs.Expand.{IsFoundApart}
 use Rattle.stamp_explain.specs.Verdict.{IsUndecided, IsLastOrGivesUp, IsUnexplained, IsNotFound}
 use Rattle.stamp_explain.proofs.Lists.{pairs_none, none_in_empty}
 use Rattle.stamp_explain.proofs.Cutting.{IsLessKnown, cuts_stay_explained, less_known, back}
@@ -505,7 +505,7 @@ same h most unexplained ends low high stuck l u x s l_is u_is x_is s_is is =
 pub narrowed : (h : ObservedHistory) (most : ℕ) (unexplained : Bool) (ends : List (ℕ × ℕ)) (low high middle : ℕ)
     (stuck : Bool) (found : Found) (l u : ℕ) (x s : Bool) → IsObserved h → AreEnds h.entries ends →
     IsBetween h most unexplained ends low high stuck → low ≤ middle → middle < high →
-    IsFound (seen_at (get_or ends middle (0, 0)).0 ((get_or ends middle (0, 0)).1 + 1) h) most found →
+    IsFoundApart (seen_at (get_or ends middle (0, 0)).0 ((get_or ends middle (0, 0)).1 + 1) h) most found →
     Narrows found low high unexplained stuck middle l u x s → IsBetween h most x ends l u s
 narrowed h most unexplained ends low high middle stuck (Order order) l u x s observed are is le less found
     (l_is, u_is, x_is, s_is) =

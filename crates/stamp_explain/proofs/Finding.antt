@@ -17,7 +17,7 @@ use Rattle.stamp_explain.specs.declared.observed.Returned.{Returned}
 use Rattle.stamp_explain.specs.Observed.{ObservedHistory, IsBefore, HasReturned, IsInterval, IsObserved}
 use Rattle.stamp_explain.specs.Explained.{Effect, history_of, indices_of, IsExplained}
 use Rattle.stamp_explain.specs.Search.{Runs, IsCompletedBy, CanComplete, FindsOrder, ReturnsNoLater, AreInOrder}
-use Rattle.stamp_explain.specs.Search.{IsReturnAt, IsFirstReturn, LockState, opening, after_call, LockSteps}
+use Rattle.stamp_explain.specs.Search.{IsReturnAt, IsFirstReturn, LockState, first_state, after_call, LockSteps}
 use Rattle.stamp_explain.specs.Search.FindsOrder.{at_end, returns, takes}
 use Rattle.stamp_explain.specs.ExplainLaws.{JustInTime}
 use Rattle.stamp_explain.proofs.Lists.{none_in_empty, contains_cases, contains_rest, pairs_head, pairs_tail, either_in}
@@ -188,10 +188,10 @@ sound_return h i observed r = record {
 pub just_in_time : JustInTime
 just_in_time h to_come observed are = (there, back)
   where
-    there : IsExplained h → FindsOrder (LockSteps h.limits) h.entries to_come (opening h.width) []
+    there : IsExplained h → FindsOrder (LockSteps h.limits) h.entries to_come (first_state h.width) []
     there explained =
         let by = explained.by in
-        finds (LockSteps h.limits) h.entries (length to_come + length explained.order) to_come (opening h.width) []
+        finds (LockSteps h.limits) h.entries (length to_come + length explained.order) to_come (first_state h.width) []
         explained.order (omega arith)
         (All-weaker (IsReturnAt h.entries) (IsSoundReturn h.entries) (λ i r. sound_return h i observed r) to_come
         are.each)
@@ -206,9 +206,9 @@ just_in_time h to_come observed are = (there, back)
           runs = runs_legal h.limits [] (zeros h.width) (history_of explained.order) by.legal;
         })
 
-    back : FindsOrder (LockSteps h.limits) h.entries to_come (opening h.width) [] → IsExplained h
+    back : FindsOrder (LockSteps h.limits) h.entries to_come (first_state h.width) [] → IsExplained h
     back found =
-        let left : CanComplete (LockSteps h.limits) h.entries to_come (opening h.width) [] =
+        let left : CanComplete (LockSteps h.limits) h.entries to_come (first_state h.width) [] =
         completes (LockSteps h.limits) h.entries found (record {
           whole =
               λ i e at returned _. are.whole i e at returned;

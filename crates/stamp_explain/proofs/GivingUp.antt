@@ -14,7 +14,7 @@ use Rattle.stamp_explain.specs.declared.node.Waiting.{Waiting}
 use Rattle.stamp_explain.specs.declared.store.Store.{Store}
 use Rattle.stamp_explain.specs.Observed.{ObservedHistory}
 use Rattle.stamp_explain.specs.Explained.{IsExplained}
-use Rattle.stamp_explain.specs.Search.{LockSteps, IsCompletedBy, AreReturns, opening}
+use Rattle.stamp_explain.specs.Search.{LockSteps, IsCompletedBy, AreReturns, first_state}
 use Rattle.stamp_explain.specs.Configuration.{AreOne, Configuration, GoesOnFrom, IsAlive, LookedAtMore}
 use Rattle.stamp_explain.specs.Node.{IsReached}
 use Rattle.stamp_explain.specs.Expand.{Hope, Expands}
@@ -53,11 +53,11 @@ deepens_no_more h returns store waited expanded are before all seen explained =
 
     hope : Hope h returns first steps
     hope = record {
-      state = opening h.width;
+      state = first_state h.width;
       taken = [];
       stands = opening_stands h returns first was.linked.is_first;
       rest = explained.order;
-      by = subst (λ (n : ℕ). IsCompletedBy (LockSteps h.limits) h.entries (drop n returns) (opening h.width) []
+      by = subst (λ (n : ℕ). IsCompletedBy (LockSteps h.limits) h.entries (drop n returns) (first_state h.width) []
           explained.order) (sym was.linked.is_first.past) (explained_by h returns are explained);
       steps = refl;
     }

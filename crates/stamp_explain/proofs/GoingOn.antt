@@ -14,7 +14,7 @@ use Rattle.stamp_explain.specs.Observed.{ObservedHistory}
 use Rattle.stamp_explain.specs.Configuration.{Configuration, GoesOnFrom, Reaches}
 use Rattle.std.specs.Int.{bit_at}
 use Rattle.stamp_explain.specs.Node.{AreTaken, IsNext, IsReached}
-use Rattle.stamp_explain.specs.Expand.{Leads, LeadsBy}
+use Rattle.stamp_explain.specs.Expand.{ComesNext, ComesNextBy}
 use Rattle.stamp_explain.proofs.Lists.{contains_first}
 use Rattle.stamp_explain.proofs.Entering.{read_left, read_right, read_last}
 use Rattle.stamp_explain.proofs.Leading.{come, come_less, way_past, way_by}
@@ -91,14 +91,14 @@ same_effect h past threads one other i e are also at has = by (are.only i e at h
     by (inr both) = also.each_next i e both.1 both.0
 
 pub steps_to : (h : ObservedHistory) (returns : List ℕ) (v : Node) (next : Next) (c : Configuration h None returns) →
-    IsFor h None returns v c → Leads h None returns v next → StepsTo h returns c next.node
+    IsFor h None returns v c → ComesNext h None returns v next → StepsTo h returns c next.node
 steps_to h returns v next c is leads = by next.took (leads.leads c.state c.taken is.stands)
   where
     way : Reaches h None returns (drop v.past returns) c.state v.writer c.taken
     way = subst (λ (rs : List ℕ). Reaches h None returns rs c.state v.writer c.taken) is.to_come
         (subst (λ (put : Option ℕ). Reaches h None returns c.to_come c.state put c.taken) is.put c.way)
 
-    by : (o : Option ℕ) → LeadsBy h None returns v next.node c.state c.taken o → StepsTo h returns c next.node
+    by : (o : Option ℕ) → ComesNextBy h None returns v next.node c.state c.taken o → StepsTo h returns c next.node
     by None l = record {
       next = record {
         to_come = drop next.node.past returns;

@@ -14,7 +14,7 @@ use Rattle.stamp_explain.specs.Search.{LockState, LockSteps, IsCompletedBy}
 use Rattle.stamp_explain.specs.Configuration.{Reaches, put_after}
 use Rattle.stamp_explain.specs.Configuration.Reaches.{goes_past, goes_on_by}
 use Rattle.stamp_explain.specs.Node.{StandsFor, IsReached}
-use Rattle.stamp_explain.specs.Expand.{Leads, LeadsBy, LeadsByCall, LeadsByReturn, IsLed}
+use Rattle.stamp_explain.specs.Expand.{ComesNext, ComesNextBy, ComesByCall, ComesByReturn, IsLed}
 use Rattle.stamp_explain.specs.Order.{taken_of, RepliesAt}
 use Rattle.stamp_explain.proofs.Completing.{completed_by_none, before_return, puts_first}
 use Rattle.stamp_explain.proofs.Finding.{ArePending, first_of_pending, past_pending, taken_pending}
@@ -37,7 +37,7 @@ come_as_well returns past w lt same = sym (come returns past lt) ∙ ap (λ (n :
 pub way_past : (h : ObservedHistory) (asked : Option ℕ) (returns : List ℕ) (node w : Node) (s : LockState)
     (taken : List ℕ) →
     node.past < length returns → Reaches h asked returns (drop node.past returns) s node.writer taken →
-    LeadsByReturn h returns node w s taken → Reaches h asked returns (drop w.past returns) s w.writer taken
+    ComesByReturn h returns node w s taken → Reaches h asked returns (drop w.past returns) s w.writer taken
 way_past h asked returns node w s taken inside way l =
     subst (λ (put : Option ℕ). Reaches h asked returns (drop w.past returns) s put taken) (sym l.put)
     (goes_past (subst (λ (to_come : List ℕ). Reaches h asked returns to_come s node.writer taken) there way)
@@ -51,7 +51,7 @@ way_past h asked returns node w s taken inside way l =
 pub way_by : (h : ObservedHistory) (asked : Option ℕ) (returns : List ℕ) (node w : Node) (s : LockState)
     (taken : List ℕ) (i : ℕ) →
     node.past < length returns → Reaches h asked returns (drop node.past returns) s node.writer taken →
-    (l : LeadsByCall h asked returns node w s taken i) →
+    (l : ComesByCall h asked returns node w s taken i) →
     Reaches h asked returns (drop w.past returns) l.state w.writer (l.effect.index ∷ taken)
 way_by h asked returns node w s taken i inside way l =
     subst (λ (put : Option ℕ). Reaches h asked returns (drop w.past returns) l.state put (l.effect.index ∷ taken))
@@ -63,11 +63,11 @@ way_by h asked returns node w s taken i inside way l =
 
 -- what comes from a node that is reached is reached
 pub leads_reached : (h : ObservedHistory) (asked : Option ℕ) (returns : List ℕ) (node : Node) (next : Next) →
-    IsReached h asked returns node → Leads h asked returns node next → IsReached h asked returns next.node
+    IsReached h asked returns node → ComesNext h asked returns node next → IsReached h asked returns next.node
 leads_reached h asked returns node next reached leads =
     by next.took (leads.leads reached.state reached.taken reached.stands)
   where
-    by : (o : Option ℕ) → LeadsBy h asked returns node next.node reached.state reached.taken o →
+    by : (o : Option ℕ) → ComesNextBy h asked returns node next.node reached.state reached.taken o →
         IsReached h asked returns next.node
     by None l = record {
       state = reached.state;
@@ -86,10 +86,10 @@ leads_reached h asked returns node next reached leads =
 
 -- so a call that took effect there did so in some state
 pub led_by : (h : ObservedHistory) (returns : List ℕ) (node w : Node) (took : Option ℕ) →
-    IsReached h None returns node → Leads h None returns node (record { node = w; took = took }) → IsLed h node took
+    IsReached h None returns node → ComesNext h None returns node (record { node = w; took = took }) → IsLed h node took
 led_by h returns node w None reached leads = tt
 led_by h returns node w (Some i) reached leads =
-    let l : LeadsByCall h None returns node w reached.state reached.taken i =
+    let l : ComesByCall h None returns node w reached.state reached.taken i =
     leads.leads reached.state reached.taken reached.stands in
     record {
       state = reached.state;
@@ -132,7 +132,7 @@ ends_last h returns v all = record {
 
 -- as much is left where a return was passed
 pub ends_past : (h : ObservedHistory) (returns : List ℕ) (node w : Node) (left : List Taken) →
-    Leads h None returns node (record { node = w; took = None }) → Ends h returns w left → Ends h returns node left
+    ComesNext h None returns node (record { node = w; took = None }) → Ends h returns w left → Ends h returns node left
 ends_past h returns node w left leads after = record {
   ends = λ s taken stands pending. by s taken stands pending (leads.leads s taken stands);
 }
@@ -141,7 +141,7 @@ ends_past h returns node w left leads after = record {
     i = slice_index returns node.past
 
     by : (s : LockState) (taken : List ℕ) → StandsFor h returns node s taken →
-        ArePending h.entries (drop node.past returns) taken → LeadsByReturn h returns node w s taken →
+        ArePending h.entries (drop node.past returns) taken → ComesByReturn h returns node w s taken →
         EndsFor h returns node s taken left
     by s taken stands pending l =
         let to_come : drop node.past returns ≡ i ∷ drop w.past returns = come returns node.past leads.inside ∙
@@ -160,14 +160,14 @@ ends_past h returns node w left leads after = record {
 
 -- and one more call where it took effect
 pub ends_call : (h : ObservedHistory) (returns : List ℕ) (node w : Node) (i : ℕ) (one : Taken) (left : List Taken) →
-    Leads h None returns node (record { node = w; took = Some i }) → one.entry ≡ i → RepliesAt h node one →
+    ComesNext h None returns node (record { node = w; took = Some i }) → one.entry ≡ i → RepliesAt h node one →
     Ends h returns w left → Ends h returns node (one ∷ left)
 ends_call h returns node w i one left leads same replies after = record {
   ends = λ s taken stands pending. by s taken stands pending (leads.leads s taken stands);
 }
   where
     by : (s : LockState) (taken : List ℕ) → StandsFor h returns node s taken →
-        ArePending h.entries (drop node.past returns) taken → LeadsByCall h None returns node w s taken i →
+        ArePending h.entries (drop node.past returns) taken → ComesByCall h None returns node w s taken i →
         EndsFor h returns node s taken (one ∷ left)
     by s taken stands pending l =
         let x : Effect = l.effect in

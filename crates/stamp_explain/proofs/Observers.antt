@@ -6,11 +6,11 @@ use Rattle.std.specs.List.{All}
 use Rattle.std.proofs.lemmas.List.{get_or-take}
 use Rattle.std.proofs.lemmas.Option.{same_Some, slice_get-get_or}
 use Rattle.stamp_explain.specs.declared.observed.Observation.{Observation}
-use Rattle.stamp_explain.specs.Observed.{ObservedHistory, IsObserved, IsSound, DoNotOverlap}
+use Rattle.stamp_explain.specs.Observed.{ObservedHistory, IsObserved, MayBeTold, DoNotOverlap}
 
 -- of each entry below k
 pub record AreSoundBelow (h : ObservedHistory) (k : ℕ) : Type 0 where
-  pub alone : (i : ℕ) (d : Observation) → i < k → IsSound h.width (get_or h.entries i d)
+  pub alone : (i : ℕ) (d : Observation) → i < k → MayBeTold h.width (get_or h.entries i d)
   pub apart : (i j : ℕ) (d : Observation) → i < j → j < k → DoNotOverlap (get_or h.entries i d) (get_or h.entries j d)
 
 pub none_below : (h : ObservedHistory) → AreSoundBelow h 0
@@ -21,7 +21,7 @@ same_read xs k d e lt =
     same_Some (get_or xs k d) (get_or xs k e) (sym (slice_get-get_or xs k d lt) ∙ slice_get-get_or xs k e lt)
 
 pub one_below : (h : ObservedHistory) (k : ℕ) (e : Observation) → k < length h.entries → e ≡ get_or h.entries k e →
-    AreSoundBelow h k → IsSound h.width e → All (λ (other : Observation). DoNotOverlap other e) (take k h.entries) →
+    AreSoundBelow h k → MayBeTold h.width e → All (λ (other : Observation). DoNotOverlap other e) (take k h.entries) →
     AreSoundBelow h (k + 1)
 one_below h k e within read below sound apart = record {
   alone = λ i d lt. alone i d (cases i lt);
@@ -34,10 +34,10 @@ one_below h k e within read below sound apart = record {
     here : (d : Observation) → e ≡ get_or h.entries k d
     here d = read ∙ same_read h.entries k e d within
 
-    alone : (i : ℕ) (d : Observation) → (i < k) ⊎ (i ≡ k) → IsSound h.width (get_or h.entries i d)
+    alone : (i : ℕ) (d : Observation) → (i < k) ⊎ (i ≡ k) → MayBeTold h.width (get_or h.entries i d)
     alone i d (inl less) = below.alone i d less
     alone i d (inr same) =
-        subst (λ (n : ℕ). IsSound h.width (get_or h.entries n d)) (sym same) (subst (IsSound h.width) (here d) sound)
+        subst (λ (n : ℕ). MayBeTold h.width (get_or h.entries n d)) (sym same) (subst (MayBeTold h.width) (here d) sound)
 
     pair : (i j : ℕ) (d : Observation) → i < j → (j < k) ⊎ (j ≡ k) →
         DoNotOverlap (get_or h.entries i d) (get_or h.entries j d)
@@ -60,10 +60,10 @@ all_below h k all below = record {
 
 -- an entry that breaks something
 pub not_alone : (h : ObservedHistory) (k : ℕ) (e : Observation) → k < length h.entries → e ≡ get_or h.entries k e →
-    ¬ IsSound h.width e → ¬ IsObserved h
-not_alone h k e within read refuted is = refuted (subst (λ (o : Observation). IsSound h.width o) (sym read) both)
+    ¬ MayBeTold h.width e → ¬ IsObserved h
+not_alone h k e within read refuted is = refuted (subst (λ (o : Observation). MayBeTold h.width o) (sym read) both)
   where
-    both : IsSound h.width (get_or h.entries k e)
+    both : MayBeTold h.width (get_or h.entries k e)
     both = record { interval = is.intervals k e within; thread = is.threads k e within; suits = is.suit k e within }
 
 pub not_apart : (h : ObservedHistory) (k : ℕ) (e : Observation) → k < length h.entries → e ≡ get_or h.entries k e →

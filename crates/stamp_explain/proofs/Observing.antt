@@ -9,7 +9,7 @@ use Rattle.stamp_core.specs.declared.call.Call.{Call}
 use Rattle.stamp_core.specs.declared.reply.Reply.{Reply}
 use Rattle.stamp_explain.specs.declared.observed.Observation.{Observation}
 use Rattle.stamp_explain.specs.declared.observed.Returned.{Returned}
-use Rattle.stamp_explain.specs.Observed.{MayReply, HasReturned}
+use Rattle.stamp_explain.specs.Observed.{AllowsReply, HasReturned}
 use Rattle.stamp_explain.specs.Explained.{Effect, IsEffectOf, history_of, indices_of, AreApart, RespectsBefore}
 use Rattle.stamp_explain.specs.Search.{Runs, IsCompletedBy, LockSteps}
 use Rattle.stamp_explain.specs.ExplainLaws.{ObserversAtOnce}
@@ -109,7 +109,7 @@ same_effect : (entries : List Observation) (x y : Effect) → IsEffectOf entries
 same_effect entries x y x_is y_is returned same =
     let e : y.entry ≡ x.entry = same_Some y.entry x.entry (sym y_is.is_entry ∙
     ap (λ (k : ℕ). slice_get entries k) same ∙ x_is.is_entry) in
-    let y_may : MayReply x.entry y.reply = subst (λ (o : Observation). MayReply o y.reply) e y_is.replies in
+    let y_may : AllowsReply x.entry y.reply = subst (λ (o : Observation). AllowsReply o y.reply) e y_is.replies in
     let a : returned.0.reply ≡ y.reply = MatchOption-at_some (Unit {0}) (λ (r : Returned). r.reply ≡ y.reply)
     returned.0 returned.1 y_may in
     let b : returned.0.reply ≡ x.reply = MatchOption-at_some (Unit {0}) (λ (r : Returned). r.reply ≡ x.reply)

@@ -17,7 +17,7 @@ use Rattle.stamp_explain.specs.Observed.{ObservedHistory, IsBefore}
 use Rattle.stamp_explain.specs.Search.{AreReturns, AreInOrder, ReturnsNoLater, IsReturnAt, StandsBefore}
 use Rattle.stamp_explain.specs.Timeline.{IsOpenAt, AreOpen, IsTimeline}
 use Rattle.stamp_explain.specs.TimelineKeys.{AreKeys, AreRising, AreRanked, AreRanks, AreTimelineKeys, AreOpens}
-use Rattle.stamp_explain.specs.TimelineKeys.{IsKept, AreKept}
+use Rattle.stamp_explain.specs.TimelineKeys.{IsKeptOpen, AreKept}
 use Rattle.stamp_explain.specs.TimelineKeys.{IsBegun, BeginsMore, EndsAt, BeginsAt, places_of}
 use Rattle.stamp_explain.proofs.Lists.{none_in_empty, contains_cases, contains_first, contains_rest}
 use Rattle.stamp_explain.proofs.Ending.{pair_cmp, sorted_rise}
@@ -282,10 +282,10 @@ opens_at h ends begins ranks k from to c old more sorted is lt kept begins_more 
       ap (λ (p : ℕ × ℕ). p.0) (same_ends k c d lt),
     )
 
-    of_more : (p : ℕ × ℕ) → Contains more p → IsKept h.entries ends ranks k p
+    of_more : (p : ℕ × ℕ) → Contains more p → IsKeptOpen h.entries ends ranks k p
     of_more p has = which (begins_more.only p has)
       where
-        which : Contains old p ⊎ IsBegun begins ranks end p → IsKept h.entries ends ranks k p
+        which : Contains old p ⊎ IsBegun begins ranks end p → IsKeptOpen h.entries ends ranks k p
         which (inl was) = kept.each p was
         which (inr begun) =
             let found : (e : Observation) × ((slice_get h.entries p.1 ≡ Some e) × BeginsAt e begun.first) =
@@ -298,7 +298,7 @@ opens_at h ends begins ranks k from to c old more sorted is lt kept begins_more 
               begun = λ m d le less. omega (arith, found.1.1, begun.by_then, rise m d le less);
             }
 
-    later : (p : ℕ × ℕ) → IsKept h.entries ends ranks k p → IsKept h.entries ends ranks (k + 1) p
+    later : (p : ℕ × ℕ) → IsKeptOpen h.entries ends ranks k p → IsKeptOpen h.entries ends ranks (k + 1) p
     later p it = record {
       entry = it.entry;
       is_entry = it.is_entry;
@@ -322,7 +322,7 @@ opens_at h ends begins ranks k from to c old more sorted is lt kept begins_more 
     calls : (i : ℕ) → (n : ℕ) × Contains sorted (n, i) → IsOpenAt h (places_of ends) k i
     calls i (n, has) =
         let found : Contains more (n, i) × (k ≤ n) = from_sorted (n, i) has in
-        let it : IsKept h.entries ends ranks k (n, i) = of_more (n, i) found.0 in
+        let it : IsKeptOpen h.entries ends ranks k (n, i) = of_more (n, i) found.0 in
         record {
           entry = it.entry;
           is_entry = it.is_entry;
@@ -351,10 +351,10 @@ opens_at h ends begins ranks k from to c old more sorted is lt kept begins_more 
         Contains (take m (places_of ends)) q.1 → ¬ Contains (take m (places_of ends)) p.1 → ⊥
     no_sooner p q has_p has_q le m first later = by (which m (length (places_of ends)))
       where
-        of_p : IsKept h.entries ends ranks k p
+        of_p : IsKeptOpen h.entries ends ranks k p
         of_p = of_more p (from_sorted p has_p).0
 
-        of_q : IsKept h.entries ends ranks k q
+        of_q : IsKeptOpen h.entries ends ranks k q
         of_q = of_more q (from_sorted q has_q).0
 
         which : (m n : ℕ) → (m ≤ n) ⊎ (n < m)

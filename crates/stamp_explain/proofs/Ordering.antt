@@ -9,8 +9,8 @@ use Rattle.stamp_explain.specs.declared.node.Origin.{Origin}
 use Rattle.stamp_explain.specs.declared.store.Store.{Store}
 use Rattle.stamp_explain.specs.declared.order.Taken.{Taken}
 use Rattle.stamp_explain.specs.Observed.{ObservedHistory}
-use Rattle.stamp_explain.specs.Search.{LockSteps, IsCompletedBy, AreReturns, opening}
-use Rattle.stamp_explain.specs.Expand.{Leads, IsLed, IsLinkedAt, AreLinked}
+use Rattle.stamp_explain.specs.Search.{LockSteps, IsCompletedBy, AreReturns, first_state}
+use Rattle.stamp_explain.specs.Expand.{ComesNext, IsLed, IsLinkedAt, AreLinked}
 use Rattle.stamp_explain.specs.Order.{IsTakenAt, IsOrderOf, IsEnd}
 use Rattle.stamp_explain.proofs.Finding.{ArePending}
 use Rattle.stamp_explain.proofs.Exploring.{opening_stands, completed_from}
@@ -38,7 +38,7 @@ pub record Reads (h : ObservedHistory) (returns : List ℕ) (store : Store) (at 
   pub sooner : origin.from < at
   pub is_node : slice_get store.nodes.items origin.from ≡ Some node
   pub led : IsLed h node origin.took
-  pub leads : Leads h None returns node (record { node = v; took = origin.took })
+  pub leads : ComesNext h None returns node (record { node = v; took = origin.took })
 
 pub reads : (h : ObservedHistory) (returns : List ℕ) (store : Store) (at : ℕ) (origin : Origin) (node v : Node) →
     IsLinkedAt h returns store at v → slice_get store.origins.items at ≡ Some origin →
@@ -47,14 +47,14 @@ reads h returns store at origin node v link is_origin is_node =
     let o : link.origin ≡ origin = same_Some link.origin origin (sym link.is_origin ∙ is_origin) in
     let n : link.node ≡ node = same_Some link.node node (sym link.is_node ∙
     ap (λ (k : Origin). slice_get store.nodes.items k.from) o ∙ is_node) in
-    let leads : Leads h None returns link.node (record { node = v; took = origin.took }) =
-    subst (λ (k : Origin). Leads h None returns link.node (record { node = v; took = k.took })) o link.leads in
+    let leads : ComesNext h None returns link.node (record { node = v; took = origin.took }) =
+    subst (λ (k : Origin). ComesNext h None returns link.node (record { node = v; took = k.took })) o link.leads in
     record {
       sooner = subst (λ (k : Origin). k.from < at) o link.sooner;
       is_node = is_node;
       led = subst (λ (u : Node). IsLed h u origin.took) n
           (led_by h returns link.node v origin.took link.reached leads);
-      leads = subst (λ (u : Node). Leads h None returns u (record { node = v; took = origin.took })) n leads;
+      leads = subst (λ (u : Node). ComesNext h None returns u (record { node = v; took = origin.took })) n leads;
     }
 
 pub walks_past : (h : ObservedHistory) (returns : List ℕ) (store : Store) (at : ℕ) (origin : Origin) (node : Node)
@@ -67,7 +67,7 @@ walks_past h returns store at origin node found walk read is = record {
   ends = by origin.took read.leads is;
 }
   where
-    by : (o : Option ℕ) → Leads h None returns node (record { node = walk.node; took = o }) → IsTakenAt h node o None →
+    by : (o : Option ℕ) → ComesNext h None returns node (record { node = walk.node; took = o }) → IsTakenAt h node o None →
         Ends h returns node (reverse found)
     by None leads is = ends_past h returns node walk.node (reverse found) leads walk.ends
     by (Some i) leads is = absurd is
@@ -83,7 +83,7 @@ walks_call h returns store at origin node found one walk read is = record {
       (by origin.took read.leads is);
 }
   where
-    by : (o : Option ℕ) → Leads h None returns node (record { node = walk.node; took = o }) →
+    by : (o : Option ℕ) → ComesNext h None returns node (record { node = walk.node; took = o }) →
         IsTakenAt h node o (Some one) → Ends h returns node (one ∷ reverse found)
     by None leads is = absurd is
     by (Some i) leads is = ends_call h returns node walk.node i one (reverse found) leads is.0 is.1 walk.ends
@@ -95,7 +95,7 @@ pub walked : (h : ObservedHistory) (returns : List ℕ) (store : Store) (found :
 walked h returns store found are linked walk = record {
   order = end.rest;
   explains = completed_from h returns end.rest are
-      (subst (λ (to_come : List ℕ). IsCompletedBy (LockSteps h.limits) h.entries to_come (opening h.width) []
+      (subst (λ (to_come : List ℕ). IsCompletedBy (LockSteps h.limits) h.entries to_come (first_state h.width) []
       end.rest) all end.by);
   are = end.are;
 }
@@ -113,8 +113,8 @@ walked h returns store found are linked walk = record {
     pending = subst (λ (to_come : List ℕ). ArePending h.entries to_come []) (sym all)
         (record { whole = λ j e at back misses. are.whole j e at back; in_order = are.in_order })
 
-    end : EndsFor h returns linked.first (opening h.width) [] (reverse found)
-    end = ends.ends (opening h.width) [] (opening_stands h returns linked.first linked.is_first) pending
+    end : EndsFor h returns linked.first (first_state h.width) [] (reverse found)
+    end = ends.ends (first_state h.width) [] (opening_stands h returns linked.first linked.is_first) pending
 
 -- what is read on the way
 pub origin_inside : (h : ObservedHistory) (returns : List ℕ) (store : Store) (at : ℕ) (found : List Taken) →

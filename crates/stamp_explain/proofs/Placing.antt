@@ -21,7 +21,7 @@ use Rattle.stamp_explain.specs.declared.order.Taken.{Taken}
 use Rattle.stamp_explain.specs.Observed.{ObservedHistory, IsObserved, IsSmall}
 use Rattle.stamp_explain.specs.Explained.{Effect, IsEffectOf, IsExplainedBy, indices_of}
 use Rattle.stamp_explain.specs.Order.{IsOrderOf, taken_of}
-use Rattle.stamp_explain.specs.Points.{IsEntryOf, HasPoints, IsLastTold, EndsAsTold, told_until, told_by, entry_at}
+use Rattle.stamp_explain.specs.Points.{IsEntryOf, HasPoints, IsLastTold, EndsAsTold, told_until, told_last_by, entry_with_point}
 use Rattle.stamp_explain.specs.Points.{ends_at, position_at, there_at}
 use Rattle.stamp_explain.proofs.Threads.{few_threads}
 use Rattle.stamp_explain.proofs.Expanding.{at_place}
@@ -79,7 +79,7 @@ pub begun_by_end : (entries : List Observation) (end : ℕ) → IsLastTold entri
 begun_by_end entries end is = All-weaker (λ (e : Observation). told_until e ≤ end) (λ (e : Observation). e.first ≤ end)
     (λ e le. by e e.returned refl le) entries is.over
   where
-    by : (e : Observation) (o : Option Returned) → e.returned ≡ o → told_by o e.first ≤ end → e.first ≤ end
+    by : (e : Observation) (o : Option Returned) → e.returned ≡ o → told_last_by o e.first ≤ end → e.first ≤ end
     by e None at le = le
     by e (Some r) at le = first_below e.first r.last le
       where
@@ -133,7 +133,7 @@ pub record IsPlacedAt (h : ObservedHistory) (taken : List Taken) (end k : ℕ) (
     (q n : ℕ) (e : Observation) : Type 0 where
   pub position : position_at q e.first ≤ end
   pub few : there_at q n e.first < 64
-  pub next : PlacesTo h taken end (k + 1) (entries ++ entry_at e t.reply end (64 * position_at q e.first +
+  pub next : PlacesTo h taken end (k + 1) (entries ++ entry_with_point e t.reply end (64 * position_at q e.first +
       there_at q n e.first) ∷ []) (position_at q e.first) (there_at q n e.first + 1)
 
 pub record IsPlacedNext (h : ObservedHistory) (taken : List Taken) (end k : ℕ) (t : Taken) (entries : List Entry)
@@ -178,8 +178,8 @@ places_next h taken end k t entries q n is at =
               threads = step.threads;
               many = step.many;
               ready = step.ready;
-              points = append_assoc entries (entry_at x.entry t.reply end p ∷ []) rest ∙
-                  ap (λ (r : Reply). entries ++ entry_at x.entry r end p ∷ rest) (sym reply) ∙
+              points = append_assoc entries (entry_with_point x.entry t.reply end p ∷ []) rest ∙
+                  ap (λ (r : Reply). entries ++ entry_with_point x.entry r end p ∷ rest) (sym reply) ∙
                   ap (λ (xs : List Effect). entries ++ points_from end q n xs) (sym left) ∙ is.points;
             };
           };

@@ -19,7 +19,7 @@ use Rattle.stamp_explain.specs.declared.observed.Returned.{Returned}
 use Rattle.stamp_explain.specs.declared.node.Node.{Node}
 use Rattle.stamp_explain.specs.Observed.{ObservedHistory}
 use Rattle.stamp_explain.specs.Search.{LockState}
-use Rattle.stamp_explain.specs.Node.{IsAt}
+use Rattle.stamp_explain.specs.Node.{IsStateBy}
 use Rattle.stamp_explain.specs.Expand.{IsLedBy}
 use Rattle.stamp_explain.specs.Order.{RepliesAt}
 
@@ -32,7 +32,7 @@ one_transition limits word events others call range is also = ap (λ (c : Counts
 
 -- a call has one reply in all states that the numbers stand for
 one_reply_at : (h : ObservedHistory) (bits : ℕ) (writer : Option ℕ) (s t : LockState) (call : Call)
-    (reply : Reply) → AreInRange h.limits → IsAt h bits writer s → IsAt h bits writer t →
+    (reply : Reply) → AreInRange h.limits → IsStateBy h bits writer s → IsStateBy h bits writer t →
     IsReply h.limits s.0 s.1 call reply → IsReply h.limits t.0 t.1 call reply
 one_reply_at h bits writer s t call reply range at there is =
     subst (λ (content : List ℕ). IsReply h.limits t.0 content call reply) (sym at.content ∙ there.content)

@@ -17,8 +17,8 @@ use Rattle.stamp_explain.specs.declared.found.Found.{Found}
 use Rattle.stamp_explain.specs.declared.found.Found.TheVariants.{Order, Nothing, Undecided}
 use Rattle.stamp_explain.specs.Search.{IsReturnAt}
 use Rattle.stamp_explain.specs.Configuration.{IsGivenUp}
-use Rattle.stamp_explain.specs.Expand.{IsFound}
-use Rattle.stamp_explain.specs.Possible.{IsPossible, IsUndecidedAtReply, answering, with_reply}
+use Rattle.stamp_explain.specs.Expand.{IsFoundApart}
+use Rattle.stamp_explain.specs.Possible.{IsPossible, IsUndecidedAtReply, returned_with, with_reply}
 use Rattle.stamp_explain.proofs.Seeing.{seen_explains_as_much}
 
 -- what is told of a reply by what a search found
@@ -50,7 +50,7 @@ alike_self e = record { thread = refl; call = refl; first = refl; returned = by 
     by (Some r) = refl
 
 pub alike_answering : (e : Observation) (r : Returned) (reply : Reply) → e.returned ≡ Some r →
-    IsAlike e (answering e r reply)
+    IsAlike e (returned_with e r reply)
 unfolding IsAlikeBy
 alike_answering e r reply at = record {
   thread = refl;
@@ -118,7 +118,7 @@ replied_is_observed h i e r reply at returned is = record {
 }
   where
     y : Observation
-    y = answering e r reply
+    y = returned_with e r reply
 
     now : ℕ → Observation → Observation
     now k d = get_or (set h.entries i y) k d
@@ -169,7 +169,7 @@ read_at h i e read is entry same = slice_get_read h.entries (length h.entries) i
 -- what a search found of what is seen
 pub found_tells : (h seen : ObservedHistory) (i most : ℕ) (e : Observation) (r : Returned) (reply : Reply) →
     slice_get h.entries i ≡ Some e → e.returned ≡ Some r → IsObserved h → (found : Found) →
-    seen ≡ seen_at r.last (i + 1) (with_reply i e r reply h) → IsFound seen most found → Tells h i most reply found
+    seen ≡ seen_at r.last (i + 1) (with_reply i e r reply h) → IsFoundApart seen most found → Tells h i most reply found
 found_tells h seen i most e r reply at returned is (Order order) same found =
     seen_is_possible h i e r reply at returned is
     (subst IsExplained same (record { order = found.order; by = found.explains }))

@@ -20,7 +20,7 @@ use Rattle.stamp_explain.specs.declared.observed.Returned.{Returned}
 use Rattle.stamp_explain.specs.Observed.{ObservedHistory, IsBefore, IsInterval, DoNotOverlap, IsObserved}
 use Rattle.stamp_explain.specs.Explained.{Effect, IsEffectOf, history_of, indices_of, AreApart, RespectsBefore}
 use Rattle.stamp_explain.specs.Explained.{IsExplainedBy}
-use Rattle.stamp_explain.specs.Points.{IsEntryOf, IsRecordOf, entry_at, ends_at, position_at, there_at}
+use Rattle.stamp_explain.specs.Points.{IsEntryOf, IsRecordOfObserved, entry_with_point, ends_at, position_at, there_at}
 use Rattle.stamp_explain.specs.ExplainLaws.{ExplainedHasPoints}
 use Rattle.stamp_explain.proofs.Lists.{none_in_empty, contains_cases, pairs_none, pairs_cons, pairs_head, pairs_tail}
 use Rattle.stamp_explain.proofs.Threads.{few_threads}
@@ -29,7 +29,7 @@ use Rattle.stamp_explain.proofs.Threads.{few_threads}
 abbrev pub points_from : ℕ → ℕ → ℕ → List Effect → List Entry
 points_from end q n [] = []
 points_from end q n (x ∷ xs) =
-    entry_at x.entry x.reply end (64 * position_at q x.entry.first + there_at q n x.entry.first) ∷
+    entry_with_point x.entry x.reply end (64 * position_at q x.entry.first + there_at q n x.entry.first) ∷
     points_from end (position_at q x.entry.first) (there_at q n x.entry.first + 1) xs
 
 pub record IsSpreadOf (x : Effect) (e : Entry) : Type 0 where
@@ -39,7 +39,7 @@ pub record IsSpreadOf (x : Effect) (e : Entry) : Type 0 where
   first : e.first ≡ 64 * x.entry.first
   last : MatchOption x.entry.returned (Unit {0}) (λ (r : Returned). e.last ≡ 64 * r.last + 63)
 
-spread_at : (x : Effect) (end p : ℕ) → IsSpreadOf x (entry_at x.entry x.reply end p)
+spread_at : (x : Effect) (end p : ℕ) → IsSpreadOf x (entry_with_point x.entry x.reply end p)
 spread_at x end p = record { thread = refl; call = refl; reply = refl; first = refl; last = by x.entry.returned }
   where
     by : (o : Option Returned) → MatchOption o (Unit {0}) (λ (r : Returned). ends_at o end ≡ 64 * r.last + 63)
@@ -62,15 +62,15 @@ adjacent_cons e es later rising (suc k) d lt =
     subst (λ (n : ℕ). (get_or es k d).point < (get_or (e ∷ es) n d).point) same (rising k d more)
 
 spread_cons : (low end p : ℕ) (x : Effect) (xs : List Effect) (entries : List Entry) → low ≤ p →
-    IsWithin (entry_at x.entry x.reply end p) → Spread (p + 1) xs entries →
-    Spread low (x ∷ xs) (entry_at x.entry x.reply end p ∷ entries)
+    IsWithin (entry_with_point x.entry x.reply end p) → Spread (p + 1) xs entries →
+    Spread low (x ∷ xs) (entry_with_point x.entry x.reply end p ∷ entries)
 spread_cons low end p x xs entries le within left = record {
   of = (spread_at x end p, left.of);
-  within = All-cons IsWithin (entry_at x.entry x.reply end p) entries within left.within;
-  above = All-cons (λ (e : Entry). low ≤ e.point) (entry_at x.entry x.reply end p) entries le
+  within = All-cons IsWithin (entry_with_point x.entry x.reply end p) entries within left.within;
+  above = All-cons (λ (e : Entry). low ≤ e.point) (entry_with_point x.entry x.reply end p) entries le
       (All-weaker (λ (e : Entry). p + 1 ≤ e.point) (λ (e : Entry). low ≤ e.point) (λ e h. omega arith) entries
       left.above);
-  rising = adjacent_cons (entry_at x.entry x.reply end p) entries (All-weaker (λ (e : Entry). p + 1 ≤ e.point)
+  rising = adjacent_cons (entry_with_point x.entry x.reply end p) entries (All-weaker (λ (e : Entry). p + 1 ≤ e.point)
       (λ (e : Entry). p < e.point) (λ e h. omega arith) entries left.above) left.rising;
 }
 
@@ -136,7 +136,7 @@ pub record TakesEffect (end q n : ℕ) (x : Effect) (xs : List Effect) : Type 0 
   pub many : length threads ≡ there_at q n x.entry.first + 1
   pub few : there_at q n x.entry.first < 64
   pub low : 64 * q + n ≤ 64 * position_at q x.entry.first + there_at q n x.entry.first
-  pub within : IsWithin (entry_at x.entry x.reply end (64 * position_at q x.entry.first +
+  pub within : IsWithin (entry_with_point x.entry x.reply end (64 * position_at q x.entry.first +
       there_at q n x.entry.first))
 
 -- a later position, or this one
@@ -457,7 +457,7 @@ ready_of h end order observed by begun = record {
 -- the record of an order
 pub points_are_of : (h : ObservedHistory) (end : ℕ) (order : List Effect) → IsObserved h → IsExplainedBy h order →
     All (λ (y : Effect). y.entry.first ≤ end) order →
-    IsRecordOf h (recorded h.limits h.width (points_from end 0 0 order) [])
+    IsRecordOfObserved h (recorded h.limits h.width (points_from end 0 0 order) [])
 points_are_of h end order observed by begun = record {
   limits = refl;
   width = refl;

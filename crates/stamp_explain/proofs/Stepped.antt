@@ -19,7 +19,7 @@ use Rattle.stamp_explain.specs.declared.observed.Observation.{Observation}
 use Rattle.stamp_explain.specs.Observed.{ObservedHistory}
 use Rattle.stamp_explain.specs.Search.{LockState}
 use Rattle.stamp_explain.specs.Configuration.{put_after}
-use Rattle.stamp_explain.specs.Node.{IsAt, Goes, HasGone, content_by, words_put, words_put_at}
+use Rattle.stamp_explain.specs.Node.{IsStateBy, Does, HasGone, content_by, words_put, words_put_at}
 use Rattle.stamp_explain.specs.Stepping.{LockGoes, RecordGoes}
 use Rattle.stamp_explain.proofs.Merging.{lock_leaves, record_appends}
 
@@ -35,9 +35,9 @@ lock_puts_none put i (PutIf expected words) reply lock = absurd (false_true lock
 lock_puts_none put i call reply lock = refl
 
 pub lock_went : (h : ObservedHistory) (i : ℕ) (e : Observation) (s : LockState) (bits next : ℕ) (writer : Option ℕ)
-    (reply : Reply) → is_lock_call e.call ≡ true → IsAt h bits writer s →
+    (reply : Reply) → is_lock_call e.call ≡ true → IsStateBy h bits writer s →
     LockGoes h.limits bits e (Some (next, reply)) →
-    Goes h i e writer s (record { bits = next; writer = writer; reply = reply })
+    Does h i e writer s (record { bits = next; writer = writer; reply = reply })
 lock_went h i e s bits next writer reply lock at goes =
     let found = goes.after s.0 at.word in
     record {
@@ -55,7 +55,7 @@ lock_went h i e s bits next writer reply lock at goes =
     }
 
 pub lock_did_not : (h : ObservedHistory) (i : ℕ) (e : Observation) (s : LockState) (bits : ℕ) (writer : Option ℕ) →
-    is_lock_call e.call ≡ true → IsAt h bits writer s → LockGoes h.limits bits e None → HasGone h i e writer s None
+    is_lock_call e.call ≡ true → IsStateBy h bits writer s → LockGoes h.limits bits e None → HasGone h i e writer s None
 lock_did_not h i e s bits writer lock at goes reply t may steps =
     goes.after s.0 at.word reply may
     (MatchBool-at_true (Replies (transition h.limits s.0 e.call) reply) (RecordReplies s.1 e.call reply) lock
@@ -78,8 +78,8 @@ content_put width entries put i e reply at = by e.call reply refl
 
 pub record_went : (h : ObservedHistory) (i : ℕ) (e : Observation) (s : LockState) (bits : ℕ)
     (writer next : Option ℕ) (reply : Reply) → slice_get h.entries i ≡ Some e → is_lock_call e.call ≡ false →
-    IsAt h bits writer s → RecordGoes h.width h.entries writer i e (Some (next, reply)) →
-    Goes h i e writer s (record { bits = bits; writer = next; reply = reply })
+    IsStateBy h bits writer s → RecordGoes h.width h.entries writer i e (Some (next, reply)) →
+    Does h i e writer s (record { bits = bits; writer = next; reply = reply })
 record_went h i e s bits writer next reply is_entry guarded at goes = record {
   may = goes.0;
   steps = record {
@@ -99,7 +99,7 @@ record_went h i e s bits writer next reply is_entry guarded at goes = record {
 }
 
 pub record_did_not : (h : ObservedHistory) (i : ℕ) (e : Observation) (s : LockState) (bits : ℕ)
-    (writer : Option ℕ) → is_lock_call e.call ≡ false → IsAt h bits writer s →
+    (writer : Option ℕ) → is_lock_call e.call ≡ false → IsStateBy h bits writer s →
     RecordGoes h.width h.entries writer i e None → HasGone h i e writer s None
 record_did_not h i e s bits writer guarded at goes reply t may steps =
     goes reply may (subst (λ (content : List ℕ). RecordReplies content e.call reply) (sym at.content)

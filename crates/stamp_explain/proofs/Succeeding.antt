@@ -15,7 +15,7 @@ use Rattle.stamp_explain.specs.declared.node.Node.{Node}
 use Rattle.stamp_explain.specs.declared.node.Next.{Next}
 use Rattle.stamp_explain.specs.declared.timeline.Timeline.{Timeline}
 use Rattle.stamp_core.specs.declared.reply.Reply.{Reply}
-use Rattle.stamp_explain.specs.Observed.{ObservedHistory, IsObserved, HasReturned, IsBefore, MayReply}
+use Rattle.stamp_explain.specs.Observed.{ObservedHistory, IsObserved, HasReturned, IsBefore, AllowsReply}
 use Rattle.stamp_explain.specs.Observed.{AreOfOneObject}
 use Rattle.stamp_explain.specs.Explained.{Effect}
 use Rattle.stamp_explain.specs.Observer.{changes_nothing, observes_by, observes, observes_in, observes_at}
@@ -28,7 +28,7 @@ use Rattle.stamp_explain.specs.Configuration.{IsAtOnce, IsFirstAtOnce, IsInTurn,
 use Rattle.stamp_explain.specs.Node.{IsNext, AreTaken, StandsFor}
 use Rattle.stamp_explain.specs.Timeline.{IsTimeline, IsAwaitedAt, IsOpenAt, AreOpen}
 use Rattle.stamp_explain.specs.Node.{ClearsBit}
-use Rattle.stamp_explain.specs.Expand.{Hope, GoesOn, Expands, Leads, LeadsBy, IsTakenTo, Took}
+use Rattle.stamp_explain.specs.Expand.{Hope, GoesOn, Expands, ComesNext, ComesNextBy, IsTakenTo, Took}
 use Rattle.stamp_explain.specs.Expand.{IsChoiceOf, IsNoChoice, IsNotInEffect, NoneIsAtOnceAt, Suffice}
 use Rattle.stamp_explain.specs.Expand.IsNoChoice.{of_other, questions, comes_later, stays}
 use Rattle.stamp_explain.proofs.Alike.{alike_in_as_many, may_in_turn}
@@ -221,9 +221,9 @@ pub leads_by_call : (h : ObservedHistory) (asked : Option ℕ) (timeline : Timel
     (i : ℕ) (s : LockState) (taken : List ℕ) (w : Next) → Awaits h timeline node a →
     bit_at node.threads a.thread ≢ 1 → StandsFor h timeline.returns.items node s taken →
     (to : IsTakenTo h timeline.returns.items node a i s taken w) → IsTried h asked timeline.returns.items a s taken to.effect →
-    LeadsBy h asked timeline.returns.items node w.node s taken w.took
+    ComesNextBy h asked timeline.returns.items node w.node s taken w.took
 leads_by_call h asked timeline node a i s taken w is bit stands to tried =
-    subst (λ (o : Option ℕ). LeadsBy h asked timeline.returns.items node w.node s taken o) (sym to.took) (record {
+    subst (λ (o : Option ℕ). ComesNextBy h asked timeline.returns.items node w.node s taken o) (sym to.took) (record {
       past = to.past;
       awaited = a;
       is_awaited = is.at;
@@ -299,7 +299,7 @@ stands_past h timeline node a threads s taken is bit clears stands = record {
 -- where the call is in effect, its return is past
 pub leads_past : (h : ObservedHistory) (asked : Option ℕ) (timeline : Timeline) (node : Node) (a : Observation)
     (threads : ℕ) → Awaits h timeline node a → bit_at node.threads a.thread ≡ 1 →
-    ClearsBit node.threads threads a.thread → Leads h asked timeline.returns.items node (past_of node threads)
+    ClearsBit node.threads threads a.thread → ComesNext h asked timeline.returns.items node (past_of node threads)
 leads_past h asked timeline node a threads is bit clears = record {
   inside = is.inside;
   leads = λ s taken stands. record {
@@ -344,7 +344,7 @@ pub expands_past : (h : ObservedHistory) (timeline : Timeline) (node : Node) (a 
     Awaits h timeline node a → bit_at node.threads a.thread ≡ 1 → ClearsBit node.threads threads a.thread →
     Expands h timeline.returns.items node (past_of node threads ∷ [])
 expands_past h timeline node a threads is bit clears = record {
-  each = λ w has. subst (λ (v : Next). Leads h None timeline.returns.items node v)
+  each = λ w has. subst (λ (v : Next). ComesNext h None timeline.returns.items node v)
       (only_one (past_of node threads) w has) (leads_past h None timeline node a threads is bit clears);
   whole = suffices_past h timeline node a threads is bit clears;
 }
@@ -764,7 +764,7 @@ pub choice_leads : (h : ObservedHistory) (asked : Option ℕ) (timeline : Timeli
     (calls : List ℕ) (i : ℕ) (w : Next) → Awaits h timeline node a → bit_at node.threads a.thread ≢ 1 →
     NoneIsAtOnceAt h asked timeline.returns.items node → AreOpen h timeline.returns.items node.past calls →
     (awaited : ℕ) → slice_get h.entries awaited ≡ Some a →
-    IsChoiceOf h asked timeline.returns.items node calls awaited i w → Leads h asked timeline.returns.items node w
+    IsChoiceOf h asked timeline.returns.items node calls awaited i w → ComesNext h asked timeline.returns.items node w
 choice_leads h asked timeline node a calls i w is bit none are awaited at choice = record {
   inside = is.inside;
   leads = λ s taken stands. to s taken stands (choice.took.takes a s taken (awaited_at h timeline node a is) stands);
@@ -772,7 +772,7 @@ choice_leads h asked timeline node a calls i w is bit none are awaited at choice
   where
     to : (s : LockState) (taken : List ℕ) → StandsFor h timeline.returns.items node s taken →
         IsTakenTo h timeline.returns.items node a i s taken w →
-        LeadsBy h asked timeline.returns.items node w.node s taken w.took
+        ComesNextBy h asked timeline.returns.items node w.node s taken w.took
     to s taken stands it = leads_by_call h asked timeline node a i s taken w is bit stands it (inr (record {
       none = none.none a s taken (awaited_at h timeline node a is) stands;
       object = choice.object a it.effect.entry at (ap (λ (j : ℕ). slice_get h.entries j) (sym it.index) ∙
@@ -783,7 +783,7 @@ choice_leads h asked timeline node a calls i w is bit none are awaited at choice
     }))
 
 -- an observation tells that it changed nothing
-observes_so : (e : Observation) (reply : Reply) → observes e ≡ true → MayReply e reply →
+observes_so : (e : Observation) (reply : Reply) → observes e ≡ true → AllowsReply e reply →
     HasReturned e × (changes_nothing e.call reply ≡ true)
 observes_so e reply is may = by e.returned refl is may
   where
@@ -807,7 +807,7 @@ pub leads_at_once : (h : ObservedHistory) (asked : Option ℕ) (timeline : Timel
     (calls : List ℕ) (k : ℕ) (w : Next) → Awaits h timeline node a → bit_at node.threads a.thread ≢ 1 →
     AreOpen h timeline.returns.items node.past calls → NoneOfFirst h asked timeline.returns.items node calls k →
     k < length calls → observes_at h.entries (get_or calls k 0) ≡ true → asked ≢ Some (get_or calls k 0) →
-    Took h timeline.returns.items node (get_or calls k 0) (Some w) → Leads h asked timeline.returns.items node w
+    Took h timeline.returns.items node (get_or calls k 0) (Some w) → ComesNext h asked timeline.returns.items node w
 leads_at_once h asked timeline node a calls k w is bit are before inside observer other took = record {
   inside = is.inside;
   leads = λ s taken stands. by s taken stands (took.takes a s taken (awaited_at h timeline node a is) stands);
@@ -818,7 +818,7 @@ leads_at_once h asked timeline node a calls k w is bit are before inside observe
 
     by : (s : LockState) (taken : List ℕ) → StandsFor h timeline.returns.items node s taken →
         IsTakenTo h timeline.returns.items node a i s taken w →
-        LeadsBy h asked timeline.returns.items node w.node s taken w.took
+        ComesNextBy h asked timeline.returns.items node w.node s taken w.took
     by s taken stands to = leads_by_call h asked timeline node a i s taken w is bit stands to (inl
         (first_at_once h asked timeline node a s taken calls k to.effect is stands are before inside (sym to.index)
         (record {
@@ -863,7 +863,7 @@ pub expands_at_once : (h : ObservedHistory) (timeline : Timeline) (node : Node) 
     Took h timeline.returns.items node (get_or calls k 0) (Some w) →
     Expands h timeline.returns.items node (w ∷ [])
 expands_at_once h timeline node a calls k w is bit are before inside observer takes = record {
-  each = λ v has. subst (λ (n : Next). Leads h None timeline.returns.items node n) (only_one w v has)
+  each = λ v has. subst (λ (n : Next). ComesNext h None timeline.returns.items node n) (only_one w v has)
       (leads_at_once h None timeline node a calls k w is bit are before inside observer
       (λ same. none-some (get_or calls k 0) same) takes);
   whole = suffices_at_once h timeline node a (get_or calls k 0) w is observer takes;
@@ -963,7 +963,7 @@ suffice_open h asked timeline node calls k nexts observed is inside awaited are 
 -- of the last k of these calls those that are tried lead to these nodes
 pub record Chooses (h : ObservedHistory) (returns : List ℕ) (node : Node) (calls : List ℕ) (k : ℕ)
     (nexts : List Next) : Type 0 where
-  pub led : (w : Next) → Contains nexts w → Leads h None returns node w
+  pub led : (w : Next) → Contains nexts w → ComesNext h None returns node w
   pub tries : Tries h None returns node calls k nexts
 
 pub chooses_none : (h : ObservedHistory) (returns : List ℕ) (node : Node) (calls : List ℕ) →
@@ -981,7 +981,7 @@ pub chooses_one : (h : ObservedHistory) (timeline : Timeline) (node : Node) (a :
     IsChoiceOf h None timeline.returns.items node calls awaited (get_or calls (length calls - 1 - k) 0) w →
     Chooses h timeline.returns.items node calls (k + 1) (nexts ++ w ∷ [])
 chooses_one h timeline node a calls k nexts w is bit none are chooses more awaited at choice = record {
-  led = each_push (Leads h None timeline.returns.items node) nexts w chooses.led
+  led = each_push (ComesNext h None timeline.returns.items node) nexts w chooses.led
       (choice_leads h None timeline node a calls (get_or calls (length calls - 1 - k) 0) w is bit none are awaited at
       choice);
   tries = tried_some h None timeline.returns.items node calls k nexts w chooses.tries more choice.took;

@@ -19,12 +19,12 @@ use Rattle.stamp_explain.specs.Explained.{Effect, IsEffectOf, RespectsBefore, Is
 use Rattle.stamp_explain.specs.declared.found.Found.{Found}
 use Rattle.stamp_explain.specs.declared.found.Found.TheVariants.{Order, Nothing, Undecided}
 use Rattle.stamp_explain.specs.Configuration.{GivesUp, IsGivenUp, IsNotRefused}
-use Rattle.stamp_explain.specs.Expand.{IsFound, IsSearched}
+use Rattle.stamp_explain.specs.Expand.{IsFoundApart, IsSearched}
 use Rattle.stamp_explain.specs.Order.{IsOrderOf, taken_of}
 use Rattle.stamp_explain.specs.Apart.{places_where, is_of_object, of_object, IsSubhistoryOf}
 use Rattle.stamp_explain.proofs.Lists.{pairs_none, pairs_cons, pairs_head, pairs_drop}
 use Rattle.stamp_explain.proofs.Merging.IsMerge.{none, left, right}
-use Rattle.stamp_explain.proofs.Merging.{merge_all, Merges, IsSound, respects_all, sound_of}
+use Rattle.stamp_explain.proofs.Merging.{merge_all, Merges, MayBeTold, respects_all, sound_of}
 use Rattle.stamp_explain.proofs.Parting.{judged_apart, merged_explains}
 use Rattle.stamp_explain.proofs.Subhistories.{all_of_lock, no_calls_explained, none_of_record, subhistory_entries}
 use Rattle.stamp_explain.proofs.Seeing.{place_in_whole, kept, Restored, restored, restored_at, restored_many, places_at}
@@ -172,12 +172,12 @@ respects_left h p others o k t x es observed is first = by (inside_or_past other
         (All-nil (RespectsBefore x))
     by (inl (s, at)) =
         let call : IsCallAt h p (in_whole h p others o).order k s = call_at h p others o k s at in
-        let sound : All IsSound (in_whole h p others o).order =
+        let sound : All MayBeTold (in_whole h p others o).order =
         sound_of h (in_whole h p others o).order observed (in_whole h p others o).by.effects in
         subst (All (RespectsBefore x)) (sym (next_left (in_whole h p others o).order k call.effect call.at))
         (respects_all x call.effect (drop (k + 1) (in_whole h p others o).order)
         (first s x.entry call.effect.entry at is call.is_kept)
-        (subst IsSound (get_or_from_slice_get (in_whole h p others o).order k call.effect call.effect call.at)
+        (subst MayBeTold (get_or_from_slice_get (in_whole h p others o).order k call.effect call.effect call.at)
         (sound k call.effect (slice_get_within (in_whole h p others o).order k call.effect call.at)))
         (later_left (in_whole h p others o).order k call.effect call.at (in_whole h p others o).by.ordered))
 
@@ -359,7 +359,7 @@ began_first es fs t s others k a b t_is s_is at le u e f at_u at_e at_f =
 
 -- what one search finds where there is no record
 pub found_alone : (h : ObservedHistory) (most : ℕ) (found : Found) → IsObserved h → h.width ≡ 0 →
-    IsSearched h most found → IsFound h most found
+    IsSearched h most found → IsFoundApart h most found
 found_alone h most (Order order) observed without found = found
 found_alone h most Nothing observed without found = found
 found_alone h most Undecided observed without found =

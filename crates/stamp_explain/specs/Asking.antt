@@ -9,10 +9,10 @@ use Rattle.stamp_explain.specs.declared.node.Next.{Next}
 use Rattle.stamp_explain.specs.declared.asking.Asking.{Asking}
 use Rattle.stamp_explain.specs.Observed.{ObservedHistory, IsObserved}
 use Rattle.stamp_explain.specs.Explained.{IsExplained}
-use Rattle.stamp_explain.specs.Cut.{place_of, seen_at}
+use Rattle.stamp_explain.specs.Cut.{place_then, seen_at}
 use Rattle.stamp_explain.specs.Node.{IsReached}
 use Rattle.stamp_explain.specs.Timeline.{IsTimeline}
-use Rattle.stamp_explain.specs.Expand.{Leads, NoneIsAtOnceAt, Suffice, Took}
+use Rattle.stamp_explain.specs.Expand.{ComesNext, NoneIsAtOnceAt, Suffice, Took}
 use Rattle.stamp_explain.specs.Possible.{GetsBeside, with_reply, without_return}
 
 -- a search for the replies of a returned call: what is seen then, with its timeline, and the same without the return
@@ -40,11 +40,11 @@ pub record MayGoOnBeside (asking : Asking) (node : Node) : Type 0 where
 pub record IsAskingAt (h : ObservedHistory) (i : ℕ) (e : Observation) (r : Returned) (asking : Asking) : Type 0 where
   pub is : IsAsking asking
   pub seen : asking.seen ≡ seen_at r.last (i + 1) h
-  pub place : asking.place ≡ place_of r.last i h.entries
+  pub place : asking.place ≡ place_then r.last i h.entries
   pub is_entry : slice_get asking.seen.entries asking.place ≡ Some e
 
 -- what is seen, with this reply of the call
-pub record IsAnswered (asking : Asking) (reply : Reply) (h : ObservedHistory) : Type 0 where
+pub record IsSeenWith (asking : Asking) (reply : Reply) (h : ObservedHistory) : Type 0 where
   pub entry : Observation
   pub return : Returned
   pub is_entry : slice_get asking.seen.entries asking.place ≡ Some entry
@@ -52,12 +52,12 @@ pub record IsAnswered (asking : Asking) (reply : Reply) (h : ObservedHistory) : 
   pub is : h ≡ with_reply asking.place entry return reply asking.seen
 
 -- this node comes next, and the call that was asked takes no effect there
-pub record LeadsBeside (asking : Asking) (node : Node) (next : Next) : Type 0 where
-  pub leads : Leads asking.seen (Some asking.place) asking.timeline.returns.items node next
+pub record ComesNextBeside (asking : Asking) (node : Node) (next : Next) : Type 0 where
+  pub leads : ComesNext asking.seen (Some asking.place) asking.timeline.returns.items node next
   pub other : next.took ≢ Some asking.place
 
 pub record AreLed (asking : Asking) (node : Node) (nexts : List Next) : Type 0 where
-  pub each : (w : Next) → Contains nexts w → LeadsBeside asking node w
+  pub each : (w : Next) → Contains nexts w → ComesNextBeside asking node w
 
 -- none is lost, and they stay different
 pub record AreMore (old new : List Reply) : Type 0 where
@@ -81,7 +81,7 @@ GetsMore asking old new = (reply : Reply) → Contains new reply → Contains ol
 
 -- with each reply of the call, nothing is lost if the search goes on by these nodes
 abbrev pub SufficeBeside : Asking → Node → List Next → Type 0
-SufficeBeside asking node nexts = (reply : Reply) (h : ObservedHistory) → IsAnswered asking reply h →
+SufficeBeside asking node nexts = (reply : Reply) (h : ObservedHistory) → IsSeenWith asking reply h →
     Suffice h asking.timeline.returns.items node nexts
 
 -- in nothing that the node stands for a call beside the one asked may take effect at once
@@ -93,17 +93,17 @@ NoneIsAtOnceBeside asking node =
 pub record AreAsked (asking : Asking) (node : Node) (old new : List Reply) : Type 0 where
   pub more : AreMore old new
   pub gets : GetsMore asking old new
-  pub asked : (reply : Reply) (h : ObservedHistory) → IsAnswered asking reply h → ¬ Contains new reply →
+  pub asked : (reply : Reply) (h : ObservedHistory) → IsSeenWith asking reply h → ¬ Contains new reply →
       Took h asking.timeline.returns.items node asking.place None
 
 -- with another reply than these, nothing is lost if the search goes on by these nodes
 pub record SufficeUnless (asking : Asking) (node : Node) (nexts : List Next) (replies : List Reply) : Type 0 where
-  pub suffice : (reply : Reply) (h : ObservedHistory) → IsAnswered asking reply h → ¬ Contains replies reply →
+  pub suffice : (reply : Reply) (h : ObservedHistory) → IsSeenWith asking reply h → ¬ Contains replies reply →
       Suffice h asking.timeline.returns.items node nexts
 
 -- all different, each is one that the call gets, and with no other reply an order explains what is seen
 pub record AreReplies (asking : Asking) (replies : List Reply) : Type 0 where
   pub gets : (reply : Reply) → Contains replies reply → Gets asking reply
   pub once : AllPairs (λ (a b : Reply). a ≢ b) replies
-  pub whole : (reply : Reply) (h : ObservedHistory) → IsAnswered asking reply h → ¬ Contains replies reply →
+  pub whole : (reply : Reply) (h : ObservedHistory) → IsSeenWith asking reply h → ¬ Contains replies reply →
       ¬ IsExplained h

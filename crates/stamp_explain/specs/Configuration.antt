@@ -15,7 +15,7 @@ use Rattle.stamp_explain.specs.Observer.{observes, is_open_question}
 use Rattle.stamp_explain.specs.Explained.{Effect, IsExplained}
 use Rattle.stamp_explain.specs.Turn.{IsAhead}
 use Rattle.stamp_explain.specs.Search.{LockState, LockSteps, CanComplete, MayTake, AreReturns, StandsBefore}
-use Rattle.stamp_explain.specs.Search.{opening}
+use Rattle.stamp_explain.specs.Search.{first_state}
 
 -- whose words the record holds after a call, which stands at this place of the history, and its reply
 abbrev pub put_after : Option ℕ → ℕ → Call → Reply → Option ℕ
@@ -59,12 +59,12 @@ abbrev pub IsTried : ObservedHistory → Option ℕ → List ℕ → Observation
 IsTried h asked returns awaited s taken x =
     IsFirstAtOnce h asked returns awaited s taken x ⊎ IsChosen h asked awaited s taken x
 
--- a way through a search from the opening: a call in effect returns; where one that is not in effect is to
+-- a way through a search from the first_state: a call in effect returns; where one that is not in effect is to
 -- return, an open call that is tried takes effect. It leads to the returns to come, what lock and record are in, the
 -- put whose words the record holds, if there was one, and the calls in effect
 pub data Reaches (h : ObservedHistory) (asked : Option ℕ) (returns : List ℕ) : List ℕ → LockState → Option ℕ →
     List ℕ → Type 0 where
-  begins : Reaches h asked returns returns (opening h.width) None []
+  begins : Reaches h asked returns returns (first_state h.width) None []
   goes_past : {i : ℕ} {to_come : List ℕ} {s : LockState} {put : Option ℕ} {taken : List ℕ} →
       Reaches h asked returns (i ∷ to_come) s put taken → Contains taken i → Reaches h asked returns to_come s put taken
   goes_on_by : {i : ℕ} {to_come : List ℕ} {s : LockState} {put : Option ℕ} {taken : List ℕ} →

@@ -19,7 +19,7 @@ use Rattle.stamp_explain.specs.Turn.{IsOutOfTurn}
 use Rattle.stamp_explain.specs.Explained.{Effect, IsEffectOf, IsExplained}
 use Rattle.stamp_explain.specs.Search.{LockState, LockSteps, MayTake, IsCompletedBy}
 use Rattle.stamp_explain.specs.Configuration.{GivesUp, IsGivenUp, IsTried, NoneIsAtOnce, put_after}
-use Rattle.stamp_explain.specs.Node.{IsAt, StandsFor, IsReached, IsOpening}
+use Rattle.stamp_explain.specs.Node.{IsStateBy, StandsFor, IsReached, IsFirstNode}
 use Rattle.stamp_explain.specs.Timeline.{IsTimeline, IsAwaitedAt}
 use Rattle.stamp_explain.specs.Store.{IsStored, Keeps}
 use Rattle.stamp_explain.specs.Order.{IsOrderOf}
@@ -49,7 +49,7 @@ pub record GoesOn (h : ObservedHistory) (returns : List ℕ) (nexts : List Next)
   pub hope : Hope h returns next.node left
 
 -- one node comes from another, where that stands for this state: this call takes effect
-pub record LeadsByCall (h : ObservedHistory) (asked : Option ℕ) (returns : List ℕ) (node w : Node) (s : LockState)
+pub record ComesByCall (h : ObservedHistory) (asked : Option ℕ) (returns : List ℕ) (node w : Node) (s : LockState)
     (taken : List ℕ)
     (i : ℕ) : Type 0 where
   pub past : w.past ≡ node.past
@@ -65,27 +65,27 @@ pub record LeadsByCall (h : ObservedHistory) (asked : Option ℕ) (returns : Lis
   pub stands : StandsFor h returns w state (effect.index ∷ taken)
 
 -- or the awaited call, which is in effect, returns
-pub record LeadsByReturn (h : ObservedHistory) (returns : List ℕ) (node w : Node) (s : LockState)
+pub record ComesByReturn (h : ObservedHistory) (returns : List ℕ) (node w : Node) (s : LockState)
     (taken : List ℕ) : Type 0 where
   pub past : w.past ≡ node.past + 1
   pub in_effect : Contains taken (slice_index returns node.past)
   pub put : w.writer ≡ node.writer
   pub stands : StandsFor h returns w s taken
 
-abbrev pub LeadsBy : ObservedHistory → Option ℕ → List ℕ → Node → Node → LockState → List ℕ → Option ℕ → Type 0
-LeadsBy h asked returns node w s taken None = LeadsByReturn h returns node w s taken
-LeadsBy h asked returns node w s taken (Some i) = LeadsByCall h asked returns node w s taken i
+abbrev pub ComesNextBy : ObservedHistory → Option ℕ → List ℕ → Node → Node → LockState → List ℕ → Option ℕ → Type 0
+ComesNextBy h asked returns node w s taken None = ComesByReturn h returns node w s taken
+ComesNextBy h asked returns node w s taken (Some i) = ComesByCall h asked returns node w s taken i
 
 -- whatever the node stands for
-pub record Leads (h : ObservedHistory) (asked : Option ℕ) (returns : List ℕ) (node : Node) (next : Next) : Type 0 where
+pub record ComesNext (h : ObservedHistory) (asked : Option ℕ) (returns : List ℕ) (node : Node) (next : Next) : Type 0 where
   pub inside : node.past < length returns
   pub leads : (s : LockState) (taken : List ℕ) → StandsFor h returns node s taken →
-      LeadsBy h asked returns node next.node s taken next.took
+      ComesNextBy h asked returns node next.node s taken next.took
 
 -- where a call took effect at a node, in some state that this stands for
 pub record IsLedBy (h : ObservedHistory) (node : Node) (i : ℕ) : Type 0 where
   pub state : LockState
-  pub at : IsAt h node.bits node.writer state
+  pub at : IsStateBy h node.bits node.writer state
   pub effect : Effect
   pub next : LockState
   pub index : effect.index ≡ i
@@ -102,7 +102,7 @@ Suffice h returns node nexts = (n : ℕ) → Hope h returns node n → GoesOn h 
 
 -- and each of them comes from it
 pub record Expands (h : ObservedHistory) (returns : List ℕ) (node : Node) (nexts : List Next) : Type 0 where
-  pub each : (w : Next) → Contains nexts w → Leads h None returns node w
+  pub each : (w : Next) → Contains nexts w → ComesNext h None returns node w
   pub whole : Suffice h returns node nexts
 
 -- the awaited call is not in effect
@@ -168,10 +168,10 @@ IsSearched h most Nothing = ¬ IsExplained h
 IsSearched h most Undecided = GivesUp h most
 
 -- what is found where lock and record are searched apart
-abbrev pub IsFound : ObservedHistory → ℕ → Found → Type 0
-IsFound h most (Order order) = IsOrderOf h order.items
-IsFound h most Nothing = ¬ IsExplained h
-IsFound h most Undecided = IsGivenUp h most
+abbrev pub IsFoundApart : ObservedHistory → ℕ → Found → Type 0
+IsFoundApart h most (Order order) = IsOrderOf h order.items
+IsFoundApart h most Nothing = ¬ IsExplained h
+IsFoundApart h most Undecided = IsGivenUp h most
 
 abbrev pub nodes_of : List Next → List Node
 nodes_of nexts = map (λ (w : Next). w.node) nexts
@@ -225,11 +225,11 @@ pub record IsLinkedAt (h : ObservedHistory) (returns : List ℕ) (store : Store)
   pub node : Node
   pub is_node : slice_get store.nodes.items origin.from ≡ Some node
   pub reached : IsReached h None returns node
-  pub leads : Leads h None returns node (record { node = v; took = origin.took })
+  pub leads : ComesNext h None returns node (record { node = v; took = origin.took })
 
 -- the first node is where a search begins, and each other comes from one before it
 pub record AreLinked (h : ObservedHistory) (returns : List ℕ) (store : Store) : Type 0 where
   pub first : Node
-  pub is_first : IsOpening h first
+  pub is_first : IsFirstNode h first
   pub at_first : slice_get store.nodes.items 0 ≡ Some first
   pub each : (k : ℕ) (v : Node) → 0 < k → slice_get store.nodes.items k ≡ Some v → IsLinkedAt h returns store k v

@@ -11,10 +11,10 @@ use Rattle.stamp_explain.specs.Observed.{of_lock, of_record}
 use Rattle.stamp_explain.specs.Explained.{Effect, IsEffectOf, IsExplained}
 use Rattle.stamp_core.specs.Record.{Recorded}
 use Rattle.stamp_core.specs.Linearized.{IsLinearized}
-use Rattle.stamp_explain.specs.Points.{IsRecordOf}
+use Rattle.stamp_explain.specs.Points.{IsRecordOfObserved}
 use Rattle.stamp_explain.specs.Cut.{cut, seen_at, IsStuck}
 use Rattle.stamp_explain.specs.Search.{LockState, FindsOrder, CanComplete, MayTake, AreReturns, AreReturnsOf}
-use Rattle.stamp_explain.specs.Search.{LockSteps, LockAlone, RecordAlone, opening, IsFirstReturn, IsAlikeSooner}
+use Rattle.stamp_explain.specs.Search.{LockSteps, LockAlone, RecordAlone, first_state, IsFirstReturn, IsAlikeSooner}
 use Rattle.stamp_explain.specs.Search.{IsReturnAt}
 use Rattle.stamp_explain.specs.Configuration.{Configuration, IsAlive, GivesUp}
 use Rattle.stamp_core.specs.Content.{zeros}
@@ -42,7 +42,7 @@ OneStuck = (h : ObservedHistory) (i j : ℕ) → IsStuck h i → IsStuck h j →
 abbrev pub JustInTime : Type 0
 JustInTime =
     (h : ObservedHistory) (returns : List ℕ) → IsObserved h → AreReturns h.entries returns →
-    IsExplained h ↔ FindsOrder (LockSteps h.limits) h.entries returns (opening h.width) []
+    IsExplained h ↔ FindsOrder (LockSteps h.limits) h.entries returns (first_state h.width) []
 
 -- A call whose reply tells that it changes nothing changes nothing.
 abbrev pub ObserversChangeNothing : Type 0
@@ -107,12 +107,12 @@ OpenQuestionsAreNotNeeded =
 
 -- A record of an observed history that is linearized explains it.
 abbrev pub PointsExplain : Type 0
-PointsExplain = (h : ObservedHistory) (r : Recorded) → IsRecordOf h r → IsLinearized r → IsExplained h
+PointsExplain = (h : ObservedHistory) (r : Recorded) → IsRecordOfObserved h r → IsLinearized r → IsExplained h
 
 -- And each one that is explained has such a record.
 abbrev pub ExplainedHasPoints : Type 0
 ExplainedHasPoints = (h : ObservedHistory) → IsObserved h → IsExplained h →
-    (r : Recorded) × (IsRecordOf h r × IsLinearized r)
+    (r : Recorded) × (IsRecordOfObserved h r × IsLinearized r)
 
 -- Lock and record may be judged apart, each by the history of its own calls: linearizability is local.
 abbrev pub JudgedApart : Type 0

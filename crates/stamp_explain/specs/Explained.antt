@@ -5,7 +5,7 @@ use Rattle.std.specs.List.{All, AllPairs, Contains}
 use Rattle.stamp_core.specs.History.{History, IsLegal}
 use Rattle.stamp_core.specs.declared.reply.Reply.{Reply}
 use Rattle.stamp_explain.specs.declared.observed.Observation.{Observation}
-use Rattle.stamp_explain.specs.Observed.{ObservedHistory, IsBefore, MayReply, HasReturned}
+use Rattle.stamp_explain.specs.Observed.{ObservedHistory, IsBefore, AllowsReply, HasReturned}
 
 -- a call that takes effect: where it stands in the history, and its reply
 pub record Effect : Type 0 where
@@ -15,7 +15,7 @@ pub record Effect : Type 0 where
 
 pub record IsEffectOf (entries : List Observation) (x : Effect) : Type 0 where
   pub is_entry : slice_get entries x.index ≡ Some x.entry
-  pub replies : MayReply x.entry x.reply
+  pub replies : AllowsReply x.entry x.reply
 
 abbrev pub history_of : List Effect → History
 history_of order = map (λ (x : Effect). (x.entry.call, x.reply)) order

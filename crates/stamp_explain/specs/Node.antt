@@ -11,8 +11,8 @@ use Rattle.stamp_core.specs.declared.reply.Reply.{Reply}
 use Rattle.stamp_explain.specs.declared.observed.Observation.{Observation}
 use Rattle.stamp_explain.specs.declared.node.Node.{Node}
 use Rattle.stamp_explain.specs.declared.node.Step.{Step}
-use Rattle.stamp_explain.specs.Observed.{ObservedHistory, IsBefore, MayReply}
-use Rattle.stamp_explain.specs.Search.{LockState, LockSteps, opening, after_call}
+use Rattle.stamp_explain.specs.Observed.{ObservedHistory, IsBefore, AllowsReply}
+use Rattle.stamp_explain.specs.Search.{LockState, LockSteps, first_state, after_call}
 use Rattle.stamp_explain.specs.Configuration.{Reaches, put_after}
 
 -- the words that a call puts; zeros where it is no put
@@ -54,36 +54,36 @@ pub record AreTaken (entries : List Observation) (past : List ℕ) (threads : �
   pub has_next : (thread : ℕ) → bit_at threads thread ≡ 1 → HasNext entries past thread
 
 -- the state of lock and record by numbers: of the word, and of the entry that put the content
-pub record IsAt (h : ObservedHistory) (bits : ℕ) (writer : Option ℕ) (s : LockState) : Type 0 where
+pub record IsStateBy (h : ObservedHistory) (bits : ℕ) (writer : Option ℕ) (s : LockState) : Type 0 where
   pub word : Represents h.limits (word_at h.limits bits) s.0
   pub content : content_by h.width h.entries writer ≡ s.1
 
 -- the state and the calls in effect that a node stands for
 pub record StandsFor (h : ObservedHistory) (returns : List ℕ) (node : Node) (s : LockState) (taken : List ℕ) : Type
     0 where
-  pub at : IsAt h node.bits node.writer s
+  pub at : IsStateBy h node.bits node.writer s
   pub in_effect : AreTaken h.entries (take node.past returns) node.threads taken
 
 -- the node at which a search begins
-pub record IsOpening (h : ObservedHistory) (node : Node) : Type 0 where
+pub record IsFirstNode (h : ObservedHistory) (node : Node) : Type 0 where
   pub past : node.past ≡ 0
   pub writer : node.writer ≡ None
   pub threads : node.threads ≡ 0
-  pub at : IsAt h node.bits node.writer (opening h.width)
+  pub at : IsStateBy h node.bits node.writer (first_state h.width)
 
 -- what the call of this place does in a state, with the words of this put in the record, which its observation
 -- allows: the state afterwards and the reply
-pub record Goes (h : ObservedHistory) (i : ℕ) (e : Observation) (put : Option ℕ) (s : LockState)
+pub record Does (h : ObservedHistory) (i : ℕ) (e : Observation) (put : Option ℕ) (s : LockState)
     (step : Step) : Type 0 where
-  pub may : MayReply e step.reply
+  pub may : AllowsReply e step.reply
   pub steps : LockSteps h.limits s (e.call, step.reply) (after_call h.limits s (e.call, step.reply))
-  pub at : IsAt h step.bits step.writer (after_call h.limits s (e.call, step.reply))
+  pub at : IsStateBy h step.bits step.writer (after_call h.limits s (e.call, step.reply))
   pub writer : step.writer ≡ put_after put i e.call step.reply
 
 -- what was found of a call in the state: what it does, or that no reply that its observation allows is given
 abbrev pub HasGone : ObservedHistory → ℕ → Observation → Option ℕ → LockState → Option Step → Type 0
-HasGone h i e put s None = (reply : Reply) (t : LockState) → MayReply e reply → ¬ LockSteps h.limits s (e.call, reply) t
-HasGone h i e put s (Some step) = Goes h i e put s step
+HasGone h i e put s None = (reply : Reply) (t : LockState) → AllowsReply e reply → ¬ LockSteps h.limits s (e.call, reply) t
+HasGone h i e put s (Some step) = Does h i e put s step
 
 -- the node stands for what a way through the search reaches, with the words of its writer in the record
 pub record IsReached (h : ObservedHistory) (asked : Option ℕ) (returns : List ℕ) (node : Node) : Type 0 where

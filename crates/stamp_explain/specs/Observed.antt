@@ -32,8 +32,8 @@ abbrev pub IsBefore : Observation → Observation → Type 0
 IsBefore a b = MatchOption a.returned ⊥ (λ (r : Returned). r.last < b.first)
 
 -- the reply is that of the return; a call that is under way may have any
-abbrev pub MayReply : Observation → Reply → Type 0
-MayReply e reply = MatchOption e.returned (Unit {0}) (λ (r : Returned). r.reply ≡ reply)
+abbrev pub AllowsReply : Observation → Reply → Type 0
+AllowsReply e reply = MatchOption e.returned (Unit {0}) (λ (r : Returned). r.reply ≡ reply)
 
 abbrev pub HasReturned : Observation → Type 0
 HasReturned e = (r : Returned) × (e.returned ≡ Some r)
@@ -66,7 +66,7 @@ abbrev pub DoNotOverlap : Observation → Observation → Type 0
 DoNotOverlap a b = a.thread ≡ b.thread → IsBefore a b ⊎ IsBefore b a
 
 -- what an observer may tell of one call
-pub record IsSound (width : ℕ) (e : Observation) : Type 0 where
+pub record MayBeTold (width : ℕ) (e : Observation) : Type 0 where
   pub interval : IsInterval e
   pub thread : e.thread < 64
   pub suits : IsTrue (call_suits width e.call)

@@ -10,9 +10,9 @@ use Rattle.stamp_explain.specs.declared.observed.Observation.{Observation}
 use Rattle.stamp_explain.specs.declared.observed.Returned.{Returned}
 use Rattle.stamp_core.specs.declared.reply.Reply.TheVariants.{Stamp, No, Mismatch}
 
-abbrev pub is_stamp : Reply → ℕ → Bool
-is_stamp (Stamp s) stamp = s == stamp
-is_stamp _ stamp = false
+abbrev pub is_this_stamp : Reply → ℕ → Bool
+is_this_stamp (Stamp s) stamp = s == stamp
+is_this_stamp _ stamp = false
 
 -- a call that acquires tells by 0 that it did not, a conversion also by its own stamp; a release by a
 -- mismatch or by no; questions change nothing.

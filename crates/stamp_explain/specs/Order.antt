@@ -8,7 +8,7 @@ use Rattle.stamp_explain.specs.declared.order.Taken.{Taken}
 use Rattle.stamp_explain.specs.Observed.{ObservedHistory}
 use Rattle.stamp_explain.specs.Explained.{Effect, IsExplainedBy}
 use Rattle.stamp_explain.specs.Search.{LockState}
-use Rattle.stamp_explain.specs.Node.{IsAt}
+use Rattle.stamp_explain.specs.Node.{IsStateBy}
 
 -- the entries and replies of an order
 abbrev pub taken_of : List Effect → List Taken
@@ -23,7 +23,7 @@ pub record IsOrderOf (h : ObservedHistory) (taken : List Taken) : Type 0 where
 -- the call that took effect at a node, with the reply that it gets in each state that the node stands for
 abbrev pub RepliesAt : ObservedHistory → Node → Taken → Type 0
 RepliesAt h node taken = (e : Observation) (s : LockState) → slice_get h.entries taken.entry ≡ Some e →
-    IsAt h node.bits node.writer s → IsReply h.limits s.0 s.1 e.call taken.reply
+    IsStateBy h node.bits node.writer s → IsReply h.limits s.0 s.1 e.call taken.reply
 
 abbrev pub IsTakenAt : ObservedHistory → Node → Option ℕ → Option Taken → Type 0
 IsTakenAt h node None None = Unit {0}

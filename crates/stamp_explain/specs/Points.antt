@@ -24,7 +24,7 @@ pub record IsEntryOf (entries : List Observation) (i : ℕ) (e : Entry) : Type 0
       (e.last ≡ 64 * r.last + 63))
 
 -- a record of the returned calls, and of some under way
-pub record IsRecordOf (h : ObservedHistory) (r : Recorded) : Type 0 where
+pub record IsRecordOfObserved (h : ObservedHistory) (r : Recorded) : Type 0 where
   pub limits : r.limits ≡ h.limits
   pub width : r.width ≡ h.width
   pub report : r.report ≡ []
@@ -46,8 +46,8 @@ abbrev pub ends_at : Option Returned → ℕ → ℕ
 ends_at None end = 64 * end + 63
 ends_at (Some r) end = 64 * r.last + 63
 
-abbrev pub entry_at : Observation → Reply → ℕ → ℕ → Entry
-entry_at e reply end p = record {
+abbrev pub entry_with_point : Observation → Reply → ℕ → ℕ → Entry
+entry_with_point e reply end p = record {
   thread = e.thread;
   call = e.call;
   reply = reply;
@@ -57,12 +57,12 @@ entry_at e reply end p = record {
 }
 
 -- the last position that is told of a call
-abbrev pub told_by : Option Returned → ℕ → ℕ
-told_by None first = first
-told_by (Some r) first = max first r.last
+abbrev pub told_last_by : Option Returned → ℕ → ℕ
+told_last_by None first = first
+told_last_by (Some r) first = max first r.last
 
 abbrev pub told_until : Observation → ℕ
-told_until e = told_by e.returned e.first
+told_until e = told_last_by e.returned e.first
 
 -- the last position that is told of any; 0 where there is no call
 pub record IsLastTold (entries : List Observation) (end : ℕ) : Type 0 where
@@ -75,7 +75,7 @@ EndsAsTold entries end i e = (o : Observation) → slice_get entries i ≡ Some 
 
 -- a record of the history, with points that linearize it; a call under way ends in it with the history
 pub record HasPoints (h : ObservedHistory) (r : Recorded) : Type 0 where
-  pub of : IsRecordOf h r
+  pub of : IsRecordOfObserved h r
   pub linearized : IsLinearized r
   pub end : ℕ
   pub is_end : IsLastTold h.entries end

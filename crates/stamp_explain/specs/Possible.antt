@@ -8,17 +8,17 @@ use Rattle.stamp_explain.specs.declared.possible.PossibleError.{PossibleError}
 use Rattle.stamp_explain.specs.declared.possible.PossibleError.TheVariants.{Undecided, Memory}
 use Rattle.stamp_explain.specs.Observed.{ObservedHistory, IsBefore}
 use Rattle.stamp_explain.specs.Explained.{IsExplained}
-use Rattle.stamp_explain.specs.Cut.{cut_after, place_of, seen_at}
+use Rattle.stamp_explain.specs.Cut.{cut_after, place_then, seen_at}
 use Rattle.stamp_explain.specs.Search.{AreReturns, LockState, LockSteps}
 use Rattle.stamp_explain.specs.Configuration.{Configuration, IsGivenUp, ReachesMoreBeside}
 
 -- the call, returned at the same position with this reply
-abbrev pub answering : Observation → Returned → Reply → Observation
-answering e r reply = record e { returned = Some (record r { reply = reply }) }
+abbrev pub returned_with : Observation → Returned → Reply → Observation
+returned_with e r reply = record e { returned = Some (record r { reply = reply }) }
 
 -- the history with this reply of the call at this place
 abbrev pub with_reply : ℕ → Observation → Returned → Reply → ObservedHistory → ObservedHistory
-with_reply i e r reply h = record h { entries = slice_set h.entries i (answering e r reply) }
+with_reply i e r reply h = record h { entries = slice_set h.entries i (returned_with e r reply) }
 
 -- the history with the call at this place under way
 abbrev pub without_return : ℕ → Observation → ObservedHistory → ObservedHistory
@@ -81,13 +81,13 @@ pub record IsUndecidedWithout (h : ObservedHistory) (i most : ℕ) : Type 0 wher
   pub return : Returned
   pub is_entry : slice_get h.entries i ≡ Some entry
   pub returned : entry.returned ≡ Some return
-  pub many : ReachesMoreBeside (seen_at return.last (i + 1) h) (place_of return.last i h.entries) most
+  pub many : ReachesMoreBeside (seen_at return.last (i + 1) h) (place_then return.last i h.entries) most
 
 -- a search of what is seen then gives up with a reply that the call gets beside what the others do
 pub record IsUndecidedAtGotten (h : ObservedHistory) (i most : ℕ) : Type 0 where
   pub reply : Reply
   pub undecided : IsUndecidedAtReply h i most reply
-  pub gets : GetsBeside (seen_at undecided.return.last (i + 1) h) (place_of undecided.return.last i h.entries)
+  pub gets : GetsBeside (seen_at undecided.return.last (i + 1) h) (place_then undecided.return.last i h.entries)
       undecided.entry reply
 
 abbrev pub IsUndecidedAtAny : ObservedHistory → ℕ → ℕ → Type 0

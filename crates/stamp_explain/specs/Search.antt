@@ -103,8 +103,8 @@ pub record StandsBefore (xs : List ℕ) (i j : ℕ) : Type 0 where
 abbrev pub LockState : Type 0
 LockState = List LockEvent × List ℕ
 
-abbrev pub opening : ℕ → LockState
-opening width = ([], zeros width)
+abbrev pub first_state : ℕ → LockState
+first_state width = ([], zeros width)
 
 abbrev pub after_call : Bounds → LockState → Call × Reply → LockState
 after_call limits s x = (s.0 ++ appended_by (transition limits s.0 x.0), content_next s.1 x.0 x.1)

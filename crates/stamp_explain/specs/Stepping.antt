@@ -10,7 +10,7 @@ use Rattle.stamp_core.specs.Transition.{transition}
 use Rattle.stamp_core.specs.History.{Replies, appended_by}
 use Rattle.stamp_core.specs.declared.reply.Reply.{Reply}
 use Rattle.stamp_explain.specs.declared.observed.Observation.{Observation}
-use Rattle.stamp_explain.specs.Observed.{MayReply}
+use Rattle.stamp_explain.specs.Observed.{AllowsReply}
 use Rattle.stamp_explain.specs.Configuration.{put_after}
 use Rattle.stamp_explain.specs.Node.{content_by}
 
@@ -22,9 +22,9 @@ step_as (Some x) = Some (x.0, reply_as x.1)
 -- after these events the lock gives no reply that the observation allows; or this one, and the word represents
 -- what it leaves
 abbrev pub LockGoesAfter : Bounds → List LockEvent → Observation → Option (ℕ × Reply) → Type 0
-LockGoesAfter limits events e None = (reply : Reply) → MayReply e reply →
+LockGoesAfter limits events e None = (reply : Reply) → AllowsReply e reply →
     ¬ Replies (transition limits events e.call) reply
-LockGoesAfter limits events e (Some x) = MayReply e x.1 × (Replies (transition limits events e.call) x.1 ×
+LockGoesAfter limits events e (Some x) = AllowsReply e x.1 × (Replies (transition limits events e.call) x.1 ×
     Represents limits (word_at limits x.0) (events ++ appended_by (transition limits events e.call)))
 
 pub record LockGoes (limits : Bounds) (bits : ℕ) (e : Observation) (found : Option (ℕ × Reply)) : Type 0 where
@@ -35,6 +35,6 @@ pub record LockGoes (limits : Bounds) (bits : ℕ) (e : Observation) (found : Op
 -- of the put found afterwards
 abbrev pub RecordGoes : ℕ → List Observation → Option ℕ → ℕ → Observation → Option (Option ℕ × Reply) → Type 0
 RecordGoes width entries put i e None =
-    (reply : Reply) → MayReply e reply → ¬ RecordReplies (content_by width entries put) e.call reply
-RecordGoes width entries put i e (Some x) = MayReply e x.1 ×
+    (reply : Reply) → AllowsReply e reply → ¬ RecordReplies (content_by width entries put) e.call reply
+RecordGoes width entries put i e (Some x) = AllowsReply e x.1 ×
     (RecordReplies (content_by width entries put) e.call x.1 × (x.0 ≡ put_after put i e.call x.1))

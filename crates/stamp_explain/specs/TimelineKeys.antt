@@ -60,7 +60,7 @@ pub record AreOpens (h : ObservedHistory) (returns : List ℕ) (opens : List (Ve
 
 -- a call that is open, behind the place of its return among the returns; it began no later than any return
 -- that is to come
-pub record IsKept (entries : List Observation) (ends : List (ℕ × ℕ)) (ranks : List ℕ) (past : ℕ)
+pub record IsKeptOpen (entries : List Observation) (ends : List (ℕ × ℕ)) (ranks : List ℕ) (past : ℕ)
     (p : ℕ × ℕ) : Type 0 where
   pub entry : Observation
   pub is_entry : slice_get entries p.1 ≡ Some entry
@@ -72,7 +72,7 @@ pub record IsKept (entries : List Observation) (ends : List (ℕ × ℕ)) (ranks
 pub record AreKept (entries : List Observation) (ends begins : List (ℕ × ℕ)) (ranks : List ℕ) (past begun : ℕ)
     (calls : List (ℕ × ℕ)) : Type 0 where
   pub inside : begun ≤ length begins
-  pub each : (p : ℕ × ℕ) → Contains calls p → IsKept entries ends ranks past p
+  pub each : (p : ℕ × ℕ) → Contains calls p → IsKeptOpen entries ends ranks past p
   pub whole : (k : ℕ) (d : ℕ × ℕ) → k < begun → past ≤ slice_index ranks (slice_index_or begins k d).1 →
       Contains calls (slice_index ranks (slice_index_or begins k d).1, (slice_index_or begins k d).1)
 

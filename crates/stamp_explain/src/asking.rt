@@ -7,11 +7,11 @@ ghost use Rattle.stamp_explain.specs.declared.observed.Observation.{Observation}
 ghost use Rattle.stamp_explain.specs.declared.observed.Returned.{Returned};
 ghost use Rattle.stamp_explain.specs.Observed.{ObservedHistory, IsObserved, IsBefore};
 ghost use Rattle.stamp_explain.specs.Configuration.{ReachesMoreBeside};
-ghost use Rattle.stamp_explain.specs.Cut.{place_of};
+ghost use Rattle.stamp_explain.specs.Cut.{place_then};
 ghost use Rattle.stamp_explain.specs.Expand.{Enters, Suffice, Took, IsNotInEffect};
 ghost use Rattle.stamp_explain.specs.Store.{Keeps};
 ghost use Rattle.stamp_explain.specs.Possible.{without_return};
-ghost use Rattle.stamp_explain.specs.Asking.{Adds, AreAsked, AreLed, AreMore, AreReplies, GetsMore, IsAnswered, IsAsking, IsAskingAt, LeadsBeside, MayGoOnBeside, NoneIsAtOnceBeside, SufficeBeside, SufficeUnless};
+ghost use Rattle.stamp_explain.specs.Asking.{Adds, AreAsked, AreLed, AreMore, AreReplies, GetsMore, IsSeenWith, IsAsking, IsAskingAt, ComesNextBeside, MayGoOnBeside, NoneIsAtOnceBeside, SufficeBeside, SufficeUnless};
 
 use crate::cut::seen_at;
 use crate::node::{Next, Node, Origin, has_bit, without_bit};
@@ -60,7 +60,7 @@ fn without_return(
 /// How many of the calls that are listed before this one had begun by this position.
 fn place_of(entries: &[Observation], entry: usize, last: u64) -> usize
     requires { entry < length entries.now }
-    ensures { result ≡ place_of last entry entries.now }
+    ensures { result ≡ place_then last entry entries.now }
 {
     let mut place = 0;
     for other in &entries[..entry] {
@@ -122,7 +122,7 @@ fn add(replies: &mut Vec<Reply>, reply: Reply) -> Result<(), AllocError>
 /// The one node that comes next, where the awaited call is in effect: its return is past.
 fn passed(asking: &Asking, node: &Node) -> Option<Next>
     requires { MayGoOnBeside asking.now node.now }
-    ensures leads { IfSome result (λ next. LeadsBeside asking.now node.now next) }
+    ensures leads { IfSome result (λ next. ComesNextBeside asking.now node.now next) }
     ensures one { IfSome result (λ next. SufficeBeside asking.now node.now (next ∷ [])) }
     ensures none { IfNone result (IsNotInEffect asking.now.seen asking.now.timeline.returns.items node.now) }
 {
@@ -147,7 +147,7 @@ fn passed(asking: &Asking, node: &Node) -> Option<Next>
 fn observed_beside(asking: &Asking, node: &Node) -> Option<Next>
     requires at { MayGoOnBeside asking.now node.now }
     requires awaited { IsNotInEffect asking.now.seen asking.now.timeline.returns.items node.now }
-    ensures leads { IfSome result (λ next. LeadsBeside asking.now node.now next) }
+    ensures leads { IfSome result (λ next. ComesNextBeside asking.now node.now next) }
     ensures one { IfSome result (λ next. SufficeBeside asking.now node.now (next ∷ [])) }
     ensures none { IfNone result (NoneIsAtOnceBeside asking.now node.now) }
 {
@@ -167,7 +167,7 @@ fn choices_beside(asking: &Asking, node: &Node, nexts: &mut Vec<Next>) -> Result
     requires awaited { IsNotInEffect asking.now.seen asking.now.timeline.returns.items node.now }
     requires at_once { NoneIsAtOnceBeside asking.now node.now }
     ensures leads { IfOk result (λ _. AreLed asking.now node.now nexts.new.items) }
-    ensures whole { IfOk result (λ _. (reply : Reply) (h : ObservedHistory) → IsAnswered asking.now reply h
+    ensures whole { IfOk result (λ _. (reply : Reply) (h : ObservedHistory) → IsSeenWith asking.now reply h
         → Took h asking.now.timeline.returns.items node.now asking.now.place None
         → Suffice h asking.now.timeline.returns.items node.now nexts.new.items) }
 {

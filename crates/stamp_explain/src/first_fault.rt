@@ -3,7 +3,7 @@ ghost use Rattle.std.specs.Prelude.{◌≡◌, ◌≤◌, ◌<◌, ◌+◌, IfOk
 ghost use Rattle.stamp_explain.specs.Cut.{seen_at};
 ghost use Rattle.stamp_explain.specs.Observed.{IsObserved};
 ghost use Rattle.stamp_explain.specs.TimelineKeys.{AreEnds};
-ghost use Rattle.stamp_explain.specs.Expand.{IsFound};
+ghost use Rattle.stamp_explain.specs.Expand.{IsFoundApart};
 ghost use Rattle.stamp_explain.specs.Verdict.{IsNotFound, IsFault};
 
 use crate::cut::seen_at;
@@ -22,7 +22,7 @@ fn found_at(
 ) -> Result<Found, AllocError>
     requires observed { IsObserved observed.now }
     requires end { end.1 < length observed.now.entries }
-    ensures { IfOk result (λ found. IsFound (seen_at end.0 (end.1 + 1) observed.now) most found) }
+    ensures { IfOk result (λ found. IsFoundApart (seen_at end.0 (end.1 + 1) observed.now) most found) }
 {
     let _ = observed.entries();
     let seen = seen_at(alloc, observed, end.0, end.1 + 1)?;

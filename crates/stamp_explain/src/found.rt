@@ -1,7 +1,7 @@
 //! What is found of a history: lock and record are searched apart.
 ghost use Rattle.std.specs.Prelude.{IfOk};
 ghost use Rattle.stamp_explain.specs.Observed.{IsObserved};
-ghost use Rattle.stamp_explain.specs.Expand.{IsFound, IsSearched};
+ghost use Rattle.stamp_explain.specs.Expand.{IsFoundApart, IsSearched};
 
 use crate::apart::{merged, subhistory_of};
 use crate::observed::Observed;
@@ -34,7 +34,7 @@ fn find_alone(alloc: Global, observed: &Observed, most: u64) -> Result<Found, Al
 /// up once it has looked at more than `most` configurations.
 pub(crate) fn find(alloc: Global, observed: &Observed, most: u64) -> Result<Found, AllocError>
     requires { IsObserved observed.now }
-    ensures { IfOk result (λ found. IsFound observed.now most found) }
+    ensures { IfOk result (λ found. IsFoundApart observed.now most found) }
 {
     if observed.width() == 0 {
         return find_alone(alloc, observed, most);

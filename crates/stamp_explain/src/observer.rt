@@ -1,14 +1,14 @@
 //! Calls whose reply tells that they changed nothing.
 ghost use Rattle.std.specs.Prelude.{◌≡◌, ◌==◌};
 ghost use Rattle.stamp_core.specs.declared.reply.Reply.TheVariants.{Stamp};
-ghost use Rattle.stamp_explain.specs.Observer.{is_stamp, changes_nothing, is_question, is_open_question, asks_at, observes, observes_at};
+ghost use Rattle.stamp_explain.specs.Observer.{is_this_stamp, changes_nothing, is_question, is_open_question, asks_at, observes, observes_at};
 
 use crate::observed::{Observation, Observed};
 use stamp_core::{Call, Reply};
 
 /// Whether it is this stamp.
-fn is_stamp(reply: &Reply, stamp: u64) -> bool
-    ensures { result ≡ is_stamp reply.now stamp }
+fn is_this_stamp(reply: &Reply, stamp: u64) -> bool
+    ensures { result ≡ is_this_stamp reply.now stamp }
 {
     match *reply {
         Reply::Stamp(number) => number == stamp,
@@ -21,12 +21,12 @@ fn changes_nothing(call: &Call, reply: &Reply) -> bool
     ensures { result ≡ changes_nothing call.now reply.now }
 {
     match *call {
-        Call::TryWrite | Call::TryRead | Call::WriteLock => is_stamp(reply, 0),
+        Call::TryWrite | Call::TryRead | Call::WriteLock => is_this_stamp(reply, 0),
         Call::UnlockWrite(_) | Call::UnlockRead(_) | Call::Unlock(_) => {
             matches!(*reply, Reply::Mismatch)
         }
         Call::ToWrite(stamp) | Call::ToRead(stamp) | Call::ToOptimistic(stamp) => {
-            is_stamp(reply, 0) || is_stamp(reply, stamp)
+            is_this_stamp(reply, 0) || is_this_stamp(reply, stamp)
         }
         Call::TryUnlockWrite | Call::TryUnlockRead | Call::PutIf(_, _) => {
             matches!(*reply, Reply::No)

@@ -4,7 +4,7 @@ ghost use Rattle.std.specs.List.{All};
 ghost use Rattle.stamp_core.specs.Record.{recorded, IsRecorded};
 ghost use Rattle.stamp_explain.specs.Observed.{IsObserved, IsLow};
 ghost use Rattle.stamp_explain.specs.Order.{IsOrderOf};
-ghost use Rattle.stamp_explain.specs.Points.{HasPoints, IsLastTold, told_until, entry_at, position_at, there_at};
+ghost use Rattle.stamp_explain.specs.Points.{HasPoints, IsLastTold, told_until, entry_with_point, position_at, there_at};
 
 use crate::observed::{Observation, Observed};
 use crate::order::Taken;
@@ -62,7 +62,7 @@ fn end_of(entries: &[Observation]) -> u64
 fn entry_of(entry: &Observation, reply: Reply, end: u64, point: u64) -> Entry
     requires low { IsLow entry.now }
     requires end { end < 288230376151711744 }
-    ensures { result ≡ entry_at entry.now reply end point }
+    ensures { result ≡ entry_with_point entry.now reply end point }
 {
     let last = match &entry.returned {
         None => end,

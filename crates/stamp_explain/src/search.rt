@@ -4,7 +4,7 @@ ghost use Rattle.std.specs.Option.{IfNone};
 ghost use Rattle.stamp_core.specs.Word.{IsAdmitted, word_at};
 ghost use Rattle.stamp_explain.specs.Observed.{IsObserved};
 ghost use Rattle.stamp_explain.specs.Search.{AreReturns};
-ghost use Rattle.stamp_explain.specs.Node.{IsOpening};
+ghost use Rattle.stamp_explain.specs.Node.{IsFirstNode};
 ghost use Rattle.stamp_explain.specs.Timeline.{IsTimeline, IsOpenAt};
 ghost use Rattle.stamp_explain.specs.Store.{Keeps};
 ghost use Rattle.stamp_explain.specs.Expand.{MayGoOn, Expands, Took, IsChoice, IsNotInEffect, NoneIsAtOnceAt, IsSearched, LooksAt, waiting_from};
@@ -219,7 +219,7 @@ pub(crate) fn search(
 
 /// The node at which a search begins.
 pub(crate) fn opening(observed: &Observed) -> Node
-    ensures { IsOpening observed.now result }
+    ensures { IsFirstNode observed.now result }
 {
     Node {
         past: 0,

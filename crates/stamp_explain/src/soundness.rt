@@ -2,7 +2,7 @@
 ghost use Rattle.std.specs.Prelude.{◌≡◌, ◌<◌, ◌↔◌, IsTrue, length};
 ghost use Rattle.std.specs.List.{All};
 ghost use Rattle.stamp_core.specs.Call.{call_suits};
-ghost use Rattle.stamp_explain.specs.Observed.{IsBefore, IsInterval, DoNotOverlap, IsObserved, IsSound};
+ghost use Rattle.stamp_explain.specs.Observed.{IsBefore, IsInterval, DoNotOverlap, IsObserved, MayBeTold};
 
 use crate::observed::{Observation, Observed};
 use stamp_core::MOST_THREADS;
@@ -29,7 +29,7 @@ fn is_interval(entry: &Observation) -> bool
 
 /// Whether the call alone may stand in an observed history of this width.
 fn is_sound_alone(width: u64, entry: &Observation) -> bool
-    ensures { IsTrue result ↔ IsSound width entry.now }
+    ensures { IsTrue result ↔ MayBeTold width entry.now }
 {
     is_interval(entry) && entry.thread < MOST_THREADS && entry.call.suits(width)
 }

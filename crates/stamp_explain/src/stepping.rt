@@ -3,9 +3,9 @@ ghost use Rattle.std.specs.Prelude.{◌≡◌, ◌<◌, ◌≤◌, ◌↔◌, Is
 ghost use Rattle.stamp_core.specs.Word.{IsAdmitted, word_at};
 ghost use Rattle.stamp_core.specs.Call.{is_lock_call, call_suits};
 ghost use Rattle.stamp_core.specs.Decision.{Steps};
-ghost use Rattle.stamp_explain.specs.Observed.{MayReply};
+ghost use Rattle.stamp_explain.specs.Observed.{AllowsReply};
 ghost use Rattle.stamp_explain.specs.Stepping.{LockGoes, RecordGoes, step_as};
-ghost use Rattle.stamp_explain.specs.Node.{content_by, HasGone, IsAt};
+ghost use Rattle.stamp_explain.specs.Node.{content_by, HasGone, IsStateBy};
 ghost use Rattle.stamp_explain.specs.Search.{LockState};
 
 use crate::node::Step;
@@ -15,7 +15,7 @@ use stamp_core::{Call, Limits, LockDecision, LockReply, Reply, Word, Words, deci
 /// Whether the observation allows this reply.
 #[inline(always)]
 fn may_reply(entry: &Observation, reply: &Reply) -> bool
-    ensures { IsTrue result ↔ MayReply entry.now reply.now }
+    ensures { IsTrue result ↔ AllowsReply entry.now reply.now }
 {
     match &entry.returned {
         None => true,
@@ -116,7 +116,7 @@ pub(crate) fn step_of(
     requires suits { (e : Observation) → slice_get observed.now.entries i ≡ Some e
         → IsTrue (call_suits observed.now.width e.call) }
     ensures { (e : Observation) (s : LockState) → slice_get observed.now.entries i ≡ Some e
-        → IsAt observed.now bits writer s → HasGone observed.now i e writer s result }
+        → IsStateBy observed.now bits writer s → HasGone observed.now i e writer s result }
 {
     let entry = &observed.entries()[i];
     if entry.call.is_lock_call() {

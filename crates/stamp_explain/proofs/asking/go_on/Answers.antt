@@ -5,7 +5,7 @@ use Rattle.std.proofs.lemmas.Result.{IfOk-weaker}
 use Rattle.stamp_core.specs.declared.reply.Reply.{Reply}
 use Rattle.stamp_explain.specs.Observed.{ObservedHistory}
 use Rattle.stamp_explain.specs.Expand.{Suffice, Took}
-use Rattle.stamp_explain.specs.Asking.{SufficeUnless, IsAnswered}
+use Rattle.stamp_explain.specs.Asking.{SufficeUnless, IsSeenWith}
 use Rattle.stamp_explain.proofs.asking.go_on.Goals as goal
 
 pub returns-in-Some-clause-whole : goal.returns-in-Some-clause-whole
@@ -26,7 +26,7 @@ returns-in-Some-observed_beside-clause-whole c = record {
 
 pub returns-clause-whole : goal.returns-clause-whole
 returns-clause-whole c = IfOk-weaker c.choices_beside.result
-    (λ _. (reply : Reply) (h : ObservedHistory) → IsAnswered c.args.asking.now reply h →
+    (λ _. (reply : Reply) (h : ObservedHistory) → IsSeenWith c.args.asking.now reply h →
     Took h c.args.asking.now.timeline.returns.items c.args.node.now c.args.asking.now.place None →
     Suffice h c.args.asking.now.timeline.returns.items c.args.node.now c.choices_beside.new.nexts.items)
     (λ _. SufficeUnless c.args.asking.now c.args.node.now c.choices_beside.new.nexts.items c.ask.new.replies.items)

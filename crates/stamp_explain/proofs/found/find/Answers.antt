@@ -1,14 +1,14 @@
 use Rattle.std.proofs.Common.{false, true, sym, ◌∙◌, subst}
 use Rattle.std.proofs.lemmas.Result.{IfOk-weaker}
 use Rattle.stamp_explain.specs.declared.found.Found.{Found}
-use Rattle.stamp_explain.specs.Expand.{IsFound, IsSearched}
+use Rattle.stamp_explain.specs.Expand.{IsFoundApart, IsSearched}
 use Rattle.stamp_explain.proofs.Subhistories.{subhistory_observed}
 use Rattle.stamp_explain.proofs.Uniting.{found_alone, none_of_one}
 use Rattle.stamp_explain.proofs.found.find.Goals as goal
 
 pub returns-then-width-eq0 : goal.returns-then-width-eq0
 returns-then-width-eq0 c = IfOk-weaker c.find_alone.result (λ found. IsSearched c.args.observed.now c.args.most found)
-    (λ found. IsFound c.args.observed.now c.args.most found)
+    (λ found. IsFoundApart c.args.observed.now c.args.most found)
     (λ found is. found_alone c.args.observed.now c.args.most found c.requires
     (sym c.width.ensures.width ∙ c.if-width-eq0.true) is) c.find_alone.ensures
 

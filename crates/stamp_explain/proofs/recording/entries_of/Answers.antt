@@ -2,7 +2,7 @@ use Rattle.std.proofs.Common.{◌≡◌, ◌<◌, ℕ, ◌+◌, ◌*◌, ◌++�
 use Rattle.stamp_core.specs.declared.entry.Entry.{Entry}
 use Rattle.stamp_explain.specs.declared.observed.Observation.{Observation}
 use Rattle.stamp_explain.specs.Observed.{IsLow}
-use Rattle.stamp_explain.specs.Points.{IsLastTold, entry_at, position_at, there_at}
+use Rattle.stamp_explain.specs.Points.{IsLastTold, entry_with_point, position_at, there_at}
 use Rattle.stamp_explain.proofs.Placing.{PlacesTo, IsPlacedAt, places_first, places_inside, places_at, call_read}
 use Rattle.stamp_explain.proofs.Placing.{all_placed, points_are_recorded, begun_by_end}
 use Rattle.stamp_explain.proofs.recording.entries_of.Goals as goal
@@ -97,24 +97,24 @@ loop-taken-preserved c =
     c.place_for-place.ensures.position in
     let before : c.place_for-place.result.before ≡ there_at c.loop-taken.at.position c.loop-taken.at.before e.first =
     c.place_for-place.ensures.before in
-    let items : c.push.new.self.items ≡ c.loop-taken.placed.items ++ entry_at e c.taken-item.result.reply
+    let items : c.push.new.self.items ≡ c.loop-taken.placed.items ++ entry_with_point e c.taken-item.result.reply
     c.end_of-end.result (64 * position_at c.loop-taken.at.position e.first +
     there_at c.loop-taken.at.position c.loop-taken.at.before e.first) ∷ [] =
     c.in_ok-push.ensures.items ∙
     ap (λ (x : Entry). c.loop-taken.placed.items ++ x ∷ []) c.entry_of.ensures ∙
-    ap (λ (p : ℕ). c.loop-taken.placed.items ++ entry_at e c.taken-item.result.reply c.end_of-end.result
+    ap (λ (p : ℕ). c.loop-taken.placed.items ++ entry_with_point e c.taken-item.result.reply c.end_of-end.result
     (64 * p + c.place_for-place.result.before) ∷ []) position ∙
-    ap (λ (n : ℕ). c.loop-taken.placed.items ++ entry_at e c.taken-item.result.reply c.end_of-end.result
+    ap (λ (n : ℕ). c.loop-taken.placed.items ++ entry_with_point e c.taken-item.result.reply c.end_of-end.result
     (64 * position_at c.loop-taken.at.position e.first + n) ∷ []) before in
     subst (λ (es : List Entry). PlacesTo h c.args.order.now c.end_of-end.result (c.loop-taken.taken-index + 1) es
     c.place_for-place.result.position (c.place_for-place.result.before + 1)) (sym items)
     (subst (λ (p : ℕ). PlacesTo h c.args.order.now c.end_of-end.result (c.loop-taken.taken-index + 1)
-    (c.loop-taken.placed.items ++ entry_at e c.taken-item.result.reply
+    (c.loop-taken.placed.items ++ entry_with_point e c.taken-item.result.reply
     c.end_of-end.result (64 * position_at c.loop-taken.at.position e.first +
     there_at c.loop-taken.at.position c.loop-taken.at.before e.first) ∷ [])
     p (c.place_for-place.result.before + 1)) (sym position)
     (subst (λ (n : ℕ). PlacesTo h c.args.order.now c.end_of-end.result (c.loop-taken.taken-index + 1)
-    (c.loop-taken.placed.items ++ entry_at e c.taken-item.result.reply
+    (c.loop-taken.placed.items ++ entry_with_point e c.taken-item.result.reply
     c.end_of-end.result (64 * position_at c.loop-taken.at.position e.first +
     there_at c.loop-taken.at.position c.loop-taken.at.before e.first) ∷ [])
     (position_at c.loop-taken.at.position e.first) (n + 1)) (sym before) at.next))

@@ -2,7 +2,7 @@ use Rattle.std.proofs.Common.{◌≡◌, ◌<◌, ℕ, List, true, false, length
 use Rattle.std.specs.Prelude.{take}
 use Rattle.std.specs.List.{All}
 use Rattle.stamp_explain.specs.declared.observed.Observation.{Observation}
-use Rattle.stamp_explain.specs.Observed.{IsSound, DoNotOverlap}
+use Rattle.stamp_explain.specs.Observed.{MayBeTold, DoNotOverlap}
 use Rattle.stamp_explain.proofs.Observers.{one_below, not_alone, not_apart}
 use Rattle.stamp_explain.proofs.soundness.is_observed.Goals as goal
 use Rattle.stamp_explain.proofs.soundness.is_observed.Goals.{then-not-is_sound_alone-via-then-not-is_sound_alone}
@@ -24,7 +24,7 @@ returns-then-not-is_sound_alone c =
       λ is. absurd (elim c.then-not-is_sound_alone.branch [
         | then-not-is_sound_alone-via-then-not-is_sound_alone w ↦
             not_alone h c.loop-i.i e within read (λ sound. differ (sym w.if-not-is_sound_alone.true ∙
-            c.is_sound_alone.ensures.1 (subst (λ (n : ℕ). IsSound n e) (sym c.width.ensures.width) sound))) is
+            c.is_sound_alone.ensures.1 (subst (λ (n : ℕ). MayBeTold n e) (sym c.width.ensures.width) sound))) is
         | then-not-is_sound_alone-via-else-not-is_sound_alone+then-not-is_apart_from w ↦
             not_apart h c.loop-i.i e within read (λ apart. differ (sym w.if-not-is_apart_from.true ∙
             w.is_apart_from.ensures.1 (subst (λ (xs : List Observation). All (λ (other : Observation).
@@ -39,6 +39,6 @@ loop-i-preserved c =
     let same = c.entries-entries.ensures.entries in
     one_below h c.loop-i.i e (subst (λ (xs : List Observation). c.loop-i.i < length xs) same c.loop-i-test.true)
     (c.index-entries-i.is ∙ ap (λ (xs : List Observation). get_or xs c.loop-i.i e) same) c.loop-i.invariant
-    (subst (λ (n : ℕ). IsSound n e) c.width.ensures.width (c.is_sound_alone.ensures.0 c.if-not-is_sound_alone.false))
+    (subst (λ (n : ℕ). MayBeTold n e) c.width.ensures.width (c.is_sound_alone.ensures.0 c.if-not-is_sound_alone.false))
     (subst (λ (xs : List Observation). All (λ (other : Observation). DoNotOverlap other e) (take c.loop-i.i xs))
     same (c.is_apart_from.ensures.0 c.if-not-is_apart_from.false))

@@ -3,7 +3,7 @@ use Rattle.std.proofs.Common.{Some, None, refl}
 use Rattle.std.specs.Prelude.{slice_get}
 use Rattle.std.proofs.lemmas.Option.{same_Some, slice_get_read}
 use Rattle.stamp_explain.specs.declared.observed.Observation.{Observation}
-use Rattle.stamp_explain.specs.Node.{HasGone, Goes}
+use Rattle.stamp_explain.specs.Node.{HasGone, Does}
 use Rattle.stamp_explain.proofs.Stepped.{record_went, record_did_not, suits_some}
 use Rattle.stamp_explain.proofs.stepping.step_of.Goals as goal
 
@@ -24,7 +24,7 @@ returns-in-Some-record_step c e s is at =
     let f = c.index-entries-i.result in
     let same : f ≡ e = same_Some f e (sym (entry_at c.args.observed.now.entries _ c.args.i f c.requires.inside
     c.index-entries-i.is c.entries.ensures.entries) ∙ is) in
-    subst (λ (o : Observation). Goes c.args.observed.now c.args.i o c.args.writer s
+    subst (λ (o : Observation). Does c.args.observed.now c.args.i o c.args.writer s
     (record { bits = c.args.bits; writer = c.in-Some-record_step.next; reply = c.in-Some-record_step.reply }))
     same
     (record_went c.args.observed.now c.args.i f s c.args.bits c.args.writer c.in-Some-record_step.next
