@@ -1,18 +1,21 @@
-//! Threads share a lock by handles, each call is recorded, and the history is written as JSON.
+//! Threads share a lock by handles, each call is recorded, and the observed history is written as JSON.
 //!
-//! `recorded_handles THREADS ROUNDS` prints the history, which `stamped_explain` reads.
+//! `recorded_handles THREADS ROUNDS` prints the history, which `stamped_explain` reads. More than 64 threads
+//! are an error, and so are more than 640,000 calls.
 //! `recorded_handles` alone records one of four threads, and prints who holds the lock at the end.
 #![tactic(auto)]
 
 mod recorder;
 mod trial;
-mod writing;
 
-use anyhow::Result;
-use recorder::{Entry, Recorder};
+use anyhow::{Result, bail, ensure};
+use recorder::Recorder;
+use stamp_core::{Layout, Limits, MOST_THREADS};
+use stamp_explain::{MOST_OBSERVATIONS, Observation, Observed};
+use stamp_observed::write_observed;
 use stamped_lock::StampedLock;
 use std::alloc::AllocError;
-use std::io::{BufWriter, Write};
+use std::io::Write;
 use std::rt::Env;
 use std::sync::Wait;
 use std::sync::atomic::AtomicU64;
@@ -20,42 +23,40 @@ use std::thread::{Threads, map_indices};
 use std::{env, io};
 use trial::work;
 
-/// The calls that each of the threads makes in so many rounds.
-fn tapes_of<R: Threads + Wait + Sync + AllocGlobal>(
+/// The calls that the threads make in so many rounds each, thread by thread.
+fn recorded<R: Threads + Wait + Sync + AllocGlobal>(
     rt: &R,
     lock: &StampedLock,
-    threads: usize,
+    threads: u64,
     rounds: u64,
-) -> Result<Vec<Vec<Entry>>> {
+) -> Result<Vec<Observation>> {
     let tickets = AtomicU64::new(0);
-    let record = |thread: usize| -> Result<Vec<Entry>, AllocError> {
-        let mut recorder = Recorder::new(rt.alloc(), lock.enter(), &tickets, thread);
+    let record = |thread: usize| -> Result<Vec<Observation>, AllocError> {
+        let mut recorder = Recorder::new(rt.alloc(), lock.enter(), &tickets, thread as u64);
         work(rt, &mut recorder, rounds, thread as u64)?;
         Ok(recorder.tape())
     };
-    let mut tapes = Vec::new(rt.alloc());
-    for tape in map_indices(rt, rt.alloc(), threads, &record)? {
-        tapes.push(tape?)?;
+    let mut calls = Vec::new(rt.alloc());
+    for tape in map_indices(rt, rt.alloc(), threads as usize, &record)? {
+        calls.extend_from_slice(&tape?)?;
     }
-    Ok(tapes)
+    Ok(calls)
 }
 
-/// Prints the calls of all tapes as an observed history.
-fn print_history(rt: &(impl Print + AllocGlobal), tapes: &[Vec<Entry>]) -> Result<()> {
-    let mut output = BufWriter::new(rt.alloc(), io::writer(rt))?;
-    write!(output, "{{\"entries\":[")?;
-    let mut comma = "";
-    for tape in tapes {
-        for entry in tape {
-            write!(output, "{comma}{entry}")?;
-            comma = ",";
-        }
-    }
-    writeln!(
-        output,
-        "],\"format\":1,\"readers\":127,\"versions\":36028797018963966,\"width\":0}}"
-    )?;
-    output.flush()?;
+/// The calls as the history of a lock that `StampedLock::new` made.
+fn history_of(calls: Vec<Observation>) -> Result<Observed> {
+    let count = calls.len();
+    let Some(history) = Observed::of(Limits::widest(Layout::One), 0, calls) else {
+        bail!("{count} calls, and a history has at most {MOST_OBSERVATIONS}");
+    };
+    Ok(history)
+}
+
+fn print_history(rt: &(impl Print + AllocGlobal), history: &Observed) -> Result<()> {
+    let text = write_observed(rt.alloc(), history)?;
+    let mut output = io::writer(rt);
+    output.write_all(&text)?;
+    output.write_all(b"\n")?;
     Ok(())
 }
 
@@ -65,18 +66,22 @@ fn number_in(word: Option<String>) -> Option<u64> {
 }
 
 fn main(rt: HostRuntime) -> Result<()> {
-    let lock = StampedLock::new(rt.alloc())?;
     let mut words = env::args(&rt)?.skip(1);
-    let threads = number_in(words.next());
+    let wanted = number_in(words.next());
     let rounds = number_in(words.next()).unwrap_or(500);
-    let tapes = tapes_of(&rt, &lock, threads.unwrap_or(4) as usize, rounds)?;
-    if threads.is_some() {
-        return print_history(&rt, &tapes);
+    let threads = wanted.unwrap_or(4);
+    ensure!(
+        threads <= MOST_THREADS,
+        "{threads} threads, and a history has at most {MOST_THREADS}"
+    );
+    let lock = StampedLock::new(rt.alloc())?;
+    let calls = recorded(&rt, &lock, threads, rounds)?;
+    if wanted.is_some() {
+        return print_history(&rt, &history_of(calls)?);
     }
     let mut handle = lock.enter();
     println!(rt;
-        "threads: {}, a writer at the end: {}, readers: {}",
-        tapes.len(),
+        "threads: {threads}, a writer at the end: {}, readers: {}",
         handle.is_write_locked(),
         handle.read_count()
     )?;

@@ -1,5 +1,6 @@
 //! A recorder: a handle whose calls are kept, each with a ticket taken before it and one after it.
 use stamp_core::{Call, Reply};
+use stamp_explain::{Observation, Returned};
 use stamped_lock::{LockHandle, Lost, Mismatch, Stamp};
 use std::alloc::{AllocError, Global};
 use std::sync::atomic::{AtomicU64, Ordering};
@@ -51,38 +52,23 @@ impl<T: Answer> Answer for Result<T, Lost> {
     }
 }
 
-/// A call on a tape.
-#[derive(Clone, Copy)]
-pub struct Entry {
-    /// The number of the thread that made the call.
-    pub thread: usize,
-    /// The call, with the number of the stamp that it takes.
-    pub call: Call,
-    /// The ticket taken before the call.
-    pub first: u64,
-    /// The ticket taken after it.
-    pub last: u64,
-    /// What the call answered.
-    pub reply: Reply,
-}
-
 /// A thread's handle, the tickets that all threads share, and the calls that this thread made.
 #[derive(Drop)]
 pub struct Recorder<'a> {
     /// The handle, by which the thread makes its calls between `begin` and `end`.
     pub handle: LockHandle<'a>,
     tickets: &'a AtomicU64,
-    thread: usize,
-    tape: Vec<Entry>,
+    thread: u64,
+    tape: Vec<Observation>,
 }
 
 impl<'a> Recorder<'a> {
-    /// A recorder for one thread, which has a number of its own.
+    /// A recorder for one thread, which has a number of its own, below 64.
     pub fn new(
         alloc: Global,
         handle: LockHandle<'a>,
         tickets: &'a AtomicU64,
-        thread: usize,
+        thread: u64,
     ) -> Recorder<'a> {
         Recorder {
             handle,
@@ -101,19 +87,18 @@ impl<'a> Recorder<'a> {
     pub fn end<T: Answer>(&mut self, first: u64, call: Call, answer: T) -> Result<T, AllocError> {
         let last = self.begin();
         if let Some(reply) = answer.reply() {
-            self.tape.push(Entry {
+            self.tape.push(Observation {
                 thread: self.thread,
                 call,
                 first,
-                last,
-                reply,
+                returned: Some(Returned { last, reply }),
             })?;
         }
         Ok(answer)
     }
 
     /// The calls, in their order.
-    pub fn tape(self) -> Vec<Entry> {
+    pub fn tape(self) -> Vec<Observation> {
         self.tape
     }
 }
