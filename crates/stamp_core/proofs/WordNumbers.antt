@@ -12,7 +12,7 @@ use Rattle.stamp_core.specs.Stamp.{IsWriteStamp, IsReadStamp, IsOptimisticStamp,
 use Rattle.stamp_core.specs.StampKind.{HasKind}
 use Rattle.stamp_core.specs.declared.stamps.StampKind.{StampKind}
 use Rattle.stamp_core.specs.declared.stamps.StampKind.TheVariants.{Write, Read, Optimistic, Neither}
-use Rattle.stamp_core.specs.Decoded.{IsNumber, IsWithin, counts_in, counts_of, after_events}
+use Rattle.stamp_core.specs.Decoded.{IsNumber, IsWithinLimits, counts_in, counts_of, after_events}
 use Rattle.stamp_core.specs.declared.layout.Layout.{Layout}
 use Rattle.stamp_core.proofs.TwoLayouts.{either_layout}
 use Rattle.stamp_core.proofs.WellFormedPush.{AllowsAll, push_all, obeys_now, well_formed_none}
@@ -239,7 +239,7 @@ admitted_number limits w n a e = record {
 }
 
 -- a number within the limits is that of an admitted word
-within_state : (limits : Bounds) (n : ℕ) → AreInRange limits → IsWithin limits n → IsNumber (units limits) n
+within_state : (limits : Bounds) (n : ℕ) → AreInRange limits → IsWithinLimits limits n → IsNumber (units limits) n
 unfolding counts_of
 within_state limits n range within =
     let u = either_layout limits.layout in
@@ -249,7 +249,7 @@ within_state limits n range within =
       holders = grind (arith, nat_tests, range.readers, range.versions);
     }
 
-pub within_is_admitted : (limits : Bounds) (n : ℕ) → AreInRange limits → IsWithin limits n ↔
+pub within_is_admitted : (limits : Bounds) (n : ℕ) → AreInRange limits → IsWithinLimits limits n ↔
     IsAdmitted limits (word_at limits n)
 within_is_admitted limits n range = (
   λ within. admitted limits n (within_state limits n range within) within.1 within.2,

@@ -25,8 +25,8 @@ abbrev pub counts_in : LockWord → Counts
 counts_in w = counts_of (units_of w.layout) w.bits
 
 -- a version is begun, and the counts are within the limits
-abbrev pub IsWithin : Bounds → ℕ → Type 0
-IsWithin limits n = (0 < n / (units limits).version) × ((counts_of (units limits) n).readers ≤ limits.readers) ×
+abbrev pub IsWithinLimits : Bounds → ℕ → Type 0
+IsWithinLimits limits n = (0 < n / (units limits).version) × ((counts_of (units limits) n).readers ≤ limits.readers) ×
     ((counts_of (units limits) n).write_count ≤ limits.versions)
 
 -- the counts once an event has happened, and once several have

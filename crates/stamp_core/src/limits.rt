@@ -2,7 +2,7 @@
 ghost use Rattle.std.specs.Prelude.{◌≡◌, ◌≤◌, ◌↔◌, IsOk, IfOk, IsSome, IfSome, IsTrue};
 ghost use Rattle.stamp_core.specs.Limits.{AreInRange, bounds, widest};
 ghost use Rattle.stamp_core.specs.Word.{IsAdmitted, word_at};
-ghost use Rattle.stamp_core.specs.Decoded.{counts_in, IsWithin};
+ghost use Rattle.stamp_core.specs.Decoded.{counts_in, IsWithinLimits};
 
 use crate::layout::Layout;
 use crate::word::Word;
@@ -169,7 +169,7 @@ impl Limits {
     #[inline(always)]
     #[tactic(auto, unfolding(crate::specs::Decoded::counts_of), using(crate::proofs::TwoLayouts::either_layout))]
     fn covers_bits(&self, bits: u64) -> bool
-        ensures { IsTrue result ↔ IsWithin self.now bits }
+        ensures { IsTrue result ↔ IsWithinLimits self.now bits }
     {
         let holders = self.layout.holders_of(bits);
         let begun = self.layout.versions_of(bits);
