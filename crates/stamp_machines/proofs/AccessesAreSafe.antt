@@ -19,7 +19,7 @@ use Rattle.stamp_machines.specs.LockPhase.{phase_next, next_on}
 use Rattle.stamp_machines.specs.declared.shape.Shape.{Shape}
 use Rattle.stamp_machines.specs.MachineState.{Phase, OnLock, OnRecord, record_limits}
 use Rattle.stamp_machines.specs.Machine.{next_in, IsFoundIn, HasVersionLeft}
-use Rattle.stamp_machines.specs.RecordKept.{Fits}
+use Rattle.stamp_machines.specs.RecordKept.{FitsPlace}
 
 -- a lock phase is on its lock's word
 phase-place : (i : ℕ) (limits : Bounds) (call : Call) (seen : Option ℕ) →
@@ -58,7 +58,7 @@ pub record-safe : (shape : Shape) (call : Call) (limits : Bounds) (k wr : ℕ)
     (content items : List ℕ) (job : Job) (place : Place) (words : List ℕ) →
     length words ≡ 2 + shape.width → length content ≡ shape.width →
     IsAdmittedAt (record_limits shape) (slice_index words 1) →
-    HasVersionLeft shape (slice_index words 1) → Fits limits k wr content items job place →
+    HasVersionLeft shape (slice_index words 1) → FitsPlace limits k wr content items job place →
     IsSafeIn shape call (OnRecord job place) words
 record-safe shape call limits k wr content items job places.LoadingLock words n l w v f =
     (omega (arith, n), w)

@@ -24,7 +24,7 @@ use Rattle.stamp_machines.specs.Script.{Scripted, Suits, calls_of}
 use Rattle.stamp_machines.specs.declared.state.Begun.{Begun}
 use Rattle.stamp_machines.specs.World.{World, current_of, begin, call_of, shape_of, stamps_of}
 use Rattle.stamp_machines.specs.Invariant.{doing_at, doing_in, IsOf}
-use Rattle.stamp_machines.specs.RecordKept.{read_by, written_by, read_in, written_in, Fits, FitsIn}
+use Rattle.stamp_machines.specs.RecordKept.{read_by, written_by, read_in, written_in, FitsPlace, FitsIn}
 
 first_place_reads : (job : Job) → read_by (first_place job) ≡ 0
 first_place_reads Getting = refl
@@ -37,7 +37,7 @@ first_place_writes (Putting a) = refl
 first_place_writes (PuttingIf a b) = refl
 
 first_place_fits : (limits : Bounds) (k w : ℕ) (content items : List ℕ) (job : Job) →
-    Fits limits k w content items job (first_place job)
+    FitsPlace limits k w content items job (first_place job)
 first_place_fits limits k w content items Getting = refl
 first_place_fits limits k w content items (Putting a) = refl
 first_place_fits limits k w content items (PuttingIf a b) = tt

@@ -10,7 +10,7 @@ use Rattle.stamp_machines.specs.Job.{Job}
 use Rattle.stamp_machines.specs.Place.{Place, LoadingLock, Copying, Locking, Reading, Checking}
 use Rattle.stamp_machines.specs.Place.{Storing, Releasing, ToShare, ToLeave, ToRefuse}
 use Rattle.stamp_machines.specs.Place.{ToUpgrade, ToReleaseFirst, ToClaim}
-use Rattle.stamp_machines.specs.RecordKept.{read_by, written_by, Fits, FitsIn, Doing, read_in}
+use Rattle.stamp_machines.specs.RecordKept.{read_by, written_by, FitsPlace, FitsIn, Doing, read_in}
 use Rattle.stamp_machines.specs.RecordKept.{written_in, RecordKept, Moved, SameFor, AloneFor}
 
 pub le_sum : (f : Option Doing → ℕ) (xs : List (Option Doing)) (j : ℕ) → f None ≡ 0 →
@@ -31,8 +31,8 @@ zero_elsewhere f (x ∷ xs) (suc i) (suc j) z h n =
 
 quiet-fits : (limits : Bounds) (k w k' w' : ℕ) (content content' items items' : List ℕ) (job : Job)
     (place : Place) → length content' ≡ length content → read_by place ≡ 0 → written_by place ≡ 0 →
-    (k' ≡ k + 1) ⊎ ((w ≡ 1) × (k' ≡ k)) → Fits limits k w content items job place →
-    Fits limits k' w' content' items' job place
+    (k' ≡ k + 1) ⊎ ((w ≡ 1) × (k' ≡ k)) → FitsPlace limits k w content items job place →
+    FitsPlace limits k' w' content' items' job place
 quiet-fits limits k w k' w' content content' items items' job LoadingLock l r s e h = h
 quiet-fits limits k w k' w' content content' items items' job (Copying first loaded) l r s e h = (
   h.0,

@@ -37,7 +37,7 @@ use Rattle.stamp_machines.specs.LockPhase.{Still, Ended, next_on, phase_next, ph
 use Rattle.stamp_machines.specs.LockPhase.{PhaseTurn}
 use Rattle.stamp_machines.specs.LocalAccess.{LoadLock, LoadItem, lock_after, items_after}
 use Rattle.stamp_machines.specs.LocalAccess.{local_seen}
-use Rattle.stamp_machines.specs.RecordKept.{read_by, written_by, Fits, SameFor, AloneFor, Steps}
+use Rattle.stamp_machines.specs.RecordKept.{read_by, written_by, FitsPlace, SameFor, AloneFor, MovedRightly}
 use Rattle.stamp_machines.specs.RecordKept.{Stands, IsRead}
 use Rattle.stamp_machines.proofs.LockPhaseSteps.{PhaseLeaves, phase-leaves, Turns, turned-word}
 use Rattle.stamp_machines.proofs.LockPhaseSteps.{counts-of, shared_at, left_at, claimed_at}
@@ -47,8 +47,8 @@ use Rattle.stamp_machines.proofs.LockPhaseSteps.{upgraded_at}
 stays : (limits : Bounds) (job : Job) (place to : Place) (lock : ℕ) (items content : List ℕ) →
     Stands limits job place lock items content → read_by to ≡ read_by place →
     written_by to ≡ written_by place →
-    Fits limits (counts_at limits lock).write_count (counts_at limits lock).writers content items
-    job to → Steps limits job place lock items content lock items (Going to)
+    FitsPlace limits (counts_at limits lock).write_count (counts_at limits lock).writers content items
+    job to → MovedRightly limits job place lock items content lock items (Going to)
 stays limits job place to lock items content s r w f = (
   record {
     admitted = s.admitted;
@@ -80,11 +80,11 @@ all_of loaded content b h = grind (arith, common_steps)
 
 loading-lock : (limits : Bounds) (n : ℕ) (job : Job) (lock : ℕ) (items content : List ℕ) →
     Stands limits job LoadingLock lock items content → n ≡ length content →
-    Steps limits job LoadingLock lock items content lock items (after limits n job LoadingLock lock)
+    MovedRightly limits job LoadingLock lock items content lock items (after limits n job LoadingLock lock)
 loading-lock limits n job lock items content s e = go ((counts_at limits lock).writers == 0) refl
   where
     go : (b : Bool) → ((counts_at limits lock).writers == 0) ≡ b →
-        Steps limits job LoadingLock lock items content lock items (if b then Going (Copying lock [])
+        MovedRightly limits job LoadingLock lock items content lock items (if b then Going (Copying lock [])
         else Going (Locking ToShare None))
     go true q =
         let z : (counts_at limits lock).writers ≡ 0 = grind (arith, q) in
@@ -95,7 +95,7 @@ loading-lock limits n job lock items content s e = go ((counts_at limits lock).w
 copying : (limits : Bounds) (n : ℕ) (job : Job) (first : ℕ) (loaded : List ℕ) (lock : ℕ)
     (items content : List ℕ) → Stands limits job (Copying first loaded) lock items content →
     n ≡ length content →
-    Steps limits job (Copying first loaded) lock items content
+    MovedRightly limits job (Copying first loaded) lock items content
     (lock_after (next limits n job (Copying first loaded)) lock)
     (items_after (next limits n job (Copying first loaded)) items)
     (after limits n job (Copying first loaded)
@@ -109,7 +109,7 @@ copying limits n job first loaded lock items content s e = go (nat_lt (length lo
     right (PuttingIf a b) g q = cc
 
     validated : (b : Bool) → unchanged limits first lock ≡ b → length content ≤ length loaded →
-        Steps limits job (Copying first loaded) lock items content lock items (if b
+        MovedRightly limits job (Copying first loaded) lock items content lock items (if b
         then Done (reply.Content loaded) else Going (Locking ToShare None))
     validated false q h =
         stays limits job (Copying first loaded) (Locking ToShare None) lock items content s refl
@@ -134,7 +134,7 @@ copying limits n job first loaded lock items content s e = go (nat_lt (length lo
         )
 
     go : (b : Bool) → nat_lt (length loaded) n ≡ b →
-        Steps limits job (Copying first loaded) lock items content
+        MovedRightly limits job (Copying first loaded) lock items content
         (lock_after (if b then LoadItem (length loaded) else LoadLock) lock)
         (items_after (if b then LoadItem (length loaded) else LoadLock) items) (if b
         then Going (Copying first
@@ -175,7 +175,7 @@ no_reader limits lock range a h = let w = within_of limits lock range a in
 reading : (limits : Bounds) (n : ℕ) (job : Job) (t : ℕ) (loaded : List ℕ) (lock : ℕ)
     (items content : List ℕ) → Stands limits job (Reading t loaded) lock items content →
     n ≡ length content →
-    Steps limits job (Reading t loaded) lock items content lock items
+    MovedRightly limits job (Reading t loaded) lock items content lock items
     (after limits n job (Reading t loaded) (slice_index items (length loaded)))
 reading limits n job t loaded lock items content s e = go (nat_lt (length loaded + 1) n) refl
   where
@@ -191,7 +191,7 @@ reading limits n job t loaded lock items content s e = go (nat_lt (length loaded
     done : (g x : Bool) → is_get job ≡ g →
         expects job (loaded ++ slice_index items (length loaded) ∷ []) ≡ x →
         loaded ++ slice_index items (length loaded) ∷ [] ≡ content →
-        Steps limits job (Reading t loaded) lock items content lock items (if g
+        MovedRightly limits job (Reading t loaded) lock items content lock items (if g
         then Going (Locking (ToLeave t (loaded ++ slice_index items (length loaded) ∷ [])) None)
         else (if x then Going (Locking (ToUpgrade t) None)
         else Going (Locking (ToRefuse t) None)))
@@ -207,7 +207,7 @@ reading limits n job t loaded lock items content s e = go (nat_lt (length loaded
         refl (g, s.fits.0, rw all at q)
 
     go : (b : Bool) → nat_lt (length loaded + 1) n ≡ b →
-        Steps limits job (Reading t loaded) lock items content lock items (if b
+        MovedRightly limits job (Reading t loaded) lock items content lock items (if b
         then Going (Reading t (loaded ++ slice_index items (length loaded) ∷ []))
         else all_read job t (loaded ++ slice_index items (length loaded) ∷ []))
     go true q =
@@ -248,7 +248,7 @@ stored_right (PuttingIf a b) content g x = (rw x refl, rw x refl)
 
 storing : (limits : Bounds) (n : ℕ) (job : Job) (t i : ℕ) (lock : ℕ) (items content : List ℕ) →
     Stands limits job (Storing t i) lock items content → n ≡ length content →
-    Steps limits job (Storing t i) lock items content lock
+    MovedRightly limits job (Storing t i) lock items content lock
     (slice_set items i (slice_index (new_words job) i))
     (after limits n job (Storing t i) (slice_index items i))
 storing limits n job t i lock items content s e = go (nat_lt (i + 1) n) refl
@@ -264,9 +264,9 @@ storing limits n job t i lock items content s e = go (nat_lt (i + 1) n) refl
     more = stored_more (new_words job) items content i s.fits.4 s.fits.3 words
 
     moved : (to : Place) → read_by to ≡ 0 → written_by to ≡ 1 →
-        Fits limits (counts_at limits lock).write_count (counts_at limits lock).writers content
+        FitsPlace limits (counts_at limits lock).write_count (counts_at limits lock).writers content
         (slice_set items i (slice_index (new_words job) i)) job to →
-        Steps limits job (Storing t i) lock items content lock
+        MovedRightly limits job (Storing t i) lock items content lock
         (slice_set items i (slice_index (new_words job) i)) (Going to)
     moved to r w f = (
       record {
@@ -283,7 +283,7 @@ storing limits n job t i lock items content s e = go (nat_lt (i + 1) n) refl
     )
 
     go : (b : Bool) → nat_lt (i + 1) n ≡ b →
-        Steps limits job (Storing t i) lock items content lock
+        MovedRightly limits job (Storing t i) lock items content lock
         (slice_set items i (slice_index (new_words job) i)) (if b then Going (Storing t (i + 1))
         else Going (Releasing t (stored_reply job)))
     go true q = moved (Storing t (i + 1)) refl refl
@@ -301,7 +301,7 @@ storing limits n job t i lock items content s e = go (nat_lt (i + 1) n) refl
 checking : (limits : Bounds) (n : ℕ) (job : Job) (t : ℕ) (loaded : List ℕ) (lock : ℕ)
     (items content : List ℕ) → Stands limits job (Checking t loaded) lock items content →
     n ≡ length content →
-    Steps limits job (Checking t loaded) lock items content lock items
+    MovedRightly limits job (Checking t loaded) lock items content lock items
     (after limits n job (Checking t loaded) (slice_index items (length loaded)))
 checking limits n job t loaded lock items content s e = go (nat_lt (length loaded + 1) n) refl
   where
@@ -320,7 +320,7 @@ checking limits n job t loaded lock items content s e = go (nat_lt (length loade
 
     done : (x : Bool) → expects job (loaded ++ slice_index items (length loaded) ∷ []) ≡ x →
         loaded ++ slice_index items (length loaded) ∷ [] ≡ content →
-        Steps limits job (Checking t loaded) lock items content lock items (if x
+        MovedRightly limits job (Checking t loaded) lock items content lock items (if x
         then Going (Storing t 0) else Going (Releasing t reply.No))
     done true q all =
         stays limits job (Checking t loaded) (Storing t 0) lock items content s refl refl
@@ -331,7 +331,7 @@ checking limits n job t loaded lock items content s e = go (nat_lt (length loade
         (s.fits.1, r.0, s.fits.2 ∙ sym r.1)
 
     go : (b : Bool) → nat_lt (length loaded + 1) n ≡ b →
-        Steps limits job (Checking t loaded) lock items content lock items (if b
+        MovedRightly limits job (Checking t loaded) lock items content lock items (if b
         then Going (Checking t (loaded ++ slice_index items (length loaded) ∷ []))
         else (if expects job (loaded ++ slice_index items (length loaded) ∷ [])
         then Going (Storing t 0) else Going (Releasing t reply.No)))
@@ -406,7 +406,7 @@ releasing-wins limits job t a lock items content s =
 releasing : (limits : Bounds) (n : ℕ) (job : Job) (t : ℕ) (a : Reply) (lock : ℕ)
     (items content : List ℕ) → Stands limits job (Releasing t a) lock items content →
     n ≡ length content →
-    Steps limits job (Releasing t a) lock items content (if lock == t then t + (units limits).writer
+    MovedRightly limits job (Releasing t a) lock items content (if lock == t then t + (units limits).writer
     else lock) items (Done a)
 releasing limits n job t a lock items content s e =
     let alone = no_reader limits lock s.range s.admitted s.writes in
@@ -439,7 +439,7 @@ items_same limits call (Some word) items = go (decision limits word call)
 -- a lock step goes on with another word seen
 still : (limits : Bounds) (job : Job) (e : LockStep) (seen now : Option ℕ) (lock : ℕ)
     (items content : List ℕ) → Stands limits job (Locking e seen) lock items content →
-    Steps limits job (Locking e seen) lock items content lock items (Going (Locking e now))
+    MovedRightly limits job (Locking e seen) lock items content lock items (Going (Locking e now))
 still limits job ToShare seen now lock items content s =
     stays limits job (Locking ToShare seen) (Locking ToShare now) lock items content s refl refl
     s.fits
@@ -466,10 +466,10 @@ goes : (limits : Bounds) (job : Job) (place to : Place) (lock lock' : ℕ) (item
     + written_by to → (counts_at limits lock').readers + read_by place
     ≡ (counts_at limits lock).readers + read_by to →
     ((counts_at limits lock').writers ≡ 0 → items ≡ content) →
-    Fits limits (counts_at limits lock').write_count (counts_at limits lock').writers content items
+    FitsPlace limits (counts_at limits lock').write_count (counts_at limits lock').writers content items
     job to → SameFor limits lock items content lock' items content
     ⊎ AloneFor limits place lock lock' →
-    Steps limits job place lock items content lock' items (Going to)
+    MovedRightly limits job place lock items content lock' items (Going to)
 goes limits job place to lock lock' items content s a w r f g e = (
   record {
     admitted = a;
@@ -499,7 +499,7 @@ write_some limits k s e =
 shared : (limits : Bounds) (job : Job) (seen : Option ℕ) (lock lock' : ℕ) (items content : List ℕ)
     (r : Reply) → Stands limits job (Locking ToShare seen) lock items content →
     Turns limits ReadLock lock lock' r →
-    Steps limits job (Locking ToShare seen) lock items content lock' items
+    MovedRightly limits job (Locking ToShare seen) lock items content lock' items
     (Going (Reading (stamp_in r) []))
 shared limits job seen lock lock' items content r s t =
     let h = shared_at limits (counts_at limits lock) t.taken t.transition in
@@ -548,7 +548,7 @@ leaves : (limits : Bounds) (job : Job) (place : Place) (lock lock' t : ℕ) (ite
     written_by place ≡ 0 → Turns limits (UnlockRead t) lock lock' r →
     IsRead limits (counts_at limits lock).write_count t → a ≡ reply_to content job →
     content_with content job ≡ content →
-    Steps limits job place lock items content lock' items (Done a)
+    MovedRightly limits job place lock items content lock' items (Done a)
 leaves limits job place lock lock' t items content r a s rd wr u i right same =
     let l = left_counts limits lock lock' t r u i (omega (arith, s.reads, rd)) in
     let free : items ≡ content =
@@ -588,18 +588,18 @@ claims : (limits : Bounds) (job : Job) (place to : Place) (lock lock' st : ℕ)
       writers = 1;
       readers = 0;
     } → read_by to ≡ 0 → written_by to ≡ 1 →
-    Fits limits ((counts_at limits lock).write_count + 1) 1 content items job to →
-    Steps limits job place lock items content lock' items (Going to)
+    FitsPlace limits ((counts_at limits lock).write_count + 1) 1 content items job to →
+    MovedRightly limits job place lock items content lock' items (Going to)
 claims limits job place to lock lock' st items content s a wr free alone cs r w f =
     let k : (counts_at limits lock').write_count ≡ (counts_at limits lock).write_count + 1 =
     ap (λ (c : Counts). c.write_count) cs in
     let n : (counts_at limits lock').writers ≡ 1 = ap (λ (c : Counts). c.writers) cs in
     let m : (counts_at limits lock').readers ≡ 0 = ap (λ (c : Counts). c.readers) cs in
-    let P : ℕ → ℕ → Type 0 = λ x y. Fits limits x y content items job to in
+    let P : ℕ → ℕ → Type 0 = λ x y. FitsPlace limits x y content items job to in
     goes limits job place to lock lock' items content s a (omega (arith, n, wr, free, w))
     (omega (arith, m, alone, r)) (λ z. absurd (omega (arith, n, z)))
-    (subst (λ (x : ℕ). Fits limits x (counts_at limits lock').writers content items job to) (sym k)
-    (subst (λ (y : ℕ). Fits limits ((counts_at limits lock).write_count + 1) y content items
+    (subst (λ (x : ℕ). FitsPlace limits x (counts_at limits lock').writers content items job to) (sym k)
+    (subst (λ (y : ℕ). FitsPlace limits ((counts_at limits lock).write_count + 1) y content items
     job to) (sym n) f))
     (inr (free ∙ sym wr, alone, inl k))
 
@@ -617,7 +617,7 @@ upgraded : (limits : Bounds) (job : Job) (u : ℕ) (seen : Option ℕ) (lock loc
     (items content : List ℕ) (r : Reply) →
     Stands limits job (Locking (ToUpgrade u) seen) lock items content →
     Turns limits (ToWrite u) lock lock' r →
-    Steps limits job (Locking (ToUpgrade u) seen) lock items content lock' items
+    MovedRightly limits job (Locking (ToUpgrade u) seen) lock items content lock' items
     (lock_step_done job (ToUpgrade u) (stamp_in r))
 upgraded limits job u seen lock lock' items content r s t =
     go (upgraded_at limits (counts_at limits lock) u t.taken t.transition free
@@ -631,7 +631,7 @@ upgraded limits job u seen lock lock' items content r s t =
         × (t.taken.reply
         ≡ reply.Stamp (write_stamp (units limits) ((counts_at limits lock).write_count + 1))))
         ⊎ ((t.taken.appended ≡ []) × (t.taken.reply ≡ reply.Stamp 0)) →
-        Steps limits job (Locking (ToUpgrade u) seen) lock items content lock' items
+        MovedRightly limits job (Locking (ToUpgrade u) seen) lock items content lock' items
         (lock_step_done job (ToUpgrade u) (stamp_in r))
     go (inl h) =
         let st : stamp_in r ≡ write_stamp (units limits) ((counts_at limits lock).write_count + 1) =
@@ -660,7 +660,7 @@ upgraded limits job u seen lock lock' items content r s t =
 claimed : (limits : Bounds) (job : Job) (seen : Option ℕ) (lock lock' : ℕ) (items content : List ℕ)
     (r : Reply) → Stands limits job (Locking ToClaim seen) lock items content →
     Turns limits WriteLock lock lock' r →
-    Steps limits job (Locking ToClaim seen) lock items content lock' items
+    MovedRightly limits job (Locking ToClaim seen) lock items content lock' items
     (lock_step_done job ToClaim (stamp_in r))
 claimed limits Getting seen lock lock' items content r s t = absurd (true_false s.fits)
   where
@@ -684,7 +684,7 @@ claimed limits (PuttingIf a b) seen lock lock' items content r s t =
 ended : (limits : Bounds) (job : Job) (e : LockStep) (seen : Option ℕ) (lock lock' : ℕ)
     (items content : List ℕ) (r : Reply) → Stands limits job (Locking e seen) lock items content →
     Turns limits (call_for e) lock lock' r →
-    Steps limits job (Locking e seen) lock items content lock' items
+    MovedRightly limits job (Locking e seen) lock items content lock' items
     (lock_step_done job e (stamp_in r))
 ended limits job ToShare seen lock lock' items content r s t =
     shared limits job seen lock lock' items content r s t
@@ -708,7 +708,7 @@ ended limits job ToClaim seen lock lock' items content r s t =
 
 locking : (limits : Bounds) (job : Job) (e : LockStep) (seen : Option ℕ) (lock : ℕ)
     (items content : List ℕ) → Stands limits job (Locking e seen) lock items content →
-    Steps limits job (Locking e seen) lock items content
+    MovedRightly limits job (Locking e seen) lock items content
     (lock_after (phase_next limits (call_for e) seen) lock)
     (items_after (phase_next limits (call_for e) seen) items)
     (passed job e
@@ -719,14 +719,14 @@ locking limits job e seen lock items content s =
     (go _ _ (phase-leaves limits (call_for e) lock items seen s.range s.admitted))
   where
     go : (lock' : ℕ) (p : PhaseTurn) → PhaseLeaves limits (call_for e) lock lock' p →
-        Steps limits job (Locking e seen) lock items content lock' items (passed job e p)
+        MovedRightly limits job (Locking e seen) lock items content lock' items (passed job e p)
     go lock' (Still now) l = rw l (still limits job e seen now lock items content s)
     go lock' (Ended r) t = ended limits job e seen lock lock' items content r s t
 
 -- one access of a record call
 pub own-step : (limits : Bounds) (n : ℕ) (job : Job) (place : Place) (lock : ℕ)
     (items content : List ℕ) → Stands limits job place lock items content → n ≡ length content →
-    Steps limits job place lock items content (lock_after (next limits n job place) lock)
+    MovedRightly limits job place lock items content (lock_after (next limits n job place) lock)
     (items_after (next limits n job place) items)
     (after limits n job place (local_seen (next limits n job place) lock items))
 own-step limits n job LoadingLock lock items content s e = loading-lock limits n job lock items content s e

@@ -6,7 +6,7 @@ use Rattle.std.proofs.lemmas.List.{length-map}
 use Rattle.std.proofs.lemmas.List.Elements.{All-nil, All-cons, All-head, All-tail}
 use Rattle.stamp_machines.specs.declared.script.ScriptCall.{ScriptCall}
 use Rattle.stamp_machines.specs.Script.{Suits, IsSound}
-use Rattle.stamp_machines.specs.ScriptFields.{scripted_of, IsWithin}
+use Rattle.stamp_machines.specs.ScriptFields.{scripted_of, HasGoodFields}
 use Rattle.stamp_machines.specs.declared.script.Script.TheInside.{Inside}
 use Rattle.stamp_core.specs.Limits.{AreInRange}
 use Rattle.stamp_machines.specs.ScriptFault.{calls_in, AreSuited, AreShort}
@@ -30,7 +30,7 @@ short-calls (v ∷ threads) h =
     (short-calls threads
     (All-tail (λ (calls : Vec ScriptCall Global). length calls.items ≤ 10000) v threads h))
 
-pub sound : (s : Inside) → AreInRange s.limits → IsWithin s → IsSound (scripted_of s)
+pub sound : (s : Inside) → AreInRange s.limits → HasGoodFields s → IsSound (scripted_of s)
 sound s range within = record {
   range = range;
   width = within.4;

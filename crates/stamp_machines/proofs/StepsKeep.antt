@@ -37,7 +37,7 @@ use Rattle.stamp_machines.specs.Script.{Scripted, IsSound}
 use Rattle.stamp_machines.specs.declared.state.Begun.{Begun}
 use Rattle.stamp_machines.specs.World.{World, opening, opening_word, current, world_after, stepped, step}
 use Rattle.stamp_machines.specs.World.{execution_of, entry_of, shape_of}
-use Rattle.stamp_machines.specs.RecordKept.{Doing, RecordKept, Steps, Stands, read_in, written_in}
+use Rattle.stamp_machines.specs.RecordKept.{Doing, RecordKept, MovedRightly, Stands, read_in, written_in}
 use Rattle.stamp_machines.specs.RecordKept.{read_by, written_by, FitsIn, SameFor, AloneFor}
 use Rattle.stamp_machines.specs.Invariant.{Invariant, IsOf, doing_in, doing_at, job_at, content_in, events_in}
 use Rattle.stamp_machines.proofs.LockPhaseSteps.{PhaseLeaves, phase-leaves, counts-of}
@@ -214,7 +214,7 @@ record-step : (script : Scripted) (world : World) (t : ℕ) (b : Begun) (job : J
     written_in (doing_in (slice_index_or world.begun t None)) ≡ written_by place →
     words ≡ slice_index world.words 0 ∷ lock ∷ items → length words ≡ 2 + script.width →
     (counts_at (record_limits (shape_of script)) lock).write_count ≤ world.position + 1 →
-    Steps (record_limits (shape_of script)) job place (slice_index world.words 1) (drop 2 world.words)
+    MovedRightly (record_limits (shape_of script)) job place (slice_index world.words 1) (drop 2 world.words)
     (content_in script world) lock items turned →
     Invariant script (world_after world t b words (record_turn b.machine.shape b.machine.call job turned))
 record-step script world t b job place lock items words (places.Going to) k h o j rd wr w n f

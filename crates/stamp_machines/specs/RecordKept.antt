@@ -45,32 +45,32 @@ abbrev pub IsRead : Bounds → ℕ → ℕ → Type 0
 IsRead limits k s =
     (read_stamp (units limits) k 1 ≤ s) × (s ≤ read_stamp (units limits) k (units limits).readers)
 
-abbrev pub Fits : Bounds → ℕ → ℕ → List ℕ → List ℕ → Job → Place → Type 0
-Fits limits k w content items job LoadingLock = is_get job ≡ true
-Fits limits k w content items job (Copying first loaded) =
+abbrev pub FitsPlace : Bounds → ℕ → ℕ → List ℕ → List ℕ → Job → Place → Type 0
+FitsPlace limits k w content items job LoadingLock = is_get job ≡ true
+FitsPlace limits k w content items job (Copying first loaded) =
     (is_get job ≡ true) × ((counts_at limits first).write_count ≤ k)
     × (length loaded ≤ length content)
     × ((counts_at limits first).write_count ≡ k → (w ≡ 0) × (loaded ≡ take (length loaded) content))
-Fits limits k w content items job (Locking ToShare seen) = Unit {0}
-Fits limits k w content items job (Locking (ToLeave s loaded) seen) =
+FitsPlace limits k w content items job (Locking ToShare seen) = Unit {0}
+FitsPlace limits k w content items job (Locking (ToLeave s loaded) seen) =
     (is_get job ≡ true) × IsRead limits k s × (loaded ≡ content)
-Fits limits k w content items job (Locking (ToRefuse s) seen) =
+FitsPlace limits k w content items job (Locking (ToRefuse s) seen) =
     (is_get job ≡ false) × IsRead limits k s × (expects job content ≡ false)
-Fits limits k w content items job (Locking (ToUpgrade s) seen) =
+FitsPlace limits k w content items job (Locking (ToUpgrade s) seen) =
     (is_get job ≡ false) × IsRead limits k s × (expects job content ≡ true)
-Fits limits k w content items job (Locking (ToReleaseFirst s) seen) =
+FitsPlace limits k w content items job (Locking (ToReleaseFirst s) seen) =
     (is_get job ≡ false) × IsRead limits k s
-Fits limits k w content items job (Locking ToClaim seen) = is_get job ≡ false
-Fits limits k w content items job (Reading s loaded) =
+FitsPlace limits k w content items job (Locking ToClaim seen) = is_get job ≡ false
+FitsPlace limits k w content items job (Reading s loaded) =
     IsRead limits k s × Begins loaded content × (length loaded < length content)
-Fits limits k w content items job (Checking s loaded) =
+FitsPlace limits k w content items job (Checking s loaded) =
     (is_get job ≡ false) × (s ≡ write_stamp (units limits) k) × (items ≡ content)
     × Begins loaded content × (length loaded < length content)
-Fits limits k w content items job (Storing s i) =
+FitsPlace limits k w content items job (Storing s i) =
     (is_get job ≡ false) × (s ≡ write_stamp (units limits) k) × (expects job content ≡ true)
     × (i < length content)
     × (items ≡ take i (new_words job) ++ drop i content)
-Fits limits k w content items job (Releasing s a) =
+FitsPlace limits k w content items job (Releasing s a) =
     (s ≡ write_stamp (units limits) k) × (a ≡ reply_to content job)
     × (items ≡ content_with content job)
 
@@ -90,7 +90,7 @@ abbrev pub FitsIn : Bounds → ℕ → ℕ → List ℕ → List ℕ → Option 
 FitsIn limits k w content items None = Unit {0}
 FitsIn limits k w content items (Some d) =
     (0 < length content) × ((is_get d.job ≡ true) ⊎ (length (new_words d.job) ≡ length content))
-    × Fits limits k w content items d.job d.place
+    × FitsPlace limits k w content items d.job d.place
 
 -- what holds of the record after every step, by the content that the finished calls leave
 pub record RecordKept (limits : Bounds) (lock : ℕ) (items : List ℕ) (content : List ℕ)
@@ -148,8 +148,8 @@ abbrev pub RightIn : List ℕ → Job → PlaceTurn → Type 0
 RightIn content job (Going place) = Unit {0}
 RightIn content job (Done a) = a ≡ reply_to content job
 
-abbrev pub Steps : Bounds → Job → Place → ℕ → List ℕ → List ℕ → ℕ → List ℕ → PlaceTurn → Type 0
-Steps limits job place lock items content lock' items' turned =
+abbrev pub MovedRightly : Bounds → Job → Place → ℕ → List ℕ → List ℕ → ℕ → List ℕ → PlaceTurn → Type 0
+MovedRightly limits job place lock items content lock' items' turned =
     Moved limits place lock items content lock' items' (content_of content job turned)
     (now_of job turned) × RightIn content job turned
 
@@ -165,5 +165,5 @@ pub record Stands (limits : Bounds) (job : Job) (place : Place) (lock : ℕ) (it
   pub reads : read_by place ≤ (counts_at limits lock).readers
   pub writes : written_by place ≤ (counts_at limits lock).writers
   pub words : (is_get job ≡ true) ⊎ (length (new_words job) ≡ length content)
-  pub fits : Fits limits (counts_at limits lock).write_count (counts_at limits lock).writers content
+  pub fits : FitsPlace limits (counts_at limits lock).write_count (counts_at limits lock).writers content
       items job place

@@ -13,5 +13,5 @@ scripted_of s =
       steps = s.steps.items;
     }
 
-abbrev pub IsWithin : Inside → Type 0
-IsWithin s = IsGood s.width s.threads.items s.steps.items
+abbrev pub HasGoodFields : Inside → Type 0
+HasGoodFields s = IsGood s.width s.threads.items s.steps.items

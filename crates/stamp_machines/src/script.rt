@@ -86,11 +86,11 @@ impl Model for Script {
 
     ghost Value = { Scripted };
 
-    ghost use Rattle.stamp_machines.specs.ScriptFields.{scripted_of, IsWithin};
+    ghost use Rattle.stamp_machines.specs.ScriptFields.{scripted_of, HasGoodFields};
 
     ghost view = { scripted_of };
 
-    ghost invariant = { IsWithin };
+    ghost invariant = { HasGoodFields };
 }
 
 ghost use Rattle.stamp_machines.specs.ScriptFault.{calls_in, AreShort, AreSuited, AreNamed};
