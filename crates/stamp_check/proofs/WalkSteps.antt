@@ -18,7 +18,7 @@ use Rattle.stamp_check.specs.declared.checking.Why.TheVariants.{Interval, Order,
 use Rattle.stamp_check.specs.declared.checking.Why.TheVariants as why
 use Rattle.stamp_check.specs.declared.walk.Walk.{Walk}
 use Rattle.stamp_check.specs.GoesOn.{LockGoesOn, RecordGoesOn}
-use Rattle.stamp_check.specs.Walk.{IsAbove, IsLastOf, IsAfter, Advances}
+use Rattle.stamp_check.specs.Walk.{IsAbove, IsLastOf, IsWalk, Advances}
 use Rattle.stamp_check.proofs.LastPositions.{above_rises, rises_above, last_point_push}
 use Rattle.stamp_check.proofs.LastPositions.{above_follows, follows_above, lasts_push}
 use Rattle.stamp_check.proofs.LockOrRecord.{lock_answer, lock_answered, record_answer}
@@ -58,7 +58,7 @@ pub record Follows (e : Entry) (walk : Walk) (d : Option ℕ) : Type 0 where
   pub free : IsAbove (get_or walk.lasts e.thread d) e.first
 
 breaks_reply : (limits : Bounds) (e : Entry) (walk next : Walk) (d : Option ℕ) → Follows e walk d →
-    ((width : ℕ) (before : List Entry) → IsAfter limits width before walk → SuitsRecord width e →
+    ((width : ℕ) (before : List Entry) → IsWalk limits width before walk → SuitsRecord width e →
     ¬ IsAnswered limits width before e) → Advances limits e walk next (Some why.Reply)
 breaks_reply limits e walk next d f not = record {
   behind = λ width before after suits. (
@@ -87,12 +87,12 @@ breaks_record_reply limits e walk next d f lock goes =
 
 -- one entry more
 goes_on : (limits : Bounds) (width : ℕ) (before : List Entry) (e : Entry) (walk : Walk) (bits : ℕ)
-    (content : List ℕ) (d : Option ℕ) → IsAfter limits width before walk → Follows e walk d →
+    (content : List ℕ) (d : Option ℕ) → IsWalk limits width before walk → Follows e walk d →
     IsAnswered limits width before e → Represents limits (word_at limits bits)
     (events_of limits (history_of before) ++
     appended_by (transition limits (events_of limits (history_of before)) e.call)) →
     (0 < width → content ≡ content_next (content_after width (history_of before)) e.call e.reply) →
-    IsAfter limits width (before ++ e ∷ []) (record
+    IsWalk limits width (before ++ e ∷ []) (record
     { bits = bits; content = content; point = Some e.point; lasts = set walk.lasts e.thread (Some e.last) })
 goes_on limits width before e walk bits content d after f answered represented held =
     let follows = above_follows before e (get_or walk.lasts e.thread d) (after.lasts e.thread d f.thread) f.free in
@@ -154,7 +154,7 @@ record_goes_on limits e walk content d f lock goes = record {
 -- before the first entry
 pub after_none : (limits : Bounds) (width : ℕ) (word : LockWord) (bits : ℕ) (content : List ℕ) →
     Represents limits word [] → bits ≡ word.bits → (0 < width → content ≡ zeros width) →
-    IsAfter limits width [] (record { bits = bits; content = content; point = None; lasts = replicate 64 None })
+    IsWalk limits width [] (record { bits = bits; content = content; point = None; lasts = replicate 64 None })
 after_none limits width word bits content represented is held = record {
   linearized = linearized_none limits width;
   word = record { well_formed = represented.well_formed; layout = refl; spelled = is ∙ represented.spelled };

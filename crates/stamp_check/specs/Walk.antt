@@ -31,7 +31,7 @@ IsLastOf before thread (Some n) =
     ((slice_index_or before k d).last ≡ n)))
 
 -- the walk is behind these entries, which are linearized
-pub record IsAfter (limits : Bounds) (width : ℕ) (before : List Entry) (walk : Walk) : Type 0 where
+pub record IsWalk (limits : Bounds) (width : ℕ) (before : List Entry) (walk : Walk) : Type 0 where
   pub linearized : AreLinearized limits width before
   pub word : Represents limits (word_at limits walk.bits) (events_of limits (history_of before))
   pub content : 0 < width → walk.content ≡ content_after width (history_of before)
@@ -41,5 +41,5 @@ pub record IsAfter (limits : Bounds) (width : ℕ) (before : List Entry) (walk :
 
 -- behind one entry more, or what it breaks first
 pub record Advances (limits : Bounds) (e : Entry) (walk next : Walk) (found : Option Why) : Type 0 where
-  pub behind : (width : ℕ) (before : List Entry) → IsAfter limits width before walk → SuitsRecord width e →
-      MatchOption found (IsAfter limits width (before ++ e ∷ []) next) (Breaks limits width before e)
+  pub behind : (width : ℕ) (before : List Entry) → IsWalk limits width before walk → SuitsRecord width e →
+      MatchOption found (IsWalk limits width (before ++ e ∷ []) next) (Breaks limits width before e)

@@ -3,7 +3,7 @@ ghost use Rattle.std.specs.Prelude.{◌≡◌, ◌<◌, ◌≤◌, ◌↔◌, []
 ghost use Rattle.stamp_core.specs.Linearized.{IsWithin};
 ghost use Rattle.stamp_core.specs.Word.{IsAdmitted, word_at};
 ghost use Rattle.stamp_core.specs.Content.{zeros};
-ghost use Rattle.stamp_check.specs.Walk.{IsAbove, IsAfter, Advances};
+ghost use Rattle.stamp_check.specs.Walk.{IsAbove, IsWalk, Advances};
 
 use crate::checking::Why;
 use crate::judging::{lock_goes_on, record_goes_on};
@@ -52,7 +52,7 @@ pub fn first_content(width: u64) -> Words
 impl Walk {
     /// Before the first entry.
     pub(crate) fn start(limits: Limits, width: u64) -> Walk
-        ensures { width ≤ 16 → IsAfter limits width [] result }
+        ensures { width ≤ 16 → IsWalk limits width [] result }
     {
         Walk {
             bits: Word::opening_in(limits.layout()).bits(),
