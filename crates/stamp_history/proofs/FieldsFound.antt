@@ -1,5 +1,6 @@
 -- The fields of a history, or of an observed one, are found in the value that they are written as.
-use Rattle.std.proofs.Common.{◌≡◌, ◌⊎◌, ◌≤◌, ℕ, suc, ◌+◌, List, [], ◌∷◌, length, map, refl, ap, inl, inr, arith, Ok, Result}
+use Rattle.std.proofs.Common.{◌≡◌, ◌⊎◌, ◌≤◌, ℕ, suc, ◌+◌, List, [], ◌∷◌, length, map, refl, ap, inl, inr}
+use Rattle.std.proofs.Common.{arith, Ok, Result}
 use Rattle.std.proofs.lemmas.Bool.{le-leb, eq-eqb}
 use Rattle.serde_json.specs.Data.{Data, array, Items}
 use Rattle.serde_json.specs.Events.{items_len}
@@ -76,6 +77,14 @@ unfolding reported
 report_found One readers versions w d [] count known = refl
 report_found Two readers versions w d [] count known = refl
 report_found One readers versions w d (p ∷ ps) count known =
-    rw (mapped_len pair_data ps, eq-eqb (suc (length ps)) count (one_each (length ps) count known), pairs_found 1 ps) refl
+    rw (
+      mapped_len pair_data ps,
+      eq-eqb (suc (length ps)) count (one_each (length ps) count known),
+      pairs_found 1 ps,
+    ) refl
 report_found Two readers versions w d (p ∷ ps) count known =
-    rw (mapped_len pair_data ps, eq-eqb (suc (length ps)) count (one_each (length ps) count known), pairs_found 1 ps) refl
+    rw (
+      mapped_len pair_data ps,
+      eq-eqb (suc (length ps)) count (one_each (length ps) count known),
+      pairs_found 1 ps,
+    ) refl

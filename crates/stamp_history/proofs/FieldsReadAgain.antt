@@ -10,7 +10,8 @@ use Rattle.stamp_core.specs.Limits.{AreInRange, bounds}
 use Rattle.stamp_core.specs.declared.layout.Layout.{Layout}
 use Rattle.stamp_core.specs.declared.layout.Layout.TheVariants.{One, Two}
 use Rattle.stamp_history.specs.HistoryLaws.{IsU64, PairIsU64}
-use Rattle.stamp_history.specs.HistoryText.{report_data, format_of, with_layout, with_report, after_entries, with_entries}
+use Rattle.stamp_history.specs.HistoryText.{report_data, format_of, with_layout, with_report, after_entries}
+use Rattle.stamp_history.specs.HistoryText.{with_entries}
 use Rattle.stamp_history.specs.Reading.{json_of}
 use Rattle.stamp_history.specs.ReplayText.{number_data}
 use Rattle.stamp_history.proofs.EntriesReadAgain.{report_again}

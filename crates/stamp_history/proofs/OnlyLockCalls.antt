@@ -9,7 +9,7 @@ use Rattle.stamp_core.specs.Call.{is_lock_call}
 use Rattle.stamp_core.specs.declared.call.Call.{Call}
 use Rattle.stamp_history.specs.declared.text_kind.TextKind.TheVariants as text
 use Rattle.stamp_history.specs.HistoryCall.{history_call}
-use Rattle.stamp_history.specs.LockCall.{of_lock, lock_call}
+use Rattle.stamp_history.specs.LockCall.{if_of_lock, lock_call}
 use Rattle.stamp_history.specs.Reading.{◌>>=◌, json_of, each}
 use Rattle.stamp_history.specs.LimitFields.{limits}
 use Rattle.stamp_history.specs.Replay.{Replay, replay_in, replay_of}
@@ -29,7 +29,7 @@ one k lock = record {
 nothing : IsOfLock None
 nothing = record { is = λ call e. cc }
 
-of_lock_alone : (call : Call) → IsOfLock (of_lock call)
+of_lock_alone : (call : Call) → IsOfLock (if_of_lock call)
 of_lock_alone call = by (is_lock_call call) refl
   where
     by : (b : Bool) → is_lock_call call ≡ b → IsOfLock (if b then Some call else None)
@@ -39,7 +39,7 @@ of_lock_alone call = by (is_lock_call call) refl
 lock_call_of_lock : (d : Data) → IsOfLock (lock_call d)
 lock_call_of_lock d = by (history_call d)
   where
-    by : (found : Option Call) → IsOfLock (option_and_then of_lock found)
+    by : (found : Option Call) → IsOfLock (option_and_then if_of_lock found)
     by None = nothing
     by (Some call) = of_lock_alone call
 

@@ -8,7 +8,7 @@ use Rattle.stamp_core.specs.Replayed.{IsReplayed}
 use Rattle.stamp_core.specs.declared.reply.Reply.{Reply}
 use Rattle.stamp_history.specs.Replay.{Replay, replay_of}
 use Rattle.stamp_history.specs.ReplayText.{replayed_data, replayed_text}
-use Rattle.stamp_history.specs.ReplayAnswer.{IsReplayTextAnswer, Answers, RepliesTo}
+use Rattle.stamp_history.specs.ReplayAnswer.{IsReplayTextAnswer, AnswersReplayText, RepliesTo}
 use Rattle.stamp_history.specs.declared.read_error.ReadError.{ReadError}
 use Rattle.stamp_history.specs.declared.read_error.ReadError.TheVariants.{Memory}
 use Rattle.stamp_history.specs.declared.answer_error.AnswerError.{AnswerError}
@@ -30,7 +30,7 @@ answered bytes replay reading replies word replayed number bits {text} is =
 
 -- a refusal of the reading, passed on
 pub refused : (bytes : List ℕ) (r : Result (Vec ℕ Global) AnswerError) (e : ReadError) →
-    IsErrAnd r (λ f. f ≡ Refused e) → (e ≢ Memory → replay_of bytes ≡ Err e) → Answers bytes r
+    IsErrAnd r (λ f. f ≡ Refused e) → (e ≢ Memory → replay_of bytes ≡ Err e) → AnswersReplayText bytes r
 refused bytes (Ok text) e handed reading = absurd handed
 refused bytes (Err f) e handed reading = λ other.
     let not_memory : e ≢ Memory = λ m. other (handed ∙ ap Refused m) in
@@ -39,10 +39,10 @@ refused bytes (Err f) e handed reading = λ other.
 -- a call that waits, passed on
 pub waited : (bytes : List ℕ) (replay : Replay) (old new : List ℕ) (r : Result (Vec ℕ Global) AnswerError)
     (f : AnswerError) → replay_of bytes ≡ Ok replay → IsErrAnd r (λ g. g ≡ f) →
-    RepliesTo replay.limits replay.calls old new (Err f) → Answers bytes r
+    RepliesTo replay.limits replay.calls old new (Err f) → AnswersReplayText bytes r
 waited bytes replay old new (Ok text) f reading handed replies = absurd handed
 waited bytes replay old new (Err g) f reading handed replies =
-    subst (λ (h : AnswerError). Answers bytes (Err h)) (sym handed) (λ other. by f other replies)
+    subst (λ (h : AnswerError). AnswersReplayText bytes (Err h)) (sym handed) (λ other. by f other replies)
   where
     by : (h : AnswerError) → h ≢ Refused Memory → RepliesTo replay.limits replay.calls old new (Err h) →
         IsReplayTextAnswer (replay_of bytes) (Err h)

@@ -6,8 +6,8 @@ use Rattle.stamp_core.specs.declared.call.Call.{Call}
 use Rattle.stamp_history.specs.HistoryCall.{history_call}
 
 -- the call, if it is the lock's
-abbrev pub of_lock : Call → Option Call
-of_lock call = if is_lock_call call then Some call else None
+abbrev pub if_of_lock : Call → Option Call
+if_of_lock call = if is_lock_call call then Some call else None
 
 abbrev pub lock_call : Data → Option Call
-lock_call d = option_and_then of_lock (history_call d)
+lock_call d = option_and_then if_of_lock (history_call d)

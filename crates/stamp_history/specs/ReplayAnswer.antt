@@ -30,9 +30,9 @@ IsReplayTextAnswer (Err e) (Ok text) = ⊥
 IsReplayTextAnswer (Err e) (Err fault) = fault ≡ Refused e
 
 -- memory aside
-abbrev pub Answers : List ℕ → Result (Vec ℕ Global) AnswerError → Type 0
-Answers bytes (Ok text) = IsReplayTextAnswer (replay_of bytes) (Ok text.items)
-Answers bytes (Err fault) = fault ≢ Refused Memory → IsReplayTextAnswer (replay_of bytes) (Err fault)
+abbrev pub AnswersReplayText : List ℕ → Result (Vec ℕ Global) AnswerError → Type 0
+AnswersReplayText bytes (Ok text) = IsReplayTextAnswer (replay_of bytes) (Ok text.items)
+AnswersReplayText bytes (Err fault) = fault ≢ Refused Memory → IsReplayTextAnswer (replay_of bytes) (Err fault)
 
 -- to calls: the list of the replies, appended to a text, and the word; or the call that waits
 abbrev pub RepliesTo : Bounds → List Call → List ℕ → List ℕ → Result LockWord AnswerError → Type 0

@@ -17,8 +17,8 @@ named_reply name =
     else None
 
 -- an object of the one key `count`
-abbrev pub counted : Data → Option Reply
-counted d = if has_members 1 d then option_map Count (whole_under (codes "count") d) else None
+abbrev pub count_reply : Data → Option Reply
+count_reply d = if has_members 1 d then option_map Count (whole_under (codes "count") d) else None
 
 abbrev pub reply : Data → Option Reply
 reply null = None
@@ -26,4 +26,4 @@ reply (boolean b) = None
 reply (number n) = option_map Stamp (find.as_u64 n)
 reply (string name) = named_reply name
 reply (array ds) = option_map Content (words (array ds))
-reply (object ms) = counted (object ms)
+reply (object ms) = count_reply (object ms)

@@ -24,7 +24,7 @@ fn named_reply(name: &str) -> Option<Reply>
 }
 
 fn counted(value: &Value) -> Option<Reply>
-    ensures { result ≡ reply.counted (view value.now) }
+    ensures { result ≡ reply.count_reply (view value.now) }
 {
     if has_members(value, 1) {
         Some(Reply::Count(whole_under(value, "count")?))

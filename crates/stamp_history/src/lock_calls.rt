@@ -14,7 +14,7 @@ use stamp_machines::ScriptCall;
 
 /// The call, if it is the lock's and its stamp is a number.
 fn small_call(call: ScriptCall) -> Option<SmallCall>
-    ensures { option_map call_of result ≡ option_and_then spec.of_lock (history.as_call call) }
+    ensures { option_map call_of result ≡ option_and_then spec.if_of_lock (history.as_call call) }
 {
     match call {
         ScriptCall::TryWrite => Some(SmallCall::TryWrite),

@@ -1,7 +1,7 @@
 //! The answer to the text of a replay, without its calls and replies as lists.
 
 ghost use Rattle.std.specs.Prelude.{◌≡◌, ◌<◌, length, map, IfErr};
-ghost use Rattle.stamp_history.specs.ReplayAnswer.{Answers, RepliesTo};
+ghost use Rattle.stamp_history.specs.ReplayAnswer.{AnswersReplayText, RepliesTo};
 ghost use Rattle.stamp_history.specs.SmallCall.{call_of};
 
 use crate::answer_error::AnswerError;
@@ -39,7 +39,7 @@ fn push_replies_to(
 /// it. Unlike `read_replay`, `replay` and `write_replay` together it keeps no list of `Call` or of
 /// `Reply`, each of which has room for the words of a record.
 pub fn replay_text(alloc: Global, bytes: &[u8]) -> Result<Vec<u8>, AnswerError>
-    ensures answers { Answers bytes.now result }
+    ensures answers { AnswersReplayText bytes.now result }
     ensures memory { IfErr result (λ e. e ≡ AnswerError.Refused ReadError.Memory
         → 0 < length bytes.now) }
 {
