@@ -23,7 +23,7 @@ use Rattle.stamp_core.specs.declared.call.Call.TheVariants.{PutIf}
 use Rattle.stamp_core.specs.declared.reply.Reply.{Reply}
 use Rattle.stamp_core.specs.declared.entry.Entry.{Entry}
 use Rattle.stamp_core.proofs.Linearizing.{events_push, linearized_more}
-use Rattle.stamp_threads.specs.Book.{Booked, past_of, transition_in, entry_at, with_call, IsEntryAt}
+use Rattle.stamp_threads.specs.Book.{Booked, past_of, transition_in, entry_made_at, with_call, IsEntryAt}
 use Rattle.stamp_threads.specs.Book.{AreInPlace, IsBook, HasWord}
 
 pub admitted : (b : Booked) (word : LockWord) → HasWord b word → IsAdmitted b.limits word
@@ -69,11 +69,11 @@ placed_more xs e placed stands k d lt = by (either k (length xs))
 -- the book with one more call, and the word that it leaves
 module _ (b : Booked) (thread : ℕ) (call : Call) (is_book : IsBook b) (lock : IsTrue (is_lock_call call)) where
   answered : (reply : Reply) → Replies (transition_in b call) reply →
-      IsAnswered b.limits 0 b.entries (entry_at (length b.entries) thread call reply)
+      IsAnswered b.limits 0 b.entries (entry_made_at (length b.entries) thread call reply)
   answered reply replies = rw lock replies
 
   fits : (reply : Reply) → Replies (transition_in b call) reply →
-      Fits b.limits 0 b.entries (entry_at (length b.entries) thread call reply)
+      Fits b.limits 0 b.entries (entry_made_at (length b.entries) thread call reply)
   fits reply replies = record {
     within = record { begun = omega arith; ended = omega arith };
     rises = λ d some.
@@ -89,7 +89,7 @@ module _ (b : Booked) (thread : ℕ) (call : Call) (is_book : IsBook b) (lock : 
       HasWord (with_call b thread call found.1) found.0
   kept_more word found small room represented steps =
       let s = steps.after (past_of b) represented in
-      let e : Entry = entry_at (length b.entries) thread call found.1 in
+      let e : Entry = entry_made_at (length b.entries) thread call found.1 in
       record {
         book = record {
           in_range = is_book.in_range;

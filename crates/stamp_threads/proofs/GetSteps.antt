@@ -22,7 +22,7 @@ use Rattle.stamp_threads.specs.RecordWord.{word_with}
 use Rattle.stamp_threads.specs.RecordLog.{puts, puts_in, content_in, is_locked, is_own}
 use Rattle.stamp_threads.specs.RecordPass.{RecordPassView, Seated, IsConsistentWith, marks_ahead, first_of}
 use Rattle.stamp_threads.specs.RecordRule.{KnowsReading, Knows, IsWriting, IsKept, calling}
-use Rattle.stamp_threads.specs.RecordRule.{opening, stopping, get_of, loading_one, loaded_one}
+use Rattle.stamp_threads.specs.RecordRule.{starting_to_read, stopping, get_of, loading_one, loaded_one}
 use Rattle.stamp_threads.specs.RecordRule.{Confirmed, Overtaken, word_to_confirm, OpenTells}
 use Rattle.stamp_threads.specs.RecordRule.{LoadTells, ConfirmTells}
 use Rattle.stamp_threads.proofs.Beginnings.{begins_all}
@@ -153,13 +153,13 @@ open_at : {enterable : Bool} (P : List ℕ → Type 0) (shape : RecordShape)
     (id : ℕ) (v : RecordPassView) → get_elem? s.views id ≡ some (v ∷ []) → v.phase ≡ Idle →
     (b : Bool) → is_locked r.log ≡ b →
     (word : ℕ) → KeptBy enterable P shape s id (if b then observing (finding v word) r.log
-    else opening (finding v word) r.log) s.words
+    else starting_to_read (finding v word) r.log) s.words
 open_at P shape s r id v here idle true e word =
     only_views P shape s r id v here (idle_quiet v.phase idle) (observing (finding v word) r.log)
     refl refl (observing_brings P shape s r id v here word)
 open_at P shape s r id v here idle false e word =
     let f = fits_here P shape s r id v here in
-    only_views P shape s r id v here (idle_quiet v.phase idle) (opening (finding v word) r.log)
+    only_views P shape s r id v here (idle_quiet v.phase idle) (starting_to_read (finding v word) r.log)
     refl refl (record {
       observed = begins_all r.log;
       own = f.part.own;
@@ -180,7 +180,7 @@ allows_open P shape slots id me is idle s r _ at _ =
     at ∙ ap (λ (m : Seated). some m.0) is in
     let word : ℕ = get_or s.words 0 0 in
     let w : RecordPassView = if is_locked r.log then observing (finding v word) r.log
-    else opening (finding v word) r.log in
+    else starting_to_read (finding v word) r.log in
     let quiet = idle_quiet v.phase idle in (
       w ∷ [],
       keeps,

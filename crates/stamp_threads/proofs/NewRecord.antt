@@ -18,7 +18,7 @@ use Rattle.stamp_threads.specs.RecordWord.{word_with}
 use Rattle.stamp_threads.specs.RecordLog.{RecordLog, IsLegalRecord}
 use Rattle.stamp_threads.specs.RecordPass.{RecordPassView, IsConsistentWith, first_pass}
 use Rattle.stamp_threads.proofs.RecordLogs.{legal_marked, legal_longer}
-use Rattle.stamp_threads.specs.RecordRule.{Fits, IsKept, opening_log, opening_pass}
+use Rattle.stamp_threads.specs.RecordRule.{KnowsPart, IsKept, opening_log, opening_pass}
 use Rattle.stamp_threads.proofs.Beginnings.{begins_all}
 use Rattle.stamp_threads.proofs.ListElements.{only_one}
 use Rattle.stamp_threads.proofs.GivenNames.{regiven, not_longer}
@@ -71,7 +71,7 @@ pub opens : {enterable : Bool} (shape : RecordShape) (first : ℕ) → first ≡
     (opening (take (shape.width + 1) (first ∷ replicate 16 0)) [] (first_pass ∷ []))
 opens shape first is narrow =
     let cells : List ℕ = take (shape.width + 1) (first ∷ replicate 16 0) in
-    let fits : Fits (λ _. Unit {0}) shape.width cells [] first_pass = record {
+    let fits : KnowsPart (λ _. Unit {0}) shape.width cells [] first_pass = record {
       part = record { observed = begins_all []; own = refl; given = tt };
       marks = refl;
       knows = tt;
@@ -91,7 +91,7 @@ opens shape first is narrow =
           sym (get_or-replicate shape.width i 0 0 l)));
       long = length-replicate shape.width 0;
       obeys = tt;
-      passes = stands_alone (Fits (λ _. Unit {0}) shape.width cells []) [] first_pass refl refl
+      passes = stands_alone (KnowsPart (λ _. Unit {0}) shape.width cells []) [] first_pass refl refl
           fits tt;
       writer = λ e. absurd (true≢false (sym e));
     }
@@ -126,7 +126,7 @@ module _ (words : List ℕ) where
       (opening (first ∷ words) [] (holder ∷ []))
   opens_holding P limits first is version good =
       let width : ℕ = length words in
-      let fits : Fits P width (first ∷ words) log holder = record {
+      let fits : KnowsPart P width (first ∷ words) log holder = record {
         part = record { observed = begins_all log; own = refl; given = none_given };
         marks = refl;
         knows = tt;
@@ -143,7 +143,7 @@ module _ (words : List ℕ) where
         rests = λ _ i l. later first words i;
         long = refl;
         obeys = good;
-        passes = stands_alone (Fits P width (first ∷ words) log) log holder refl refl fits
+        passes = stands_alone (KnowsPart P width (first ∷ words) log) log holder refl refl fits
             (omega arith, (omega arith, tt));
         writer = λ e. absurd (true≢false (sym e));
       }

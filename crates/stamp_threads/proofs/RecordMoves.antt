@@ -16,7 +16,7 @@ use Rattle.stamp_threads.specs.Seats.{StandsAt, AreSeated, alone, both}
 use Rattle.stamp_threads.specs.RecordLog.{RecordLog, is_locked, is_own, is_mark, marks_of}
 use Rattle.stamp_threads.specs.RecordPass.{RecordPassView, Seated, IsConsistentWith, IsConsistentIn}
 use Rattle.stamp_threads.specs.RecordPass.{marks_ahead, HasEntered, first_of, second_of}
-use Rattle.stamp_threads.specs.RecordRule.{Knows, Fits, IsWriting, HasWriter, IsKept}
+use Rattle.stamp_threads.specs.RecordRule.{Knows, KnowsPart, IsWriting, HasWriter, IsKept}
 use Rattle.stamp_threads.specs.RecordRule.{MeetTells}
 use Rattle.stamp_threads.proofs.Beginnings.{begins_all}
 use Rattle.stamp_threads.proofs.ListElements.{only_one, two_of}
@@ -32,7 +32,7 @@ use Rattle.stamp_threads.proofs.RecordSteps.{Brings, passes_after, consistent_af
 with_views : {enterable : Bool} (P : List ℕ → Type 0) (shape : RecordShape) (s : State (Unit {0}) (List RecordPassView))
     (r : IsKept enterable P shape s) (roots : ℕ) (one_root : enterable ≡ false → roots ≡ 1)
     (views : List (List RecordPassView)) →
-    AreSeated (Fits P shape.width s.words r.log) roots r.log views →
+    AreSeated (KnowsPart P shape.width s.words r.log) roots r.log views →
     (is_locked r.log ≡ true → HasWriter r.log views) →
     IsKept enterable P shape record { words = s.words; homes = s.homes; views = views }
 with_views P shape s r roots one_root views passes writer = record {
@@ -56,7 +56,7 @@ idle_knows : (P : List ℕ → Type 0) (width : ℕ) (cells : List ℕ) (log : R
 idle_knows P width cells log name phase e = subst (Knows P width cells log name) (sym e) tt
 
 fits-after_split : (P : List ℕ → Type 0) (width : ℕ) (cells : List ℕ) (log : RecordLog) (v : RecordPassView) →
-    Fits P width cells log v → Fits P width cells log (after_split v)
+    KnowsPart P width cells log v → KnowsPart P width cells log (after_split v)
 fits-after_split P width cells log v f = record {
   part = part-after_split is_own log v f.part;
   marks = f.marks;
@@ -73,7 +73,7 @@ no_marks log v h idle =
     omega arith
 
 fits-split_off : (P : List ℕ → Type 0) (width : ℕ) (cells : List ℕ) (log : RecordLog) (v : RecordPassView) →
-    v.phase ≡ Idle → Fits P width cells log v → Fits P width cells log (split_off v)
+    v.phase ≡ Idle → KnowsPart P width cells log v → KnowsPart P width cells log (split_off v)
 fits-split_off P width cells log v idle f = record {
   part = part-split_off is_own log v f.part;
   marks = no_marks log v f.part.given idle;
@@ -137,7 +137,7 @@ split_kept : {enterable : Bool} (P : List ℕ → Type 0) (shape : RecordShape) 
 split_kept P shape s r id v here idle =
     let f = r.passes.fits id 0 v (v ∷ [], here, refl) in
     with_views P shape s r r.roots r.one_root (set s.views id (after_split v ∷ []) ++ (split_off v ∷ []) ∷ [])
-    (gives (Fits P shape.width s.words r.log) r.roots r.log s.views r.passes id v here
+    (gives (KnowsPart P shape.width s.words r.log) r.roots r.log s.views r.passes id v here
     (fits-after_split P shape.width s.words r.log v f)
     (fits-split_off P shape.width s.words r.log v idle f))
     (λ l. writer_beside r.log s.views id (v ∷ []) here (one_idle v idle) (r.writer l)
@@ -184,7 +184,7 @@ join_kept : {enterable : Bool} (P : List ℕ → Type 0) (shape : RecordShape) (
 join_kept P shape id v other u idle still s r at away there =
     let views' : List (List RecordPassView) = set s.views id (v ∷ u ∷ []) in
     with_views P shape s r r.roots r.one_root (set views' other [])
-    (together (Fits P shape.width s.words r.log) r.roots r.log s.views r.passes id v other u at away there)
+    (together (KnowsPart P shape.width s.words r.log) r.roots r.log s.views r.passes id v other u at away there)
     (λ l. writer_stays r.log views' other (u ∷ []) there (one_idle u still)
     (writer_stays r.log s.views id (v ∷ []) at (one_idle v idle) (r.writer l) (v ∷ u ∷ [])) [])
 
@@ -205,7 +205,7 @@ part_kept : {enterable : Bool} (P : List ℕ → Type 0) (shape : RecordShape) (
     u.phase ≡ Idle → Splits (IsKept enterable P shape) id (v ∷ u ∷ []) (v ∷ []) (u ∷ [])
 part_kept P shape id v u idle still s r at =
     with_views P shape s r r.roots r.one_root (set s.views id (v ∷ []) ++ (u ∷ []) ∷ [])
-    (parted (Fits P shape.width s.words r.log) r.roots r.log s.views r.passes id v u at)
+    (parted (KnowsPart P shape.width s.words r.log) r.roots r.log s.views r.passes id v u at)
     (λ l. writer_beside r.log s.views id (v ∷ u ∷ []) at (two_idle v u idle still) (r.writer l)
     (v ∷ []) (u ∷ []))
 
@@ -296,12 +296,12 @@ allows_enter P shape slots may s r _ _ =
     let v : RecordPassView = entering r.roots Idle r.log (get_or s.words 0 0) in
     let part = new_part is_own r.roots Idle r.log (get_or s.words 0 0) r.passes.entries in
     let marks = ap length (new_none is_mark r.roots r.log r.passes.entries) in
-    let fits : Fits P shape.width s.words r.log v =
+    let fits : KnowsPart P shape.width s.words r.log v =
     record { part = part; marks = marks; knows = tt } in (
       v ∷ [],
       with_views P shape s r (r.roots + 1)
           (λ shut. absurd (true≢false (sym may ∙ shut))) (s.views ++ (v ∷ []) ∷ [])
-          (comes (Fits P shape.width s.words r.log) r.roots r.log s.views r.passes Idle
+          (comes (KnowsPart P shape.width s.words r.log) r.roots r.log s.views r.passes Idle
           (get_or s.words 0 0) fits)
           (λ l. writer_before r.log s.views (v ∷ []) (r.writer l)),
       (

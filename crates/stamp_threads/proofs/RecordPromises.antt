@@ -14,7 +14,7 @@ use Rattle.stamp_threads.specs.Seats.{alone, both}
 use Rattle.stamp_threads.specs.RecordWord.{version_unit, writer_unit, word_with}
 use Rattle.stamp_threads.specs.RecordLog.{RecordLog, puts, is_locked}
 use Rattle.stamp_threads.specs.RecordPass.{RecordPassView, Seated, LeavesLockWord, first_of, second_of}
-use Rattle.stamp_threads.specs.RecordRule.{with_phase, opening, acquiring, Looked, Acquired, Opened, Released}
+use Rattle.stamp_threads.specs.RecordRule.{with_phase, starting_to_read, acquiring, Looked, Acquired, Opened, Released}
 use Rattle.stamp_threads.specs.RecordRule.{Confirmed, Overtaken, word_to_confirm, Met}
 use Rattle.stamp_threads.specs.RecordCall.{RecordAnswered, SawWord, WasBusy, WasLost, WasSpent}
 use Rattle.stamp_threads.specs.RecordCall.{RecordPassesMet}
@@ -113,7 +113,7 @@ module _ (shape : RecordShape) (v : RecordPassView) (found : ℕ) where
       let free = is_free t.log t.left test in
       ap (λ (m : Seated). (first_of m.0).phase) t.after ∙
       ap (λ (b : Bool). (if b then observing (finding v found) t.log
-      else opening (finding v found) t.log).phase) free
+      else starting_to_read (finding v found) t.log).phase) free
 
 abbrev HeldTest : RecordShape → ℕ → Bool → Type 0
 HeldTest shape word b =
@@ -199,7 +199,7 @@ module _ (shape : RecordShape) (v : RecordPassView) (loaded : ℕ) where
       let locked = locked_of t.log t.left test in
       let after = t.after ∙
       ap (λ (b : Bool). alone (if b then observing (finding v loaded) t.log
-      else opening (finding v loaded) t.log)) locked in
+      else starting_to_read (finding v loaded) t.log)) locked in
       put_busy me (record {
         log = t.log;
         left = t.left;
@@ -219,9 +219,9 @@ module _ (shape : RecordShape) (v : RecordPassView) (loaded : ℕ) where
     abbrev reads : RecordPassView
     reads = with_phase (observing (finding v loaded) t.log) (Reading (puts t.log) words)
 
-    opens : me ≡ alone (opening (finding v loaded) t.log)
+    opens : me ≡ alone (starting_to_read (finding v loaded) t.log)
     opens = t.after ∙ ap (λ (b : Bool). alone (if b then observing (finding v loaded) t.log
-        else opening (finding v loaded) t.log)) free_now
+        else starting_to_read (finding v loaded) t.log)) free_now
 
     reads_is : first_of me2.0 ≡ reads
     reads_is = ap (λ (m : Seated). first_of m.0)

@@ -17,7 +17,7 @@ use Rattle.stamp_threads.specs.RecordLog.{RecordLog, IsLegalRecord, puts, puts_i
 use Rattle.stamp_threads.specs.RecordLog.{marker_in, content_in, is_own, is_mark, marks_of}
 use Rattle.stamp_threads.specs.RecordPass.{RecordPassView, IsConsistentWith, LeavesLockWord}
 use Rattle.stamp_threads.specs.RecordPass.{marks_ahead}
-use Rattle.stamp_threads.specs.RecordRule.{Knows, Fits, IsWriting}
+use Rattle.stamp_threads.specs.RecordRule.{Knows, KnowsPart, IsWriting}
 use Rattle.stamp_threads.specs.RecordRule.{HasWriter, IsKept}
 use Rattle.stamp_threads.proofs.Beginnings.{begins_all}
 use Rattle.stamp_threads.proofs.ListElements.{in_range, only_one}
@@ -48,10 +48,10 @@ module _ {enterable : Bool} (P : List ℕ → Type 0) (shape : RecordShape) (s :
     (brings : (k : ℕ) (w : RecordPassView) → get_elem? ws k ≡ some w →
     Brings P shape.width cells' log' w) (others : OthersKnow P shape s r.log id cells' log') where
   abbrev Now : RecordPassView → Type 0
-  Now = Fits P shape.width s.words r.log
+  Now = KnowsPart P shape.width s.words r.log
 
   own_fits : (k : ℕ) (w : RecordPassView) → get_elem? ws k ≡ some w →
-      Fits P shape.width cells' log' w
+      KnowsPart P shape.width cells' log' w
   own_fits k w h = let b = brings k w h in
       record {
         part = record {
@@ -65,7 +65,7 @@ module _ {enterable : Bool} (P : List ℕ → Type 0) (shape : RecordShape) (s :
       }
 
   other_fits : (i k : ℕ) (u : RecordPassView) → i ≢ id → StandsAt s.views i k u →
-      Fits P shape.width cells' log' u
+      KnowsPart P shape.width cells' log' u
   other_fits i k u away st =
       let f = r.passes.fits i k u st in
       let apart = apart_from Now r.roots r.log s.views r.passes id vs ws at same i k u away st in
@@ -76,9 +76,9 @@ module _ {enterable : Bool} (P : List ℕ → Type 0) (shape : RecordShape) (s :
         knows = others i k u away st f.knows;
       }
 
-  pub passes_after : AreSeated (Fits P shape.width cells' log') r.roots log' (set s.views id ws)
+  pub passes_after : AreSeated (KnowsPart P shape.width cells' log') r.roots log' (set s.views id ws)
   passes_after = stands_on Now r.roots r.log s.views r.passes id vs ws at same
-      (Fits P shape.width cells' log') log' grows own_fits other_fits
+      (KnowsPart P shape.width cells' log') log' grows own_fits other_fits
 
   pub consistent_after : IsLegalRecord shape.width log' → (k : ℕ) (w : RecordPassView) →
       get_elem? ws k ≡ some w → w.observed ≡ log' → IsConsistentWith shape.width w
@@ -97,7 +97,7 @@ module _ {enterable : Bool} (P : List ℕ → Type 0) (shape : RecordShape) (s :
   pub stands_here : StandsAt s.views id 0 v
   stands_here = (v ∷ [], here, refl)
 
-  pub fits_here : Fits P shape.width s.words r.log v
+  pub fits_here : KnowsPart P shape.width s.words r.log v
   fits_here = r.passes.fits id 0 v stands_here
 
   pub leaves_now : LeavesLockWord shape v (get_or s.words 0 0) r.log
@@ -155,7 +155,7 @@ module _ {enterable : Bool} (P : List ℕ → Type 0) (shape : RecordShape) (s :
       (cells' : List ℕ) (log' : RecordLog) (grows : Grows (v ∷ []) r.log log')
       (brings : Brings P shape.width cells' log' w)
       (others : OthersKnow P shape s r.log id cells' log') where
-    pub one_after : AreSeated (Fits P shape.width cells' log') r.roots log'
+    pub one_after : AreSeated (KnowsPart P shape.width cells' log') r.roots log'
         (set s.views id (w ∷ []))
     one_after = passes_after P shape s r id (v ∷ []) (w ∷ []) here (same_one v w name splits) cells'
         log' grows (only_one (λ _ u. Brings P shape.width cells' log' u) w brings) others

@@ -33,8 +33,8 @@ abbrev pub transition_in : Booked → Call → Option Transition
 transition_in b call = transition b.limits (past_of b) call
 
 -- a call that begins, takes effect and ends at this position
-abbrev pub entry_at : ℕ → ℕ → Call → Reply → Entry
-entry_at position thread call reply = record {
+abbrev pub entry_made_at : ℕ → ℕ → Call → Reply → Entry
+entry_made_at position thread call reply = record {
   thread = thread;
   call = call;
   reply = reply;
@@ -45,7 +45,8 @@ entry_at position thread call reply = record {
 
 -- the book with one more call, which stands at the number of entries before it
 abbrev pub with_call : Booked → ℕ → Call → Reply → Booked
-with_call b thread call reply = record b { entries = b.entries ++ entry_at (length b.entries) thread call reply ∷ [] }
+with_call b thread call reply =
+    record b { entries = b.entries ++ entry_made_at (length b.entries) thread call reply ∷ [] }
 
 -- the answer to a call: that it waits where it has no transition, that the book is full where it has
 -- one and there is no room, and else the transition's reply, or that memory was refused
@@ -97,7 +98,7 @@ pub record IsOfBook (r : Recorded) : Type 0 where
   pub entries : AreBooked r.limits r.entries
 
 -- the answer that is due to the call in some book, and not that it waits
-pub record IsAnswer (call : Call) (answer : Result Reply BookError) : Type 0 where
+pub record IsBookAnswer (call : Call) (answer : Result Reply BookError) : Type 0 where
   pub book : Booked
   pub is_book : IsBook book
   pub due : IsDue book call answer

@@ -48,7 +48,8 @@ Knows P width cells log name (Writing version words stored) =
 Knows P width cells log name (Reading version words) = KnowsReading width log version words
 
 -- a pass knows a part of the history, and has a mark there for each of its puts
-pub record Fits (P : List ℕ → Type 0) (width : ℕ) (cells : List ℕ) (log : RecordLog) (v : RecordPassView) : Type 0 where
+pub record KnowsPart (P : List ℕ → Type 0) (width : ℕ) (cells : List ℕ) (log : RecordLog) (v : RecordPassView) :
+    Type 0 where
   pub part : IsPart is_own log v
   pub marks : marks_of v.name log ≡ puts_in v.own + marks_ahead v.phase
   pub knows : Knows P width cells log v.name v.phase
@@ -82,7 +83,7 @@ pub record IsKept (enterable : Bool) (P : List ℕ → Type 0) (shape : RecordSh
       slice_index s.words (i + 1) ≡ slice_index (content_in shape.width log) i
   pub long : length (content_in shape.width log) ≡ shape.width
   pub obeys : P (content_in shape.width log)
-  pub passes : AreSeated (Fits P shape.width s.words log) roots log s.views
+  pub passes : AreSeated (KnowsPart P shape.width s.words log) roots log s.views
   pub writer : is_locked log ≡ true → HasWriter log s.views
 
 abbrev pub with_phase : RecordPassView → RecordPhase → RecordPassView
@@ -98,8 +99,8 @@ abbrev pub calling : RecordPassView → RecordLog → RecordEvent → RecordPass
 calling v log event = record (adding v log event) { phase = Idle }
 
 -- it has observed the whole history, and begins to read
-abbrev pub opening : RecordPassView → RecordLog → RecordPassView
-opening v log = with_phase (observing v log) (Reading (puts log) [])
+abbrev pub starting_to_read : RecordPassView → RecordLog → RecordPassView
+starting_to_read v log = with_phase (observing v log) (Reading (puts log) [])
 
 -- it has observed the whole history, and made no call
 abbrev pub stopping : RecordPassView → RecordLog → RecordPassView
@@ -138,7 +139,7 @@ module _ (shape : RecordShape) (v : RecordPassView) (found : ℕ) (me : Seated) 
     pub log : RecordLog
     pub left : LeavesLockWord shape v found log
     pub after : me ≡ alone (if is_locked log then observing (finding v found) log
-        else opening (finding v found) log)
+        else starting_to_read (finding v found) log)
     pub others : is_locked log ≡ true → marker_in log ≢ v.name
     pub consistent : IsConsistentWith shape.width (observing (finding v found) log)
 

@@ -3,7 +3,7 @@ ghost use Rattle.std.specs.Prelude.{◌≡◌, ◌<◌, ◌≤◌, [], IfOk, OnE
 ghost use Rattle.stamp_core.specs.Call.{is_lock_call};
 ghost use Rattle.stamp_core.specs.Record.{recorded};
 ghost use Rattle.stamp_core.specs.Word.{Represents};
-ghost use Rattle.stamp_threads.specs.Book.{booked, entry_at, past_of};
+ghost use Rattle.stamp_threads.specs.Book.{booked, entry_made_at, past_of};
 ghost use Rattle.stamp_threads.specs.Book.{Acted, IsBook, IsOfBook};
 
 use crate::book_error::BookError;
@@ -33,7 +33,7 @@ impl Model for Book {
 
 /// The entry of a call that begins, takes effect and ends at this position.
 fn entry_at(position: u64, thread: u64, call: &Call, reply: &Reply) -> Entry
-    ensures { result ≡ entry_at position thread call.now reply.now }
+    ensures { result ≡ entry_made_at position thread call.now reply.now }
 {
     Entry {
         thread,

@@ -1,7 +1,7 @@
 //! A book that threads share.
 ghost use Rattle.std.specs.Prelude.{◌≡◌, ◌<◌, IfOk, OnErr, IsTrue};
 ghost use Rattle.stamp_core.specs.Call.{is_lock_call};
-ghost use Rattle.stamp_threads.specs.Book.{Acted, IsBook, IsAnswer, IsOfBook};
+ghost use Rattle.stamp_threads.specs.Book.{Acted, IsBook, IsBookAnswer, IsOfBook};
 
 use crate::book::Book;
 use crate::book_error::BookError;
@@ -32,7 +32,7 @@ impl Shared {
     pub fn call<R: Wait>(&self, rt: &R, thread: u64, call: Call) -> Result<Reply, BookError>
         requires lock_call { IsTrue (is_lock_call call) }
         requires thread { thread < 64 }
-        ensures { IsAnswer call result }
+        ensures { IsBookAnswer call result }
     {
         let mut book = self.book.lock(rt);
         for _ in rt.forever() {
