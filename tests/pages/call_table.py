@@ -10,7 +10,7 @@ import sys
 
 TOP = os.path.join(os.path.dirname(os.path.abspath(__file__)), "..", "..")
 REPLIES = {
-    "IsStamp": {"Stamp"},
+    "IsStampReply": {"Stamp"},
     "IsSomeStamp": {"Stamp"},
     "IsTest": {"Yes", "No"},
     "IsRelease": {"Done", "Mismatch"},
@@ -54,7 +54,7 @@ def replies_by_contract():
     """The replies that each call may get, by `MayReply`; a call that it doesn't name gets a stamp."""
     text = text_of("crates/stamped_lock/specs/Replies.antt")
     kinds = dict(re.findall(r"^MayReply \(?(\w+).* = (\w+)$", text, re.M))
-    return lambda call: OF_RECORD.get(call) or REPLIES[kinds.get(call, "IsStamp")]
+    return lambda call: OF_RECORD.get(call) or REPLIES[kinds.get(call, "IsStampReply")]
 
 
 def faults_of_rows(name, rows):

@@ -30,7 +30,7 @@ use Rattle.stamp_threads.specs.LockPass.{LockPassView, LeavesWord}
 use Rattle.stamp_threads.specs.Answered.{Answered, try_form}
 use Rattle.stamp_threads.specs.LostExchange.{LostExchange}
 use Rattle.stamp_threads.specs.declared.lost.Lost.{Lost}
-use Rattle.stamped_lock.specs.Replies.{MayReply, NeverLoses, IsStamp, IsSomeStamp, IsTest, IsRelease}
+use Rattle.stamped_lock.specs.Replies.{MayReply, NeverLoses, IsStampReply, IsSomeStamp, IsTest, IsRelease}
 
 pub history-append : (xs ys : LockLog) → history_in (xs ++ ys) ≡ history_in xs ++ history_in ys
 history-append [] ys = refl
@@ -58,19 +58,19 @@ abbrev Kind : Option Transition → (Reply → Type 0) → Type 0
 Kind t Q = (reply : Reply) → Replies t reply → Q reply
 
 try_write_kind : (l : Bounds) (c : Counts) (free : Bool) →
-    Kind (if free then change (WriteAcquired ∷ []) (next_write (units l) c) else answer (Stamp 0)) IsStamp
+    Kind (if free then change (WriteAcquired ∷ []) (next_write (units l) c) else answer (Stamp 0)) IsStampReply
 try_write_kind l c true reply e = (_, sym e)
 try_write_kind l c false reply e = (_, sym e)
 
 try_read_kind : (l : Bounds) (c : Counts) (free : Bool) →
-    Kind (if free then change (ReadAcquired ∷ []) (next_read (units l) c) else answer (Stamp 0)) IsStamp
+    Kind (if free then change (ReadAcquired ∷ []) (next_read (units l) c) else answer (Stamp 0)) IsStampReply
 try_read_kind l c true reply e = (_, sym e)
 try_read_kind l c false reply e = (_, sym e)
 
 write_kind : (l : Bounds) (c : Counts) (spent free : Bool) →
     Kind (if spent then answer (Stamp 0)
     else if free then change (WriteAcquired ∷ []) (next_write (units l) c)
-    else None) IsStamp
+    else None) IsStampReply
 write_kind l c true free reply e = (_, sym e)
 write_kind l c false true reply e = (_, sym e)
 write_kind l c false false reply e = absurd e
@@ -106,7 +106,7 @@ to_write_kind : (l : Bounds) (c : Counts) (s : ℕ) (written read free : Bool) �
     Kind (if written then answer (Stamp s)
     else if read then change (ReadReleased ∷ WriteAcquired ∷ []) (next_write (units l) c)
     else if free then change (WriteAcquired ∷ []) (next_write (units l) c)
-    else answer (Stamp 0)) IsStamp
+    else answer (Stamp 0)) IsStampReply
 to_write_kind l c s true read free reply e = (_, sym e)
 to_write_kind l c s false true free reply e = (_, sym e)
 to_write_kind l c s false false true reply e = (_, sym e)
@@ -116,7 +116,7 @@ to_read_kind : (l : Bounds) (c : Counts) (s : ℕ) (written read free : Bool) �
     Kind (if written then change (WriteReleased ∷ ReadAcquired ∷ []) (Stamp (read_stamp (units l) c.write_count 1))
     else if read then answer (Stamp s)
     else if free then change (ReadAcquired ∷ []) (next_read (units l) c)
-    else answer (Stamp 0)) IsStamp
+    else answer (Stamp 0)) IsStampReply
 to_read_kind l c s true read free reply e = (_, sym e)
 to_read_kind l c s false true free reply e = (_, sym e)
 to_read_kind l c s false false true reply e = (_, sym e)
@@ -126,7 +126,7 @@ to_optimistic_kind : (l : Bounds) (c : Counts) (s : ℕ) (written read free : Bo
     Kind (if written then change (WriteReleased ∷ []) (Stamp (optimistic_stamp (units l) c.write_count))
     else if read then change (ReadReleased ∷ []) (Stamp (optimistic_stamp (units l) c.write_count))
     else if free then answer (Stamp s)
-    else answer (Stamp 0)) IsStamp
+    else answer (Stamp 0)) IsStampReply
 to_optimistic_kind l c s true read free reply e = (_, sym e)
 to_optimistic_kind l c s false true free reply e = (_, sym e)
 to_optimistic_kind l c s false false true reply e = (_, sym e)

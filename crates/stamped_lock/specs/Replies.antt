@@ -27,8 +27,8 @@ abbrev pub released : {E : Type 0} → Result (Unit {0}) E → Reply
 released (Ok _) = Done
 released (Err _) = Mismatch
 
-abbrev pub IsStamp : Reply → Type 0
-IsStamp reply = (s : ℕ) × (reply ≡ Stamp s)
+abbrev pub IsStampReply : Reply → Type 0
+IsStampReply reply = (s : ℕ) × (reply ≡ Stamp s)
 
 abbrev pub IsSomeStamp : Reply → Type 0
 IsSomeStamp reply = (s : ℕ) × (reply ≡ Stamp s) × (0 < s)
@@ -58,7 +58,7 @@ MayReply TryUnlockRead = IsTest
 MayReply IsWriteLocked = IsTest
 MayReply IsReadLocked = IsTest
 MayReply ReadCount = IsCount
-MayReply _ = IsStamp
+MayReply _ = IsStampReply
 
 -- the calls that never lose an exchange: those that change nothing, and the release of write mode
 -- by its stamp

@@ -1,7 +1,7 @@
 //! The typed answer in a reply.
 ghost use Rattle.std.specs.Prelude.{◌≡◌, Some};
 ghost use Rattle.stamp_core.specs.declared.reply.Reply.TheVariants.{Count};
-ghost use Rattle.stamped_lock.specs.Replies.{stamped, tested, released, IsStamp, IsSomeStamp};
+ghost use Rattle.stamped_lock.specs.Replies.{stamped, tested, released, IsStampReply, IsSomeStamp};
 ghost use Rattle.stamped_lock.specs.Replies.{IsTest, IsRelease, IsCount};
 
 use crate::mismatch::Mismatch;
@@ -11,7 +11,7 @@ use stamp_core::Reply;
 /// The stamp, where it is not 0.
 #[inline(always)]
 pub fn stamp_in(reply: Reply) -> Option<Stamp>
-    requires { IsStamp reply }
+    requires { IsStampReply reply }
     ensures { stamped result ≡ reply }
 {
     match reply {
