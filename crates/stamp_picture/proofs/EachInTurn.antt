@@ -14,7 +14,7 @@ use Rattle.stamp_picture.specs.declared.state.State.{State}
 use Rattle.stamp_picture.specs.declared.window.Window.{Window}
 use Rattle.stamp_picture.specs.Window.{meets, contains, precedes}
 use Rattle.stamp_picture.specs.Bars.{bar_of, bars_from, bars_of}
-use Rattle.stamp_picture.specs.Moment.{moment_after, moments_from, moments_of, opening_from, opening_of, state_after}
+use Rattle.stamp_picture.specs.Moment.{moment_after, moments_from, moments_of, opening_from, opening_state, state_after}
 
 pub taken_more : (xs : List Entry) (i : ℕ) (e : Entry) → i < length xs → e ≡ get_or xs i e →
     take (i + 1) xs ≡ take i xs ++ e ∷ []
@@ -90,12 +90,12 @@ opening_push l n w s before (x ∷ xs) e =
     (append_assoc before (x ∷ []) xs)
 
 pub opening_more : (l : Bounds) (n : ℕ) (w : Window) (xs : List Entry) (i : ℕ) (e : Entry) → i < length xs →
-    e ≡ get_or xs i e → opening_of l n w (take (i + 1) xs) ≡
-    (if precedes e.point w then state_after l n (take (i + 1) xs) else opening_of l n w (take i xs))
+    e ≡ get_or xs i e → opening_state l n w (take (i + 1) xs) ≡
+    (if precedes e.point w then state_after l n (take (i + 1) xs) else opening_state l n w (take i xs))
 opening_more l n w xs i e lt is =
     let more = taken_more xs i e lt is in
-    ap (λ (ys : List Entry). opening_of l n w ys) more ∙ opening_push l n w (state_after l n []) [] (take i xs) e
-    ∙ ap (λ (ys : List Entry). if precedes e.point w then state_after l n ys else opening_of l n w (take i xs))
+    ap (λ (ys : List Entry). opening_state l n w ys) more ∙ opening_push l n w (state_after l n []) [] (take i xs) e
+    ∙ ap (λ (ys : List Entry). if precedes e.point w then state_after l n ys else opening_state l n w (take i xs))
     (sym more)
 
 -- the lanes are those of a record's threads

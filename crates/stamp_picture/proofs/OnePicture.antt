@@ -23,7 +23,7 @@ use Rattle.stamp_picture.specs.declared.picture.Fault.{Fault}
 use Rattle.stamp_picture.specs.declared.window.Window.{Window}
 use Rattle.stamp_picture.specs.Window.{meets}
 use Rattle.stamp_picture.specs.Bars.{bar_of, bars_from, bars_of}
-use Rattle.stamp_picture.specs.Moment.{moments_of, opening_of}
+use Rattle.stamp_picture.specs.Moment.{moments_of, opening_state}
 use Rattle.stamp_picture.specs.Due.{DueAfter, IsDue}
 use Rattle.stamp_picture.specs.Picture.{Drawn, IsJudged, right_in, drawn_in}
 use Rattle.stamp_picture.specs.PictureLaws.{OnePicture, CrowdedIsCounted}
@@ -96,7 +96,7 @@ one_picture r w a b x y =
     let right = λ (v : Result ℕ Fault). take (right_in v) r.entries in
     parts a b same
     (x.bars ∙ ap (λ (v : Result ℕ Fault). bars_of w (take (drawn_in v) r.entries)) same ∙ sym y.bars)
-    (x.opening ∙ ap (λ (v : Result ℕ Fault). opening_of r.limits r.width w (right v)) same ∙ sym y.opening)
+    (x.opening ∙ ap (λ (v : Result ℕ Fault). opening_state r.limits r.width w (right v)) same ∙ sym y.opening)
     (x.ribbon ∙ ap (λ (v : Result ℕ Fault). moments_of r.limits r.width w (right v)) same ∙ sym y.ribbon)
   where
     parts : (p q : Drawn) → p.verdict ≡ q.verdict → p.bars ≡ q.bars → p.opening ≡ q.opening → p.ribbon ≡ q.ribbon →

@@ -27,14 +27,14 @@ use Rattle.stamp_picture.specs.declared.state.State.{State}
 use Rattle.stamp_picture.specs.declared.track.Track.{Track}
 use Rattle.stamp_picture.specs.Moment.{mode_in, mode_of, state_after}
 use Rattle.stamp_picture.specs.Due.{DueAfter, IsDue, ContentAnswers}
-use Rattle.stamp_picture.specs.Track.{IsTrack, Advances, Shows, Answers}
+use Rattle.stamp_picture.specs.Track.{IsTrack, TracksOneMore, Shows, TellsDue}
 
 -- one entry more, whose call leaves this word
 pub goes_on : (limits : Bounds) (e : Entry) (track : Track) (word : LockWord) (content : List ℕ) →
     ((events : List LockEvent) → Represents limits track.word events →
     Represents limits word (events ++ appended_by (transition limits events e.call))) →
     content ≡ content_next track.content e.call e.reply →
-    Advances limits e track (record { word = word; content = content })
+    TracksOneMore limits e track (record { word = word; content = content })
 goes_on limits e track word content moves held = record {
   behind = λ width before after. record {
     range = after.range;
@@ -98,7 +98,7 @@ lock_due limits events content call reply lock replies = subst
     (sym lock) replies
 
 pub record_due : (limits : Bounds) (track : Track) (call : Call) (due : Option Reply) → is_lock_call call ≡ false →
-    ContentAnswers track.content call due → Answers limits track call due
+    ContentAnswers track.content call due → TellsDue limits track call due
 record_due limits track call None lock answers = record { is = λ width before after suits. absurd (no lock answers) }
   where
     no : {b : Bool} → b ≡ false → b ≡ true → ⊥
@@ -115,7 +115,7 @@ record_due limits track call (Some reply) lock answers = record {
 pub due_at : (r : Recorded) (limits : Bounds) (width : ℕ) (entries : List Entry) (i : ℕ) (track : Track) (e : Entry)
     (due : Option Reply) → limits ≡ r.limits → width ≡ r.width → entries ≡ r.entries →
     All (SuitsRecord r.width) r.entries → IsTrack limits width (take i entries) track → e ≡ get_or entries i e →
-    Answers limits track e.call due → (f : Entry) → slice_get r.entries i ≡ Some f →
+    TellsDue limits track e.call due → (f : Entry) → slice_get r.entries i ≡ Some f →
     (e.call ≡ f.call) × IsDue r.limits r.width (take i r.entries) f.call due
 due_at r limits width entries i track e due l w es suit behind is answers f at =
     let lt : i < length r.entries = slice_get_within r.entries i f at in
@@ -123,9 +123,9 @@ due_at r limits width entries i track e due l w es suit behind is answers f at =
     let is_e : get_or r.entries i e ≡ f = get_or_from_slice_get r.entries i f e at in
     let same : e ≡ f = is ∙ ap (λ (xs : List Entry). get_or xs i e) es ∙ is_e in
     let suits : SuitsRecord r.width f = subst (SuitsRecord r.width) is_f (suit i f lt) in
-    let answers_f : Answers r.limits track f.call due =
-    subst (λ (b : Bounds). Answers b track f.call due) l
-    (subst (λ (x : Entry). Answers limits track x.call due) same answers) in
+    let answers_f : TellsDue r.limits track f.call due =
+    subst (λ (b : Bounds). TellsDue b track f.call due) l
+    (subst (λ (x : Entry). TellsDue limits track x.call due) same answers) in
     let behind_r : IsTrack r.limits r.width (take i r.entries) track =
     subst (λ (b : Bounds). IsTrack b r.width (take i r.entries) track) l
     (subst (λ (n : ℕ). IsTrack limits n (take i r.entries) track) w

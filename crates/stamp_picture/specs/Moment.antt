@@ -23,14 +23,14 @@ abbrev pub mode_in : Bounds → LockWord → Mode → Type 0
 mode_in limits word mode = HoldsForEvents word (λ events. mode ≡ mode_of (counts events))
 
 -- nothing where there is no record
-abbrev pub content_of : ℕ → History → Option (List ℕ)
-content_of width history = if width == 0 then None else Some (content_after width history)
+abbrev pub content_if_any : ℕ → History → Option (List ℕ)
+content_if_any width history = if width == 0 then None else Some (content_after width history)
 
 abbrev pub state_of : ℕ → Counts → History → State
 state_of width c history = record {
   mode = mode_of c;
   version = c.write_count;
-  content = content_of width history;
+  content = content_if_any width history;
 }
 
 -- the state that these entries leave
@@ -60,5 +60,5 @@ opening_from limits width w state before (e ∷ es) =
     (if precedes e.point w then state_after limits width (before ++ e ∷ []) else state) (before ++ e ∷ []) es
 
 -- a new lock's, where no point is before the window
-abbrev pub opening_of : Bounds → ℕ → Window → List Entry → State
-opening_of limits width w entries = opening_from limits width w (state_after limits width []) [] entries
+abbrev pub opening_state : Bounds → ℕ → Window → List Entry → State
+opening_state limits width w entries = opening_from limits width w (state_after limits width []) [] entries

@@ -13,7 +13,7 @@ use Rattle.stamp_picture.specs.declared.state.Moment.{Moment}
 use Rattle.stamp_picture.specs.declared.window.Window.{Window}
 use Rattle.stamp_picture.specs.Bars.{bars_of}
 use Rattle.stamp_picture.specs.Due.{IsDue}
-use Rattle.stamp_picture.specs.Moment.{moments_of, opening_of}
+use Rattle.stamp_picture.specs.Moment.{moments_of, opening_state}
 use Rattle.stamp_picture.specs.Window.{meets}
 
 -- the verdict, the bars, what lock and record were before the first moment, and the moments
@@ -49,7 +49,7 @@ most_bars = 2000
 pub record IsPicture (r : Recorded) (w : Window) (p : Drawn) : Type 0 where
   pub judged : IsJudged r p.verdict
   pub bars : p.bars ≡ bars_of w (take (drawn_in p.verdict) r.entries)
-  pub opening : p.opening ≡ opening_of r.limits r.width w (take (right_in p.verdict) r.entries)
+  pub opening : p.opening ≡ opening_state r.limits r.width w (take (right_in p.verdict) r.entries)
   pub ribbon : p.ribbon ≡ moments_of r.limits r.width w (take (right_in p.verdict) r.entries)
 
 -- why there is no picture, in words

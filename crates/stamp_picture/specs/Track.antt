@@ -20,7 +20,7 @@ pub record IsTrack (limits : Bounds) (width : ℕ) (before : List Entry) (track 
   pub content : 0 < width → track.content ≡ content_after width (history_of before)
 
 -- behind one entry more
-pub record Advances (limits : Bounds) (e : Entry) (track next : Track) : Type 0 where
+pub record TracksOneMore (limits : Bounds) (e : Entry) (track next : Track) : Type 0 where
   pub behind : (width : ℕ) (before : List Entry) → IsTrack limits width before track →
       IsTrack limits width (before ++ e ∷ []) next
 
@@ -29,6 +29,6 @@ pub record Shows (limits : Bounds) (width : ℕ) (track : Track) (state : State)
   pub is : (before : List Entry) → IsTrack limits width before track → state ≡ state_after limits width before
 
 -- the reply that is due after them, to a call that suits the width
-pub record Answers (limits : Bounds) (track : Track) (call : Call) (due : Option Reply) : Type 0 where
+pub record TellsDue (limits : Bounds) (track : Track) (call : Call) (due : Option Reply) : Type 0 where
   pub is : (width : ℕ) (before : List Entry) → IsTrack limits width before track → IsTrue (call_suits width call) →
       IsDue limits width before call due

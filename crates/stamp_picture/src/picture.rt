@@ -2,7 +2,7 @@
 ghost use Rattle.std.specs.Prelude.{◌≡◌, ◌≤◌, ◌<◌, ◌+◌, [], length, take, IfOk, IfErr, IsOk, count_by, slice_get, Some, All};
 ghost use Rattle.stamp_core.specs.Record.{IsRecorded};
 ghost use Rattle.stamp_picture.specs.Bars.{bars_of};
-ghost use Rattle.stamp_picture.specs.Moment.{moments_of, opening_of};
+ghost use Rattle.stamp_picture.specs.Moment.{moments_of, opening_state};
 ghost use Rattle.stamp_picture.specs.Track.{IsTrack};
 ghost use Rattle.stamp_picture.specs.Window.{meets};
 ghost use Rattle.stamp_picture.specs.Picture.{IsJudged, IsPicture, IsRefused, right_in, drawn_in, most_bars};
@@ -181,7 +181,7 @@ fn ribbon_of(
     window: Window,
 ) -> Result<(State, Vec<Moment>), AllocError>
     requires { width ≤ 16 }
-    ensures opening { IfOk result (λ made. made.0 ≡ opening_of limits width window entries.now) }
+    ensures opening { IfOk result (λ made. made.0 ≡ opening_state limits width window entries.now) }
     ensures ribbon { IfOk result (λ made. made.1.items ≡ moments_of limits width window entries.now) }
 {
     let mut track = Track::start(limits, width);

@@ -6,7 +6,7 @@ ghost use Rattle.stamp_core.specs.Word.{IsAdmitted};
 ghost use Rattle.stamp_core.specs.declared.entry.Entry.{Entry};
 ghost use Rattle.stamp_picture.specs.Moment.{state_after, mode_in};
 ghost use Rattle.stamp_picture.specs.Due.{IsDue, ContentAnswers};
-ghost use Rattle.stamp_picture.specs.Track.{IsTrack, Advances, Shows, Answers};
+ghost use Rattle.stamp_picture.specs.Track.{IsTrack, TracksOneMore, Shows, TellsDue};
 
 use crate::state::{Mode, State};
 use stamp_check::first_content;
@@ -83,7 +83,7 @@ impl Track {
     /// One entry more.
     pub(crate) fn advance(&mut self, limits: Limits, entry: &Entry)
         requires { IsAdmitted limits self.old.word }
-        ensures { Advances limits entry.now self.old self.new }
+        ensures { TracksOneMore limits entry.now self.old self.new }
     {
         self.content = next_content(&self.content, entry);
         if entry.call.is_lock_call() {
@@ -108,7 +108,7 @@ impl Track {
     /// What lock or record would answer; nothing where the call would wait.
     pub(crate) fn answer(&self, limits: Limits, call: &Call) -> Option<Reply>
         requires { IsAdmitted limits self.now.word }
-        ensures { Answers limits self.now call.now result }
+        ensures { TellsDue limits self.now call.now result }
     {
         if !call.is_lock_call() {
             return content_answer(&self.content, call);

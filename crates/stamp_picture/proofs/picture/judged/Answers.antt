@@ -1,7 +1,7 @@
 use Rattle.std.proofs.Common.{◌∙◌, ◌<◌, length, sym, ap, subst, arith}
 use Rattle.std.proofs.lemmas.Option.{slice_get_within}
 use Rattle.stamp_core.specs.declared.entry.Entry.{Entry}
-use Rattle.stamp_picture.specs.Track.{Answers}
+use Rattle.stamp_picture.specs.Track.{TellsDue}
 use Rattle.stamp_picture.proofs.Tracking.{due_at}
 use Rattle.stamp_picture.proofs.picture.judged.Goals as goal
 
@@ -13,7 +13,7 @@ returns-clause-judged c = (
       c.in-Err.bad.entry c.track_after-track.result c.index-entries-at.result c.answer.result c.limits-limits.ensures
       c.width.ensures c.entries-entries.ensures.entries c.entries-entries.ensures.known.suit c.track_after-track.ensures
       c.index-entries-at.is
-      (subst (λ (e : Entry). Answers c.limits-limits.result c.track_after-track.result e.call c.answer.result)
+      (subst (λ (e : Entry). TellsDue c.limits-limits.result c.track_after-track.result e.call c.answer.result)
       (sym c.index-entries-at.is) c.answer.ensures) f at in
       (ap (λ (e : Entry). e.call) (sym c.index-entries-at.is) ∙ due.0, due.1),
 )

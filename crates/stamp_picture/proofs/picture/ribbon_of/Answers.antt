@@ -3,7 +3,7 @@ use Rattle.std.specs.Prelude.{if◌then◌else◌}
 use Rattle.stamp_core.specs.declared.entry.Entry.{Entry}
 use Rattle.stamp_picture.specs.declared.state.State.{State}
 use Rattle.stamp_picture.specs.declared.state.Moment.{Moment}
-use Rattle.stamp_picture.specs.Moment.{state_after, opening_of, moments_of}
+use Rattle.stamp_picture.specs.Moment.{state_after, opening_state, moments_of}
 use Rattle.stamp_picture.specs.Track.{IsTrack}
 use Rattle.stamp_picture.specs.Window.{contains, precedes}
 use Rattle.stamp_picture.proofs.EachInTurn.{taken_more, moments_more, opening_more, kept, left_out, opened, unopened}
@@ -37,8 +37,8 @@ loop-entry-preserved c =
     ap (λ (ms : List Moment). ms ++ (if contains w e.point then moment ∷ [] else []))
     (sym c.loop-entry.invariant.ribbon) in
     let opening = opening_more l n w xs i e lt c.entry-item.is ∙
-    ap (λ (ys : List Entry). if precedes e.point w then state_after l n ys else opening_of l n w before) more ∙
-    ap (λ (s : State). if precedes e.point w then s else opening_of l n w before) (sym after) ∙
+    ap (λ (ys : List Entry). if precedes e.point w then state_after l n ys else opening_state l n w before) more ∙
+    ap (λ (s : State). if precedes e.point w then s else opening_state l n w before) (sym after) ∙
     ap (λ (s : State). if precedes e.point w then c.state-state.result else s) (sym c.loop-entry.invariant.opening) in
     record {
       track = subst (λ (ys : List Entry). IsTrack l n ys c.advance.new.self) (sym more) behind;
