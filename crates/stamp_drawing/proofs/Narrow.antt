@@ -5,7 +5,7 @@ use Rattle.std.specs.Prelude.{nat_le, ◌==◌, if◌then◌else◌}
 use Rattle.std.specs.List.{concat}
 use Rattle.std.proofs.lemmas.List.{append-nil, length-take}
 use Rattle.stamp_picture.specs.Picture.{Drawn}
-use Rattle.stamp_drawing.specs.Rows.{row_text, cut, cut_text, AreNarrow}
+use Rattle.stamp_drawing.specs.Rows.{row_text, shortened, cut_text, AreNarrow}
 use Rattle.stamp_drawing.specs.Rows.AreNarrow.{none, line}
 
 -- the rows, and a last line behind them
@@ -24,10 +24,10 @@ short true no_room width row whole some = whole refl
 short false true width row whole some = omega arith
 short false false width row whole some = rw (length-append, length-take) (omega (arith, some refl))
 
-few : (width : ℕ) (row : List ℕ) → length (cut width row) ≤ width
+few : (width : ℕ) (row : List ℕ) → length (shortened width row) ≤ width
 few width row = short (nat_le (length row) width) (width == 0) width row (λ fits. grind (arith, fits))
     (λ some. grind (arith, some))
 
 pub all_narrow : (width : ℕ) (rows : List (List ℕ)) → AreNarrow width (concat (map (cut_text width) rows))
 all_narrow width [] = none
-all_narrow width (row ∷ rows) = line (cut width row) _ (few width row) (all_narrow width rows)
+all_narrow width (row ∷ rows) = line (shortened width row) _ (few width row) (all_narrow width rows)

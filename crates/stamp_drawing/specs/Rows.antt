@@ -91,13 +91,13 @@ lines_of p times =
     (map (row_text p) times ++ verdict_text p.verdict ∷ [])
 
 -- a line; one that is longer than the width is cut off there, and ends in a sign of it
-abbrev pub cut : ℕ → List ℕ → List ℕ
-cut width line =
+abbrev pub shortened : ℕ → List ℕ → List ℕ
+shortened width line =
     if nat_le (length line) width then line
     else if width == 0 then [] else take (width - 1) line ++ codes ">"
 
 abbrev pub cut_text : ℕ → List ℕ → List ℕ
-cut_text width line = cut width line ++ 10 ∷ []
+cut_text width line = shortened width line ++ 10 ∷ []
 
 -- the text of the picture, in so many columns
 pub record IsRows (width : ℕ) (p : Drawn) (text : List ℕ) : Type 0 where
