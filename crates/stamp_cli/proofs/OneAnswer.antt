@@ -120,7 +120,8 @@ one_check : (r : Result Recorded ReadError) (a b : Result LineView ServeFault) �
     IsCheckAnswer r b → a ≡ b
 one_check (Ok h) (Ok a) (Ok b) x y =
     let same = one_verdict h x.found y.found x.is y.is in
-    ap Ok (same_line a b (x.says ∙ ap check_verdict_text same ∙ sym y.says) (x.verdict ∙ ap verdict_of same ∙ sym y.verdict))
+    ap Ok (same_line a b (x.says ∙ ap check_verdict_text same ∙ sym y.says)
+    (x.verdict ∙ ap verdict_of same ∙ sym y.verdict))
 one_check (Ok h) (Ok a) (Err e) x y = absurd y
 one_check (Ok h) (Err e) b x y = absurd x
 one_check (Err e) a b x y = x ∙ sym y

@@ -54,7 +54,7 @@ script_answer record_of (Ok script) = Ok (history_text (record_of script))
 script_answer record_of (Err e) = Err (refusal e)
 
 -- a history has this verdict, which the line says
-pub record IsJudged (history : Recorded) (line : LineView) : Type 0 where
+pub record SaysVerdict (history : Recorded) (line : LineView) : Type 0 where
   pub found : Result ℕ Bad
   pub is : IsVerdict history found
   pub says : line.text ≡ check_verdict_text found
@@ -62,7 +62,7 @@ pub record IsJudged (history : Recorded) (line : LineView) : Type 0 where
 
 -- and if that is a history: its verdict
 abbrev pub IsCheckAnswer : Result Recorded ReadError → Result LineView ServeFault → Type 0
-IsCheckAnswer (Ok history) (Ok line) = IsJudged history line
+IsCheckAnswer (Ok history) (Ok line) = SaysVerdict history line
 IsCheckAnswer (Ok history) (Err fault) = ⊥
 IsCheckAnswer (Err e) answer = answer ≡ Err (refusal e)
 
@@ -122,14 +122,14 @@ IsOrderAnswer (order.Stamp n) input answer = IsAccepted (IsStampAnswer One n) an
 IsOrderAnswer (order.StampIn layout n) input answer = IsAccepted (IsStampAnswer layout n) answer
 
 -- input is what an order reads of a source
-abbrev pub IsRead : Order → Option (List ℕ) → Option (List ℕ) → List ℕ → Type 0
-IsRead order.Replay old new input = Reads old new input
-IsRead order.Run old new input = Reads old new input
-IsRead order.RunReported old new input = Reads old new input
-IsRead order.Check old new input = Reads old new input
-IsRead order.Migrate old new input = Reads old new input
-IsRead (order.Stamp n) old new input = ReadsNone old new input
-IsRead (order.StampIn layout n) old new input = ReadsNone old new input
+abbrev pub OrderReads : Order → Option (List ℕ) → Option (List ℕ) → List ℕ → Type 0
+OrderReads order.Replay old new input = Reads old new input
+OrderReads order.Run old new input = Reads old new input
+OrderReads order.RunReported old new input = Reads old new input
+OrderReads order.Check old new input = Reads old new input
+OrderReads order.Migrate old new input = Reads old new input
+OrderReads (order.Stamp n) old new input = ReadsNone old new input
+OrderReads (order.StampIn layout n) old new input = ReadsNone old new input
 
 -- a stamp makes no read
 abbrev pub most_reads_of : Order → ℕ
@@ -152,10 +152,10 @@ most_taken_of (order.Stamp n) = 0
 most_taken_of (order.StampIn layout n) = 0
 
 -- a source was read as far as the order asks, by reads that took this many bytes, and this is the answer to all of them
-pub record Answers (order : Order) (old new : Option (List ℕ)) (taken : ℕ) (answer : Result LineView ServeFault) :
+pub record AnswersSource (order : Order) (old new : Option (List ℕ)) (taken : ℕ) (answer : Result LineView ServeFault) :
     Type 0 where
   pub input : List ℕ
-  pub reads : IsRead order old new input
+  pub reads : OrderReads order old new input
   pub whole : length input ≡ taken
   pub is : IsOrderAnswer order input answer
 

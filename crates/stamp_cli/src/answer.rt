@@ -6,8 +6,8 @@ ghost use Rattle.stamp_cli.specs.Refusal.{is_of_end};
 ghost use Rattle.stamp_cli.specs.Serving.{HasRead};
 ghost use Rattle.stamp_cli.specs.Results.{FailsWithARead, GivesAllTaken, IsReadOrMemoryFault, MakesAtMost, ReadsToTheEnd, taken_since};
 ghost use Rattle.stamp_cli.specs.Source.{TakesAtMost, most_bytes};
-ghost use Rattle.stamp_cli.specs.Answer.{Answers, AnswersCheck, AnswersMigrate, AnswersReplay, AnswersReportedRun, AnswersRun};
-ghost use Rattle.stamp_cli.specs.Answer.{IsOrderAnswer, IsInputAnswer, IsRead, LineUnlessMemory, UnlessMemory, line_in, most_reads_of, most_taken_of};
+ghost use Rattle.stamp_cli.specs.Answer.{AnswersSource, AnswersCheck, AnswersMigrate, AnswersReplay, AnswersReportedRun, AnswersRun};
+ghost use Rattle.stamp_cli.specs.Answer.{IsOrderAnswer, IsInputAnswer, OrderReads, LineUnlessMemory, UnlessMemory, line_in, most_reads_of, most_taken_of};
 
 use crate::check_text::verdict_line;
 use crate::faults::ServeFault;
@@ -93,7 +93,7 @@ fn line_of_migrate(alloc: Global, input: &[u8]) -> Result<Vec<u8>, ServeFault>
 fn input_of<S: Source>(alloc: Global, order: Order, source: &mut S) -> Result<Vec<u8>, ServeFault>
     ensures reads { MakesAtMost (S.reads source.old) (S.reads source.new) (most_reads_of order) (most_taken_of order) }
     ensures took { TakesAtMost (S.left source.old) (S.left source.new) (most_taken_of order) }
-    ensures read { IfOk result (λ input. IsRead order (S.left source.old) (S.left source.new) input.items) }
+    ensures read { IfOk result (λ input. OrderReads order (S.left source.old) (S.left source.new) input.items) }
     ensures whole { GivesAllTaken (S.reads source.old) (S.reads source.new) result }
     ensures ends { OnOk result (ReadsToTheEnd (S.reads source.old) (S.reads source.new) (most_taken_of order)) }
     ensures failed { FailsWithARead ServeFault.ReadFault (S.reads source.old) (S.reads source.new) result }
@@ -131,10 +131,10 @@ pub(crate) fn line_of<S: Source>(
 ) -> Result<Line, ServeFault>
     ensures reads { HasRead ServeFault.ReadFault ServeFault.Memory (S.left source.old) (S.left source.new)
         (S.reads source.old) (S.reads source.new) (most_reads_of order) (most_taken_of order) result }
-    ensures ok { IfOk result (λ line. Answers order (S.left source.old) (S.left source.new)
+    ensures ok { IfOk result (λ line. AnswersSource order (S.left source.old) (S.left source.new)
         (taken_since (S.reads source.old) (S.reads source.new)) (Ok (line_in line))) }
     ensures err { IfErr result (λ e. e ≢ ServeFault.ReadFault → e ≢ ServeFault.Memory
-        → Answers order (S.left source.old) (S.left source.new)
+        → AnswersSource order (S.left source.old) (S.left source.new)
         (taken_since (S.reads source.old) (S.reads source.new)) (Err e)) }
     ensures not_written { result ≢ Err ServeFault.WriteFault }
 {

@@ -5,7 +5,7 @@ ghost use Rattle.std.specs.Io.KnownBytes.{Appends};
 ghost use Rattle.stamp_cli.specs.Sink.{AppendsFront};
 ghost use Rattle.stamp_cli.specs.Results.{Makes, MakesAtMost, taken_since};
 ghost use Rattle.stamp_cli.specs.Serving.{HasRead, HasWritten};
-ghost use Rattle.stamp_cli.specs.Answer.{LineView, Answers, most_reads_of, most_taken_of};
+ghost use Rattle.stamp_cli.specs.Answer.{LineView, AnswersSource, most_reads_of, most_taken_of};
 
 use crate::answer::line_of;
 use crate::faults::ServeFault;
@@ -32,21 +32,21 @@ pub fn serve<S: Source, K: Sink>(
 
     // The answer to all that was read is written with a line feed, and nothing else; the verdict is its.
     ensures ok { IfOk result (λ verdict. (line : LineView)
-        × Answers order (S.left source.old) (S.left source.new)
+        × AnswersSource order (S.left source.old) (S.left source.new)
         (taken_since (S.reads source.old) (S.reads source.new)) (Ok line) × (verdict ≡ line.verdict)
         × Appends (K.sent sink.old) (K.sent sink.new) (line.text ++ 10 ∷ [])
         × Makes (K.writes sink.old) (K.writes sink.new) (length line.text + 1)) }
 
     // All that was read is refused so.
     ensures refused { IfErr result (λ e. e ≢ ServeFault.ReadFault → e ≢ ServeFault.WriteFault
-        → e ≢ ServeFault.Memory → Answers order (S.left source.old) (S.left source.new)
+        → e ≢ ServeFault.Memory → AnswersSource order (S.left source.old) (S.left source.new)
         (taken_since (S.reads source.old) (S.reads source.new)) (Err e)) }
 
     // A write that failed leaves a front of the line and is the last, and no other refusal writes.
     ensures writes { HasWritten ServeFault.WriteFault (K.sent sink.old) (K.sent sink.new)
         (K.writes sink.old) (K.writes sink.new) result }
     ensures front { result ≡ Err ServeFault.WriteFault → ((line : LineView)
-        × Answers order (S.left source.old) (S.left source.new)
+        × AnswersSource order (S.left source.old) (S.left source.new)
         (taken_since (S.reads source.old) (S.reads source.new)) (Ok line)
         × AppendsFront (K.sent sink.old) (K.sent sink.new) (line.text ++ 10 ∷ [])
         × MakesAtMost (K.writes sink.old) (K.writes sink.new) (length line.text + 1) (length line.text + 1)) }
