@@ -60,7 +60,8 @@ IsUndrawn window history (TooMany n) = IsCrowded history window n
 IsUndrawn window history (Serve fault) = ⊥
 
 -- the input is a history, and this is its picture
-pub record IsPictureAnswer (style : List ℕ) (order : PictureOrder) (input : List ℕ) (drawing : DrawingView) : Type 0 where
+pub record IsPictureAnswer (style : List ℕ) (order : PictureOrder) (input : List ℕ) (drawing : DrawingView) :
+    Type 0 where
   pub within : length input ≤ most_bytes
   pub history : Recorded
   pub read : history_of input ≡ Ok history
@@ -79,17 +80,17 @@ IsRefused window input (Serve fault) = IsInputAnswer AnswersCheck input (Err fau
 IsRefused window input (TooMany n) = IsTooMany window input n
 
 -- the answer to an input
-abbrev pub IsAnswered : List ℕ → PictureOrder → List ℕ → Result DrawingView PictureFault → Type 0
-IsAnswered style order input (Ok drawing) = IsPictureAnswer style order input drawing
-IsAnswered style order input (Err fault) = IsRefused order.window input fault
+abbrev pub AnswersPicture : List ℕ → PictureOrder → List ℕ → Result DrawingView PictureFault → Type 0
+AnswersPicture style order input (Ok drawing) = IsPictureAnswer style order input drawing
+AnswersPicture style order input (Err fault) = IsRefused order.window input fault
 
 -- a source was read as input, by reads that took this many bytes, and this is the answer to all of them
-pub record Answers (style : List ℕ) (order : PictureOrder) (old new : Option (List ℕ)) (taken : ℕ)
+pub record AnswersSource (style : List ℕ) (order : PictureOrder) (old new : Option (List ℕ)) (taken : ℕ)
     (answer : Result DrawingView PictureFault) : Type 0 where
   pub input : List ℕ
   pub reads : Reads old new input
   pub whole : length input ≡ taken
-  pub is : IsAnswered style order input answer
+  pub is : AnswersPicture style order input answer
 
 -- an end of the command failed, and not what was read
 abbrev pub is_of_end : PictureFault → Bool

@@ -12,6 +12,7 @@ abbrev pub picture_fault : PictureError → PictureFault
 picture_fault picture.Memory = Serve serve.Memory
 picture_fault (picture.TooMany n) = TooMany n
 
-abbrev pub line_text : PictureFault → List ℕ
-line_text (Serve fault) = fault_text fault
-line_text (TooMany n) = codes "stamped: " ++ decimal n ++ codes " entries to draw, over 2000: give --from A --to B"
+abbrev pub picture_fault_text : PictureFault → List ℕ
+picture_fault_text (Serve fault) = fault_text fault
+picture_fault_text (TooMany n) =
+    codes "stamped: " ++ decimal n ++ codes " entries to draw, over 2000: give --from A --to B"

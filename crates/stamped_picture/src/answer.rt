@@ -8,7 +8,7 @@ ghost use Rattle.stamp_cli.specs.Source.{most_reads, most_taken};
 ghost use Rattle.stamp_cli.specs.declared.faults.ServeFault.TheVariants.{Memory, ReadFault, WriteFault};
 ghost use Rattle.stamped_picture.specs.declared.faults.PictureFault.TheVariants.{Serve};
 ghost use Rattle.stamped_picture.specs.Answer.{IsSvg, IsDrawnAs, IsDrawnText, IsUndrawn};
-ghost use Rattle.stamped_picture.specs.Answer.{Answers, IsPictureAnswer, IsRefused, drawing_in, is_of_end, verdict_in};
+ghost use Rattle.stamped_picture.specs.Answer.{AnswersSource, IsPictureAnswer, IsRefused, drawing_in, is_of_end, verdict_in};
 
 use crate::faults::PictureFault;
 use crate::orders::{Form, PictureOrder};
@@ -111,10 +111,10 @@ pub(crate) fn drawing_from<S: Source>(
 ) -> Result<Drawing, PictureFault>
     ensures reads { HasRead (Serve ReadFault) (Serve Memory) (S.left source.old) (S.left source.new)
         (S.reads source.old) (S.reads source.new) most_reads most_taken result }
-    ensures ok { IfOk result (λ drawing. Answers style.now order (S.left source.old) (S.left source.new)
+    ensures ok { IfOk result (λ drawing. AnswersSource style.now order (S.left source.old) (S.left source.new)
         (taken_since (S.reads source.old) (S.reads source.new)) (Ok (drawing_in drawing))) }
     ensures err { IfErr result (λ e. e ≢ Serve ReadFault → e ≢ Serve Memory
-        → Answers style.now order (S.left source.old) (S.left source.new)
+        → AnswersSource style.now order (S.left source.old) (S.left source.new)
         (taken_since (S.reads source.old) (S.reads source.new)) (Err e)) }
     ensures not_written { result ≢ Err (Serve WriteFault) }
 {

@@ -3,7 +3,7 @@
 ghost use Rattle.std.specs.Prelude.{◌≡◌, IfOk, IfErr, string_bytes};
 ghost use Rattle.stamp_cli.specs.declared.faults.ServeFault.TheVariants.{Memory};
 ghost use Rattle.stamped_picture.specs.declared.faults.PictureFault.TheVariants.{Serve, TooMany};
-ghost use Rattle.stamped_picture.specs.FaultText.{line_text, picture_fault};
+ghost use Rattle.stamped_picture.specs.FaultText.{picture_fault, picture_fault_text};
 
 use stamp_cli::ServeFault;
 use stamp_history::ReadError;
@@ -60,7 +60,7 @@ impl From<PictureError> for PictureFault {
 
 /// The line for standard error, without its line feed.
 pub(crate) fn fault_line(alloc: Global, fault: &PictureFault) -> Result<String, PictureFault>
-    ensures text { IfOk result (λ line. string_bytes line ≡ line_text fault.now) }
+    ensures text { IfOk result (λ line. string_bytes line ≡ picture_fault_text fault.now) }
     ensures refused { IfErr result (λ e. e ≡ Serve Memory) }
 {
     match fault {

@@ -8,7 +8,7 @@ ghost use Rattle.stamp_cli.specs.Source.{most_reads, most_taken};
 ghost use Rattle.stamp_cli.specs.Serving.{HasRead, HasWritten};
 ghost use Rattle.stamp_cli.specs.declared.faults.ServeFault.TheVariants.{Memory, ReadFault, WriteFault};
 ghost use Rattle.stamped_picture.specs.declared.faults.PictureFault.TheVariants.{Serve};
-ghost use Rattle.stamped_picture.specs.Answer.{DrawingView, Answers};
+ghost use Rattle.stamped_picture.specs.Answer.{DrawingView, AnswersSource};
 
 use crate::answer::drawing_from;
 use crate::faults::PictureFault;
@@ -30,21 +30,21 @@ pub(crate) fn serve<S: Source, K: Sink>(
 
     // The picture of all that was read is written, and nothing else; the verdict is its.
     ensures ok { IfOk result (λ verdict. (drawing : DrawingView)
-        × Answers style.now order (S.left source.old) (S.left source.new)
+        × AnswersSource style.now order (S.left source.old) (S.left source.new)
         (taken_since (S.reads source.old) (S.reads source.new)) (Ok drawing) × (verdict ≡ drawing.verdict)
         × Appends (K.sent sink.old) (K.sent sink.new) drawing.text
         × Makes (K.writes sink.old) (K.writes sink.new) (length drawing.text)) }
 
     // All that was read is refused so.
     ensures refused { IfErr result (λ e. e ≢ Serve ReadFault → e ≢ Serve WriteFault → e ≢ Serve Memory
-        → Answers style.now order (S.left source.old) (S.left source.new)
+        → AnswersSource style.now order (S.left source.old) (S.left source.new)
         (taken_since (S.reads source.old) (S.reads source.new)) (Err e)) }
 
     // A write that failed leaves a front of the picture and is the last, and no other refusal writes.
     ensures writes { HasWritten (Serve WriteFault) (K.sent sink.old) (K.sent sink.new)
         (K.writes sink.old) (K.writes sink.new) result }
     ensures front { result ≡ Err (Serve WriteFault) → ((drawing : DrawingView)
-        × Answers style.now order (S.left source.old) (S.left source.new)
+        × AnswersSource style.now order (S.left source.old) (S.left source.new)
         (taken_since (S.reads source.old) (S.reads source.new)) (Ok drawing)
         × AppendsFront (K.sent sink.old) (K.sent sink.new) drawing.text
         × MakesAtMost (K.writes sink.old) (K.writes sink.new) (length drawing.text) (length drawing.text)) }
