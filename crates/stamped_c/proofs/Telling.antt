@@ -19,7 +19,7 @@ use Rattle.stamped_c.specs.declared.fault.Fault.TheVariants.{BeyondLimits, Unkno
 use Rattle.stamped_c.specs.declared.found.CLimits.{CLimits}
 use Rattle.stamped_c.specs.Codes.{decision_in_c}
 use Rattle.stamped_c.specs.Checks.{Then, IsLayoutOf, AreLimitsIn, IsWordUnder, IsCallOf}
-use Rattle.stamped_c.specs.Answers.{IsDecided, IsDecidedIn, IsDecidedUnder, IsDecidedOn, IsDecision, IsTold}
+use Rattle.stamped_c.specs.Answers.{IsDecided, IsDecidedIn, IsDecidedUnder, IsDecidedOn, IsDecision, IsToldByWord}
 
 -- a writer has acquired write mode
 least : (l : Layout) (k w r : ℕ) → w ≤ k →
@@ -84,7 +84,7 @@ on given number code stamp decision decided =
     }
 
 pub told : (given : CLimits) (number code stamp : ℕ) (decided : Result LockDecision Fault) →
-    IsDecided given number code stamp decided → IsTold number decided (decision_in_c number decided).word
+    IsDecided given number code stamp decided → IsToldByWord number decided (decision_in_c number decided).word
 told given number code stamp (Ok (Answer reply)) decided =
     let o = on given number code stamp (Answer reply) decided in
     let low = least_word o.limits o.word o.admitted.events o.admitted.represented in

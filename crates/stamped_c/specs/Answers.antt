@@ -71,16 +71,16 @@ AnswersWord given number code = (word : Result LockWord Fault) × IsWordOf given
 
 -- by the word alone one tells what to do: below 256 it is a wait or a fault, and from 256 on the same
 -- number where there is nothing to change, and another one where there is
-abbrev pub IsTold : ℕ → Result LockDecision Fault → ℕ → Type 0
-IsTold number (Ok (Answer reply)) word = (256 ≤ word) × (word ≡ number)
-IsTold number (Ok (Change next reply)) word = (256 ≤ word) × (word ≢ number)
-IsTold number (Ok Wait) word = word < 256
-IsTold number (Err fault) word = word < 256
+abbrev pub IsToldByWord : ℕ → Result LockDecision Fault → ℕ → Type 0
+IsToldByWord number (Ok (Answer reply)) word = (256 ≤ word) × (word ≡ number)
+IsToldByWord number (Ok (Change next reply)) word = (256 ≤ word) × (word ≢ number)
+IsToldByWord number (Ok Wait) word = word < 256
+IsToldByWord number (Err fault) word = word < 256
 
 abbrev pub AnswersDecision : CLimits → ℕ → ℕ → ℕ → CDecision → Type 0
 AnswersDecision given number code stamp made = (decided : Result LockDecision Fault) ×
     IsDecided given number code stamp decided × (made ≡ decision_in_c number decided) ×
-    IsTold number decided made.word
+    IsToldByWord number decided made.word
 
 abbrev pub AnswersKind : ℕ → ℕ → CKind → Type 0
 AnswersKind number stamp found = (kind : Result StampKind Fault) × IsKindOf number stamp kind ×
