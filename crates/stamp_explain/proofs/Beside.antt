@@ -33,6 +33,7 @@ use Rattle.stamp_explain.specs.Timeline.{AreOpen, IsAwaitedAt}
 use Rattle.stamp_explain.specs.Node.{ClearsBit}
 use Rattle.stamp_explain.specs.Expand.{Suffice, ComesNextBy, Took, IsNotInEffect, IsTakenTo, Enters, nodes_of}
 use Rattle.stamp_explain.specs.Expand.{IsChoiceOf, IsNoChoice}
+use Rattle.stamp_explain.specs.Expand.PassesTo.{passes_none}
 use Rattle.stamp_explain.specs.Expand.IsNoChoice.{of_other, questions, comes_later, stays}
 use Rattle.stamp_explain.specs.Possible.{without_return, returned_with}
 use Rattle.stamp_explain.specs.Asking.{Adds, AreAsked, AreLed, AreMore, AreReplies, Gets, GetsMore}
@@ -367,9 +368,10 @@ beside_some asking node a calls k nexts w awaits reached bit none_at_once are is
         });
       };
       tries = λ reply h answered none. tried_some h (Some asking.place) asking.timeline.returns.items node calls k
-          nexts w (is.tries reply h answered none) more
+          nexts w w (is.tries reply h answered none) more
           (took_alike asking.seen h asking.place asking.timeline.returns.items node
-          (get_or calls (length calls - 1 - k) 0) (Some w) (alike_of asking reply h answered) other choice.took);
+          (get_or calls (length calls - 1 - k) 0) (Some w) (alike_of asking reply h answered) other choice.took)
+          passes_none;
     }
 
 pub suffice_beside : (asking : Asking) (node : Node) (calls : List ℕ) (k : ℕ) (nexts : List Next) (reply : Reply)
@@ -599,7 +601,7 @@ asked_suits asking asks e at = subst (λ (g : ObservedHistory). IsTrue (call_sui
         ap (λ (o : Observation). Some o) (get_or-set_same asking.seen.entries asking.place y y within)) ∙
         ap (λ (g : ObservedHistory). slice_get g.entries asking.place) (sym asks.before) ∙ at)
 
--- a search without the call begins at the first_state
+-- a search without the call begins at the first node
 opening_beside : (asking : Asking) (node : Node) → IsFirstNode asking.seen node → IsReachedBeside asking node
 opening_beside asking node is = record {
   reached = opening_reached asking.seen (Some asking.place) asking.timeline.returns.items node is;

@@ -69,14 +69,14 @@ pub record Explores (looked : ℕ) (store : Store) (waiting : List ℕ) : Type 0
   pub inside : All (λ (p : ℕ). p < length store.nodes.items) waiting
   pub count : looked + length waiting ≡ length store.nodes.items
 
--- nothing of what can be completed from the first_state is lost
+-- nothing of what can be completed from the beginning is lost
 pub record Searches (h : ObservedHistory) (returns : List ℕ) (store : Store) (waiting : List ℕ) : Type 0 where
   pub loses : LosesNothing (Hope h returns) (Contains store.nodes.items) (IsPlaced store.nodes.items waiting)
   pub first : Node
   pub is_first : IsFirstNode h first
   pub at_first : slice_get store.nodes.items 0 ≡ Some first
 
--- the first_state is a node that is reached, and hopes for any order
+-- the first node is reached, and hopes for any order
 pub opening_stands : (h : ObservedHistory) (returns : List ℕ) (node : Node) → IsFirstNode h node →
     StandsFor h returns node (first_state h.width) []
 opening_stands h returns node is = record {

@@ -1,7 +1,7 @@
 -- What a search in depth finds where nothing is left, or where it gives up.
 use Rattle.std.proofs.Common.{◌≡◌, ◌≢◌, ◌⊎◌, ℕ, ◌+◌, ◌<◌, ◌≤◌, List, [], ◌++◌, length}
 use Rattle.std.proofs.Common.{get_or}
-use Rattle.std.proofs.Common.{refl, sym, ◌∙◌, ap, subst, inl, inr, arith, None, Some}
+use Rattle.std.proofs.Common.{refl, sym, ◌∙◌, ap, subst, inl, inr, arith, None, Some, zero, suc}
 use Rattle.std.specs.Prelude.{take, drop, slice_get}
 use Rattle.std.specs.List.{All, Contains}
 use Rattle.std.proofs.lemmas.List.{length-drop, get_or-take}
@@ -16,8 +16,10 @@ use Rattle.stamp_explain.specs.Observed.{ObservedHistory}
 use Rattle.stamp_explain.specs.Explained.{IsExplained}
 use Rattle.stamp_explain.specs.Search.{LockSteps, IsCompletedBy, AreReturns, first_state}
 use Rattle.stamp_explain.specs.Configuration.{AreOne, Configuration, GoesOnFrom, IsAlive, LookedAtMore}
-use Rattle.stamp_explain.specs.Node.{IsReached}
-use Rattle.stamp_explain.specs.Expand.{Hope, Expands}
+use Rattle.stamp_explain.specs.Node.{IsFirstNode, IsReached}
+use Rattle.std.specs.Int.{bit_at}
+use Rattle.std.proofs.lemmas.Nat.Bits.{bit_at-zero}
+use Rattle.stamp_explain.specs.Expand.{AreLinked, Expands, Hope, IsLinkedAt, IsNotInEffect}
 use Rattle.stamp_explain.specs.Expand.{waiting_from}
 use Rattle.stamp_explain.proofs.Counting.{IsFor, one_node}
 use Rattle.stamp_explain.proofs.Exploring.{explained_by, opening_stands}
@@ -188,6 +190,28 @@ last_reached h returns store waiting expanded v is at =
     let it : HasFor h returns is.deepens.configurations expanded v =
     of_node h returns store.nodes.items is.deepens.configurations expanded v is.deepens.are at in
     reached_of h returns v it.configuration it.is_for
+
+-- where a search begins no call is in effect
+first_settled : (h : ObservedHistory) (returns : List ℕ) (node : Node) → IsFirstNode h node →
+    IsNotInEffect h returns node
+first_settled h returns node is = record {
+  awaited = λ a it bit. no_bit a.thread (ap (λ (n : ℕ). bit_at n a.thread) (sym is.threads) ∙ bit);
+}
+  where
+    no_bit : (t : ℕ) → bit_at 0 t ≡ 1 → ⊥
+    no_bit t bit = absurd (omega (arith, bit_at-zero t, bit))
+
+-- so at each node the awaited call is not in effect
+pub last_settled : (h : ObservedHistory) (returns : List ℕ) (store : Store) (waiting : List Waiting) (expanded : ℕ)
+    (v : Node) → IsAtLast h returns store waiting expanded → slice_get store.nodes.items expanded ≡ Some v →
+    IsNotInEffect h returns v
+last_settled h returns store waiting zero v is at =
+    let linked : AreLinked h returns store = is.deepens.linked in
+    subst (IsNotInEffect h returns) (same_Some linked.first v (sym linked.at_first ∙ at))
+    (first_settled h returns linked.first linked.is_first)
+last_settled h returns store waiting (suc expanded) v is at =
+    let link : IsLinkedAt h returns store (suc expanded) v = is.deepens.linked.each (suc expanded) v (omega arith) at in
+    link.leads.settled
 
 -- the last node, read, is expanded
 pub expanded_last : (h : ObservedHistory) (returns : List ℕ) (store : Store) (waiting after : List Waiting)

@@ -14,7 +14,8 @@ use Rattle.stamp_explain.specs.Observed.{ObservedHistory}
 use Rattle.stamp_explain.specs.Configuration.{Configuration, GoesOnFrom, Reaches}
 use Rattle.std.specs.Int.{bit_at}
 use Rattle.stamp_explain.specs.Node.{AreTaken, IsNext, IsReached}
-use Rattle.stamp_explain.specs.Expand.{ComesNext, ComesNextBy}
+use Rattle.stamp_explain.specs.Expand.{ComesNext, ComesNextBy, Follows, PassesTo}
+use Rattle.stamp_explain.specs.Expand.PassesTo.{passes_none, passes_more}
 use Rattle.stamp_explain.proofs.Lists.{contains_first}
 use Rattle.stamp_explain.proofs.Entering.{read_left, read_right, read_last}
 use Rattle.stamp_explain.proofs.Leading.{come, come_less, way_past, way_by}
@@ -90,9 +91,9 @@ same_effect h past threads one other i e are also at has = by (are.only i e at h
     by (inl is_past) = also.all_past i is_past
     by (inr both) = also.each_next i e both.1 both.0
 
-pub steps_to : (h : ObservedHistory) (returns : List ℕ) (v : Node) (next : Next) (c : Configuration h None returns) →
+steps_by : (h : ObservedHistory) (returns : List ℕ) (v : Node) (next : Next) (c : Configuration h None returns) →
     IsFor h None returns v c → ComesNext h None returns v next → StepsTo h returns c next.node
-steps_to h returns v next c is leads = by next.took (leads.leads c.state c.taken is.stands)
+steps_by h returns v next c is leads = by next.took (leads.leads c.state c.taken is.stands)
   where
     way : Reaches h None returns (drop v.past returns) c.state v.writer c.taken
     way = subst (λ (rs : List ℕ). Reaches h None returns rs c.state v.writer c.taken) is.to_come
@@ -158,6 +159,26 @@ steps_to h returns v next c is leads = by next.took (leads.leads c.state c.taken
           of.stands.in_effect l.may.effect.is_entry
           (contains_first l.effect.index c.taken l.effect.index refl))));
     }
+
+steps_past : (h : ObservedHistory) (returns : List ℕ) (c : Configuration h None returns) (v w : Node) →
+    StepsTo h returns c v → PassesTo h returns v w → StepsTo h returns c w
+steps_past h returns c v w to passes_none = to
+steps_past h returns c v w to (passes_more {u} before step) =
+    let there : StepsTo h returns c u = steps_past h returns c v u to before in
+    let on : StepsTo h returns there.next w = steps_by h returns u (record { node = w; took = None }) there.next
+    there.is_for step in
+    record {
+      next = on.next;
+      is_for = on.is_for;
+      goes_on = goes_on_through h returns c there.next on.next there.goes_on on.goes_on;
+      is_new = λ b of back. on.is_new b of (goes_on_through h returns b c there.next back there.goes_on);
+    }
+
+-- where a call takes effect, and then returns are past
+pub steps_to : (h : ObservedHistory) (returns : List ℕ) (v : Node) (next : Next) (c : Configuration h None returns) →
+    IsFor h None returns v c → Follows h returns v next → StepsTo h returns c next.node
+steps_to h returns v next c is leads = steps_past h returns c leads.via next.node
+    (steps_by h returns v (record { node = leads.via; took = next.took }) c is leads.comes) leads.passes
 
 pub reached_of : (h : ObservedHistory) (returns : List ℕ) (v : Node) (c : Configuration h None returns) →
     IsFor h None returns v c → IsReached h None returns v

@@ -6,7 +6,6 @@ use Rattle.std.proofs.Math.Seq.{drop-cons}
 use Rattle.std.proofs.lemmas.List.{length-drop}
 use Rattle.stamp_core.specs.declared.reply.Reply.{Reply}
 use Rattle.stamp_explain.specs.declared.node.Node.{Node}
-use Rattle.stamp_explain.specs.declared.node.Next.{Next}
 use Rattle.stamp_explain.specs.declared.order.Taken.{Taken}
 use Rattle.stamp_explain.specs.Observed.{ObservedHistory}
 use Rattle.stamp_explain.specs.Explained.{Effect}
@@ -14,7 +13,7 @@ use Rattle.stamp_explain.specs.Search.{LockState, LockSteps, IsCompletedBy}
 use Rattle.stamp_explain.specs.Configuration.{Reaches, put_after}
 use Rattle.stamp_explain.specs.Configuration.Reaches.{goes_past, goes_on_by}
 use Rattle.stamp_explain.specs.Node.{StandsFor, IsReached}
-use Rattle.stamp_explain.specs.Expand.{ComesNext, ComesNextBy, ComesByCall, ComesByReturn, IsLed}
+use Rattle.stamp_explain.specs.Expand.{ComesNext, ComesByCall, ComesByReturn, IsLed}
 use Rattle.stamp_explain.specs.Order.{taken_of, RepliesAt}
 use Rattle.stamp_explain.proofs.Completing.{completed_by_none, before_return, puts_first}
 use Rattle.stamp_explain.proofs.Finding.{ArePending, first_of_pending, past_pending, taken_pending}
@@ -61,30 +60,7 @@ way_by h asked returns node w s taken i inside way l =
     (goes_on_by (subst (λ (to_come : List ℕ). Reaches h asked returns to_come s node.writer taken)
     (come returns node.past inside) way) l.awaited l.effect l.state l.is_awaited l.not_yet l.tried l.may))
 
--- what comes from a node that is reached is reached
-pub leads_reached : (h : ObservedHistory) (asked : Option ℕ) (returns : List ℕ) (node : Node) (next : Next) →
-    IsReached h asked returns node → ComesNext h asked returns node next → IsReached h asked returns next.node
-leads_reached h asked returns node next reached leads =
-    by next.took (leads.leads reached.state reached.taken reached.stands)
-  where
-    by : (o : Option ℕ) → ComesNextBy h asked returns node next.node reached.state reached.taken o →
-        IsReached h asked returns next.node
-    by None l = record {
-      state = reached.state;
-      taken = reached.taken;
-      inside = omega (arith, leads.inside, l.past);
-      stands = l.stands;
-      way = way_past h asked returns node next.node reached.state reached.taken leads.inside reached.way l;
-    }
-    by (Some i) l = record {
-      state = l.state;
-      taken = l.effect.index ∷ reached.taken;
-      inside = omega (arith, leads.inside, l.past);
-      stands = l.stands;
-      way = way_by h asked returns node next.node reached.state reached.taken i leads.inside reached.way l;
-    }
-
--- so a call that took effect there did so in some state
+-- a call that took effect at a node that is reached did so in some state
 pub led_by : (h : ObservedHistory) (returns : List ℕ) (node w : Node) (took : Option ℕ) →
     IsReached h None returns node → ComesNext h None returns node (record { node = w; took = took }) → IsLed h node took
 led_by h returns node w None reached leads = tt

@@ -29,7 +29,8 @@ use Rattle.stamp_explain.specs.Node.{IsNext, AreTaken, StandsFor}
 use Rattle.stamp_explain.specs.Timeline.{IsTimeline, IsAwaitedAt, IsOpenAt, AreOpen}
 use Rattle.stamp_explain.specs.Node.{ClearsBit}
 use Rattle.stamp_explain.specs.Expand.{Hope, GoesOn, Expands, ComesNext, ComesNextBy, IsTakenTo, Took}
-use Rattle.stamp_explain.specs.Expand.{IsChoiceOf, IsNoChoice, IsNotInEffect, NoneIsAtOnceAt, Suffice}
+use Rattle.stamp_explain.specs.Expand.{Follows, IsChoiceOf, IsNoChoice, IsNotInEffect, NoneIsAtOnceAt, PassesTo}
+use Rattle.stamp_explain.specs.Expand.{Suffice}
 use Rattle.stamp_explain.specs.Expand.IsNoChoice.{of_other, questions, comes_later, stays}
 use Rattle.stamp_explain.proofs.Alike.{alike_in_as_many, may_in_turn}
 use Rattle.stamp_explain.proofs.Finding.{ArePending, first_of_pending, not_before_itself}
@@ -39,14 +40,20 @@ use Rattle.stamp_explain.proofs.Standing.{taken_by_bit, taken_past}
 use Rattle.stamp_explain.proofs.Staying.{observers_change_nothing}
 use Rattle.stamp_explain.proofs.Observing.{TakesAtOnce, takes_at_once}
 use Rattle.stamp_explain.proofs.Questions.{without_question}
+use Rattle.stamp_explain.proofs.Settling.{HopesWithin, follows_of, hope_passes, suffices_settled}
 use Rattle.stamp_explain.proofs.Expanding.{next_open, orderly, next_awaited, in_take, open_may, same_read}
 use Rattle.stamp_explain.proofs.Lists.{none_in_empty, contains_cases, contains_first, each_push, either_in}
 use Rattle.stamp_explain.proofs.Lists.{pairs_drop}
 
--- one of these nodes stands for the state, with these calls in effect
-abbrev Makes : ObservedHistory → List ℕ → Node → LockState → List ℕ → List Next → Type 0
-Makes h returns node u taken nexts = (w : Next) × (Contains nexts w ×
-    ((w.node.past ≡ node.past) × StandsFor h returns w.node u taken))
+-- by one of these nodes returns are past in one that stands for the state, with these calls in effect
+pub record Makes (h : ObservedHistory) (returns : List ℕ) (node : Node) (u : LockState) (taken : List ℕ)
+    (nexts : List Next) : Type 0 where
+  pub next : Next
+  pub among : Contains nexts next
+  pub via : Node
+  pub past : via.past ≡ node.past
+  pub stands : StandsFor h returns via u taken
+  pub passes : PassesTo h returns via next.node
 
 -- or another call goes ahead of it
 abbrev MakesOrWaits : ObservedHistory → Option ℕ → List ℕ → Node → List ℕ → Effect → LockState → List ℕ → List Next →
@@ -89,7 +96,14 @@ one_more_tried h asked returns node calls k old new tries more kept makes = reco
     stays : (x : Effect) (u : LockState) (taken : List ℕ) → MakesOrWaits h asked returns node calls x u taken old →
         MakesOrWaits h asked returns node calls x u taken new
     stays x u taken (inl out) = inl out
-    stays x u taken (inr found) = inr (found.0, (kept found.0 found.1.0, found.1.1))
+    stays x u taken (inr found) = inr (record {
+      next = found.next;
+      among = kept found.next found.among;
+      via = found.via;
+      past = found.past;
+      stands = found.stands;
+      passes = found.passes;
+    })
 
     by : (a : Observation) (s : LockState) (taken : List ℕ) → IsAwaitedAt h returns node.past a →
         StandsFor h returns node s taken → (x : Effect) (u : LockState) →
@@ -142,17 +156,24 @@ tried_later h asked returns node calls k nexts tries more out =
     one_more_tried h asked returns node calls k nexts nexts tries more (λ w has. has)
     (λ a s taken awaited stands x u may alike asks_not is. inl (subst (IsOutOfTurn h asked node calls) is out))
 
--- it takes effect
+-- it takes effect, and then returns are past
 pub tried_some : (h : ObservedHistory) (asked : Option ℕ) (returns : List ℕ) (node : Node) (calls : List ℕ) (k : ℕ)
-    (nexts : List Next) (w : Next) → Tries h asked returns node calls k nexts → k < length calls →
-    Took h returns node (get_or calls (length calls - 1 - k) 0) (Some w) →
-    Tries h asked returns node calls (k + 1) (nexts ++ w ∷ [])
-tried_some h asked returns node calls k nexts w tries more took =
-    one_more_tried h asked returns node calls k nexts (nexts ++ w ∷ []) tries more
-    (λ v has. Contains-append_left nexts (w ∷ []) v has) (λ a s taken awaited stands x u may alike asks_not is.
+    (nexts : List Next) (w next : Next) → Tries h asked returns node calls k nexts → k < length calls →
+    Took h returns node (get_or calls (length calls - 1 - k) 0) (Some w) → PassesTo h returns w.node next.node →
+    Tries h asked returns node calls (k + 1) (nexts ++ next ∷ [])
+tried_some h asked returns node calls k nexts w next tries more took passes =
+    one_more_tried h asked returns node calls k nexts (nexts ++ next ∷ []) tries more
+    (λ v has. Contains-append_left nexts (next ∷ []) v has) (λ a s taken awaited stands x u may alike asks_not is.
     let some : IsTakenTo h returns node a (get_or calls (length calls - 1 - k) 0) s taken w =
     took.takes a s taken awaited stands in
-    inr (w, (Contains-push nexts w, (some.past, some.only x u may (sym is)))))
+    inr (record {
+      next = next;
+      among = Contains-push nexts next;
+      via = w.node;
+      past = some.past;
+      stands = some.only x u may (sym is);
+      passes = passes;
+    }))
 
 -- it is no choice
 pub tried_not : (h : ObservedHistory) (asked : Option ℕ) (returns : List ℕ) (node : Node) (calls : List ℕ) (k : ℕ)
@@ -340,15 +361,6 @@ suffices_past h timeline node a threads is bit clears n hope =
     goes (inr on) = absurd (on.awaited
         (awaited_in_effect h timeline node a hope.state hope.taken is bit hope.stands))
 
-pub expands_past : (h : ObservedHistory) (timeline : Timeline) (node : Node) (a : Observation) (threads : ℕ) →
-    Awaits h timeline node a → bit_at node.threads a.thread ≡ 1 → ClearsBit node.threads threads a.thread →
-    Expands h timeline.returns.items node (past_of node threads ∷ [])
-expands_past h timeline node a threads is bit clears = record {
-  each = λ w has. subst (λ (v : Next). ComesNext h None timeline.returns.items node v)
-      (only_one (past_of node threads) w has) (leads_past h None timeline node a threads is bit clears);
-  whole = suffices_past h timeline node a threads is bit clears;
-}
-
 -- what is behind so many of a list is in the rest
 in_drop : (xs : List ℕ) (n k j : ℕ) → n ≤ k → k < length xs → get_or xs k j ≡ j → Contains (drop n xs) j
 in_drop xs n k j le lt is =
@@ -510,8 +522,24 @@ one_turn h asked timeline node a calls k nexts s taken most u left x is are all 
     by (inr found) =
         let P : List ℕ → Type 0 = λ (to_come : List ℕ). CompletesIn (LockSteps h.limits) h.entries to_come u
         (x.index ∷ taken) left in
-        goes_on_to h returns nexts found.0 u (x.index ∷ taken) left most found.1.0 (omega (arith, fewer)) found.1.1.1
-        (subst P (same_left found.0.node found.1.1.0) it.rest)
+        let rest : CompletesIn (LockSteps h.limits) h.entries (drop found.via.past returns) u (x.index ∷ taken) left =
+        subst P (same_left found.via found.past) it.rest in
+        let there : HopesWithin h returns found.next.node left =
+        hope_passes h returns found.via found.next.node left found.passes (record {
+          state = u;
+          taken = x.index ∷ taken;
+          stands = found.stands;
+          rest = rest.rest;
+          by = rest.by;
+          steps = rest.steps;
+        }) in
+        record {
+          next = found.next;
+          left = there.left;
+          among = found.among;
+          fewer = omega (arith, fewer, there.no_more);
+          hope = there.hope;
+        }
 
 in_turn : (h : ObservedHistory) (asked : Option ℕ) (timeline : Timeline) (node : Node) (a : Observation)
     (calls : List ℕ) (k : ℕ) (nexts : List Next) (s : LockState) (taken : List ℕ) (most : ℕ) (u : LockState)
@@ -857,17 +885,21 @@ suffices_at_once h timeline node a i w is observer takes n hope =
         (subst P (ap (λ (m : ℕ). drop m timeline.returns.items) (sym took.past)) once.completes)
 
 pub expands_at_once : (h : ObservedHistory) (timeline : Timeline) (node : Node) (a : Observation) (calls : List ℕ)
-    (k : ℕ) (w : Next) → Awaits h timeline node a → bit_at node.threads a.thread ≢ 1 →
+    (k : ℕ) (w next : Next) → Awaits h timeline node a → bit_at node.threads a.thread ≢ 1 →
     AreOpen h timeline.returns.items node.past calls → NoneOfFirst h None timeline.returns.items node calls k →
     k < length calls → observes_at h.entries (get_or calls k 0) ≡ true →
     Took h timeline.returns.items node (get_or calls k 0) (Some w) →
-    Expands h timeline.returns.items node (w ∷ [])
-expands_at_once h timeline node a calls k w is bit are before inside observer takes = record {
-  each = λ v has. subst (λ (n : Next). ComesNext h None timeline.returns.items node n) (only_one w v has)
-      (leads_at_once h None timeline node a calls k w is bit are before inside observer
-      (λ same. none-some (get_or calls k 0) same) takes);
-  whole = suffices_at_once h timeline node a (get_or calls k 0) w is observer takes;
-}
+    PassesTo h timeline.returns.items w.node next.node → next.took ≡ w.took →
+    IsNotInEffect h timeline.returns.items next.node → Expands h timeline.returns.items node (next ∷ [])
+expands_at_once h timeline node a calls k w next is bit are before inside observer takes passes took settled =
+    record {
+      each = λ v has. subst (λ (n : Next). Follows h timeline.returns.items node n) (only_one next v has)
+          (follows_of h timeline.returns.items node w next
+          (leads_at_once h None timeline node a calls k w is bit are before inside observer
+          (λ same. none-some (get_or calls k 0) same) takes) passes took settled);
+      whole = suffices_settled h timeline.returns.items node w next passes
+          (suffices_at_once h timeline node a (get_or calls k 0) w is observer takes);
+    }
 
 -- the awaited call is read
 index_read : (returns : List ℕ) (past i : ℕ) → past < length returns → i ≡ get_or returns past i →
@@ -963,7 +995,7 @@ suffice_open h asked timeline node calls k nexts observed is inside awaited are 
 -- of the last k of these calls those that are tried lead to these nodes
 pub record Chooses (h : ObservedHistory) (returns : List ℕ) (node : Node) (calls : List ℕ) (k : ℕ)
     (nexts : List Next) : Type 0 where
-  pub led : (w : Next) → Contains nexts w → ComesNext h None returns node w
+  pub led : (w : Next) → Contains nexts w → Follows h returns node w
   pub tries : Tries h None returns node calls k nexts
 
 pub chooses_none : (h : ObservedHistory) (returns : List ℕ) (node : Node) (calls : List ℕ) →
@@ -974,18 +1006,22 @@ chooses_none h returns node calls = record {
 }
 
 pub chooses_one : (h : ObservedHistory) (timeline : Timeline) (node : Node) (a : Observation) (calls : List ℕ) (k : ℕ)
-    (nexts : List Next) (w : Next) → Awaits h timeline node a → bit_at node.threads a.thread ≢ 1 →
+    (nexts : List Next) (w next : Next) → Awaits h timeline node a → bit_at node.threads a.thread ≢ 1 →
     NoneIsAtOnceAt h None timeline.returns.items node → AreOpen h timeline.returns.items node.past calls →
     Chooses h timeline.returns.items node calls k nexts → k < length calls → (awaited : ℕ) →
     slice_get h.entries awaited ≡ Some a →
     IsChoiceOf h None timeline.returns.items node calls awaited (get_or calls (length calls - 1 - k) 0) w →
-    Chooses h timeline.returns.items node calls (k + 1) (nexts ++ w ∷ [])
-chooses_one h timeline node a calls k nexts w is bit none are chooses more awaited at choice = record {
-  led = each_push (ComesNext h None timeline.returns.items node) nexts w chooses.led
-      (choice_leads h None timeline node a calls (get_or calls (length calls - 1 - k) 0) w is bit none are awaited at
-      choice);
-  tries = tried_some h None timeline.returns.items node calls k nexts w chooses.tries more choice.took;
-}
+    PassesTo h timeline.returns.items w.node next.node → next.took ≡ w.took →
+    IsNotInEffect h timeline.returns.items next.node →
+    Chooses h timeline.returns.items node calls (k + 1) (nexts ++ next ∷ [])
+chooses_one h timeline node a calls k nexts w next is bit none are chooses more awaited at choice passes took settled =
+    record {
+      led = each_push (Follows h timeline.returns.items node) nexts next chooses.led
+          (follows_of h timeline.returns.items node w next
+          (choice_leads h None timeline node a calls (get_or calls (length calls - 1 - k) 0) w is bit none are awaited
+          at choice) passes took settled);
+      tries = tried_some h None timeline.returns.items node calls k nexts w next chooses.tries more choice.took passes;
+    }
 
 -- the others lead to none
 pub chooses_not : (h : ObservedHistory) (returns : List ℕ) (node : Node) (calls : List ℕ) (k : ℕ)

@@ -59,7 +59,7 @@ abbrev pub IsTried : ObservedHistory → Option ℕ → List ℕ → Observation
 IsTried h asked returns awaited s taken x =
     IsFirstAtOnce h asked returns awaited s taken x ⊎ IsChosen h asked awaited s taken x
 
--- a way through a search from the first_state: a call in effect returns; where one that is not in effect is to
+-- a way through a search from its beginning: a call in effect returns; where one that is not in effect is to
 -- return, an open call that is tried takes effect. It leads to the returns to come, what lock and record are in, the
 -- put whose words the record holds, if there was one, and the calls in effect
 pub data Reaches (h : ObservedHistory) (asked : Option ℕ) (returns : List ℕ) : List ℕ → LockState → Option ℕ →

@@ -7,7 +7,7 @@ ghost use Rattle.stamp_explain.specs.Search.{AreReturns};
 ghost use Rattle.stamp_explain.specs.Node.{IsFirstNode};
 ghost use Rattle.stamp_explain.specs.Timeline.{IsTimeline, IsOpenAt};
 ghost use Rattle.stamp_explain.specs.Store.{Keeps};
-ghost use Rattle.stamp_explain.specs.Expand.{MayGoOn, Expands, Took, IsChoice, IsNotInEffect, NoneIsAtOnceAt, IsSearched, LooksAt, waiting_from};
+ghost use Rattle.stamp_explain.specs.Expand.{MayGoOn, Expands, Took, PassesTo, IsChoice, IsNotInEffect, NoneIsAtOnceAt, IsSearched, LooksAt, waiting_from};
 
 use crate::found::Found;
 use crate::node::{Next, Node, Origin, Waiting, has_bit, with_bit, without_bit};
@@ -80,30 +80,45 @@ pub(crate) fn take_of(observed: &Observed, node: &Node, i: usize) -> Option<Next
     }
 }
 
-/// The one node that comes next, where no other has to be looked at: the awaited return is past, where
-/// its call is in effect; else an open call takes effect that changes nothing.
-fn forced(observed: &Observed, timeline: &Timeline, node: &Node) -> Option<Next>
-    requires { MayGoOn observed.now timeline.now node.now }
-    ensures one { IfSome result (λ next. Expands observed.now timeline.now.returns.items node.now (next ∷ [])) }
-    ensures none { IfNone result (IsNotInEffect observed.now timeline.now.returns.items node.now) }
-    ensures at_once { IfNone result (NoneIsAtOnceAt observed.now None timeline.now.returns.items node.now) }
+/// The same with each return that is next past, as long as its call is in effect.
+fn settled(observed: &Observed, timeline: &Timeline, next: &Next) -> Next
+    requires observed { IsObserved observed.now }
+    requires timeline { IsTimeline observed.now timeline.now }
+    ensures took { result.took ≡ next.now.took }
+    ensures passes { PassesTo observed.now timeline.now.returns.items next.now.node result.node }
+    ensures settled { IsNotInEffect observed.now timeline.now.returns.items result.node }
 {
-    let thread = observed.entries()[timeline.returns[node.past]].thread;
-    if has_bit(node.threads, thread) {
-        return Some(Next {
-            node: Node {
-                past: node.past + 1,
-                bits: node.bits,
-                writer: node.writer,
-                threads: without_bit(node.threads, thread),
-            },
-            took: None,
-        });
+    let mut node = next.node;
+    while node.past < timeline.returns.len() {
+        let thread = observed.entries()[timeline.returns[node.past]].thread;
+        if !has_bit(node.threads, thread) {
+            break;
+        }
+        node = Node {
+            past: node.past + 1,
+            bits: node.bits,
+            writer: node.writer,
+            threads: without_bit(node.threads, thread),
+        };
     }
+    Next {
+        node,
+        took: next.took,
+    }
+}
+
+/// The one node that comes next, where an open call takes effect that changes nothing: of these the one that
+/// returned first.
+fn at_once(observed: &Observed, timeline: &Timeline, node: &Node) -> Option<Next>
+    requires at { MayGoOn observed.now timeline.now node.now }
+    requires awaited { IsNotInEffect observed.now timeline.now.returns.items node.now }
+    ensures one { IfSome result (λ next. Expands observed.now timeline.now.returns.items node.now (next ∷ [])) }
+    ensures none { IfNone result (NoneIsAtOnceAt observed.now None timeline.now.returns.items node.now) }
+{
     for i in timeline.opens[node.past].as_slice() {
         if observes_at(observed, *i) {
             if let Some(next) = take_of(observed, node, *i) {
-                return Some(next);
+                return Some(settled(observed, timeline, &next));
             }
         }
     }
@@ -159,23 +174,24 @@ fn choices(
     for k in 0..calls.len() {
         let i = calls[calls.len() - 1 - k];
         if let Some(next) = choice_of(observed, None, node, calls, awaited, i) {
-            nexts.push(next)?;
+            nexts.push(settled(observed, timeline, &next))?;
         }
     }
     Ok(())
 }
 
-/// The nodes that come next.
+/// The nodes that come next where a return is awaited.
 fn successors(
     observed: &Observed,
     timeline: &Timeline,
     node: &Node,
     nexts: &mut Vec<Next>,
 ) -> Result<(), AllocError>
-    requires { MayGoOn observed.now timeline.now node.now }
+    requires at { MayGoOn observed.now timeline.now node.now }
+    requires awaited { IsNotInEffect observed.now timeline.now.returns.items node.now }
     ensures { IfOk result (λ _. Expands observed.now timeline.now.returns.items node.now nexts.new.items) }
 {
-    let Some(next) = forced(observed, timeline, node) else {
+    let Some(next) = at_once(observed, timeline, node) else {
         return choices(observed, timeline, node, nexts);
     };
     nexts.clear();
@@ -196,8 +212,8 @@ pub(crate) fn search(
     ensures { IfOk result (λ found. IsSearched observed.now most found) }
 {
     let returns = timeline.returns.as_slice();
-    // Where there is no choice, each return takes two steps: its call takes effect, and the return is past.
-    let room = returns.len().saturating_mul(2).saturating_add(2);
+    // Where there is no choice, there is a node for each call, beside the first.
+    let room = returns.len().saturating_add(2);
     let mut store = Store::beginning(alloc, opening(observed), room)?;
     let mut waiting = Vec::new(alloc);
     let mut nexts = Vec::new(alloc);

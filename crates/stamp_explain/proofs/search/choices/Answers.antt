@@ -36,14 +36,15 @@ loop-k-preserved c =
     c.requires.awaited in
     elim c.match-choice_of.branch [
       | in-Some+in_ok-push w ↦
-          let same : c.match-choice_of.nexts.items ≡ nexts ++ w.in-Some.next ∷ [] =
+          let same : c.match-choice_of.nexts.items ≡ nexts ++ w.settled.result ∷ [] =
           ap (λ (v : Vec Next Global). v.items) w.nexts-is ∙ w.in_ok-push.ensures.items in
           subst (λ (ns : List Next). Chooses h returns node calls (k + 1) ns) (sym same)
-          (chooses_one h c.args.timeline.now node one.entry calls k nexts w.in-Some.next one.awaits one.bit
+          (chooses_one h c.args.timeline.now node one.entry calls k nexts w.in-Some.next w.settled.result one.awaits one.bit
           c.requires.at_once are c.loop-k.invariant c.loop-k-test.true c.index-awaited.result.now
           (awaited_read h returns node.past c.index-awaited.result.now one.entry
           (awaited_at h c.args.timeline.now node one.entry one.awaits) c.index-awaited.ensures)
-          (w.in-Some.ensures returns c.requires.at.is_timeline.are it))
+          (w.in-Some.ensures returns c.requires.at.is_timeline.are it) w.settled.ensures.passes w.settled.ensures.took
+          w.settled.ensures.settled)
       | in_default w ↦
           let same : c.match-choice_of.nexts.items ≡ nexts = ap (λ (v : Vec Next Global). v.items) w.nexts-is in
           subst (λ (ns : List Next). Chooses h returns node calls (k + 1) ns) (sym same)

@@ -1,11 +1,12 @@
-use Rattle.std.proofs.Common.{◌≡◌, ◌+◌, ◌-◌, ◌++◌, ℕ, List, length, sym, ◌∙◌, ap, subst, arith}
+use Rattle.std.proofs.Common.{Some, ◌≡◌, ◌+◌, ◌-◌, ◌++◌, ℕ, List, length, sym, ◌∙◌, ap, subst, arith}
 use Rattle.std.specs.Prelude.{slice_get}
 use Rattle.stamp_explain.specs.declared.node.Next.{Next}
 use Rattle.stamp_explain.specs.declared.node.Waiting.{Waiting}
 use Rattle.stamp_explain.specs.Expand.{LooksAt, waiting_from}
 use Rattle.stamp_explain.proofs.Deepening.{IsAtLast, deepens_first}
 use Rattle.stamp_explain.proofs.LookingOn.{deepens_on}
-use Rattle.stamp_explain.proofs.GivingUp.{deepens_no_more, deepened_more, last_read, last_reached, expanded_last}
+use Rattle.stamp_explain.proofs.GivingUp.{deepens_no_more, deepened_more, last_read, last_reached, last_settled}
+use Rattle.stamp_explain.proofs.GivingUp.{expanded_last}
 use Rattle.stamp_explain.proofs.search.search.Goals as goal
 use Rattle.stamp_explain.proofs.search.search.Goals.{else-loop-test}
 use Rattle.stamp_explain.proofs.search.search.Goals.{then-loop-test+else-node-returns+in_ok-successors+in_ok-leave+in_ok-look+else-not-branch+else-counter-most}
@@ -38,18 +39,23 @@ pub successors-requires : goal.successors-requires
 successors-requires c =
     let place : c.len-place.result - 1 ≡ c.loop.counter =
     omega (arith, c.len-place.ensures, c.loop.store.nodes.ok.0, c.loop.invariant.count) in
+    let at : slice_get c.loop.store.nodes.items c.loop.counter ≡ Some c.index.result.now =
+    last_read c.args.observed.now c.args.timeline.now.returns.items c.loop.store c.loop.waiting.items
+    c.loop.counter (c.len-place.result - 1) c.index.result.now c.loop.invariant place c.index.ensures in
     record {
-      observed = c.requires.observed;
-      is_timeline = c.requires.timeline;
-      reached = last_reached c.args.observed.now c.args.timeline.now.returns.items c.loop.store c.loop.waiting.items
-          c.loop.counter c.index.result.now c.loop.invariant
-          (last_read c.args.observed.now c.args.timeline.now.returns.items c.loop.store c.loop.waiting.items
-          c.loop.counter (c.len-place.result - 1) c.index.result.now c.loop.invariant place c.index.ensures);
-      past = omega (
-        arith,
-        c.if-node-returns.false,
-        ap (λ (xs : List ℕ). length xs) c.as_slice-returns.ensures.value,
-      );
+      at = record {
+        observed = c.requires.observed;
+        is_timeline = c.requires.timeline;
+        reached = last_reached c.args.observed.now c.args.timeline.now.returns.items c.loop.store
+            c.loop.waiting.items c.loop.counter c.index.result.now c.loop.invariant at;
+        past = omega (
+          arith,
+          c.if-node-returns.false,
+          ap (λ (xs : List ℕ). length xs) c.as_slice-returns.ensures.value,
+        );
+      };
+      awaited = last_settled c.args.observed.now c.args.timeline.now.returns.items c.loop.store c.loop.waiting.items
+          c.loop.counter c.index.result.now c.loop.invariant at;
     }
 
 pub returns-then-not-branch : goal.returns-then-not-branch

@@ -1,0 +1,46 @@
+use Rattle.std.proofs.Common.{◌≡◌, false, true, get_or, sym, ◌∙◌, ap, arith, None}
+use Rattle.std.specs.Int.{bit_at}
+use Rattle.std.proofs.lemmas.Option.{same_Some}
+use Rattle.stamp_explain.specs.declared.observed.Observation.{Observation}
+use Rattle.stamp_explain.specs.Expand.PassesTo.{passes_none, passes_more}
+use Rattle.stamp_explain.proofs.Succeeding.{Awaits, awaits_of, leads_past}
+use Rattle.stamp_explain.proofs.search.settled.Goals as goal
+use Rattle.stamp_explain.proofs.search.settled.Goals.{else-loop-node-test, then-loop-node-test+then-not-has_bit}
+
+pub loop-node-init : goal.loop-node-init
+loop-node-init c = passes_none
+
+pub loop-node-preserved : goal.loop-node-preserved
+loop-node-preserved c =
+    passes_more c.loop-node.invariant (leads_past c.args.observed.now None c.args.timeline.now c.loop-node.node
+    (get_or c.entries.result.now c.index.result.now c.index-entries-index.result) c.without_bit.result
+    (awaits_of c.args.observed.now c.args.timeline.now c.loop-node.node c.index.result.now c.entries.result.now
+    c.index-entries-index.result c.requires.observed c.requires.timeline
+    (omega (arith, c.loop-node-test.true, c.len.ensures)) c.index.ensures c.entries.ensures.entries)
+    (c.has_bit.ensures.0 c.if-not-has_bit.false) c.without_bit.ensures)
+
+pub returns-clause-passes : goal.returns-clause-passes
+returns-clause-passes c = c.loop-node.invariant
+
+pub returns-clause-settled : goal.returns-clause-settled
+returns-clause-settled c = elim c.loop-node-test.branch [
+  | else-loop-node-test w ↦ record {
+    awaited = λ a it bit. absurd (omega (arith, it.inside, w.loop-node-test.false, c.len.ensures));
+  }
+  | then-loop-node-test+then-not-has_bit w ↦ record {
+    awaited = λ a it bit.
+        let is : Awaits c.args.observed.now c.args.timeline.now c.loop-node.node
+        (get_or w.entries.result.now w.index.result.now w.index-entries-index.result) =
+        awaits_of c.args.observed.now c.args.timeline.now c.loop-node.node w.index.result.now w.entries.result.now
+        w.index-entries-index.result c.requires.observed c.requires.timeline it.inside w.index.ensures
+        w.entries.ensures.entries in
+        let same : get_or w.entries.result.now w.index.result.now w.index-entries-index.result ≡ a =
+        same_Some (get_or w.entries.result.now w.index.result.now w.index-entries-index.result) a
+        (sym is.at ∙ it.is_entry) in
+        false_true (sym w.if-not-has_bit.true ∙ w.has_bit.ensures.1
+        (ap (λ (o : Observation). bit_at c.loop-node.node.threads o.thread) same ∙ bit));
+  }
+]
+  where
+    false_true : false ≡ true → ⊥
+    false_true h = cc
