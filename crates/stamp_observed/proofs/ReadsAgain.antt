@@ -133,7 +133,8 @@ items_again : (es : List Observation) → All (λ (e : Observation). e.thread < 
     All ObservationFits es → ItemsReadAgain 3 (items_of (map observation_data es))
 items_again [] threads low fit = no_items_again 3
 items_again (e ∷ es) threads low fit =
-    let thread = small e.thread 64 (omega (arith, All-head (λ (x : Observation). x.thread < 64) e es threads)) (lit< tt) in
+    let thread = small e.thread 64 (omega (arith, All-head (λ (x : Observation). x.thread < 64) e es threads))
+    (lit< tt) in
     let here = All-head IsLow e es low in
     let fits = All-head ObservationFits e es fit in
     item_again 3 3 (observation_data e) (items_of (map observation_data es)) (omega arith)
@@ -142,8 +143,8 @@ items_again (e ∷ es) threads low fit =
     (items_again es (All-tail (λ (x : Observation). x.thread < 64) e es threads) (All-tail IsLow e es low)
     (All-tail ObservationFits e es fit))
 
-pub reads_again : (h : ObservedHistory) → AreInRange h.limits → IsSmall h → AreSuited h → All ObservationFits h.entries →
-    observed_of (observed_text h) ≡ Ok h
+pub reads_again : (h : ObservedHistory) → AreInRange h.limits → IsSmall h → AreSuited h →
+    All ObservationFits h.entries → observed_of (observed_text h) ≡ Ok h
 unfolding observed_of observed_text
 reads_again h range known suited fits =
     ap (λ found. found >>= λ d. observed_in d)

@@ -26,9 +26,9 @@ pub record IsFirstFault (h : ObservedHistory) (i : ℕ) (cause : Cause) : Type 0
   pub breaks : Breaks (take i h.entries) entry cause
 
 -- it may be observed; or its first fault
-abbrev pub IsJudged : ObservedHistory → Option ObservedFault → Type 0
-IsJudged h None = IsObserved h
-IsJudged h (Some fault) = IsFirstFault h fault.entry fault.cause
+abbrev pub IsObservedVerdict : ObservedHistory → Option ObservedFault → Type 0
+IsObservedVerdict h None = IsObserved h
+IsObservedVerdict h (Some fault) = IsFirstFault h fault.entry fault.cause
 
 -- the calls before this place are intervals, and the one there, if there is one, is none
 pub record AreIntervalsTo (entries : List Observation) (place : ℕ) : Type 0 where

@@ -3,7 +3,7 @@ use Rattle.std.specs.Prelude.{ℕ, ◌≡◌, Option}
 use Rattle.stamp_explain.specs.Observed.{ObservedHistory, IsObserved}
 use Rattle.stamp_observed.specs.declared.judging.Cause.{Cause}
 use Rattle.stamp_observed.specs.declared.judging.ObservedFault.{ObservedFault}
-use Rattle.stamp_observed.specs.ObservedFault.{IsFirstFault, IsJudged}
+use Rattle.stamp_observed.specs.ObservedFault.{IsFirstFault, IsObservedVerdict}
 
 -- What has a fault can't have been observed.
 abbrev pub ObservedFaultsAreExact : Type 0
@@ -11,4 +11,5 @@ ObservedFaultsAreExact = (h : ObservedHistory) (i : ℕ) (cause : Cause) → IsF
 
 -- Of each observed history there is one verdict at most.
 abbrev pub OneObservedVerdict : Type 0
-OneObservedVerdict = (h : ObservedHistory) (a b : Option ObservedFault) → IsJudged h a → IsJudged h b → a ≡ b
+OneObservedVerdict = (h : ObservedHistory) (a b : Option ObservedFault) → IsObservedVerdict h a →
+    IsObservedVerdict h b → a ≡ b
