@@ -11,7 +11,7 @@ use Rattle.stamp_explain.specs.Observed.{ObservedHistory}
 use Rattle.stamp_history.specs.declared.read_error.ReadError.{ReadError}
 use Rattle.stamp_observed.specs.ObservedReading.{observed_of}
 use Rattle.stamp_explain_cli.specs.declared.finding.Finding.{Finding}
-use Rattle.stamp_explain_cli.specs.Finding.{IsFound}
+use Rattle.stamp_explain_cli.specs.Finding.{IsFinding}
 use Rattle.stamp_explain_cli.specs.FindingText.{finding_text, finding_verdict}
 use Rattle.stamp_explain_cli.specs.Note.{IsNote}
 use Rattle.stamp_explain_cli.specs.declared.answer.Told as made
@@ -27,7 +27,7 @@ told_in told = record { line = line_in told.line; note = told.note }
 -- this is found of an observed history, the line says it, and this is said of it
 pub record IsTold (h : ObservedHistory) (most : ℕ) (told : ToldView) : Type 0 where
   pub found : Finding
-  pub is : IsFound h most found
+  pub is : IsFinding h most found
   pub says : told.line.text ≡ finding_text found
   pub verdict : told.line.verdict ≡ finding_verdict found
   pub note : IsNote h most found told.note
@@ -43,7 +43,7 @@ abbrev pub AnswersExplain : ℕ → List ℕ → Result ToldView ServeFault → 
 AnswersExplain most input answer = IsExplainAnswer most (observed_of input) answer
 
 -- a source was read as input, by reads that took this many bytes, and this is the answer to all of them
-pub record Answers (most : ℕ) (old new : Option (List ℕ)) (taken : ℕ) (answer : Result ToldView ServeFault) :
+pub record AnswersSource (most : ℕ) (old new : Option (List ℕ)) (taken : ℕ) (answer : Result ToldView ServeFault) :
     Type 0 where
   pub input : List ℕ
   pub reads : Reads old new input

@@ -30,9 +30,9 @@ abbrev pub possible_text : List Reply → List ℕ
 possible_text [] = codes "; no reply was possible, it would have waited"
 possible_text (r ∷ replies) = codes "; possible: " ++ reply_text r ++ others_text replies
 
-abbrev pub told_text : Option (List Reply) → List ℕ
-told_text None = codes "; what was possible is undecided"
-told_text (Some replies) = possible_text replies
+abbrev pub possibilities_text : Option (List Reply) → List ℕ
+possibilities_text None = codes "; what was possible is undecided"
+possibilities_text (Some replies) = possible_text replies
 
 abbrev pub place_text : ℕ → ℕ → List ℕ
 place_text i thread = codes "stamped: entry " ++ (decimal i ++ (codes " of thread " ++ decimal thread))
@@ -42,7 +42,7 @@ answer_text call reply = codes ": " ++ (call_text call ++ (codes " answered " ++
 
 -- what the call answered, and what was possible
 abbrev pub stuck_text : ℕ → Observation → Reply → Option (List Reply) → List ℕ
-stuck_text i e reply replies = place_text i e.thread ++ answer_text e.call reply ++ told_text replies
+stuck_text i e reply replies = place_text i e.thread ++ answer_text e.call reply ++ possibilities_text replies
 
 pub record IsStuckNote (h : ObservedHistory) (most i : ℕ) (text : List ℕ) : Type 0 where
   pub entry : Observation

@@ -6,7 +6,7 @@ ghost use Rattle.stamp_cli.specs.Refusal.{is_of_end};
 ghost use Rattle.stamp_cli.specs.Results.{taken_since};
 ghost use Rattle.stamp_cli.specs.Serving.{HasRead};
 ghost use Rattle.stamp_cli.specs.Source.{most_reads, most_taken};
-ghost use Rattle.stamp_explain_cli.specs.Answer.{Answers, AnswersExplain, ToldUnlessMemory, told_in};
+ghost use Rattle.stamp_explain_cli.specs.Answer.{AnswersSource, AnswersExplain, ToldUnlessMemory, told_in};
 
 use crate::finding::finding_of;
 use crate::finding_text::line_of_finding;
@@ -55,10 +55,10 @@ pub(crate) fn told_of<S: Source>(
 ) -> Result<Told, ServeFault>
     ensures reads { HasRead ServeFault.ReadFault ServeFault.Memory (S.left source.old) (S.left source.new)
         (S.reads source.old) (S.reads source.new) most_reads most_taken result }
-    ensures ok { IfOk result (λ told. Answers most (S.left source.old) (S.left source.new)
+    ensures ok { IfOk result (λ told. AnswersSource most (S.left source.old) (S.left source.new)
         (taken_since (S.reads source.old) (S.reads source.new)) (Ok (told_in told))) }
     ensures err { IfErr result (λ e. e ≢ ServeFault.ReadFault → e ≢ ServeFault.Memory
-        → Answers most (S.left source.old) (S.left source.new)
+        → AnswersSource most (S.left source.old) (S.left source.new)
         (taken_since (S.reads source.old) (S.reads source.new)) (Err e)) }
     ensures not_written { result ≢ Err ServeFault.WriteFault }
 {

@@ -3,7 +3,7 @@
 ghost use Rattle.std.specs.Prelude.{IfOk};
 ghost use Rattle.stamp_explain.specs.Observed.{IsObserved};
 ghost use Rattle.stamp_observed.specs.Suited.{AreSuited};
-ghost use Rattle.stamp_explain_cli.specs.Finding.{IsFound};
+ghost use Rattle.stamp_explain_cli.specs.Finding.{IsFinding};
 
 use stamp_core::Record;
 use stamp_explain::{ExplainError, Observed, explain};
@@ -28,7 +28,7 @@ pub(crate) enum Finding {
 /// What the search finds.
 fn searched(alloc: Global, observed: &Observed, most: u64) -> Result<Finding, AllocError>
     requires { IsObserved observed.now }
-    ensures { IfOk result (λ found. IsFound observed.now most found) }
+    ensures { IfOk result (λ found. IsFinding observed.now most found) }
 {
     match explain(alloc, observed, most) {
         Ok(record) => Ok(Finding::Explained(record)),
@@ -47,7 +47,7 @@ pub(crate) fn finding_of(
     most: u64,
 ) -> Result<Finding, AllocError>
     requires { AreSuited observed.now }
-    ensures { IfOk result (λ found. IsFound observed.now most found) }
+    ensures { IfOk result (λ found. IsFinding observed.now most found) }
 {
     match fault_of(alloc, observed)? {
         Some(fault) => Ok(Finding::Unseen(fault)),

@@ -4,8 +4,8 @@
 ghost use Rattle.std.specs.Prelude.{◌≡◌, ◌++◌, IfOk, Some, slice_get, string_bytes};
 ghost use Rattle.stamp_explain.specs.Observed.{IsObserved};
 ghost use Rattle.stamp_explain.specs.Search.{IsReturnAt};
-ghost use Rattle.stamp_explain_cli.specs.Finding.{IsFound};
-ghost use Rattle.stamp_explain_cli.specs.Note.{IsNote, IsStuckNote, ArePossibleAt, answer_text, others_text, place_text, possible_text, told_text, stuck_text, replies_in, unexplained_text};
+ghost use Rattle.stamp_explain_cli.specs.Finding.{IsFinding};
+ghost use Rattle.stamp_explain_cli.specs.Note.{IsNote, IsStuckNote, ArePossibleAt, answer_text, others_text, place_text, possible_text, possibilities_text, stuck_text, replies_in, unexplained_text};
 
 use crate::finding::Finding;
 use stamp_core::{Call, Reply};
@@ -40,7 +40,7 @@ fn possible_text(alloc: Global, replies: &[Reply]) -> Result<String, AllocError>
 
 /// What was possible, in words: these replies, or that it is undecided.
 fn told_text(alloc: Global, replies: &Option<Vec<Reply>>) -> Result<String, AllocError>
-    ensures { IfOk result (λ text. string_bytes text ≡ told_text (replies_in replies.now)) }
+    ensures { IfOk result (λ text. string_bytes text ≡ possibilities_text (replies_in replies.now)) }
 {
     match replies {
         None => format!(in alloc; "; what was possible is undecided"),
@@ -144,7 +144,7 @@ pub(crate) fn note_of(
     finding: &Finding,
     most: u64,
 ) -> Result<Option<String>, AllocError>
-    requires { IsFound observed.now most finding.now }
+    requires { IsFinding observed.now most finding.now }
     ensures { IsNote observed.now most finding.now result }
 {
     match finding {

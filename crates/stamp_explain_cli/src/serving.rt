@@ -6,7 +6,7 @@ ghost use Rattle.stamp_cli.specs.Sink.{AppendsFront};
 ghost use Rattle.stamp_cli.specs.Results.{Makes, MakesAtMost, taken_since};
 ghost use Rattle.stamp_cli.specs.Serving.{HasRead, HasWritten};
 ghost use Rattle.stamp_cli.specs.Source.{most_reads, most_taken};
-ghost use Rattle.stamp_explain_cli.specs.Answer.{ToldView, Answers};
+ghost use Rattle.stamp_explain_cli.specs.Answer.{ToldView, AnswersSource};
 
 use crate::answer::{Explanation, Told, told_of};
 use stamp_cli::{Line, ServeFault, Sink, Source, write_line};
@@ -32,7 +32,7 @@ pub fn serve_explanation<S: Source, K: Sink>(
     // The answer to all that was read is written with a line feed, and nothing else; the verdict and what is
     // said of a history that is stuck are its.
     ensures ok { IfOk result (λ found. (told : ToldView)
-        × Answers most (S.left source.old) (S.left source.new)
+        × AnswersSource most (S.left source.old) (S.left source.new)
         (taken_since (S.reads source.old) (S.reads source.new)) (Ok told)
         × (found.verdict ≡ told.line.verdict) × (found.note ≡ told.note)
         × Appends (K.sent sink.old) (K.sent sink.new) (told.line.text ++ 10 ∷ [])
@@ -40,14 +40,14 @@ pub fn serve_explanation<S: Source, K: Sink>(
 
     // All that was read is refused so.
     ensures refused { IfErr result (λ e. e ≢ ServeFault.ReadFault → e ≢ ServeFault.WriteFault
-        → e ≢ ServeFault.Memory → Answers most (S.left source.old) (S.left source.new)
+        → e ≢ ServeFault.Memory → AnswersSource most (S.left source.old) (S.left source.new)
         (taken_since (S.reads source.old) (S.reads source.new)) (Err e)) }
 
     // A write that failed leaves a front of the line and is the last, and no other refusal writes.
     ensures writes { HasWritten ServeFault.WriteFault (K.sent sink.old) (K.sent sink.new)
         (K.writes sink.old) (K.writes sink.new) result }
     ensures front { result ≡ Err ServeFault.WriteFault → ((told : ToldView)
-        × Answers most (S.left source.old) (S.left source.new)
+        × AnswersSource most (S.left source.old) (S.left source.new)
         (taken_since (S.reads source.old) (S.reads source.new)) (Ok told)
         × AppendsFront (K.sent sink.old) (K.sent sink.new) (told.line.text ++ 10 ∷ [])
         × MakesAtMost (K.writes sink.old) (K.writes sink.new) (length told.line.text + 1)
