@@ -1,16 +1,20 @@
--- A search that meets no dead end advances: at each configuration one more call is in effect, or one more return past.
-use Rattle.std.proofs.Common.{◌≡◌, ◌⊎◌, ℕ, ◌+◌, ◌<◌, ◌≤◌, zero, suc, List, [], ◌++◌, length, get_or}
-use Rattle.std.proofs.Common.{sym, ◌∙◌, ap, subst, inl, inr, arith, None}
+-- A search that meets no dead end advances: at each configuration that it looks at one more call is in effect.
+use Rattle.std.proofs.Common.{◌≡◌, ◌≢◌, ℕ, ◌+◌, ◌<◌, ◌≤◌, zero, suc, List, [], ◌∷◌, ◌++◌, length, get_or}
+use Rattle.std.proofs.Common.{refl, sym, ◌∙◌, ap, subst, arith, None, Option}
 use Rattle.std.specs.Prelude.{drop}
-use Rattle.std.specs.List.{Contains}
-use Rattle.std.proofs.lemmas.List.{length-append, length-drop, nil_from_length}
+use Rattle.std.specs.List.{All, Contains}
+use Rattle.std.proofs.lemmas.List.{append_assoc, append_cancel_right, length-append, nil_from_length}
+use Rattle.std.proofs.lemmas.List.Elements.{All-cons, All-contains, All-drop, All-push, All-weaker}
+use Rattle.std.proofs.lemmas.List.Elements.{Contains-append_right, Contains-get_or}
 use Rattle.std.proofs.lemmas.Option.{slice_get_within}
 use Rattle.stamp_explain.specs.Observed.{ObservedHistory}
 use Rattle.stamp_explain.specs.Search.{IsReturnAt, LockState, first_state}
-use Rattle.stamp_explain.specs.Configuration.{AreOne, Configuration, GivesUp, GoesOnFrom, number_after}
-use Rattle.stamp_explain.specs.Configuration.Reaches.{begins}
-use Rattle.stamp_explain.specs.ExplainLaws.{NoDeadEndIsDecided}
+use Rattle.stamp_explain.specs.Configuration.{AreOne, AwaitsNext, Configuration, GoesOnFrom}
+use Rattle.stamp_explain.specs.Configuration.{Reaches, number_after}
+use Rattle.stamp_explain.specs.Configuration.Reaches.{begins, goes_past, goes_on_by}
+use Rattle.stamp_explain.specs.ExplainLaws.{AreDecided, NoDeadEndIsDecided}
 use Rattle.stamp_explain.proofs.Deciding.{the_order_decides}
+use Rattle.stamp_explain.proofs.Lists.{contains_first, contains_rest, pairs_cons}
 use Rattle.stamp_explain.proofs.Threads.{few_threads}
 
 -- where no more calls are in effect, and no more returns are past, the two are one
@@ -38,43 +42,61 @@ same_one h returns c d g none = record {
     both : (c.state ≡ d.state) × (c.put ≡ d.put)
     both = (the_order_decides h None returns).decided c d taken
 
--- at least so many calls are in effect and returns past, together
-abbrev HasCome : (h : ObservedHistory) (returns : List ℕ) → ℕ → Configuration h None returns → Type 0
-HasCome h returns k c = k + length c.to_come ≤ length c.taken + length returns
+-- each return that is past is in effect
+gone : (h : ObservedHistory) (returns : List ℕ) {ys : List ℕ} {s : LockState} {put : Option ℕ} {taken : List ℕ} →
+    Reaches h None returns ys s put taken → (zs : List ℕ) × ((returns ≡ zs ++ ys) × All (Contains taken) zs)
+gone h returns begins = ([], (refl, λ k d lt. absurd (omega (arith, lt))))
+gone h returns (goes_past {i} {to_come} {s} {put} {taken} way has) =
+    let was : (zs : List ℕ) × ((returns ≡ zs ++ i ∷ to_come) × All (Contains taken) zs) = gone h returns way in (
+      was.0 ++ i ∷ [],
+      (was.1.0 ∙ sym (append_assoc was.0 (i ∷ []) to_come), All-push (Contains taken) was.0 i was.1.1 has),
+    )
+gone h returns (goes_on_by {i} {to_come} {s} {put} {taken} way awaited x t is_awaited not_yet tried may) =
+    let was : (zs : List ℕ) × ((returns ≡ zs ++ i ∷ to_come) × All (Contains taken) zs) = gone h returns way in (
+      was.0,
+      (
+        was.1.0,
+        All-weaker (Contains taken) (Contains (x.index ∷ taken)) (λ j has. contains_rest x.index taken j has)
+            was.0 was.1.1,
+      ),
+    )
 
+-- what is past after one configuration is in effect in the other
+passed_in_effect : (h : ObservedHistory) (returns : List ℕ) (c d : Configuration h None returns) →
+    (g : GoesOnFrom h returns c d) → (i : ℕ) → Contains g.passed i → Contains d.taken i
+passed_in_effect h returns c d g i has =
+    let before : (zs : List ℕ) × ((returns ≡ zs ++ c.to_come) × All (Contains c.taken) zs) = gone h returns c.way in
+    let after : (zs : List ℕ) × ((returns ≡ zs ++ d.to_come) × All (Contains d.taken) zs) = gone h returns d.way in
+    let same : before.0 ++ g.passed ≡ after.0 = append_cancel_right (before.0 ++ g.passed) after.0 d.to_come
+    (append_assoc before.0 g.passed d.to_come ∙ ap (λ (l : List ℕ). before.0 ++ l) (sym g.to_come) ∙
+    sym before.1.0 ∙ after.1.0) in
+    All-contains (Contains d.taken) after.0 i after.1.1 (subst (λ (l : List ℕ). Contains l i) same
+    (Contains-append_right before.0 g.passed i has))
+
+-- so one more call is in effect, where the call that returns next was not
 one_further : (h : ObservedHistory) (returns : List ℕ) (k : ℕ) (c d : Configuration h None returns) →
-    ¬ AreOne h None returns c d → GoesOnFrom h returns c d → HasCome h returns k c → HasCome h returns (suc k) d
-one_further h returns k c d differ g before = by (moved (length g.later + length g.passed))
+    ¬ AreOne h None returns c d → GoesOnFrom h returns c d → AwaitsNext h returns c → k ≤ length c.taken →
+    suc k ≤ length d.taken
+one_further h returns k c d differ g settled before = by g.later refl g.passed refl
   where
-    moved : (n : ℕ) → (n ≡ 0) ⊎ (1 ≤ n)
-    moved n = grind arith
-
     taken : length d.taken ≡ length g.later + length c.taken
     taken = ap (λ (l : List ℕ). length l) g.taken ∙ length-append g.later c.taken
 
-    to_come : length c.to_come ≡ length g.passed + length d.to_come
-    to_come = ap (λ (l : List ℕ). length l) g.to_come ∙ length-append g.passed d.to_come
-
-    by : (length g.later + length g.passed ≡ 0) ⊎ (1 ≤ length g.later + length g.passed) →
-        HasCome h returns (suc k) d
-    by (inl none) = absurd (differ (same_one h returns c d g none))
-    by (inr some) = omega (arith, before, taken, to_come, some)
-
-few_to_come : (h : ObservedHistory) (returns : List ℕ) (c : Configuration h None returns) →
-    length c.to_come ≤ length returns
-few_to_come h returns c =
-    let left : (n : ℕ) × (c.to_come ≡ drop n returns) = (the_order_decides h None returns).suffix c in
-    omega (arith, ap (λ (l : List ℕ). length l) left.1, length-drop left.0 returns)
-
-few_returns : (h : ObservedHistory) (most : ℕ) → (g : GivesUp h most) → length g.returns ≤ length h.entries
-few_returns h most g = few_threads g.returns (length h.entries) g.once (λ k d lt. within k d (g.are.each k d lt))
-  where
-    within : (k d : ℕ) → IsReturnAt h.entries (get_or g.returns k d) → get_or g.returns k d < length h.entries
-    within k d is = slice_get_within h.entries (get_or g.returns k d) is.entry is.is_entry
+    by : (later : List ℕ) → g.later ≡ later → (passed : List ℕ) → g.passed ≡ passed → suc k ≤ length d.taken
+    by (i ∷ later) is passed also = omega (arith, before, taken, ap (λ (l : List ℕ). length l) is)
+    by [] is [] also = absurd (differ (same_one h returns c d g (omega (
+      arith,
+      ap (λ (l : List ℕ). length l) is,
+      ap (λ (l : List ℕ). length l) also,
+    ))))
+    by [] is (i ∷ passed) also = absurd (settled i (passed ++ d.to_come)
+        (g.to_come ∙ ap (λ (l : List ℕ). l ++ d.to_come) also)
+        (subst (λ (l : List ℕ). Contains l i) (g.taken ∙ ap (λ (l : List ℕ). l ++ c.taken) is)
+        (passed_in_effect h returns c d g i (subst (λ (l : List ℕ). Contains l i) (sym also)
+        (contains_first i passed i refl)))))
 
 pub no_dead_end_is_decided : NoDeadEndIsDecided
-no_dead_end_is_decided h most alive enough g =
-    g.searched.unended most first (omega (arith, g.searched.many)) (nil_from_length last.to_come none_to_come)
+no_dead_end_is_decided h most alive enough g = by last.to_come refl
   where
     first : Configuration h None g.returns
     first = record { to_come = g.returns; state = first_state h.width; put = None; taken = []; way = begins }
@@ -82,19 +104,36 @@ no_dead_end_is_decided h most alive enough g =
     at : ℕ → Configuration h None g.returns
     at k = get_or g.searched.looked k first
 
-    come : (k : ℕ) → k < most + 1 → HasCome h g.returns k (at k)
-    come zero lt = omega (arith, few_to_come h g.returns (at 0))
+    come : (k : ℕ) → k < most + 1 → k ≤ length (at k).taken
+    come zero lt = omega arith
     come (suc k) lt = one_further h g.returns k (at k) (at (suc k))
         (g.searched.different k (suc k) first (omega arith) (omega (arith, lt, g.searched.many)))
         (g.searched.in_depth k (suc k) first (omega arith) (omega (arith, lt, g.searched.many))
-        (alive g.returns g.are (at k))) (come k (omega (arith, lt)))
+        (alive g.returns g.are (at k))) (g.searched.settled k first (omega (arith, lt, g.searched.many)))
+        (come k (omega (arith, lt)))
 
     last : Configuration h None g.returns
     last = at most
 
-    taken : length last.taken ≤ length h.entries
-    taken = few_threads last.taken (length h.entries) ((the_order_decides h None g.returns).once last)
-        ((the_order_decides h None g.returns).inside last)
+    inside : most < length g.searched.looked
+    inside = omega (arith, g.searched.many)
 
-    none_to_come : length last.to_come ≡ 0
-    none_to_come = omega (arith, come most (omega arith), taken, few_returns h most g, enough)
+    -- with the call that returns next there would be more calls than the history has
+    by : (ys : List ℕ) → last.to_come ≡ ys → ⊥
+    by [] ended = g.searched.unended most first inside ended
+    by (i ∷ rest) is =
+        let decided : AreDecided h None g.returns = the_order_decides h None g.returns in
+        let left : (n : ℕ) × (last.to_come ≡ drop n g.returns) = decided.suffix last in
+        let there : IsReturnAt h.entries i = subst (IsReturnAt h.entries)
+        (ap (λ (l : List ℕ). get_or l 0 0) (sym left.1 ∙ is))
+        (All-drop (IsReturnAt h.entries) left.0 g.returns g.are.each 0 0 (omega (
+          arith,
+          ap (λ (l : List ℕ). length l) (sym left.1 ∙ is),
+        ))) in
+        let few : length (i ∷ last.taken) ≤ length h.entries = few_threads (i ∷ last.taken) (length h.entries)
+        (pairs_cons (λ (a b : ℕ). a ≢ b) i last.taken
+        (λ k d lt same. g.searched.settled most first inside i rest is (subst (Contains last.taken) (sym same)
+        (Contains-get_or last.taken k d lt))) (decided.once last))
+        (All-cons (λ (a : ℕ). a < length h.entries) i last.taken
+        (slice_get_within h.entries i there.entry there.is_entry) (decided.inside last)) in
+        omega (arith, few, enough, come most (omega arith))

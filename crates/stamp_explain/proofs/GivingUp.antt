@@ -1,9 +1,9 @@
 -- What a search in depth finds where nothing is left, or where it gives up.
-use Rattle.std.proofs.Common.{◌≡◌, ◌≢◌, ◌⊎◌, ℕ, ◌+◌, ◌<◌, ◌≤◌, List, [], ◌++◌, length}
+use Rattle.std.proofs.Common.{◌≡◌, ◌≢◌, ◌⊎◌, ℕ, ◌+◌, ◌<◌, ◌≤◌, List, [], ◌∷◌, ◌++◌, length}
 use Rattle.std.proofs.Common.{get_or}
 use Rattle.std.proofs.Common.{refl, sym, ◌∙◌, ap, subst, inl, inr, arith, None, Some, zero, suc}
-use Rattle.std.specs.Prelude.{take, drop, slice_get}
-use Rattle.std.specs.List.{All, Contains}
+use Rattle.std.specs.Prelude.{take, drop, slice_get, slice_index}
+use Rattle.std.specs.List.{All, AllPairs, Contains}
 use Rattle.std.proofs.lemmas.List.{length-drop, get_or-take}
 use Rattle.std.proofs.lemmas.List.{length-take-le}
 use Rattle.std.proofs.lemmas.Option.{same_Some, slice_get-get_or, slice_get_within}
@@ -12,17 +12,20 @@ use Rattle.stamp_explain.specs.declared.node.Node.{Node}
 use Rattle.stamp_explain.specs.declared.node.Next.{Next}
 use Rattle.stamp_explain.specs.declared.node.Waiting.{Waiting}
 use Rattle.stamp_explain.specs.declared.store.Store.{Store}
-use Rattle.stamp_explain.specs.Observed.{ObservedHistory}
+use Rattle.stamp_explain.specs.Observed.{IsObserved, ObservedHistory}
 use Rattle.stamp_explain.specs.Explained.{IsExplained}
-use Rattle.stamp_explain.specs.Search.{LockSteps, IsCompletedBy, AreReturns, first_state}
-use Rattle.stamp_explain.specs.Configuration.{AreOne, Configuration, GoesOnFrom, IsAlive, LookedAtMore}
-use Rattle.stamp_explain.specs.Node.{IsFirstNode, IsReached}
+use Rattle.stamp_explain.specs.Search.{LockSteps, IsCompletedBy, IsReturnAt, AreReturns, first_state}
+use Rattle.stamp_explain.specs.Configuration.{AreOne, AwaitsNext, Configuration, GoesOnFrom, IsAlive, LookedAtMore}
+use Rattle.stamp_explain.specs.Node.{IsFirstNode, IsNext, IsReached}
 use Rattle.std.specs.Int.{bit_at}
 use Rattle.std.proofs.lemmas.Nat.Bits.{bit_at-zero}
 use Rattle.stamp_explain.specs.Expand.{AreLinked, Expands, Hope, IsLinkedAt, IsNotInEffect}
 use Rattle.stamp_explain.specs.Expand.{waiting_from}
 use Rattle.stamp_explain.proofs.Counting.{IsFor, one_node}
 use Rattle.stamp_explain.proofs.Exploring.{explained_by, opening_stands}
+use Rattle.stamp_explain.proofs.Expanding.{next_awaited}
+use Rattle.stamp_explain.proofs.Leading.{come}
+use Rattle.stamp_explain.proofs.Standing.{taken_by_bit}
 use Rattle.stamp_explain.proofs.GoingOn.{reached_of}
 use Rattle.stamp_explain.proofs.Deepening.{IsOpen, IsDead, Deepens, None_now, IsAtLast, some_inside, HasFor, of_node}
 use Rattle.stamp_explain.proofs.Deepening.{deepens_expanded}
@@ -69,14 +72,66 @@ deepens_no_more h returns store waited expanded are before all seen explained =
     by (inr going) = all_passed h returns was.configurations [] 0 first of_first.configuration going (omega arith) steps
         hope
 
+-- where a search begins no call is in effect
+first_settled : (h : ObservedHistory) (returns : List ℕ) (node : Node) → IsFirstNode h node →
+    IsNotInEffect h returns node
+first_settled h returns node is = record {
+  awaited = λ a it bit. no_bit a.thread (ap (λ (n : ℕ). bit_at n a.thread) (sym is.threads) ∙ bit);
+}
+  where
+    no_bit : (t : ℕ) → bit_at 0 t ≡ 1 → ⊥
+    no_bit t bit = absurd (omega (arith, bit_at-zero t, bit))
+
+-- so at each node the awaited call is not in effect
+settled_at : (h : ObservedHistory) (returns : List ℕ) (store : Store) (k : ℕ) (v : Node) → AreLinked h returns store →
+    slice_get store.nodes.items k ≡ Some v → IsNotInEffect h returns v
+settled_at h returns store zero v linked at = subst (IsNotInEffect h returns)
+    (same_Some linked.first v (sym linked.at_first ∙ at)) (first_settled h returns linked.first linked.is_first)
+settled_at h returns store (suc k) v linked at =
+    let link : IsLinkedAt h returns store (suc k) v = linked.each (suc k) v (omega arith) at in link.leads.settled
+
+pub last_settled : (h : ObservedHistory) (returns : List ℕ) (store : Store) (waiting : List Waiting) (expanded : ℕ)
+    (v : Node) → IsAtLast h returns store waiting expanded → slice_get store.nodes.items expanded ≡ Some v →
+    IsNotInEffect h returns v
+last_settled h returns store waiting expanded v is at = settled_at h returns store expanded v is.deepens.linked at
+
+-- what a timeline says of its returns
+pub record AreAwaited (h : ObservedHistory) (returns : List ℕ) : Type 0 where
+  pub observed : IsObserved h
+  pub are : AreReturns h.entries returns
+  pub once : AllPairs (λ (i j : ℕ). i ≢ j) returns
+
+-- so in what it stands for the call that returns next is not in effect
+awaits_next : (h : ObservedHistory) (returns : List ℕ) (v : Node) (c : Configuration h None returns) →
+    AreAwaited h returns → v.past < length returns → IsNotInEffect h returns v → IsFor h None returns v c →
+    AwaitsNext h returns c
+awaits_next h returns v c awaited inside settled is i rest same has =
+    settled.awaited there.entry (record { inside = inside; is_entry = there.is_entry })
+    (taken_by_bit h.entries (take v.past returns) v.threads c.taken (slice_index returns v.past) there.entry
+    is.stands.in_effect there.is_entry next.still (subst (Contains c.taken) first has)).0
+  where
+    there : IsReturnAt h.entries (slice_index returns v.past)
+    there = awaited.are.each v.past 0 inside
+
+    next : IsNext h.entries (take v.past returns) (slice_index returns v.past) there.entry
+    next = next_awaited h returns v.past there.entry awaited.observed awaited.are awaited.once inside there.is_entry
+
+    first : i ≡ slice_index returns v.past
+    first = head (i ∷ rest) (slice_index returns v.past ∷ drop (suc v.past) returns)
+        (sym same ∙ is.to_come ∙ come returns v.past inside)
+      where
+        head : (xs ys : List ℕ) → xs ≡ ys → get_or xs 0 0 ≡ get_or ys 0 0
+        head xs ys e = ap (λ (l : List ℕ). get_or l 0 0) e
+
 -- where it has expanded more than so many, it has looked at more than so many
 pub deepened_more : (h : ObservedHistory) (returns : List ℕ) (store : Store) (waiting : List Waiting)
-    (expanded most : ℕ) → IsAtLast h returns store waiting expanded → most < expanded →
+    (expanded most : ℕ) → AreAwaited h returns → IsAtLast h returns store waiting expanded → most < expanded →
     LookedAtMore h returns most
-deepened_more h returns store waiting expanded most is enough = record {
+deepened_more h returns store waiting expanded most awaited is enough = record {
   looked = take (most + 1) cs;
   different = λ i j d lt inside one. differ i j d lt (omega (arith, inside, many)) one;
   unended = λ k d inside. open_end k d (omega (arith, inside, many));
+  settled = λ k d inside. settled k d (omega (arith, inside, many));
   in_depth = λ i j d lt inside alive. deep i j d lt (omega (arith, inside, many)) alive;
   many = many;
   further = get_or cs (most + 1) first_one;
@@ -134,6 +189,12 @@ deepened_more h returns store waiting expanded most is enough = record {
         (slice_get-get_or nodes (most + 1) none last)
         (slice_get-get_or cs (most + 1) first_one (omega (arith, counted)))) one)
 
+    settled : (k : ℕ) (d : Configuration h None returns) → k < most + 1 →
+        AwaitsNext h returns (get_or (take (most + 1) cs) k d)
+    settled k d lt = awaits_next h returns (get_or nodes k none) (get_or (take (most + 1) cs) k d) awaited
+        (was.unended k (get_or nodes k none) (omega (arith, lt, enough)) (node_at k lt))
+        (settled_at h returns store k (get_or nodes k none) was.linked (node_at k lt)) (for_it k d lt)
+
     open_end : (k : ℕ) (d : Configuration h None returns) → k < most + 1 →
         (get_or (take (most + 1) cs) k d).to_come ≢ []
     open_end k d lt ended =
@@ -190,28 +251,6 @@ last_reached h returns store waiting expanded v is at =
     let it : HasFor h returns is.deepens.configurations expanded v =
     of_node h returns store.nodes.items is.deepens.configurations expanded v is.deepens.are at in
     reached_of h returns v it.configuration it.is_for
-
--- where a search begins no call is in effect
-first_settled : (h : ObservedHistory) (returns : List ℕ) (node : Node) → IsFirstNode h node →
-    IsNotInEffect h returns node
-first_settled h returns node is = record {
-  awaited = λ a it bit. no_bit a.thread (ap (λ (n : ℕ). bit_at n a.thread) (sym is.threads) ∙ bit);
-}
-  where
-    no_bit : (t : ℕ) → bit_at 0 t ≡ 1 → ⊥
-    no_bit t bit = absurd (omega (arith, bit_at-zero t, bit))
-
--- so at each node the awaited call is not in effect
-pub last_settled : (h : ObservedHistory) (returns : List ℕ) (store : Store) (waiting : List Waiting) (expanded : ℕ)
-    (v : Node) → IsAtLast h returns store waiting expanded → slice_get store.nodes.items expanded ≡ Some v →
-    IsNotInEffect h returns v
-last_settled h returns store waiting zero v is at =
-    let linked : AreLinked h returns store = is.deepens.linked in
-    subst (IsNotInEffect h returns) (same_Some linked.first v (sym linked.at_first ∙ at))
-    (first_settled h returns linked.first linked.is_first)
-last_settled h returns store waiting (suc expanded) v is at =
-    let link : IsLinkedAt h returns store (suc expanded) v = is.deepens.linked.each (suc expanded) v (omega arith) at in
-    link.leads.settled
 
 -- the last node, read, is expanded
 pub expanded_last : (h : ObservedHistory) (returns : List ℕ) (store : Store) (waiting after : List Waiting)

@@ -14,7 +14,7 @@ use Rattle.stamp_explain.specs.Observed.{ObservedHistory}
 use Rattle.stamp_explain.specs.Configuration.{Configuration, GoesOnFrom, Reaches}
 use Rattle.std.specs.Int.{bit_at}
 use Rattle.stamp_explain.specs.Node.{AreTaken, IsNext, IsReached}
-use Rattle.stamp_explain.specs.Expand.{ComesNext, ComesNextBy, Follows, PassesTo}
+use Rattle.stamp_explain.specs.Expand.{ComesNext, ComesNextBy, ComesAfter, PassesTo}
 use Rattle.stamp_explain.specs.Expand.PassesTo.{passes_none, passes_more}
 use Rattle.stamp_explain.proofs.Lists.{contains_first}
 use Rattle.stamp_explain.proofs.Entering.{read_left, read_right, read_last}
@@ -176,7 +176,7 @@ steps_past h returns c v w to (passes_more {u} before step) =
 
 -- where a call takes effect, and then returns are past
 pub steps_to : (h : ObservedHistory) (returns : List ℕ) (v : Node) (next : Next) (c : Configuration h None returns) →
-    IsFor h None returns v c → Follows h returns v next → StepsTo h returns c next.node
+    IsFor h None returns v c → ComesAfter h returns v next → StepsTo h returns c next.node
 steps_to h returns v next c is leads = steps_past h returns c leads.via next.node
     (steps_by h returns v (record { node = leads.via; took = next.took }) c is leads.comes) leads.passes
 

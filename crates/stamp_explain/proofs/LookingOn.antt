@@ -13,7 +13,7 @@ use Rattle.stamp_explain.specs.declared.store.Store.{Store}
 use Rattle.stamp_explain.specs.Observed.{ObservedHistory}
 use Rattle.stamp_explain.specs.Configuration.{Configuration, GoesOnFrom}
 use Rattle.stamp_explain.specs.Node.{IsReached}
-use Rattle.stamp_explain.specs.Expand.{Hope, Follows}
+use Rattle.stamp_explain.specs.Expand.{Hope, ComesAfter}
 use Rattle.stamp_explain.specs.Expand.{IsLinkedAt, LooksAt}
 use Rattle.stamp_explain.proofs.Entering.{read_left, read_last}
 use Rattle.stamp_explain.proofs.Counting.{IsFor}
@@ -247,7 +247,7 @@ deepens_on h returns old new waited waiting expanded before all looks = record {
           node = from.node;
           is_node = more last.origin.from from.node from.is_node;
           reached = reached_from;
-          leads = subst (λ (u : Node). Follows h returns from.node (record { node = u; took = last.origin.took }))
+          leads = subst (λ (u : Node). ComesAfter h returns from.node (record { node = u; took = last.origin.took }))
               same
               from.leads;
         }

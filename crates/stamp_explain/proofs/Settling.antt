@@ -8,7 +8,7 @@ use Rattle.stamp_explain.specs.declared.node.Next.{Next}
 use Rattle.stamp_explain.specs.declared.order.Taken.{Taken}
 use Rattle.stamp_explain.specs.Observed.{ObservedHistory}
 use Rattle.stamp_explain.specs.Search.{IsCompletedBy, LockSteps}
-use Rattle.stamp_explain.specs.Expand.{ComesByReturn, ComesNext, Follows, GoesOn, Hope, IsLed, PassesTo, Suffice}
+use Rattle.stamp_explain.specs.Expand.{ComesByReturn, ComesNext, ComesAfter, GoesOn, Hope, IsLed, PassesTo, Suffice}
 use Rattle.stamp_explain.specs.Expand.{IsNotInEffect}
 use Rattle.stamp_explain.specs.Expand.PassesTo.{passes_none, passes_more}
 use Rattle.stamp_explain.specs.Order.{RepliesAt}
@@ -81,7 +81,7 @@ suffices_settled h returns node w next passes suffices n hope =
 
 pub follows_of : (h : ObservedHistory) (returns : List ℕ) (node : Node) (w next : Next) →
     ComesNext h None returns node w → PassesTo h returns w.node next.node → next.took ≡ w.took →
-    IsNotInEffect h returns next.node → Follows h returns node next
+    IsNotInEffect h returns next.node → ComesAfter h returns node next
 follows_of h returns node w next comes passes took settled = record {
   via = w.node;
   comes = subst (λ (o : Option ℕ). ComesNext h None returns node (record { node = w.node; took = o })) (sym took) comes;
@@ -97,16 +97,16 @@ ends_passes h returns v w left (passes_more {u} before step) after =
     ends_passes h returns v u left before (ends_past h returns u w left step after)
 
 pub follows_past : (h : ObservedHistory) (returns : List ℕ) (node w : Node) (left : List Taken) →
-    Follows h returns node (record { node = w; took = None }) → Ends h returns w left → Ends h returns node left
+    ComesAfter h returns node (record { node = w; took = None }) → Ends h returns w left → Ends h returns node left
 follows_past h returns node w left leads after = ends_past h returns node leads.via left leads.comes
     (ends_passes h returns leads.via w left leads.passes after)
 
 pub follows_call : (h : ObservedHistory) (returns : List ℕ) (node w : Node) (i : ℕ) (one : Taken) (left : List Taken) →
-    Follows h returns node (record { node = w; took = Some i }) → one.entry ≡ i → RepliesAt h node one →
+    ComesAfter h returns node (record { node = w; took = Some i }) → one.entry ≡ i → RepliesAt h node one →
     Ends h returns w left → Ends h returns node (one ∷ left)
 follows_call h returns node w i one left leads same replies after = ends_call h returns node leads.via i one left
     leads.comes same replies (ends_passes h returns leads.via w left leads.passes after)
 
 pub follows_led : (h : ObservedHistory) (returns : List ℕ) (node w : Node) (took : Option ℕ) →
-    IsReached h None returns node → Follows h returns node (record { node = w; took = took }) → IsLed h node took
+    IsReached h None returns node → ComesAfter h returns node (record { node = w; took = took }) → IsLed h node took
 follows_led h returns node w took reached leads = led_by h returns node leads.via took reached leads.comes

@@ -29,7 +29,7 @@ use Rattle.stamp_explain.specs.Node.{IsNext, AreTaken, StandsFor}
 use Rattle.stamp_explain.specs.Timeline.{IsTimeline, IsAwaitedAt, IsOpenAt, AreOpen}
 use Rattle.stamp_explain.specs.Node.{ClearsBit}
 use Rattle.stamp_explain.specs.Expand.{Hope, GoesOn, Expands, ComesNext, ComesNextBy, IsTakenTo, Took}
-use Rattle.stamp_explain.specs.Expand.{Follows, IsChoiceOf, IsNoChoice, IsNotInEffect, NoneIsAtOnceAt, PassesTo}
+use Rattle.stamp_explain.specs.Expand.{ComesAfter, IsChoiceOf, IsNoChoice, IsNotInEffect, NoneIsAtOnceAt, PassesTo}
 use Rattle.stamp_explain.specs.Expand.{Suffice}
 use Rattle.stamp_explain.specs.Expand.IsNoChoice.{of_other, questions, comes_later, stays}
 use Rattle.stamp_explain.proofs.Alike.{alike_in_as_many, may_in_turn}
@@ -893,7 +893,7 @@ pub expands_at_once : (h : ObservedHistory) (timeline : Timeline) (node : Node) 
     IsNotInEffect h timeline.returns.items next.node → Expands h timeline.returns.items node (next ∷ [])
 expands_at_once h timeline node a calls k w next is bit are before inside observer takes passes took settled =
     record {
-      each = λ v has. subst (λ (n : Next). Follows h timeline.returns.items node n) (only_one next v has)
+      each = λ v has. subst (λ (n : Next). ComesAfter h timeline.returns.items node n) (only_one next v has)
           (follows_of h timeline.returns.items node w next
           (leads_at_once h None timeline node a calls k w is bit are before inside observer
           (λ same. none-some (get_or calls k 0) same) takes) passes took settled);
@@ -995,7 +995,7 @@ suffice_open h asked timeline node calls k nexts observed is inside awaited are 
 -- of the last k of these calls those that are tried lead to these nodes
 pub record Chooses (h : ObservedHistory) (returns : List ℕ) (node : Node) (calls : List ℕ) (k : ℕ)
     (nexts : List Next) : Type 0 where
-  pub led : (w : Next) → Contains nexts w → Follows h returns node w
+  pub led : (w : Next) → Contains nexts w → ComesAfter h returns node w
   pub tries : Tries h None returns node calls k nexts
 
 pub chooses_none : (h : ObservedHistory) (returns : List ℕ) (node : Node) (calls : List ℕ) →
@@ -1016,7 +1016,7 @@ pub chooses_one : (h : ObservedHistory) (timeline : Timeline) (node : Node) (a :
     Chooses h timeline.returns.items node calls (k + 1) (nexts ++ next ∷ [])
 chooses_one h timeline node a calls k nexts w next is bit none are chooses more awaited at choice passes took settled =
     record {
-      led = each_push (Follows h timeline.returns.items node) nexts next chooses.led
+      led = each_push (ComesAfter h timeline.returns.items node) nexts next chooses.led
           (follows_of h timeline.returns.items node w next
           (choice_leads h None timeline node a calls (get_or calls (length calls - 1 - k) 0) w is bit none are awaited
           at choice) passes took settled);

@@ -121,13 +121,18 @@ pub record GoesOnFrom (h : ObservedHistory) (returns : List ℕ) (c d : Configur
   pub passed : List ℕ
   pub to_come : c.to_come ≡ passed ++ d.to_come
 
+-- the call that returns next is not in effect
+abbrev pub AwaitsNext : (h : ObservedHistory) (returns : List ℕ) → Configuration h None returns → Type 0
+AwaitsNext h returns c = (i : ℕ) (rest : List ℕ) → c.to_come ≡ i ∷ rest → ¬ Contains c.taken i
+
 -- a search has looked at more than so many configurations, no two of which are one, and reached a further one: at each
--- some return is to come, and after one from which an order goes on to the end it has looked at such alone as go on
+-- some return is to come, the next one of a call that is not in effect, and after one from which an order goes on to the end it has looked at such alone as go on
 -- from that one. So but for those on one way it has looked at dead ends
 pub record LookedAtMore (h : ObservedHistory) (returns : List ℕ) (most : ℕ) : Type 0 where
   pub looked : List (Configuration h None returns)
   pub different : AllPairs (λ (c d : Configuration h None returns). ¬ AreOne h None returns c d) looked
   pub unended : All (λ (c : Configuration h None returns). c.to_come ≢ []) looked
+  pub settled : All (AwaitsNext h returns) looked
   pub in_depth : AllPairs (λ (c d : Configuration h None returns). IsAlive h returns c → GoesOnFrom h returns c d)
       looked
   pub many : length looked ≡ most + 1

@@ -93,7 +93,7 @@ pub record IsNotInEffect (h : ObservedHistory) (returns : List ℕ) (node : Node
   pub awaited : (a : Observation) → IsAwaitedAt h returns node.past a → bit_at node.threads a.thread ≢ 1
 
 -- a call takes effect, and then each return that is next is past, as long as its call is in effect
-pub record Follows (h : ObservedHistory) (returns : List ℕ) (node : Node) (next : Next) : Type 0 where
+pub record ComesAfter (h : ObservedHistory) (returns : List ℕ) (node : Node) (next : Next) : Type 0 where
   pub via : Node
   pub comes : ComesNext h None returns node (record { node = via; took = next.took })
   pub passes : PassesTo h returns via next.node
@@ -119,7 +119,7 @@ Suffice h returns node nexts = (n : ℕ) → Hope h returns node n → GoesOn h 
 
 -- and each of them follows from it
 pub record Expands (h : ObservedHistory) (returns : List ℕ) (node : Node) (nexts : List Next) : Type 0 where
-  pub each : (w : Next) → Contains nexts w → Follows h returns node w
+  pub each : (w : Next) → Contains nexts w → ComesAfter h returns node w
   pub whole : Suffice h returns node nexts
 
 -- in nothing that the node stands for a call may take effect at once
@@ -238,7 +238,7 @@ pub record IsLinkedAt (h : ObservedHistory) (returns : List ℕ) (store : Store)
   pub node : Node
   pub is_node : slice_get store.nodes.items origin.from ≡ Some node
   pub reached : IsReached h None returns node
-  pub leads : Follows h returns node (record { node = v; took = origin.took })
+  pub leads : ComesAfter h returns node (record { node = v; took = origin.took })
 
 -- the first node is where a search begins, and each other comes from one before it
 pub record AreLinked (h : ObservedHistory) (returns : List ℕ) (store : Store) : Type 0 where

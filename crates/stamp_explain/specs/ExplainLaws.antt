@@ -1,5 +1,5 @@
 -- The laws of observed histories, over the definitions alone.
-use Rattle.std.specs.Prelude.{ℕ, ◌≡◌, ◌≢◌, ◌<◌, ◌≤◌, ◌*◌, ◌↔◌, true, false, Option, Some, None}
+use Rattle.std.specs.Prelude.{ℕ, ◌≡◌, ◌≢◌, ◌<◌, ◌≤◌, ◌↔◌, true, false, Option, Some, None}
 use Rattle.std.specs.Prelude.{List, [], ◌∷◌, length, drop, slice_get}
 use Rattle.std.specs.List.{All, AllPairs, Contains}
 use Rattle.stamp_core.specs.Limits.{Bounds}
@@ -145,8 +145,7 @@ abbrev pub MeetsNoDeadEnd : ObservedHistory → Type 0
 MeetsNoDeadEnd h = (returns : List ℕ) → AreReturns h.entries returns → (c : Configuration h None returns) →
     IsAlive h returns c
 
--- So where each configuration that a search reaches is alive, it does not give up before it has looked at twice as
--- many as there are calls.
+-- So where each configuration that a search reaches is alive, it does not give up before it has looked at as many as
+-- there are calls.
 abbrev pub NoDeadEndIsDecided : Type 0
-NoDeadEndIsDecided = (h : ObservedHistory) (most : ℕ) → MeetsNoDeadEnd h → 2 * length h.entries ≤ most →
-    ¬ GivesUp h most
+NoDeadEndIsDecided = (h : ObservedHistory) (most : ℕ) → MeetsNoDeadEnd h → length h.entries ≤ most → ¬ GivesUp h most

@@ -6,7 +6,7 @@ use Rattle.stamp_explain.specs.Expand.{LooksAt, waiting_from}
 use Rattle.stamp_explain.proofs.Deepening.{IsAtLast, deepens_first}
 use Rattle.stamp_explain.proofs.LookingOn.{deepens_on}
 use Rattle.stamp_explain.proofs.GivingUp.{deepens_no_more, deepened_more, last_read, last_reached, last_settled}
-use Rattle.stamp_explain.proofs.GivingUp.{expanded_last}
+use Rattle.stamp_explain.proofs.GivingUp.{AreAwaited, expanded_last}
 use Rattle.stamp_explain.proofs.search.search.Goals as goal
 use Rattle.stamp_explain.proofs.search.search.Goals.{else-loop-test}
 use Rattle.stamp_explain.proofs.search.search.Goals.{then-loop-test+else-node-returns+in_ok-successors+in_ok-leave+in_ok-look+else-not-branch+else-counter-most}
@@ -109,12 +109,12 @@ returns c = record {
   once = c.requires.timeline.once;
   searched = elim c.loop-test.branch [
     | else-loop-test w ↦ deepened_more c.args.observed.now c.args.timeline.now.returns.items c.loop.store
-        c.loop.waiting.items c.loop.counter c.args.most c.loop.invariant w.loop-test.false
+        c.loop.waiting.items c.loop.counter c.args.most awaited c.loop.invariant w.loop-test.false
     | then-loop-test+else-node-returns+in_ok-successors+in_ok-leave+in_ok-look+else-not-branch+else-counter-most w ↦
         let place : w.len-place.result - 1 ≡ c.loop.counter =
         omega (arith, w.len-place.ensures, c.loop.store.nodes.ok.0, c.loop.invariant.count) in
         deepened_more c.args.observed.now c.args.timeline.now.returns.items w.look.new.store w.look.new.waiting.items
-        (c.loop.counter + 1) c.args.most
+        (c.loop.counter + 1) c.args.most awaited
         (deepens_on c.args.observed.now c.args.timeline.now.returns.items c.loop.store w.look.new.store
         w.leave.new.waiting.items w.look.new.waiting.items (c.loop.counter + 1)
         (expanded_last c.args.observed.now c.args.timeline.now.returns.items c.loop.store c.loop.waiting.items
@@ -135,3 +135,10 @@ returns c = record {
         (omega arith)
   ];
 }
+  where
+    awaited : AreAwaited c.args.observed.now c.args.timeline.now.returns.items
+    awaited = record {
+      observed = c.requires.observed;
+      are = c.requires.timeline.are;
+      once = c.requires.timeline.once;
+    }
