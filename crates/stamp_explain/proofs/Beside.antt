@@ -51,10 +51,14 @@ use Rattle.stamp_explain.proofs.Counting.{all_differ, as_many, configuration_of,
 use Rattle.stamp_explain.proofs.Exploring.{Explores, explores_first, explores_more, only_first, popped_node}
 use Rattle.stamp_explain.proofs.Exploring.{Searches, searches_first, searches_more, found_nothing, opening_reached}
 use Rattle.stamp_explain.proofs.Exploring.{named, contains_at}
-use Rattle.stamp_explain.proofs.Succeeding.{Awaits, Tries, awaited_at, past_of, leads_past, suffices_past}
-use Rattle.stamp_explain.proofs.Succeeding.{leads_at_once, suffices_at_once, suffice_open}
-use Rattle.stamp_explain.proofs.Succeeding.{NoneOfFirst, none_tried, tried_none, tried_some, tried_other, tried_later}
-use Rattle.stamp_explain.proofs.Succeeding.{tried_question, choice_leads}
+use Rattle.stamp_explain.proofs.Awaiting.{Awaits, awaited_at, past_of, leads_past, suffices_past}
+use Rattle.stamp_explain.proofs.Trying.{Tries}
+use Rattle.stamp_explain.proofs.Trying.{suffice_open}
+use Rattle.stamp_explain.proofs.Succeeding.{leads_at_once, suffices_at_once}
+use Rattle.stamp_explain.proofs.Trying.{none_tried, tried_none, tried_some, tried_other, tried_later}
+use Rattle.stamp_explain.proofs.Succeeding.{NoneOfFirst}
+use Rattle.stamp_explain.proofs.Trying.{tried_question}
+use Rattle.stamp_explain.proofs.Succeeding.{choice_leads}
 
 abbrev pub is_begun : ℕ → Observation → Bool
 is_begun last e = not (nat_lt last e.first)

@@ -2,7 +2,7 @@ use Rattle.std.proofs.Common.{◌≡◌, false, true, get_or, sym, ◌∙◌, su
 use Rattle.std.proofs.lemmas.Option.{same_Some}
 use Rattle.stamp_explain.specs.declared.observed.Observation.{Observation}
 use Rattle.stamp_explain.specs.Observed.{IsBefore}
-use Rattle.stamp_explain.proofs.Succeeding.{awaits_of}
+use Rattle.stamp_explain.proofs.Awaiting.{awaits_of}
 use Rattle.stamp_explain.proofs.Beside.{asked_not_begun, asked_waits, asked_replies, asked_inside, asked_suits}
 use Rattle.stamp_explain.proofs.Beside.{asked_read}
 use Rattle.stamp_explain.proofs.asking.ask.Goals as goal

@@ -4,8 +4,8 @@ use Rattle.std.proofs.Common.{Vec, Global}
 use Rattle.std.proofs.lemmas.Option.{slice_get_within}
 use Rattle.stamp_explain.specs.declared.node.Next.{Next}
 use Rattle.stamp_explain.specs.Timeline.{AreOpen, IsOpenAt}
-use Rattle.stamp_explain.proofs.Succeeding.{AwaitsOne, awaits_one, awaited_at}
-use Rattle.stamp_explain.proofs.Succeeding.{open_read, opens_read, awaited_read}
+use Rattle.stamp_explain.proofs.Awaiting.{AwaitsOne, awaits_one, awaited_at}
+use Rattle.stamp_explain.proofs.Awaiting.{open_read, opens_read, awaited_read}
 use Rattle.stamp_explain.proofs.Answering.{timeline_alike}
 use Rattle.stamp_explain.proofs.Beside.{awaited_inside, TriesBeside, beside_some}
 use Rattle.stamp_explain.proofs.Beside.{beside_asked, beside_not}

@@ -1,7 +1,8 @@
 use Rattle.std.proofs.Common.{◌≢◌, Some, get_or, sym, ◌∙◌, arith}
 use Rattle.stamp_explain.specs.Timeline.{IsOpenAt}
-use Rattle.stamp_explain.proofs.Succeeding.{AwaitsOne, awaits_one}
-use Rattle.stamp_explain.proofs.Succeeding.{open_read, opens_read, none_at_once, none_by_asked, none_by_change}
+use Rattle.stamp_explain.proofs.Awaiting.{AwaitsOne, awaits_one}
+use Rattle.stamp_explain.proofs.Awaiting.{open_read, opens_read}
+use Rattle.stamp_explain.proofs.Succeeding.{none_at_once, none_by_asked, none_by_change}
 use Rattle.stamp_explain.proofs.Succeeding.{none_by_took}
 use Rattle.stamp_explain.proofs.Beside.{at_once_leads, at_once_suffices}
 use Rattle.stamp_explain.proofs.asking.observed_beside.Goals as goal

@@ -3,7 +3,7 @@ use Rattle.std.specs.Int.{bit_at}
 use Rattle.std.proofs.lemmas.Option.{same_Some}
 use Rattle.stamp_explain.specs.declared.observed.Observation.{Observation}
 use Rattle.stamp_explain.proofs.Expanding.{at_place}
-use Rattle.stamp_explain.proofs.Succeeding.{Awaits, awaits_of}
+use Rattle.stamp_explain.proofs.Awaiting.{Awaits, awaits_of}
 use Rattle.stamp_explain.proofs.Beside.{past_leads, past_suffices}
 use Rattle.stamp_explain.proofs.asking.passed.Goals as goal
 

@@ -1,5 +1,6 @@
 use Rattle.std.proofs.Common.{sym, ◌∙◌, arith, None}
-use Rattle.stamp_explain.proofs.Succeeding.{AwaitsOne, awaits_one, expands_at_once, open_read, opens_read}
+use Rattle.stamp_explain.proofs.Awaiting.{AwaitsOne, awaits_one, open_read, opens_read}
+use Rattle.stamp_explain.proofs.Succeeding.{expands_at_once}
 use Rattle.stamp_explain.proofs.Succeeding.{none_at_once, none_by_change, none_by_took}
 use Rattle.stamp_explain.proofs.search.at_once.Goals as goal
 use Rattle.stamp_explain.proofs.search.at_once.Goals.{then-observes_at+in_default, else-observes_at}

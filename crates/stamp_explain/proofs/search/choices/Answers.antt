@@ -3,9 +3,10 @@ use Rattle.std.proofs.Common.{subst, arith, Vec, Global}
 use Rattle.stamp_explain.specs.declared.node.Next.{Next}
 use Rattle.stamp_explain.specs.Timeline.{IsOpenAt}
 use Rattle.stamp_explain.specs.Timeline.{AreOpen}
-use Rattle.stamp_explain.proofs.Succeeding.{AwaitsOne, awaits_one, awaited_at}
+use Rattle.stamp_explain.proofs.Awaiting.{AwaitsOne, awaits_one, awaited_at}
 use Rattle.stamp_explain.proofs.Succeeding.{Chooses, chooses_one, chooses_not}
-use Rattle.stamp_explain.proofs.Succeeding.{expands_open, opens_read, open_read, open_within, awaited_read}
+use Rattle.stamp_explain.proofs.Awaiting.{opens_read, open_read, open_within, awaited_read}
+use Rattle.stamp_explain.proofs.Succeeding.{expands_open}
 use Rattle.stamp_explain.proofs.search.choices.Goals as goal
 use Rattle.stamp_explain.proofs.search.choices.Goals.{in-Some+in_ok-push, in_default}
 

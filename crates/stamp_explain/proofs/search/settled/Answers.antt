@@ -3,7 +3,7 @@ use Rattle.std.specs.Int.{bit_at}
 use Rattle.std.proofs.lemmas.Option.{same_Some}
 use Rattle.stamp_explain.specs.declared.observed.Observation.{Observation}
 use Rattle.stamp_explain.specs.Expand.PassesTo.{passes_none, passes_more}
-use Rattle.stamp_explain.proofs.Succeeding.{Awaits, awaits_of, leads_past}
+use Rattle.stamp_explain.proofs.Awaiting.{Awaits, awaits_of, leads_past}
 use Rattle.stamp_explain.proofs.search.settled.Goals as goal
 use Rattle.stamp_explain.proofs.search.settled.Goals.{else-loop-node-test, then-loop-node-test+then-not-has_bit}
 

@@ -1,0 +1,326 @@
+-- A node at which a return is awaited.
+use Rattle.std.proofs.Common.{◌≡◌, ◌≢◌, ◌⊎◌, ℕ, ◌+◌, ◌-◌, ◌<◌, ◌≤◌, suc, List, [], ◌∷◌}
+use Rattle.std.proofs.Common.{length, get_or, refl, sym, ◌∙◌, ap, subst, inl, inr, arith, None}
+use Rattle.std.proofs.Common.{Option, Some, Vec, Global}
+use Rattle.std.specs.Prelude.{slice_get, take, drop}
+use Rattle.std.proofs.lemmas.List.{take_all, get_or-drop, length-drop}
+use Rattle.std.specs.List.{Contains}
+use Rattle.std.specs.Int.{bit_at}
+use Rattle.std.proofs.Math.Seq.{take-suc, drop-cons}
+use Rattle.std.proofs.lemmas.List.Elements.{Contains-get_or}
+use Rattle.std.proofs.lemmas.Option.{same_Some, slice_get_read, slice_get-get_or, slice_get_within}
+use Rattle.stamp_explain.specs.declared.observed.Observation.{Observation}
+use Rattle.stamp_explain.specs.declared.node.Node.{Node}
+use Rattle.stamp_explain.specs.declared.node.Next.{Next}
+use Rattle.stamp_explain.specs.declared.timeline.Timeline.{Timeline}
+use Rattle.stamp_explain.specs.Observed.{ObservedHistory, IsObserved, HasReturned}
+use Rattle.stamp_explain.specs.Search.{AreInOrder, LockState, LockSteps, IsReturnAt}
+use Rattle.stamp_explain.specs.Configuration.{IsTried}
+use Rattle.stamp_explain.specs.Node.{IsNext, AreTaken, StandsFor}
+use Rattle.stamp_explain.specs.Timeline.{IsTimeline, IsAwaitedAt, IsOpenAt, AreOpen}
+use Rattle.stamp_explain.specs.Node.{ClearsBit}
+use Rattle.stamp_explain.specs.Expand.{Hope, GoesOn, ComesNext, ComesNextBy, IsTakenTo}
+use Rattle.stamp_explain.specs.Expand.{IsNotInEffect}
+use Rattle.stamp_explain.specs.Expand.{Suffice}
+use Rattle.stamp_explain.proofs.Finding.{ArePending, not_before_itself}
+use Rattle.stamp_explain.proofs.Completing.{IsAwaited}
+use Rattle.stamp_explain.proofs.Searching.{CompletesIn, GoesPast, GoesOnBy, goes_on}
+use Rattle.stamp_explain.proofs.Standing.{taken_by_bit, taken_past}
+use Rattle.stamp_explain.proofs.Expanding.{orderly, next_awaited, in_take}
+use Rattle.stamp_explain.proofs.Lists.{none_in_empty, contains_cases, contains_first}
+use Rattle.stamp_explain.proofs.Lists.{pairs_drop}
+
+-- what is known of a node whose return is awaited
+pub record Awaits (h : ObservedHistory) (timeline : Timeline) (node : Node) (a : Observation) : Type 0 where
+  pub observed : IsObserved h
+  pub timeline_is : IsTimeline h timeline
+  pub inside : node.past < length timeline.returns.items
+  pub at : slice_get h.entries (get_or timeline.returns.items node.past 0) ≡ Some a
+
+pub awaited_at : (h : ObservedHistory) (timeline : Timeline) (node : Node) (a : Observation) → Awaits h timeline
+    node a →
+    IsAwaitedAt h timeline.returns.items node.past a
+awaited_at h timeline node a is = record { inside = is.inside; is_entry = is.at }
+
+pub the_next : (h : ObservedHistory) (timeline : Timeline) (node : Node) (a : Observation) → Awaits h timeline node a →
+    IsNext h.entries (take node.past timeline.returns.items) (get_or timeline.returns.items node.past 0) a
+the_next h timeline node a is = next_awaited h timeline.returns.items node.past a is.observed is.timeline_is.are
+    is.timeline_is.once
+    is.inside is.at
+
+pub left_of : (h : ObservedHistory) (timeline : Timeline) (node : Node) (a : Observation) → Awaits h timeline node a →
+    drop node.past timeline.returns.items ≡ get_or timeline.returns.items node.past 0 ∷ drop (suc node.past)
+    timeline.returns.items
+left_of h timeline node a is = drop-cons timeline.returns.items node.past 0 is.inside
+
+-- a hope at an awaited return, as the search's steps have it
+pub steps_of : (h : ObservedHistory) (timeline : Timeline) (node : Node) (a : Observation) (n : ℕ) →
+    (is : Awaits h timeline node a) → (hope : Hope h timeline.returns.items node n) →
+    CompletesIn (LockSteps h.limits) h.entries (get_or timeline.returns.items node.past 0 ∷ drop (suc node.past)
+    timeline.returns.items) hope.state hope.taken n
+steps_of h timeline node a n is hope =
+    let P : List ℕ → Type 0 = λ (to_come : List ℕ). CompletesIn (LockSteps h.limits) h.entries to_come hope.state
+    hope.taken n in
+    subst P (left_of h timeline node a is) (record { rest = hope.rest; by = hope.by; steps = hope.steps })
+
+pub the_awaited : (h : ObservedHistory) (timeline : Timeline) (node : Node) (a : Observation) → Awaits h timeline node a →
+    IsAwaited h.entries (get_or timeline.returns.items node.past 0) a
+the_awaited h timeline node a is = record {
+  is_entry = is.at;
+  begun = not_before_itself a ((orderly h is.observed).interval (get_or timeline.returns.items node.past 0) a is.at);
+}
+
+pub not_yet : (h : ObservedHistory) (timeline : Timeline) (node : Node) (a : Observation) (s : LockState) (taken : List ℕ) →
+    Awaits h timeline node a → bit_at node.threads a.thread ≢ 1 → StandsFor h timeline.returns.items node s taken →
+    ¬ Contains taken (get_or timeline.returns.items node.past 0)
+not_yet h timeline node a s taken is bit stands has =
+    bit (taken_by_bit h.entries (take node.past timeline.returns.items) node.threads taken
+    (get_or timeline.returns.items node.past 0) a stands.in_effect is.at (the_next h timeline node a is).still has).0
+
+-- a node comes next where a call that is tried takes effect
+pub leads_by_call : (h : ObservedHistory) (asked : Option ℕ) (timeline : Timeline) (node : Node) (a : Observation)
+    (i : ℕ) (s : LockState) (taken : List ℕ) (w : Next) → Awaits h timeline node a →
+    bit_at node.threads a.thread ≢ 1 → StandsFor h timeline.returns.items node s taken →
+    (to : IsTakenTo h timeline.returns.items node a i s taken w) → IsTried h asked timeline.returns.items a s taken to.effect →
+    ComesNextBy h asked timeline.returns.items node w.node s taken w.took
+leads_by_call h asked timeline node a i s taken w is bit stands to tried =
+    subst (λ (o : Option ℕ). ComesNextBy h asked timeline.returns.items node w.node s taken o) (sym to.took) (record {
+      past = to.past;
+      awaited = a;
+      is_awaited = is.at;
+      not_yet = not_yet h timeline node a s taken is bit stands;
+      effect = to.effect;
+      index = refl;
+      tried = tried;
+      state = to.state;
+      may = to.may;
+      put = to.put;
+      stands = to.stands;
+    })
+
+-- one of these stands for what an order completes in fewer steps
+pub goes_on_to : (h : ObservedHistory) (returns : List ℕ) (nexts : List Next) (w : Next) (s : LockState)
+    (taken : List ℕ) (left n : ℕ) → Contains nexts w → suc left ≤ n → StandsFor h returns w.node s taken →
+    CompletesIn (LockSteps h.limits) h.entries (drop w.node.past returns) s taken left → GoesOn h returns nexts n
+goes_on_to h returns nexts w s taken left n among fewer stands completes = record {
+  next = w;
+  left = left;
+  among = among;
+  fewer = omega (arith, fewer);
+  hope = record {
+    state = s;
+    taken = taken;
+    stands = stands;
+    rest = completes.rest;
+    by = completes.by;
+    steps = completes.steps;
+  };
+}
+
+pub alone : (w : Next) → Contains (w ∷ []) w
+alone w = contains_first w [] w refl
+
+pub only_one : (w v : Next) → Contains (w ∷ []) v → w ≡ v
+only_one w v has = by (contains_cases w [] v has)
+  where
+    by : (w ≡ v) ⊎ Contains [] v → w ≡ v
+    by (inl same) = same
+    by (inr none) = absurd (none_in_empty v none)
+
+-- a return is past
+abbrev pub past_of : Node → ℕ → Next
+past_of node threads = record {
+  node = record { past = node.past + 1; bits = node.bits; writer = node.writer; threads = threads };
+  took = None;
+}
+
+pub one_more : (n : ℕ) → suc n ≡ n + 1
+one_more n = omega arith
+
+pub awaited_in_effect : (h : ObservedHistory) (timeline : Timeline) (node : Node) (a : Observation) (s : LockState)
+    (taken : List ℕ) → Awaits h timeline node a → bit_at node.threads a.thread ≡ 1 →
+    StandsFor h timeline.returns.items node s taken → Contains taken (get_or timeline.returns.items node.past 0)
+awaited_in_effect h timeline node a s taken is bit stands =
+    stands.in_effect.each_next (get_or timeline.returns.items node.past 0) a (the_next h timeline node a is) bit
+
+pub stands_past : (h : ObservedHistory) (timeline : Timeline) (node : Node) (a : Observation) (threads : ℕ) (s : LockState)
+    (taken : List ℕ) → Awaits h timeline node a → bit_at node.threads a.thread ≡ 1 →
+    ClearsBit node.threads threads a.thread → StandsFor h timeline.returns.items node s taken →
+    StandsFor h timeline.returns.items (past_of node threads).node s taken
+stands_past h timeline node a threads s taken is bit clears stands = record {
+  at = stands.at;
+  in_effect = subst (λ (past : List ℕ). AreTaken h.entries past threads taken)
+      (sym (take-suc timeline.returns.items node.past 0 is.inside) ∙
+      ap (λ (n : ℕ). take n timeline.returns.items) (one_more node.past))
+      (taken_past h.entries (take node.past timeline.returns.items) node.threads threads taken
+      (get_or timeline.returns.items node.past 0) a (orderly h is.observed) stands.in_effect
+      (the_next h timeline node a is) (awaited_in_effect h timeline node a s taken is bit stands) clears);
+}
+
+-- where the call is in effect, its return is past
+pub leads_past : (h : ObservedHistory) (asked : Option ℕ) (timeline : Timeline) (node : Node) (a : Observation)
+    (threads : ℕ) → Awaits h timeline node a → bit_at node.threads a.thread ≡ 1 →
+    ClearsBit node.threads threads a.thread → ComesNext h asked timeline.returns.items node (past_of node threads)
+leads_past h asked timeline node a threads is bit clears = record {
+  inside = is.inside;
+  leads = λ s taken stands. record {
+    past = refl;
+    in_effect = awaited_in_effect h timeline node a s taken is bit stands;
+    put = refl;
+    stands = stands_past h timeline node a threads s taken is bit clears stands;
+  };
+}
+
+pub suffices_past : (h : ObservedHistory) (timeline : Timeline) (node : Node) (a : Observation) (threads : ℕ) →
+    Awaits h timeline node a → bit_at node.threads a.thread ≡ 1 → ClearsBit node.threads threads a.thread →
+    Suffice h timeline.returns.items node (past_of node threads ∷ [])
+suffices_past h timeline node a threads is bit clears n hope =
+    goes (goes_on h.limits h.entries i a (drop (suc node.past) timeline.returns.items) hope.state hope.taken n
+    (the_awaited h timeline node a is) (steps_of h timeline node a n is hope))
+  where
+    i : ℕ
+    i = get_or timeline.returns.items node.past 0
+
+    next : Next
+    next = past_of node threads
+
+    next_left : drop (suc node.past) timeline.returns.items ≡ drop next.node.past timeline.returns.items
+    next_left = ap (λ (k : ℕ). drop k timeline.returns.items) (one_more node.past)
+
+    goes : GoesPast (LockSteps h.limits) h.entries i (drop (suc node.past) timeline.returns.items) hope.state
+        hope.taken n ⊎
+        GoesOnBy h.limits h.entries i a (drop (suc node.past) timeline.returns.items) hope.state hope.taken n →
+        GoesOn h timeline.returns.items (next ∷ []) n
+    goes (inl past) =
+        let P : List ℕ → Type 0 = λ (to_come : List ℕ). CompletesIn (LockSteps h.limits) h.entries to_come
+        hope.state hope.taken past.left in
+        goes_on_to h timeline.returns.items (next ∷ []) next hope.state hope.taken past.left n (alone next)
+        (omega (arith, past.fewer))
+        (stands_past h timeline node a threads hope.state hope.taken is bit clears hope.stands)
+        (subst P next_left past.completes)
+    goes (inr on) = absurd (on.awaited
+        (awaited_in_effect h timeline node a hope.state hope.taken is bit hope.stands))
+
+-- what is behind so many of a list is in the rest
+pub in_drop : (xs : List ℕ) (n k j : ℕ) → n ≤ k → k < length xs → get_or xs k j ≡ j → Contains (drop n xs) j
+in_drop xs n k j le lt is =
+    let back : n + (k - n) ≡ k = omega (arith, le) in
+    let inside : k - n < length (drop n xs) = omega (arith, le, lt, length-drop n xs) in
+    (k - n, inside, get_or-drop n xs (k - n) j ∙ ap (λ (m : ℕ). get_or xs m j) back ∙ is)
+
+-- a call that returned and is not in effect is yet to return
+pub due : (h : ObservedHistory) (timeline : Timeline) (node : Node) (s : LockState) (taken : List ℕ) (j : ℕ)
+    (e : Observation) → IsTimeline h timeline → StandsFor h timeline.returns.items node s taken →
+    slice_get h.entries j ≡ Some e → HasReturned e → ¬ Contains taken j →
+    Contains (drop node.past timeline.returns.items) j
+due h timeline node s taken j e is stands at returned misses = by (is.are.whole j e at returned)
+  where
+    which : (k n : ℕ) → (k < n) ⊎ (n ≤ k)
+    which k n = grind arith
+
+    few : (n m : ℕ) → (n ≤ m) ⊎ (m < n)
+    few n m = grind arith
+
+    by : Contains timeline.returns.items j → Contains (drop node.past timeline.returns.items) j
+    by (k, lt, at) = side (which k node.past)
+      where
+        side : (k < node.past) ⊎ (node.past ≤ k) → Contains (drop node.past timeline.returns.items) j
+        side (inl less) = absurd (misses (stands.in_effect.all_past j (past (few node.past
+            (length timeline.returns.items)))))
+          where
+            past : (node.past ≤ length timeline.returns.items) ⊎ (length timeline.returns.items < node.past) →
+                Contains (take node.past timeline.returns.items) j
+            past (inl le) = in_take timeline.returns.items node.past k j less le at
+            past (inr over) = subst (λ (xs : List ℕ). Contains xs j)
+                (sym (take_all node.past timeline.returns.items (omega (arith, over)))) (k, lt, at)
+        side (inr le) = in_drop timeline.returns.items node.past k j le lt at
+
+-- the calls that have returned and are not in effect are those whose returns are to come
+pub pending : (h : ObservedHistory) (timeline : Timeline) (node : Node) (s : LockState) (taken : List ℕ) →
+    IsTimeline h timeline → StandsFor h timeline.returns.items node s taken →
+    ArePending h.entries (drop node.past timeline.returns.items) taken
+pending h timeline node s taken is stands = record {
+  whole = λ j e at returned misses. due h timeline node s taken j e is stands at returned misses;
+  in_order = pairs_drop (AreInOrder h.entries) node.past timeline.returns.items is.are.in_order;
+}
+
+-- the awaited call is read
+pub index_read : (returns : List ℕ) (past i : ℕ) → past < length returns → i ≡ get_or returns past i →
+    get_or returns past 0 ≡ i
+index_read returns past i inside read = same_Some (get_or returns past 0) i
+    (sym (slice_get-get_or returns past 0 inside) ∙
+    slice_get_read returns (length returns) past i refl inside read)
+
+pub awaited_read : (h : ObservedHistory) (returns : List ℕ) (past i : ℕ) (a : Observation) →
+    IsAwaitedAt h returns past a → i ≡ get_or returns past i → slice_get h.entries i ≡ Some a
+awaited_read h returns past i a awaited read =
+    ap (λ (k : ℕ). slice_get h.entries k) (sym (index_read returns past i awaited.inside read)) ∙ awaited.is_entry
+
+-- and its entry
+pub awaits_of : (h : ObservedHistory) (timeline : Timeline) (node : Node) (i : ℕ) (read : List Observation)
+    (d : Observation) → IsObserved h → IsTimeline h timeline → node.past < length timeline.returns.items →
+    i ≡ get_or timeline.returns.items node.past i → read ≡ h.entries → Awaits h timeline node (get_or read i d)
+awaits_of h timeline node i read d observed is inside index same = record {
+  observed = observed;
+  timeline_is = is;
+  inside = inside;
+  at = ap (λ (k : ℕ). slice_get h.entries k) here ∙ slice_get-get_or h.entries i d within ∙
+      ap (λ (es : List Observation). Some (get_or es i d)) (sym same);
+}
+  where
+    there : IsReturnAt h.entries (get_or timeline.returns.items node.past 0)
+    there = is.are.each node.past 0 inside
+
+    here : get_or timeline.returns.items node.past 0 ≡ i
+    here = index_read timeline.returns.items node.past i inside index
+
+    within : i < length h.entries
+    within = subst (λ (k : ℕ). k < length h.entries) here (slice_get_within h.entries
+        (get_or timeline.returns.items node.past 0) there.entry there.is_entry)
+
+-- the calls that are open are read
+pub opens_read : (h : ObservedHistory) (timeline : Timeline) (past : ℕ) (v : Vec ℕ Global) (slice : List ℕ) →
+    IsTimeline h timeline →
+    past < length timeline.returns.items → v ≡ get_or timeline.opens.items past v → slice ≡ v.items →
+    AreOpen h timeline.returns.items past slice
+opens_read h timeline past v slice is lt read same = subst (AreOpen h timeline.returns.items past) (sym same)
+    (is.opens past v (slice_get_read timeline.opens.items (length timeline.opens.items) past v refl
+    (omega (arith, lt, is.many)) read))
+
+pub open_read : (h : ObservedHistory) (timeline : Timeline) (past : ℕ) (v : Vec ℕ Global) (slice : List ℕ) (k : ℕ) →
+    IsTimeline h timeline → past < length timeline.returns.items → v ≡ get_or timeline.opens.items past v → slice ≡
+    v.items →
+    k < length slice → IsOpenAt h timeline.returns.items past (get_or slice k 0)
+open_read h timeline past v slice k is lt read same within =
+    (opens_read h timeline past v slice is lt read same).each (get_or slice k 0) (Contains-get_or slice k 0 within)
+
+pub open_within : (h : ObservedHistory) (timeline : Timeline) (past : ℕ) (v : Vec ℕ Global) (slice : List ℕ) (k : ℕ) →
+    IsTimeline h timeline → past < length timeline.returns.items → v ≡ get_or timeline.opens.items past v → slice ≡
+    v.items →
+    k < length slice → get_or slice k 0 < length h.entries
+open_within h timeline past v slice k is lt read same within =
+    let it : IsOpenAt h timeline.returns.items past (get_or slice k 0) =
+    open_read h timeline past v slice k is lt read same within in
+    slice_get_within h.entries (get_or slice k 0) it.entry it.is_entry
+
+-- the awaited call, which is not in effect
+pub record AwaitsOne (h : ObservedHistory) (timeline : Timeline) (node : Node) : Type 0 where
+  pub entry : Observation
+  pub awaits : Awaits h timeline node entry
+  pub bit : bit_at node.threads entry.thread ≢ 1
+
+pub awaits_one : (h : ObservedHistory) (timeline : Timeline) (node : Node) → IsObserved h → IsTimeline h timeline →
+    node.past < length timeline.returns.items → IsNotInEffect h timeline.returns.items node → AwaitsOne h timeline node
+awaits_one h timeline node observed is inside awaited =
+    let there : IsReturnAt h.entries (get_or timeline.returns.items node.past 0) = is.are.each node.past 0 inside in
+    let awaits : Awaits h timeline node there.entry = record {
+      observed = observed;
+      timeline_is = is;
+      inside = inside;
+      at = there.is_entry;
+    } in
+    record {
+      entry = there.entry;
+      awaits = awaits;
+      bit = awaited.awaited there.entry (awaited_at h timeline node there.entry awaits);
+    }
