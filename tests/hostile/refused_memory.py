@@ -130,7 +130,7 @@ def main():
     table += [
         ([explain], OBSERVED % b"384", (0, FOUND, b""), told),
         ([explain, "--most", "100"], OBSERVED % b"385", (1, b"stuck 1\n", STUCK_LINE), [*told, (1, b"stuck 1\n", b"")]),
-        ([explain, "--most", "1"], OBSERVED % b"384", (1, b"undecided 1\n", b""), told),
+        ([explain, "--most", "1"], OBSERVED % b"384", (1, b"undecided 0\n", b""), told),
         ([explain], OVERLAPPING, (1, b"bad 1 overlap\n", b""), told),
         ([explain], NO_THREAD, (1, b"", NO_HISTORY_LINE), told),
         ([explain, "--most"], b"", BAD_LINE, told),

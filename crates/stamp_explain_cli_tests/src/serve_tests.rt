@@ -33,7 +33,7 @@ const FOUND: &str =
 const TOLD: [(&str, &str, u64, &str); 6] = [
     ("384", "384", MOST, FOUND),
     ("\"reply\":0", "\"reply\":768", MOST, "stuck 2\n"),
-    ("384", "384", 1, "undecided 1\n"),
+    ("384", "384", 1, "undecided 2\n"),
     ("\"thread\":1", "\"thread\":0", MOST, "bad 2 overlap\n"),
     ("\"first\":3", "\"first\":6", MOST, "bad 0 interval\n"),
     ("\"first\":1,", "", MOST, ""),

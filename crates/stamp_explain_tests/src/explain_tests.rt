@@ -225,7 +225,7 @@ fn a_reply_that_comes_later_is_not_known_before(rt: HostRuntime) -> Result<(), F
 #[test]
 fn a_search_that_has_not_ended_is_undecided(rt: HostRuntime) -> Result<(), Fail> {
     let undecided = Some(ExplainError::Undecided(0));
-    for (most, fault) in [(0, undecided), (1, undecided), (2, None)] {
+    for (most, fault) in [(0, undecided), (1, None)] {
         let case = Case {
             name: "a write",
             calls: [WRITE; 3],
