@@ -13,7 +13,7 @@ use Rattle.stamp_explain.specs.declared.node.Waiting.{Waiting}
 use Rattle.stamp_explain.specs.declared.store.Store.{Store}
 use Rattle.stamp_explain.specs.Observed.{ObservedHistory}
 use Rattle.stamp_explain.specs.Search.{first_state}
-use Rattle.stamp_explain.specs.Configuration.{Configuration, GoesOnFrom}
+use Rattle.stamp_explain.specs.Configuration.{Configuration, GoesOnFrom, IsBeginning, StepsFromOne}
 use Rattle.stamp_explain.specs.Node.{IsFirstNode}
 use Rattle.stamp_explain.specs.Store.{Keeps, BeginsWith}
 use Rattle.stamp_explain.specs.Expand.{Hope, GoesOn, ComesAfter, Expands}
@@ -74,6 +74,9 @@ pub record Deepens (h : ObservedHistory) (returns : List ℕ) (store : Store) (w
   pub linked : AreLinked h returns store
   pub configurations : List (Configuration h None returns)
   pub are : AreFor h returns store.nodes.items configurations
+  pub begins : (c : Configuration h None returns) → slice_get configurations 0 ≡ Some c → IsBeginning h returns c
+  pub from_one : (k : ℕ) (d : Configuration h None returns) → 0 < k → slice_get configurations k ≡ Some d →
+      StepsFromOne h returns configurations k d
   pub led : (i : ℕ) (w : Waiting) → slice_get waiting i ≡ Some w → IsLedFrom h returns store.nodes.items w
   pub unended : (p : ℕ) (v : Node) → p < expanded → slice_get store.nodes.items p ≡ Some v → v.past < length returns
   pub each : (p : ℕ) (u : Node) (c : Configuration h None returns) → p < expanded →
@@ -136,6 +139,11 @@ deepens_first h returns store node begins is = record {
       many = sym (ap (λ (ns : List Node). length ns) begins.nodes);
       each = λ p v c at_p here. one p v c (subst (λ (ns : List Node). slice_get ns p ≡ Some v) begins.nodes at_p) here;
     };
+    begins = λ c here. subst (IsBeginning h returns) (same_Some first c here) (record {
+      none = refl;
+      all = ap (λ (n : ℕ). drop n returns) is.past;
+    });
+    from_one = λ k d lt here. absurd (omega (arith, lt, slice_get_within (first ∷ []) k d here));
     led = λ i w at. absurd (none_waits i w at);
     unended = λ p v lt at. absurd (omega (arith, lt));
     each = λ p u c lt at here. absurd (omega (arith, lt));
@@ -224,6 +232,8 @@ deepens_expanded h returns store waiting expanded nexts is inside expands = reco
   linked = was.linked;
   configurations = was.configurations;
   are = was.are;
+  begins = was.begins;
+  from_one = was.from_one;
   led = λ i w at. led w (read_both waiting (waiting_from expanded nexts) w i at);
   unended = λ p v lt at. unended p v at (split p lt);
   each = λ p u c lt at here. each p u c at here (split p lt);

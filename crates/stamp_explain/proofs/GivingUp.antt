@@ -7,7 +7,7 @@ use Rattle.std.specs.List.{All, AllPairs, Contains}
 use Rattle.std.proofs.lemmas.List.{length-drop, get_or-take}
 use Rattle.std.proofs.lemmas.List.{length-take-le}
 use Rattle.std.proofs.lemmas.Option.{same_Some, slice_get-get_or, slice_get_within}
-use Rattle.std.proofs.lemmas.Option.{slice_get_read}
+use Rattle.std.proofs.lemmas.Option.{get_or_from_slice_get, slice_get_read}
 use Rattle.stamp_explain.specs.declared.node.Node.{Node}
 use Rattle.stamp_explain.specs.declared.node.Next.{Next}
 use Rattle.stamp_explain.specs.declared.node.Waiting.{Waiting}
@@ -16,6 +16,7 @@ use Rattle.stamp_explain.specs.Observed.{IsObserved, ObservedHistory}
 use Rattle.stamp_explain.specs.Explained.{IsExplained}
 use Rattle.stamp_explain.specs.Search.{LockSteps, IsCompletedBy, IsReturnAt, AreReturns, first_state}
 use Rattle.stamp_explain.specs.Configuration.{AreOne, AwaitsNext, Configuration, GoesOnFrom, IsAlive, LookedAtMore}
+use Rattle.stamp_explain.specs.Configuration.{StepsFromOne}
 use Rattle.stamp_explain.specs.Node.{IsFirstNode, IsNext, IsReached}
 use Rattle.std.specs.Int.{bit_at}
 use Rattle.std.proofs.lemmas.Nat.Bits.{bit_at-zero}
@@ -134,7 +135,14 @@ deepened_more h returns store waiting expanded most awaited is enough = record {
   settled = λ k d inside. settled k d (omega (arith, inside, many));
   in_depth = λ i j d lt inside alive. deep i j d lt (omega (arith, inside, many)) alive;
   many = many;
+  begins = λ c here. was.begins c (back 0 c here);
+  linked = λ k d lt here. in_looked k d (omega (arith, slice_get_within (take (most + 1) cs) k d here, many))
+      (was.from_one k d lt (back k d here));
   further = get_or cs (most + 1) first_one;
+  further_settled = settled_further;
+  further_linked = in_looked (most + 1) (get_or cs (most + 1) first_one) (omega arith)
+      (was.from_one (most + 1) (get_or cs (most + 1) first_one) (omega arith)
+      (slice_get-get_or cs (most + 1) first_one (omega (arith, counted))));
   is_further = λ k d inside one. past_all k d (omega (arith, inside, many)) one;
 }
   where
@@ -177,6 +185,53 @@ deepened_more h returns store waiting expanded most awaited is enough = record {
 
     first_one : Configuration h None returns
     first_one = (some_inside cs 0 (omega (arith, counted))).0
+
+    back : (k : ℕ) (d : Configuration h None returns) → slice_get (take (most + 1) cs) k ≡ Some d →
+        slice_get cs k ≡ Some d
+    back k d here = at k d (omega (arith, slice_get_within (take (most + 1) cs) k d here, many)) ∙
+        ap (λ (c : Configuration h None returns). Some c) (get_or_from_slice_get (take (most + 1) cs) k d d here)
+
+    in_looked : (k : ℕ) (d : Configuration h None returns) → k ≤ most + 1 → StepsFromOne h returns cs k d →
+        StepsFromOne h returns (take (most + 1) cs) k d
+    in_looked k d le one = record {
+      place = one.place;
+      before = one.before;
+      from = one.from;
+      is_from = slice_get-get_or (take (most + 1) cs) one.place one.from (omega (arith, one.before, le, many)) ∙
+          ap (λ (c : Configuration h None returns). Some c)
+          (get_or-take (most + 1) cs one.place one.from (omega (arith, one.before, le)) ∙
+          get_or_from_slice_get cs one.place one.from one.from one.is_from);
+      steps = one.steps;
+    }
+
+    -- the further one is settled too, or at the end
+    settled_further : AwaitsNext h returns (get_or cs (most + 1) first_one)
+    settled_further = by (below (get_or nodes (most + 1) none).past (length returns))
+      where
+        inside : most + 1 < length nodes
+        inside = omega (arith, is.count, enough)
+
+        here : slice_get nodes (most + 1) ≡ Some (get_or nodes (most + 1) none)
+        here = slice_get-get_or nodes (most + 1) none inside
+
+        it : IsFor h None returns (get_or nodes (most + 1) none) (get_or cs (most + 1) first_one)
+        it = was.are.each (most + 1) (get_or nodes (most + 1) none) (get_or cs (most + 1) first_one) here
+            (slice_get-get_or cs (most + 1) first_one (omega (arith, counted)))
+
+        below : (a b : ℕ) → (a < b) ⊎ (b ≤ a)
+        below a b = grind arith
+
+        by : ((get_or nodes (most + 1) none).past < length returns) ⊎
+            (length returns ≤ (get_or nodes (most + 1) none).past) →
+            AwaitsNext h returns (get_or cs (most + 1) first_one)
+        by (inl less) = awaits_next h returns (get_or nodes (most + 1) none) (get_or cs (most + 1) first_one) awaited
+            less (settled_at h returns store (most + 1) (get_or nodes (most + 1) none) was.linked here) it
+        by (inr all) = λ i rest same has. omega (
+          arith,
+          all,
+          ap (λ (xs : List ℕ). length xs) (sym it.to_come ∙ same),
+          length-drop (get_or nodes (most + 1) none).past returns,
+        )
 
     past_all : (k : ℕ) (d : Configuration h None returns) → k < most + 1 →
         AreOne h None returns (get_or (take (most + 1) cs) k d) (get_or cs (most + 1) first_one) → ⊥

@@ -80,6 +80,7 @@ pub record StepsTo (h : ObservedHistory) (returns : List ℕ) (c : Configuration
   pub next : Configuration h None returns
   pub is_for : IsFor h None returns w next
   pub goes_on : GoesOnFrom h returns c next
+  pub one : length goes_on.later ≤ 1
   pub is_new : (b : Configuration h None returns) → IsFor h None returns w b → GoesOnFrom h returns b c → ⊥
 
 same_effect : (h : ObservedHistory) (past : List ℕ) (threads : ℕ) (one other : List ℕ) (i : ℕ) (e : Observation) →
@@ -121,6 +122,7 @@ steps_by h returns v next c is leads = by next.took (leads.leads c.state c.taken
         to_come = is.to_come ∙ come returns v.past leads.inside ∙
             ap (λ (rest : List ℕ). slice_index returns v.past ∷ rest) (come_less returns v.past next.node.past l.past);
       };
+      one = omega arith;
       is_new = λ b of on. omega (
         arith,
         leads.inside,
@@ -153,6 +155,7 @@ steps_by h returns v next c is leads = by next.took (leads.leads c.state c.taken
         passed = [];
         to_come = is.to_come ∙ ap (λ (n : ℕ). drop n returns) (sym l.past);
       };
+      one = omega arith;
       is_new = λ b of on. l.may.fresh (subst (λ (xs : List ℕ). Contains xs l.effect.index) (sym on.taken)
           (Contains-append_right on.later b.taken l.effect.index (same_effect h (take next.node.past returns)
           next.node.threads (l.effect.index ∷ c.taken) b.taken l.effect.index l.effect.entry l.stands.in_effect
@@ -162,6 +165,7 @@ steps_by h returns v next c is leads = by next.took (leads.leads c.state c.taken
 
 steps_past : (h : ObservedHistory) (returns : List ℕ) (c : Configuration h None returns) (v w : Node) →
     StepsTo h returns c v → PassesTo h returns v w → StepsTo h returns c w
+unfolding goes_on_through steps_by
 steps_past h returns c v w to passes_none = to
 steps_past h returns c v w to (passes_more {u} before step) =
     let there : StepsTo h returns c u = steps_past h returns c v u to before in
@@ -171,6 +175,7 @@ steps_past h returns c v w to (passes_more {u} before step) =
       next = on.next;
       is_for = on.is_for;
       goes_on = goes_on_through h returns c there.next on.next there.goes_on on.goes_on;
+      one = there.one;
       is_new = λ b of back. on.is_new b of (goes_on_through h returns b c there.next back there.goes_on);
     }
 

@@ -11,7 +11,7 @@ use Rattle.stamp_explain.specs.declared.node.Origin.{Origin}
 use Rattle.stamp_explain.specs.declared.node.Waiting.{Waiting}
 use Rattle.stamp_explain.specs.declared.store.Store.{Store}
 use Rattle.stamp_explain.specs.Observed.{ObservedHistory}
-use Rattle.stamp_explain.specs.Configuration.{Configuration, GoesOnFrom}
+use Rattle.stamp_explain.specs.Configuration.{Configuration, GoesOnFrom, IsBeginning, StepsFromOne, StepsOn}
 use Rattle.stamp_explain.specs.Node.{IsReached}
 use Rattle.stamp_explain.specs.Expand.{Hope, ComesAfter}
 use Rattle.stamp_explain.specs.Expand.{IsLinkedAt, LooksAt}
@@ -82,6 +82,8 @@ passed_over h returns store waiting last expanded was all has = record {
   linked = was.linked;
   configurations = was.configurations;
   are = was.are;
+  begins = was.begins;
+  from_one = was.from_one;
   led = λ i w at. was.led i w (read_left waiting (last ∷ []) i w at);
   unended = was.unended;
   each = λ p u c lt at here. by p u c (was.each p u c lt at here);
@@ -179,6 +181,8 @@ deepens_on h returns old new waited waiting expanded before all looks = record {
           (subst (λ (ns : List Node). slice_get ns p ≡ Some v) looks.stored.nodes at))
           (read_push was.configurations step.next c p here);
     };
+    begins = λ c here. first c (read_push was.configurations step.next c 0 here);
+    from_one = λ k d lt here. from_one k d lt (read_push was.configurations step.next d k here);
     led = λ i w at.
         let from : IsLedFrom h returns old.nodes.items w =
         was.led i w (read_left waiting (last ∷ []) i w at) in
@@ -209,6 +213,40 @@ deepens_on h returns old new waited waiting expanded before all looks = record {
     step : StepsTo h returns origin.configuration last.node
     step = steps_to h returns from.node (record { node = last.node; took = last.origin.took }) origin.configuration
         origin.is_for from.leads
+
+    -- the configuration of the node is one step on from that of the node that it comes from
+    first : (c : Configuration h None returns) → (slice_get was.configurations 0 ≡ Some c) ⊎
+        ((0 ≡ length was.configurations) × (step.next ≡ c)) → IsBeginning h returns c
+    first c (inl at) = was.begins c at
+    first c (inr (end, same)) = absurd (omega (
+      arith,
+      end,
+      slice_get_within was.configurations last.origin.from origin.configuration origin.is_at,
+    ))
+
+    from_one : (k : ℕ) (d : Configuration h None returns) → 0 < k → (slice_get was.configurations k ≡ Some d) ⊎
+        ((k ≡ length was.configurations) × (step.next ≡ d)) →
+        StepsFromOne h returns (was.configurations ++ step.next ∷ []) k d
+    from_one k d lt (inl at) =
+        let one : StepsFromOne h returns was.configurations k d = was.from_one k d lt at in
+        record {
+          place = one.place;
+          before = one.before;
+          from = one.from;
+          is_from = read_left was.configurations (step.next ∷ []) one.place one.from one.is_from;
+          steps = one.steps;
+        }
+    from_one k d lt (inr (end, same)) = record {
+      place = last.origin.from;
+      before = omega (
+        arith,
+        end,
+        slice_get_within was.configurations last.origin.from origin.configuration origin.is_at,
+      );
+      from = origin.configuration;
+      is_from = read_left was.configurations (step.next ∷ []) last.origin.from origin.configuration origin.is_at;
+      steps = subst (StepsOn h returns origin.configuration) same (record { goes = step.goes_on; one = step.one });
+    }
 
     more : (k : ℕ) (v : Node) → slice_get old.nodes.items k ≡ Some v → slice_get new.nodes.items k ≡ Some v
     more k v at = ap (λ (ns : List Node). slice_get ns k) looks.stored.nodes ∙

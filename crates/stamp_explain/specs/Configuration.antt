@@ -1,5 +1,5 @@
 -- The configurations that a search for an order reaches, and what one has looked at that gives up.
-use Rattle.std.specs.Prelude.{ℕ, ◌≡◌, ◌≢◌, ◌≤◌, ◌+◌, ◌++◌, ◌⊎◌, ◌↔◌, List, [], ◌∷◌, length, slice_get, true, false}
+use Rattle.std.specs.Prelude.{ℕ, ◌≡◌, ◌≢◌, ◌≤◌, ◌<◌, ◌+◌, ◌++◌, ◌⊎◌, ◌↔◌, List, [], ◌∷◌, length, slice_get, true, false}
 use Rattle.std.specs.Prelude.{Option, Some, None}
 use Rattle.std.specs.List.{All, AllPairs, Contains}
 use Rattle.stamp_core.specs.LockEvent.{LockEvent, counts}
@@ -125,7 +125,27 @@ pub record GoesOnFrom (h : ObservedHistory) (returns : List ℕ) (c d : Configur
 abbrev pub AwaitsNext : (h : ObservedHistory) (returns : List ℕ) → Configuration h None returns → Type 0
 AwaitsNext h returns c = (i : ℕ) (rest : List ℕ) → c.to_come ≡ i ∷ rest → ¬ Contains c.taken i
 
--- a search has looked at more than so many configurations, no two of which are one, and reached a further one: at each
+-- where a search begins: no call is in effect, and all returns are to come
+pub record IsBeginning (h : ObservedHistory) (returns : List ℕ) (c : Configuration h None returns) : Type 0 where
+  pub none : c.taken ≡ []
+  pub all : c.to_come ≡ returns
+
+-- one goes on from the other by one call that takes effect, and returns that are past then
+pub record StepsOn (h : ObservedHistory) (returns : List ℕ) (c d : Configuration h None returns) : Type 0 where
+  pub goes : GoesOnFrom h returns c d
+  pub one : length goes.later ≤ 1
+
+-- so it does from one of the first k of these
+pub record StepsFromOne (h : ObservedHistory) (returns : List ℕ) (looked : List (Configuration h None returns))
+    (k : ℕ) (d : Configuration h None returns) : Type 0 where
+  pub place : ℕ
+  pub before : place < k
+  pub from : Configuration h None returns
+  pub is_from : slice_get looked place ≡ Some from
+  pub steps : StepsOn h returns from d
+
+-- a search has looked at more than so many configurations, no two of which are one, and reached a further one. It begins
+-- at its beginning, and each other comes by one step from one that was looked at before it. At each
 -- some return is to come, the next one of a call that is not in effect, and after one from which an order goes on to the end it has looked at such alone as go on
 -- from that one. So but for those on one way it has looked at dead ends
 pub record LookedAtMore (h : ObservedHistory) (returns : List ℕ) (most : ℕ) : Type 0 where
@@ -136,7 +156,12 @@ pub record LookedAtMore (h : ObservedHistory) (returns : List ℕ) (most : ℕ) 
   pub in_depth : AllPairs (λ (c d : Configuration h None returns). IsAlive h returns c → GoesOnFrom h returns c d)
       looked
   pub many : length looked ≡ most + 1
+  pub begins : (c : Configuration h None returns) → slice_get looked 0 ≡ Some c → IsBeginning h returns c
+  pub linked : (k : ℕ) (d : Configuration h None returns) → 0 < k → slice_get looked k ≡ Some d →
+      StepsFromOne h returns looked k d
   pub further : Configuration h None returns
+  pub further_settled : AwaitsNext h returns further
+  pub further_linked : StepsFromOne h returns looked (most + 1) further
   pub is_further : All (λ (c : Configuration h None returns). ¬ AreOne h None returns c further) looked
 
 -- a search for an order gives up: it has looked at more than so many. The returns come in their order, each once

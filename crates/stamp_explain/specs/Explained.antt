@@ -1,5 +1,5 @@
--- Which observed histories are explained by an order in which their calls took effect: the linearizable ones.
--- in Herlihy and Wing's sense).
+-- Which observed histories are explained by an order in which their calls took effect: those that are linearizable
+-- (Herlihy and Wing).
 use Rattle.std.specs.Prelude.{ℕ, ◌≡◌, ◌≢◌, List, map, slice_get, Some}
 use Rattle.std.specs.List.{All, AllPairs, Contains}
 use Rattle.stamp_core.specs.History.{History, IsLegal}

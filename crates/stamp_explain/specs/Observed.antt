@@ -1,4 +1,4 @@
--- ObservedHistory histories: what each call was, when it began and, unless it is under way, when it returned and what.
+-- Observed histories: what each call was, when it began and, unless it is under way, when it returned and what.
 use Rattle.std.specs.Prelude.{ℕ, ◌≡◌, ◌≤◌, ◌<◌, ◌⊎◌, List, length, Some, MatchOption, IsTrue, Bool}
 use Rattle.std.specs.Prelude.{filter, not}
 use Rattle.std.specs.List.{All, AllPairs}
