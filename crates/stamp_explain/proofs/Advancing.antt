@@ -75,7 +75,7 @@ passed_in_effect h returns c d g i has =
 
 -- so one more call is in effect, where the call that returns next was not
 one_further : (h : ObservedHistory) (returns : List ℕ) (k : ℕ) (c d : Configuration h None returns) →
-    ¬ AreOne h None returns c d → GoesOnFrom h returns c d → AwaitsNext h returns c → k ≤ length c.taken →
+    ¬ AreOne h None returns c d → GoesOnFrom h returns c d → AwaitsNext h None returns c → k ≤ length c.taken →
     suc k ≤ length d.taken
 one_further h returns k c d differ g settled before = by g.later refl g.passed refl
   where

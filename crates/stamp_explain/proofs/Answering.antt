@@ -25,6 +25,8 @@ use Rattle.stamp_explain.specs.Node.{IsNext, HasNext, AreTaken, IsStateBy, Stand
 use Rattle.stamp_explain.specs.Node.{IsFirstNode}
 use Rattle.stamp_explain.specs.Timeline.{IsTimeline, IsOpenAt, AreOpen}
 use Rattle.stamp_explain.specs.Expand.{Took, Takes}
+use Rattle.stamp_explain.specs.Expand.{ComesByReturn, PassesTo}
+use Rattle.stamp_explain.specs.Expand.PassesTo.{passes_none, passes_more}
 use Rattle.stamp_explain.specs.Possible.{with_reply, without_return, returned_with}
 use Rattle.stamp_explain.proofs.Replying.{IsAlike, IsAlikeBy, alike_self, alike_answering, alike_before, place}
 
@@ -222,6 +224,24 @@ stands_alike h g i returns node s taken is stands = record {
   at = at_alike h g i node.bits node.writer s is stands.at;
   in_effect = taken_alike h g i (take node.past returns) node.threads taken is stands.in_effect;
 }
+
+-- returns that are past in one are in the other
+pub passes_alike : (h g : ObservedHistory) (i : ℕ) (returns : List ℕ) (v w : Node) → AreAlike h g i →
+    PassesTo h returns v w → PassesTo g returns v w
+passes_alike h g i returns v w is passes_none = passes_none
+passes_alike h g i returns v w is (passes_more {u} before step) =
+    passes_more (passes_alike h g i returns v u is before) (record {
+      inside = step.inside;
+      leads = λ s taken stands.
+          let l : ComesByReturn h returns u w s taken =
+          step.leads s taken (stands_alike g h i returns u s taken (turned h g i is) stands) in
+          record {
+            past = l.past;
+            in_effect = l.in_effect;
+            put = l.put;
+            stands = stands_alike h g i returns w s taken is l.stands;
+          };
+    })
 
 pub opening_alike : (h g : ObservedHistory) (i : ℕ) (node : Node) → AreAlike h g i → IsFirstNode h node →
     IsFirstNode g node

@@ -27,13 +27,12 @@ use Rattle.stamp_explain.specs.declared.asking.Asking.{Asking}
 use Rattle.stamp_explain.specs.Observed.{ObservedHistory, IsObserved, IsBefore, AllowsReply, AreOfOneObject}
 use Rattle.stamp_explain.specs.Observer.{asks_at, asks_in, observes_at, observes_in}
 use Rattle.stamp_explain.specs.Search.{LockState, LockSteps, IsReturnAt, after_call}
-use Rattle.stamp_explain.specs.Configuration.{Configuration, ReachesMoreBeside}
+use Rattle.stamp_explain.specs.Configuration.{AwaitsNext, Configuration, ReachesMoreBeside}
 use Rattle.stamp_explain.specs.Node.{IsReached, IsStateBy, HasGone, IsFirstNode}
 use Rattle.stamp_explain.specs.Timeline.{AreOpen, IsAwaitedAt}
-use Rattle.stamp_explain.specs.Node.{ClearsBit}
 use Rattle.stamp_explain.specs.Expand.{Suffice, ComesNextBy, Took, IsNotInEffect, IsTakenTo, Enters, nodes_of}
-use Rattle.stamp_explain.specs.Expand.{IsChoiceOf, IsNoChoice}
-use Rattle.stamp_explain.specs.Expand.PassesTo.{passes_none}
+use Rattle.stamp_explain.specs.Expand.{ComesByReturn, IsChoiceOf, IsNoChoice, PassesTo}
+use Rattle.stamp_explain.specs.Expand.PassesTo.{passes_none, passes_more}
 use Rattle.stamp_explain.specs.Expand.IsNoChoice.{of_other, questions, comes_later, stays}
 use Rattle.stamp_explain.specs.Possible.{without_return, returned_with}
 use Rattle.stamp_explain.specs.Asking.{Adds, AreAsked, AreLed, AreMore, AreReplies, Gets, GetsMore}
@@ -43,15 +42,18 @@ use Rattle.stamp_explain.specs.Turn.{IsOutOfTurn}
 use Rattle.stamp_explain.proofs.Lists.{each_push, none_in_empty, contains_cases, pairs_none}
 use Rattle.stamp_explain.proofs.Replying.{IsAlike, alike_before, replied_is_observed}
 use Rattle.stamp_explain.proofs.Answering.{AreAlike, alike_with_reply, timeline_alike, there, other_there, took_alike}
-use Rattle.stamp_explain.proofs.Answering.{turned}
+use Rattle.stamp_explain.proofs.Answering.{passes_alike, turned}
 use Rattle.stamp_explain.proofs.Answering.{same_calls_before, at_same, at_alike, opening_alike}
 use Rattle.stamp_explain.proofs.Expanding.{one_reply, at_place}
 use Rattle.stamp_explain.proofs.Leading.{come, way_past, way_by}
 use Rattle.stamp_explain.proofs.Counting.{all_differ, as_many, configuration_of, configurations_of, each_has}
+use Rattle.stamp_explain.proofs.Counting.{is_for_its}
+use Rattle.stamp_explain.proofs.GivingUp.{awaits_next, first_settled}
+use Rattle.stamp_explain.proofs.Settling.{follows_of, suffices_settled}
 use Rattle.stamp_explain.proofs.Exploring.{Explores, explores_first, explores_more, only_first, popped_node}
 use Rattle.stamp_explain.proofs.Exploring.{Searches, searches_first, searches_more, found_nothing, opening_reached}
 use Rattle.stamp_explain.proofs.Exploring.{named, contains_at}
-use Rattle.stamp_explain.proofs.Awaiting.{Awaits, awaited_at, past_of, leads_past, suffices_past}
+use Rattle.stamp_explain.proofs.Awaiting.{Awaits, awaited_at}
 use Rattle.stamp_explain.proofs.Trying.{Tries}
 use Rattle.stamp_explain.proofs.Trying.{suffice_open}
 use Rattle.stamp_explain.proofs.Succeeding.{leads_at_once, suffices_at_once}
@@ -151,24 +153,6 @@ awaits_too asking reply h node a asks is awaits =
       thread = b.1.1.thread;
     }
 
-pub past_leads : (asking : Asking) (node : Node) (a : Observation) (threads : ℕ) →
-    Awaits asking.seen asking.timeline node a → bit_at node.threads a.thread ≡ 1 → ClearsBit node.threads threads
-    a.thread →
-    ComesNextBeside asking node (past_of node threads)
-past_leads asking node a threads awaits bit clears = record {
-  leads = leads_past asking.seen (Some asking.place) asking.timeline node a threads awaits bit clears;
-  other = λ e. none-some asking.place e;
-}
-
-pub past_suffices : (asking : Asking) (node : Node) (a : Observation) (threads : ℕ) → IsAsking asking →
-    Awaits asking.seen asking.timeline node a → bit_at node.threads a.thread ≡ 1 →
-    ClearsBit node.threads threads a.thread → SufficeBeside asking node (past_of node threads ∷ [])
-past_suffices asking node a threads asks awaits bit clears reply h is =
-    let too : AwaitsToo asking h node a = awaits_too asking reply h node a asks is awaits in
-    suffices_past h asking.timeline node too.entry threads too.awaits
-    (ap (λ (t : ℕ). bit_at node.threads t) too.thread ∙ bit)
-    (subst (λ (t : ℕ). ClearsBit node.threads threads t) (sym too.thread) clears)
-
 -- another call than the one asked takes effect
 pub took_other : (asking : Asking) (node : Node) (i : ℕ) (w : Next) (a : Observation) →
     Awaits asking.seen asking.timeline node a → IsReached asking.seen (Some asking.place)
@@ -179,30 +163,40 @@ took_other asking node i w a awaits reached took other same =
     took.takes a reached.state reached.taken (awaited_at asking.seen asking.timeline node a awaits) reached.stands in
     other (sym to.index ∙ same_Some to.effect.index asking.place (sym to.took ∙ same))
 
-pub at_once_leads : (asking : Asking) (node : Node) (a : Observation) (calls : List ℕ) (k : ℕ) (w : Next) →
+-- what was found of a call, and then returns are past
+pub record Settles (asking : Asking) (w next : Next) : Type 0 where
+  pub passes : PassesTo asking.seen asking.timeline.returns.items w.node next.node
+  pub took : next.took ≡ w.took
+  pub settled : IsNotInEffect asking.seen asking.timeline.returns.items next.node
+
+pub at_once_leads : (asking : Asking) (node : Node) (a : Observation) (calls : List ℕ) (k : ℕ) (w next : Next) →
     Awaits asking.seen asking.timeline node a →
     IsReached asking.seen (Some asking.place) asking.timeline.returns.items node →
     bit_at node.threads a.thread ≢ 1 → AreOpen asking.seen asking.timeline.returns.items node.past calls →
     NoneOfFirst asking.seen (Some asking.place) asking.timeline.returns.items node calls k → k < length calls →
     observes_at asking.seen.entries (get_or calls k 0) ≡ true →
     Took asking.seen asking.timeline.returns.items node (get_or calls k 0) (Some w) →
-    get_or calls k 0 ≢ asking.place → ComesNextBeside asking node w
-at_once_leads asking node a calls k w awaits reached bit are before inside observes took other = record {
-  leads = leads_at_once asking.seen (Some asking.place) asking.timeline node a calls k w awaits bit are before inside
-      observes (λ same. other (sym (same_Some asking.place (get_or calls k 0) same))) took;
-  other = took_other asking node (get_or calls k 0) w a awaits reached took other;
+    get_or calls k 0 ≢ asking.place → Settles asking w next → ComesNextBeside asking node next
+at_once_leads asking node a calls k w next awaits reached bit are before inside observes took other settles = record {
+  leads = follows_of asking.seen (Some asking.place) asking.timeline.returns.items node w next
+      (leads_at_once asking.seen (Some asking.place) asking.timeline node a calls k w awaits bit are before inside
+      observes (λ same. other (sym (same_Some asking.place (get_or calls k 0) same))) took) settles.passes
+      settles.took settles.settled;
+  other = λ same. took_other asking node (get_or calls k 0) w a awaits reached took other (sym settles.took ∙ same);
 }
 
-pub at_once_suffices : (asking : Asking) (node : Node) (a : Observation) (i : ℕ) (w : Next) → IsAsking asking →
+pub at_once_suffices : (asking : Asking) (node : Node) (a : Observation) (i : ℕ) (w next : Next) → IsAsking asking →
     Awaits asking.seen asking.timeline node a → (e : Observation) → slice_get asking.seen.entries i ≡ Some e →
     observes_at asking.seen.entries i ≡ true → Took asking.seen asking.timeline.returns.items node i (Some w) →
-    i ≢ asking.place → SufficeBeside asking node (w ∷ [])
-at_once_suffices asking node a i w asks awaits e at observes took other reply h is =
+    i ≢ asking.place → Settles asking w next → SufficeBeside asking node (next ∷ [])
+at_once_suffices asking node a i w next asks awaits e at observes took other settles reply h is =
     let alike : AreAlike asking.seen h asking.place = alike_of asking reply h is in
     let too : AwaitsToo asking h node a = awaits_too asking reply h node a asks is awaits in
-    suffices_at_once h asking.timeline node too.entry i w too.awaits
+    suffices_settled h asking.timeline.returns.items node w next
+    (passes_alike asking.seen h asking.place asking.timeline.returns.items w.node next.node alike settles.passes)
+    (suffices_at_once h asking.timeline node too.entry i w too.awaits
     (ap observes_in (other_there asking.seen h asking.place i e alike other at) ∙ sym (ap observes_in at) ∙ observes)
-    (took_alike asking.seen h asking.place asking.timeline.returns.items node i (Some w) alike other took)
+    (took_alike asking.seen h asking.place asking.timeline.returns.items node i (Some w) alike other took))
 
 pub awaited_inside : (asking : Asking) (node : Node) (i : ℕ) → IsAsking asking →
     node.past < length asking.timeline.returns.items → i ≡ get_or asking.timeline.returns.items node.past i →
@@ -354,28 +348,34 @@ beside_not asking node calls k nexts awaited is more other read (stays took) =
     beside_none asking node calls k nexts is more other took
 
 pub beside_some : (asking : Asking) (node : Node) (a : Observation) (calls : List ℕ) (k : ℕ) (nexts : List Next)
-    (w : Next) → Awaits asking.seen asking.timeline node a →
+    (w next : Next) → Awaits asking.seen asking.timeline node a →
     IsReached asking.seen (Some asking.place) asking.timeline.returns.items node →
     bit_at node.threads a.thread ≢ 1 → NoneIsAtOnceBeside asking node →
     AreOpen asking.seen asking.timeline.returns.items node.past calls → TriesBeside asking node calls k nexts →
     k < length calls → get_or calls (length calls - 1 - k) 0 ≢ asking.place → (awaited : ℕ) →
     slice_get asking.seen.entries awaited ≡ Some a →
     IsChoiceOf asking.seen (Some asking.place) asking.timeline.returns.items node calls awaited
-    (get_or calls (length calls - 1 - k) 0) w → TriesBeside asking node calls (k + 1) (nexts ++ w ∷ [])
-beside_some asking node a calls k nexts w awaits reached bit none_at_once are is more other awaited at choice =
+    (get_or calls (length calls - 1 - k) 0) w → Settles asking w next →
+    TriesBeside asking node calls (k + 1) (nexts ++ next ∷ [])
+beside_some asking node a calls k nexts w next awaits reached bit none_at_once are is more other awaited at choice
+    settles =
     record {
       led = record {
-        each = each_push (ComesNextBeside asking node) nexts w is.led.each (record {
-          leads = choice_leads asking.seen (Some asking.place) asking.timeline node a calls
-              (get_or calls (length calls - 1 - k) 0) w awaits bit none_at_once are awaited at choice;
-          other = took_other asking node (get_or calls (length calls - 1 - k) 0) w a awaits reached choice.took other;
+        each = each_push (ComesNextBeside asking node) nexts next is.led.each (record {
+          leads = follows_of asking.seen (Some asking.place) asking.timeline.returns.items node w next
+              (choice_leads asking.seen (Some asking.place) asking.timeline node a calls
+              (get_or calls (length calls - 1 - k) 0) w awaits bit none_at_once are awaited at choice) settles.passes
+              settles.took settles.settled;
+          other = λ same. took_other asking node (get_or calls (length calls - 1 - k) 0) w a awaits reached
+              choice.took other (sym settles.took ∙ same);
         });
       };
       tries = λ reply h answered none. tried_some h (Some asking.place) asking.timeline.returns.items node calls k
-          nexts w w (is.tries reply h answered none) more
+          nexts w next (is.tries reply h answered none) more
           (took_alike asking.seen h asking.place asking.timeline.returns.items node
           (get_or calls (length calls - 1 - k) 0) (Some w) (alike_of asking reply h answered) other choice.took)
-          passes_none;
+          (passes_alike asking.seen h asking.place asking.timeline.returns.items w.node next.node
+          (alike_of asking reply h answered) settles.passes);
     }
 
 pub suffice_beside : (asking : Asking) (node : Node) (calls : List ℕ) (k : ℕ) (nexts : List Next) (reply : Reply)
@@ -610,11 +610,38 @@ opening_beside : (asking : Asking) (node : Node) → IsFirstNode asking.seen nod
 opening_beside asking node is = record {
   reached = opening_reached asking.seen (Some asking.place) asking.timeline.returns.items node is;
   still = none_in_empty asking.place;
+  settled = first_settled asking.seen asking.timeline.returns.items node is;
 }
+
+-- a node that is reached with these calls in effect
+record IsReachedWith (asking : Asking) (node : Node) (taken : List ℕ) : Type 0 where
+  reached : IsReached asking.seen (Some asking.place) asking.timeline.returns.items node
+  same : reached.taken ≡ taken
+
+-- so is one at which more returns are past
+passed_reached : (asking : Asking) (v w : Node) (taken : List ℕ) → IsReachedWith asking v taken →
+    PassesTo asking.seen asking.timeline.returns.items v w → IsReachedWith asking w taken
+passed_reached asking v w taken is passes_none = is
+passed_reached asking v w taken is (passes_more {u} before step) =
+    let at : IsReachedWith asking u taken = passed_reached asking v u taken is before in
+    let returns : List ℕ = asking.timeline.returns.items in
+    let l : ComesByReturn asking.seen returns u w at.reached.state at.reached.taken =
+    step.leads at.reached.state at.reached.taken at.reached.stands in
+    record {
+      reached = record {
+        state = at.reached.state;
+        taken = at.reached.taken;
+        inside = omega (arith, step.inside, l.past);
+        stands = l.stands;
+        way = way_past asking.seen (Some asking.place) returns u w at.reached.state at.reached.taken step.inside
+            at.reached.way l;
+      };
+      same = at.same;
+    }
 
 leads_beside : (asking : Asking) (node : Node) (next : Next) → IsReachedBeside asking node →
     ComesNextBeside asking node next → IsReachedBeside asking next.node
-leads_beside asking node next is leads = by next.took refl (leads.leads.leads s taken is.reached.stands)
+leads_beside asking node next is leads = by next.took refl (leads.leads.comes.leads s taken is.reached.stands)
   where
     h : ObservedHistory
     h = asking.seen
@@ -622,34 +649,46 @@ leads_beside asking node next is leads = by next.took refl (leads.leads.leads s 
     returns : List ℕ
     returns = asking.timeline.returns.items
 
+    via : Node
+    via = leads.leads.via
+
     s : LockState
     s = is.reached.state
 
     taken : List ℕ
     taken = is.reached.taken
 
-    by : (o : Option ℕ) → next.took ≡ o → ComesNextBy h (Some asking.place) returns node next.node s taken o →
+    then : (now : List ℕ) → IsReachedWith asking via now → ¬ Contains now asking.place → IsReachedBeside asking next.node
+    then now at misses =
+        let on : IsReachedWith asking next.node now = passed_reached asking via next.node now at leads.leads.passes in
+        record {
+          reached = on.reached;
+          still = λ has. misses (subst (λ (xs : List ℕ). Contains xs asking.place) on.same has);
+          settled = leads.leads.settled;
+        }
+
+    by : (o : Option ℕ) → next.took ≡ o → ComesNextBy h (Some asking.place) returns node via s taken o →
         IsReachedBeside asking next.node
-    by None at l = record {
+    by None at l = then taken (record {
       reached = record {
         state = s;
         taken = taken;
-        inside = omega (arith, leads.leads.inside, l.past);
+        inside = omega (arith, leads.leads.comes.inside, l.past);
         stands = l.stands;
-        way = way_past h (Some asking.place) returns node next.node s taken leads.leads.inside is.reached.way l;
+        way = way_past h (Some asking.place) returns node via s taken leads.leads.comes.inside is.reached.way l;
       };
-      still = is.still;
-    }
-    by (Some i) at l = record {
+      same = refl;
+    }) is.still
+    by (Some i) at l = then (l.effect.index ∷ taken) (record {
       reached = record {
         state = l.state;
         taken = l.effect.index ∷ taken;
-        inside = omega (arith, leads.leads.inside, l.past);
+        inside = omega (arith, leads.leads.comes.inside, l.past);
         stands = l.stands;
-        way = way_by h (Some asking.place) returns node next.node s taken i leads.leads.inside is.reached.way l;
+        way = way_by h (Some asking.place) returns node via s taken i leads.leads.comes.inside is.reached.way l;
       };
-      still = λ has. cases (contains_cases l.effect.index taken asking.place has);
-    }
+      same = refl;
+    }) (λ has. cases (contains_cases l.effect.index taken asking.place has))
       where
         cases : (l.effect.index ≡ asking.place) ⊎ Contains taken asking.place → ⊥
         cases (inl same) = leads.other (at ∙ ap (λ (k : ℕ). Some k) (sym l.index ∙ same))
@@ -754,6 +793,14 @@ walks_on asking most looked store waiting replies asks is all waits = record {
           (λ v has. (is.reached v has).reached),
     );
   };
+  settled = each_has asking.seen (Some asking.place) asking.timeline.returns.items store.nodes.items
+      (λ v has. (is.reached v has).reached)
+      (AwaitsNext asking.seen (Some asking.place) asking.timeline.returns.items)
+      (λ v has. awaits_next asking.seen (Some asking.place) asking.timeline.returns.items v
+      (configuration_of asking.seen (Some asking.place) asking.timeline.returns.items v (is.reached v has).reached)
+      (record { observed = asks.observed; are = asks.timeline.are; once = asks.timeline.once })
+      (beside_inside asking v asks (is.reached v has)) (is.reached v has).settled
+      (is_for_its asking.seen (Some asking.place) asking.timeline.returns.items v (is.reached v has).reached));
   beside = each_has asking.seen (Some asking.place) asking.timeline.returns.items store.nodes.items
       (λ v has. (is.reached v has).reached)
       (λ (c : Configuration asking.seen (Some asking.place) asking.timeline.returns.items). ¬ Contains c.taken

@@ -1,7 +1,7 @@
 -- What a search in depth finds where nothing is left, or where it gives up.
 use Rattle.std.proofs.Common.{◌≡◌, ◌≢◌, ◌⊎◌, ℕ, ◌+◌, ◌<◌, ◌≤◌, List, [], ◌∷◌, ◌++◌, length}
 use Rattle.std.proofs.Common.{get_or}
-use Rattle.std.proofs.Common.{refl, sym, ◌∙◌, ap, subst, inl, inr, arith, None, Some, zero, suc}
+use Rattle.std.proofs.Common.{refl, sym, ◌∙◌, ap, subst, inl, inr, arith, Option, None, Some, zero, suc}
 use Rattle.std.specs.Prelude.{take, drop, slice_get, slice_index}
 use Rattle.std.specs.List.{All, AllPairs, Contains}
 use Rattle.std.proofs.lemmas.List.{length-drop, get_or-take}
@@ -74,7 +74,7 @@ deepens_no_more h returns store waited expanded are before all seen explained =
         hope
 
 -- where a search begins no call is in effect
-first_settled : (h : ObservedHistory) (returns : List ℕ) (node : Node) → IsFirstNode h node →
+pub first_settled : (h : ObservedHistory) (returns : List ℕ) (node : Node) → IsFirstNode h node →
     IsNotInEffect h returns node
 first_settled h returns node is = record {
   awaited = λ a it bit. no_bit a.thread (ap (λ (n : ℕ). bit_at n a.thread) (sym is.threads) ∙ bit);
@@ -103,10 +103,10 @@ pub record AreAwaited (h : ObservedHistory) (returns : List ℕ) : Type 0 where
   pub once : AllPairs (λ (i j : ℕ). i ≢ j) returns
 
 -- so in what it stands for the call that returns next is not in effect
-awaits_next : (h : ObservedHistory) (returns : List ℕ) (v : Node) (c : Configuration h None returns) →
-    AreAwaited h returns → v.past < length returns → IsNotInEffect h returns v → IsFor h None returns v c →
-    AwaitsNext h returns c
-awaits_next h returns v c awaited inside settled is i rest same has =
+pub awaits_next : (h : ObservedHistory) (asked : Option ℕ) (returns : List ℕ) (v : Node)
+    (c : Configuration h asked returns) → AreAwaited h returns → v.past < length returns →
+    IsNotInEffect h returns v → IsFor h asked returns v c → AwaitsNext h asked returns c
+awaits_next h asked returns v c awaited inside settled is i rest same has =
     settled.awaited there.entry (record { inside = inside; is_entry = there.is_entry })
     (taken_by_bit h.entries (take v.past returns) v.threads c.taken (slice_index returns v.past) there.entry
     is.stands.in_effect there.is_entry next.still (subst (Contains c.taken) first has)).0
@@ -205,7 +205,7 @@ deepened_more h returns store waiting expanded most awaited is enough = record {
     }
 
     -- the further one is settled too, or at the end
-    settled_further : AwaitsNext h returns (get_or cs (most + 1) first_one)
+    settled_further : AwaitsNext h None returns (get_or cs (most + 1) first_one)
     settled_further = by (below (get_or nodes (most + 1) none).past (length returns))
       where
         inside : most + 1 < length nodes
@@ -223,8 +223,8 @@ deepened_more h returns store waiting expanded most awaited is enough = record {
 
         by : ((get_or nodes (most + 1) none).past < length returns) ⊎
             (length returns ≤ (get_or nodes (most + 1) none).past) →
-            AwaitsNext h returns (get_or cs (most + 1) first_one)
-        by (inl less) = awaits_next h returns (get_or nodes (most + 1) none) (get_or cs (most + 1) first_one) awaited
+            AwaitsNext h None returns (get_or cs (most + 1) first_one)
+        by (inl less) = awaits_next h None returns (get_or nodes (most + 1) none) (get_or cs (most + 1) first_one) awaited
             less (settled_at h returns store (most + 1) (get_or nodes (most + 1) none) was.linked here) it
         by (inr all) = λ i rest same has. omega (
           arith,
@@ -245,8 +245,8 @@ deepened_more h returns store waiting expanded most awaited is enough = record {
         (slice_get-get_or cs (most + 1) first_one (omega (arith, counted)))) one)
 
     settled : (k : ℕ) (d : Configuration h None returns) → k < most + 1 →
-        AwaitsNext h returns (get_or (take (most + 1) cs) k d)
-    settled k d lt = awaits_next h returns (get_or nodes k none) (get_or (take (most + 1) cs) k d) awaited
+        AwaitsNext h None returns (get_or (take (most + 1) cs) k d)
+    settled k d lt = awaits_next h None returns (get_or nodes k none) (get_or (take (most + 1) cs) k d) awaited
         (was.unended k (get_or nodes k none) (omega (arith, lt, enough)) (node_at k lt))
         (settled_at h returns store k (get_or nodes k none) was.linked (node_at k lt)) (for_it k d lt)
 

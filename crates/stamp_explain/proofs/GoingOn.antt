@@ -170,7 +170,7 @@ steps_past h returns c v w to passes_none = to
 steps_past h returns c v w to (passes_more {u} before step) =
     let there : StepsTo h returns c u = steps_past h returns c v u to before in
     let on : StepsTo h returns there.next w = steps_by h returns u (record { node = w; took = None }) there.next
-    there.is_for step in
+    there.is_for (record { inside = step.inside; leads = step.leads }) in
     record {
       next = on.next;
       is_for = on.is_for;
@@ -181,7 +181,7 @@ steps_past h returns c v w to (passes_more {u} before step) =
 
 -- where a call takes effect, and then returns are past
 pub steps_to : (h : ObservedHistory) (returns : List ℕ) (v : Node) (next : Next) (c : Configuration h None returns) →
-    IsFor h None returns v c → ComesAfter h returns v next → StepsTo h returns c next.node
+    IsFor h None returns v c → ComesAfter h None returns v next → StepsTo h returns c next.node
 steps_to h returns v next c is leads = steps_past h returns c leads.via next.node
     (steps_by h returns v (record { node = leads.via; took = next.took }) c is leads.comes) leads.passes
 

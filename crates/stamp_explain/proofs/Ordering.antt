@@ -39,7 +39,7 @@ pub record Reads (h : ObservedHistory) (returns : List ℕ) (store : Store) (at 
   pub sooner : origin.from < at
   pub is_node : slice_get store.nodes.items origin.from ≡ Some node
   pub led : IsLed h node origin.took
-  pub leads : ComesAfter h returns node (record { node = v; took = origin.took })
+  pub leads : ComesAfter h None returns node (record { node = v; took = origin.took })
 
 pub reads : (h : ObservedHistory) (returns : List ℕ) (store : Store) (at : ℕ) (origin : Origin) (node v : Node) →
     IsLinkedAt h returns store at v → slice_get store.origins.items at ≡ Some origin →
@@ -48,14 +48,14 @@ reads h returns store at origin node v link is_origin is_node =
     let o : link.origin ≡ origin = same_Some link.origin origin (sym link.is_origin ∙ is_origin) in
     let n : link.node ≡ node = same_Some link.node node (sym link.is_node ∙
     ap (λ (k : Origin). slice_get store.nodes.items k.from) o ∙ is_node) in
-    let leads : ComesAfter h returns link.node (record { node = v; took = origin.took }) =
-    subst (λ (k : Origin). ComesAfter h returns link.node (record { node = v; took = k.took })) o link.leads in
+    let leads : ComesAfter h None returns link.node (record { node = v; took = origin.took }) =
+    subst (λ (k : Origin). ComesAfter h None returns link.node (record { node = v; took = k.took })) o link.leads in
     record {
       sooner = subst (λ (k : Origin). k.from < at) o link.sooner;
       is_node = is_node;
       led = subst (λ (u : Node). IsLed h u origin.took) n
           (follows_led h returns link.node v origin.took link.reached leads);
-      leads = subst (λ (u : Node). ComesAfter h returns u (record { node = v; took = origin.took })) n leads;
+      leads = subst (λ (u : Node). ComesAfter h None returns u (record { node = v; took = origin.took })) n leads;
     }
 
 pub walks_past : (h : ObservedHistory) (returns : List ℕ) (store : Store) (at : ℕ) (origin : Origin) (node : Node)
@@ -68,7 +68,7 @@ walks_past h returns store at origin node found walk read is = record {
   ends = by origin.took read.leads is;
 }
   where
-    by : (o : Option ℕ) → ComesAfter h returns node (record { node = walk.node; took = o }) → IsTakenAt h node o None →
+    by : (o : Option ℕ) → ComesAfter h None returns node (record { node = walk.node; took = o }) → IsTakenAt h node o None →
         Ends h returns node (reverse found)
     by None leads is = follows_past h returns node walk.node (reverse found) leads walk.ends
     by (Some i) leads is = absurd is
@@ -84,7 +84,7 @@ walks_call h returns store at origin node found one walk read is = record {
       (by origin.took read.leads is);
 }
   where
-    by : (o : Option ℕ) → ComesAfter h returns node (record { node = walk.node; took = o }) →
+    by : (o : Option ℕ) → ComesAfter h None returns node (record { node = walk.node; took = o }) →
         IsTakenAt h node o (Some one) → Ends h returns node (one ∷ reverse found)
     by None leads is = absurd is
     by (Some i) leads is = follows_call h returns node walk.node i one (reverse found) leads is.0 is.1 walk.ends

@@ -8,7 +8,8 @@ use Rattle.stamp_explain.specs.declared.node.Next.{Next}
 use Rattle.stamp_explain.specs.declared.order.Taken.{Taken}
 use Rattle.stamp_explain.specs.Observed.{ObservedHistory}
 use Rattle.stamp_explain.specs.Search.{IsCompletedBy, LockSteps}
-use Rattle.stamp_explain.specs.Expand.{ComesByReturn, ComesNext, ComesAfter, GoesOn, Hope, IsLed, PassesTo, Suffice}
+use Rattle.stamp_explain.specs.Expand.{ComesByReturn, ComesNext, ComesAfter, GoesOn, Hope, IsLed, PassesOne, PassesTo}
+use Rattle.stamp_explain.specs.Expand.{Suffice}
 use Rattle.stamp_explain.specs.Expand.{IsNotInEffect}
 use Rattle.stamp_explain.specs.Expand.PassesTo.{passes_none, passes_more}
 use Rattle.stamp_explain.specs.Order.{RepliesAt}
@@ -24,8 +25,7 @@ pub record HopesWithin (h : ObservedHistory) (returns : List ℕ) (node : Node) 
   pub hope : Hope h returns node left
 
 -- what an order completes, it completes after a return too
-hope_past : (h : ObservedHistory) (returns : List ℕ) (u w : Node) (n : ℕ) →
-    ComesNext h None returns u (record { node = w; took = None }) → Hope h returns u n → HopesWithin h returns w n
+hope_past : (h : ObservedHistory) (returns : List ℕ) (u w : Node) (n : ℕ) → PassesOne h returns u w → Hope h returns u n → HopesWithin h returns w n
 hope_past h returns u w n step hope = record {
   left = length (drop w.past returns) + length hope.rest;
   no_more = omega (arith, hope.steps, ap (λ (xs : List ℕ). length xs) to_come);
@@ -79,12 +79,12 @@ suffices_settled h returns node w next passes suffices n hope =
     only (inl same) = same
     only {v} (inr none) = absurd (none_in_empty v none)
 
-pub follows_of : (h : ObservedHistory) (returns : List ℕ) (node : Node) (w next : Next) →
-    ComesNext h None returns node w → PassesTo h returns w.node next.node → next.took ≡ w.took →
-    IsNotInEffect h returns next.node → ComesAfter h returns node next
-follows_of h returns node w next comes passes took settled = record {
+pub follows_of : (h : ObservedHistory) (asked : Option ℕ) (returns : List ℕ) (node : Node) (w next : Next) →
+    ComesNext h asked returns node w → PassesTo h returns w.node next.node → next.took ≡ w.took →
+    IsNotInEffect h returns next.node → ComesAfter h asked returns node next
+follows_of h asked returns node w next comes passes took settled = record {
   via = w.node;
-  comes = subst (λ (o : Option ℕ). ComesNext h None returns node (record { node = w.node; took = o })) (sym took) comes;
+  comes = subst (λ (o : Option ℕ). ComesNext h asked returns node (record { node = w.node; took = o })) (sym took) comes;
   passes = passes;
   settled = settled;
 }
@@ -94,19 +94,20 @@ ends_passes : (h : ObservedHistory) (returns : List ℕ) (v w : Node) (left : Li
     Ends h returns w left → Ends h returns v left
 ends_passes h returns v w left passes_none after = after
 ends_passes h returns v w left (passes_more {u} before step) after =
-    ends_passes h returns v u left before (ends_past h returns u w left step after)
+    ends_passes h returns v u left before
+    (ends_past h returns u w left (record { inside = step.inside; leads = step.leads }) after)
 
 pub follows_past : (h : ObservedHistory) (returns : List ℕ) (node w : Node) (left : List Taken) →
-    ComesAfter h returns node (record { node = w; took = None }) → Ends h returns w left → Ends h returns node left
+    ComesAfter h None returns node (record { node = w; took = None }) → Ends h returns w left → Ends h returns node left
 follows_past h returns node w left leads after = ends_past h returns node leads.via left leads.comes
     (ends_passes h returns leads.via w left leads.passes after)
 
 pub follows_call : (h : ObservedHistory) (returns : List ℕ) (node w : Node) (i : ℕ) (one : Taken) (left : List Taken) →
-    ComesAfter h returns node (record { node = w; took = Some i }) → one.entry ≡ i → RepliesAt h node one →
+    ComesAfter h None returns node (record { node = w; took = Some i }) → one.entry ≡ i → RepliesAt h node one →
     Ends h returns w left → Ends h returns node (one ∷ left)
 follows_call h returns node w i one left leads same replies after = ends_call h returns node leads.via i one left
     leads.comes same replies (ends_passes h returns leads.via w left leads.passes after)
 
 pub follows_led : (h : ObservedHistory) (returns : List ℕ) (node w : Node) (took : Option ℕ) →
-    IsReached h None returns node → ComesAfter h returns node (record { node = w; took = took }) → IsLed h node took
+    IsReached h None returns node → ComesAfter h None returns node (record { node = w; took = took }) → IsLed h node took
 follows_led h returns node w took reached leads = led_by h returns node leads.via took reached leads.comes

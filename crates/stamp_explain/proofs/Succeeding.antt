@@ -284,8 +284,8 @@ pub expands_at_once : (h : ObservedHistory) (timeline : Timeline) (node : Node) 
     IsNotInEffect h timeline.returns.items next.node → Expands h timeline.returns.items node (next ∷ [])
 expands_at_once h timeline node a calls k w next is bit are before inside observer takes passes took settled =
     record {
-      each = λ v has. subst (λ (n : Next). ComesAfter h timeline.returns.items node n) (only_one next v has)
-          (follows_of h timeline.returns.items node w next
+      each = λ v has. subst (λ (n : Next). ComesAfter h None timeline.returns.items node n) (only_one next v has)
+          (follows_of h None timeline.returns.items node w next
           (leads_at_once h None timeline node a calls k w is bit are before inside observer
           (λ same. none-some (get_or calls k 0) same) takes) passes took settled);
       whole = suffices_settled h timeline.returns.items node w next passes
@@ -295,7 +295,7 @@ expands_at_once h timeline node a calls k w next is bit are before inside observ
 -- of the last k of these calls those that are tried lead to these nodes
 pub record Chooses (h : ObservedHistory) (returns : List ℕ) (node : Node) (calls : List ℕ) (k : ℕ)
     (nexts : List Next) : Type 0 where
-  pub led : (w : Next) → Contains nexts w → ComesAfter h returns node w
+  pub led : (w : Next) → Contains nexts w → ComesAfter h None returns node w
   pub tries : Tries h None returns node calls k nexts
 
 pub chooses_none : (h : ObservedHistory) (returns : List ℕ) (node : Node) (calls : List ℕ) →
@@ -316,8 +316,8 @@ pub chooses_one : (h : ObservedHistory) (timeline : Timeline) (node : Node) (a :
     Chooses h timeline.returns.items node calls (k + 1) (nexts ++ next ∷ [])
 chooses_one h timeline node a calls k nexts w next is bit none are chooses more awaited at choice passes took settled =
     record {
-      led = each_push (ComesAfter h timeline.returns.items node) nexts next chooses.led
-          (follows_of h timeline.returns.items node w next
+      led = each_push (ComesAfter h None timeline.returns.items node) nexts next chooses.led
+          (follows_of h None timeline.returns.items node w next
           (choice_leads h None timeline node a calls (get_or calls (length calls - 1 - k) 0) w is bit none are awaited
           at choice) passes took settled);
       tries = tried_some h None timeline.returns.items node calls k nexts w next chooses.tries more choice.took passes;

@@ -12,7 +12,7 @@ use Rattle.stamp_explain.specs.Explained.{IsExplained}
 use Rattle.stamp_explain.specs.Cut.{place_then, seen_at}
 use Rattle.stamp_explain.specs.Node.{IsReached}
 use Rattle.stamp_explain.specs.Timeline.{IsTimeline}
-use Rattle.stamp_explain.specs.Expand.{ComesNext, NoneIsAtOnceAt, Suffice, Took}
+use Rattle.stamp_explain.specs.Expand.{ComesAfter, IsNotInEffect, NoneIsAtOnceAt, Suffice, Took}
 use Rattle.stamp_explain.specs.Possible.{GetsBeside, with_reply, without_return}
 
 -- a search for the replies of a returned call: what is seen then, with its timeline, and the same without the return
@@ -25,10 +25,11 @@ pub record IsAsking (asking : Asking) : Type 0 where
   pub returned : entry.returned ≡ Some return
   pub before : asking.before ≡ without_return asking.place entry asking.seen
 
--- a node that it reached, where the call that is asked takes no effect
+-- a node that it reached, where the call that is asked takes no effect, and the awaited one has not
 pub record IsReachedBeside (asking : Asking) (node : Node) : Type 0 where
   pub reached : IsReached asking.seen (Some asking.place) asking.timeline.returns.items node
   pub still : ¬ Contains reached.taken asking.place
+  pub settled : IsNotInEffect asking.seen asking.timeline.returns.items node
 
 -- such a node with a return to come
 pub record MayGoOnBeside (asking : Asking) (node : Node) : Type 0 where
@@ -53,7 +54,7 @@ pub record IsSeenWith (asking : Asking) (reply : Reply) (h : ObservedHistory) : 
 
 -- this node comes next, and the call that was asked takes no effect there
 pub record ComesNextBeside (asking : Asking) (node : Node) (next : Next) : Type 0 where
-  pub leads : ComesNext asking.seen (Some asking.place) asking.timeline.returns.items node next
+  pub leads : ComesAfter asking.seen (Some asking.place) asking.timeline.returns.items node next
   pub other : next.took ≢ Some asking.place
 
 pub record AreLed (asking : Asking) (node : Node) (nexts : List Next) : Type 0 where

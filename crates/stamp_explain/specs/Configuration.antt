@@ -100,13 +100,19 @@ pub record AreReached (h : ObservedHistory) (asked : Option ℕ) (returns : List
   pub different : AllPairs (λ (c d : Configuration h asked returns). ¬ AreOne h asked returns c d) configurations
   pub many : most ≤ length configurations
 
--- a search on whose ways the call at this place takes no effect reaches more than so many: the returns come in their
--- order, each once
+-- the call that returns next is not in effect
+abbrev pub AwaitsNext : (h : ObservedHistory) (asked : Option ℕ) (returns : List ℕ) → Configuration h asked returns →
+    Type 0
+AwaitsNext h asked returns c = (i : ℕ) (rest : List ℕ) → c.to_come ≡ i ∷ rest → ¬ Contains c.taken i
+
+-- a search on whose ways the call at this place takes no effect reaches more than so many, at each of which the next
+-- return is of a call that is not in effect: the returns come in their order, each once
 pub record ReachesMoreBeside (h : ObservedHistory) (i most : ℕ) : Type 0 where
   pub returns : List ℕ
   pub are : AreReturns h.entries returns
   pub once : AllPairs (λ (i j : ℕ). i ≢ j) returns
   pub reached : AreReached h (Some i) returns (most + 1)
+  pub settled : All (AwaitsNext h (Some i) returns) reached.configurations
   pub beside : All (λ (c : Configuration h (Some i) returns). ¬ Contains c.taken i) reached.configurations
 
 -- an order goes on from here to the end
@@ -120,10 +126,6 @@ pub record GoesOnFrom (h : ObservedHistory) (returns : List ℕ) (c d : Configur
   pub taken : d.taken ≡ later ++ c.taken
   pub passed : List ℕ
   pub to_come : c.to_come ≡ passed ++ d.to_come
-
--- the call that returns next is not in effect
-abbrev pub AwaitsNext : (h : ObservedHistory) (returns : List ℕ) → Configuration h None returns → Type 0
-AwaitsNext h returns c = (i : ℕ) (rest : List ℕ) → c.to_come ≡ i ∷ rest → ¬ Contains c.taken i
 
 -- where a search begins: no call is in effect, and all returns are to come
 pub record IsBeginning (h : ObservedHistory) (returns : List ℕ) (c : Configuration h None returns) : Type 0 where
@@ -152,7 +154,7 @@ pub record LookedAtMore (h : ObservedHistory) (returns : List ℕ) (most : ℕ) 
   pub looked : List (Configuration h None returns)
   pub different : AllPairs (λ (c d : Configuration h None returns). ¬ AreOne h None returns c d) looked
   pub unended : All (λ (c : Configuration h None returns). c.to_come ≢ []) looked
-  pub settled : All (AwaitsNext h returns) looked
+  pub settled : All (AwaitsNext h None returns) looked
   pub in_depth : AllPairs (λ (c d : Configuration h None returns). IsAlive h returns c → GoesOnFrom h returns c d)
       looked
   pub many : length looked ≡ most + 1
@@ -160,7 +162,7 @@ pub record LookedAtMore (h : ObservedHistory) (returns : List ℕ) (most : ℕ) 
   pub linked : (k : ℕ) (d : Configuration h None returns) → 0 < k → slice_get looked k ≡ Some d →
       StepsFromOne h returns looked k d
   pub further : Configuration h None returns
-  pub further_settled : AwaitsNext h returns further
+  pub further_settled : AwaitsNext h None returns further
   pub further_linked : StepsFromOne h returns looked (most + 1) further
   pub is_further : All (λ (c : Configuration h None returns). ¬ AreOne h None returns c further) looked
 

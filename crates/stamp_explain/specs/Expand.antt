@@ -82,22 +82,28 @@ pub record ComesNext (h : ObservedHistory) (asked : Option ℕ) (returns : List 
   pub leads : (s : LockState) (taken : List ℕ) → StandsFor h returns node s taken →
       ComesNextBy h asked returns node next.node s taken next.took
 
--- returns that are next are past, one after the other, where their calls are in effect
+-- the awaited call, which is in effect, returns, whatever the node stands for
+pub record PassesOne (h : ObservedHistory) (returns : List ℕ) (node w : Node) : Type 0 where
+  pub inside : node.past < length returns
+  pub leads : (s : LockState) (taken : List ℕ) → StandsFor h returns node s taken →
+      ComesByReturn h returns node w s taken
+
+-- returns that are next are past, one after the other
 pub data PassesTo (h : ObservedHistory) (returns : List ℕ) : Node → Node → Type 0 where
   passes_none : {v : Node} → PassesTo h returns v v
-  passes_more : {v u w : Node} → PassesTo h returns v u →
-      ComesNext h None returns u (record { node = w; took = None }) → PassesTo h returns v w
+  passes_more : {v u w : Node} → PassesTo h returns v u → PassesOne h returns u w → PassesTo h returns v w
 
 -- the awaited call is not in effect
 pub record IsNotInEffect (h : ObservedHistory) (returns : List ℕ) (node : Node) : Type 0 where
   pub awaited : (a : Observation) → IsAwaitedAt h returns node.past a → bit_at node.threads a.thread ≢ 1
 
 -- a call takes effect, and then each return that is next is past, as long as its call is in effect
-pub record ComesAfter (h : ObservedHistory) (returns : List ℕ) (node : Node) (next : Next) : Type 0 where
-  pub via : Node
-  pub comes : ComesNext h None returns node (record { node = via; took = next.took })
-  pub passes : PassesTo h returns via next.node
-  pub settled : IsNotInEffect h returns next.node
+pub record ComesAfter (h : ObservedHistory) (asked : Option ℕ) (returns : List ℕ) (node : Node) (next : Next) : Type 0
+  where
+    pub via : Node
+    pub comes : ComesNext h asked returns node (record { node = via; took = next.took })
+    pub passes : PassesTo h returns via next.node
+    pub settled : IsNotInEffect h returns next.node
 
 -- where a call took effect at a node, in some state that this stands for
 pub record IsLedBy (h : ObservedHistory) (node : Node) (i : ℕ) : Type 0 where
@@ -119,7 +125,7 @@ Suffice h returns node nexts = (n : ℕ) → Hope h returns node n → GoesOn h 
 
 -- and each of them follows from it
 pub record Expands (h : ObservedHistory) (returns : List ℕ) (node : Node) (nexts : List Next) : Type 0 where
-  pub each : (w : Next) → Contains nexts w → ComesAfter h returns node w
+  pub each : (w : Next) → Contains nexts w → ComesAfter h None returns node w
   pub whole : Suffice h returns node nexts
 
 -- in nothing that the node stands for a call may take effect at once
@@ -238,7 +244,7 @@ pub record IsLinkedAt (h : ObservedHistory) (returns : List ℕ) (store : Store)
   pub node : Node
   pub is_node : slice_get store.nodes.items origin.from ≡ Some node
   pub reached : IsReached h None returns node
-  pub leads : ComesAfter h returns node (record { node = v; took = origin.took })
+  pub leads : ComesAfter h None returns node (record { node = v; took = origin.took })
 
 -- the first node is where a search begins, and each other comes from one before it
 pub record AreLinked (h : ObservedHistory) (returns : List ℕ) (store : Store) : Type 0 where

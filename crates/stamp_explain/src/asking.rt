@@ -8,16 +8,16 @@ ghost use Rattle.stamp_explain.specs.declared.observed.Returned.{Returned};
 ghost use Rattle.stamp_explain.specs.Observed.{ObservedHistory, IsObserved, IsBefore};
 ghost use Rattle.stamp_explain.specs.Configuration.{ReachesMoreBeside};
 ghost use Rattle.stamp_explain.specs.Cut.{place_then};
-ghost use Rattle.stamp_explain.specs.Expand.{Enters, Suffice, Took, IsNotInEffect};
+ghost use Rattle.stamp_explain.specs.Expand.{Enters, Suffice, Took};
 ghost use Rattle.stamp_explain.specs.Store.{Keeps};
 ghost use Rattle.stamp_explain.specs.Possible.{without_return};
 ghost use Rattle.stamp_explain.specs.Asking.{Adds, AreAsked, AreLed, AreMore, AreReplies, GetsMore, IsSeenWith, IsAsking, IsAskingAt, ComesNextBeside, MayGoOnBeside, NoneIsAtOnceBeside, SufficeBeside, SufficeUnless};
 
 use crate::cut::seen_at;
-use crate::node::{Next, Node, Origin, has_bit, without_bit};
+use crate::node::{Next, Node, Origin};
 use crate::observed::{Observation, Observed, Returned};
 use crate::observer::observes_at;
-use crate::search::{choice_of, opening, take_of};
+use crate::search::{choice_of, opening, settled, take_of};
 use crate::stepping::step_of;
 use crate::store::Store;
 use crate::timeline::{Timeline, timeline_of};
@@ -119,34 +119,9 @@ fn add(replies: &mut Vec<Reply>, reply: Reply) -> Result<(), AllocError>
     Ok(())
 }
 
-/// The one node that comes next, where the awaited call is in effect: its return is past.
-fn passed(asking: &Asking, node: &Node) -> Option<Next>
-    requires { MayGoOnBeside asking.now node.now }
-    ensures leads { IfSome result (λ next. ComesNextBeside asking.now node.now next) }
-    ensures one { IfSome result (λ next. SufficeBeside asking.now node.now (next ∷ [])) }
-    ensures none { IfNone result (IsNotInEffect asking.now.seen asking.now.timeline.returns.items node.now) }
-{
-    let timeline = &asking.timeline;
-    let thread = asking.seen.entries()[timeline.returns[node.past]].thread;
-    if has_bit(node.threads, thread) {
-        Some(Next {
-            node: Node {
-                past: node.past + 1,
-                bits: node.bits,
-                writer: node.writer,
-                threads: without_bit(node.threads, thread),
-            },
-            took: None,
-        })
-    } else {
-        None
-    }
-}
-
 /// The one node that comes next, where another open call takes effect that changes nothing.
 fn observed_beside(asking: &Asking, node: &Node) -> Option<Next>
-    requires at { MayGoOnBeside asking.now node.now }
-    requires awaited { IsNotInEffect asking.now.seen asking.now.timeline.returns.items node.now }
+    requires { MayGoOnBeside asking.now node.now }
     ensures leads { IfSome result (λ next. ComesNextBeside asking.now node.now next) }
     ensures one { IfSome result (λ next. SufficeBeside asking.now node.now (next ∷ [])) }
     ensures none { IfNone result (NoneIsAtOnceBeside asking.now node.now) }
@@ -154,7 +129,7 @@ fn observed_beside(asking: &Asking, node: &Node) -> Option<Next>
     for i in asking.timeline.opens[node.past].as_slice() {
         if *i != asking.place && observes_at(&asking.seen, *i) {
             if let Some(next) = take_of(&asking.seen, node, *i) {
-                return Some(next);
+                return Some(settled(&asking.seen, &asking.timeline, &next));
             }
         }
     }
@@ -164,7 +139,6 @@ fn observed_beside(asking: &Asking, node: &Node) -> Option<Next>
 /// The nodes that come next where another open call takes effect, one for each choice.
 fn choices_beside(asking: &Asking, node: &Node, nexts: &mut Vec<Next>) -> Result<(), AllocError>
     requires at { MayGoOnBeside asking.now node.now }
-    requires awaited { IsNotInEffect asking.now.seen asking.now.timeline.returns.items node.now }
     requires at_once { NoneIsAtOnceBeside asking.now node.now }
     ensures leads { IfOk result (λ _. AreLed asking.now node.now nexts.new.items) }
     ensures whole { IfOk result (λ _. (reply : Reply) (h : ObservedHistory) → IsSeenWith asking.now reply h
@@ -179,7 +153,7 @@ fn choices_beside(asking: &Asking, node: &Node, nexts: &mut Vec<Next>) -> Result
         if i != asking.place {
             let asked = Some(asking.place);
             if let Some(next) = choice_of(&asking.seen, asked, node, calls, awaited, i) {
-                nexts.push(next)?;
+                nexts.push(settled(&asking.seen, &asking.timeline, &next))?;
             }
         }
     }
@@ -216,10 +190,6 @@ fn go_on(
     ensures whole { IfOk result (λ _. SufficeUnless asking.now node.now nexts.new.items replies.new.items) }
 {
     nexts.clear();
-    if let Some(next) = passed(asking, node) {
-        nexts.push(next)?;
-        return Ok(());
-    }
     if let Some(next) = observed_beside(asking, node) {
         nexts.push(next)?;
         return Ok(());

@@ -81,7 +81,7 @@ pub(crate) fn take_of(observed: &Observed, node: &Node, i: usize) -> Option<Next
 }
 
 /// The same with each return that is next past, as long as its call is in effect.
-fn settled(observed: &Observed, timeline: &Timeline, next: &Next) -> Next
+pub(crate) fn settled(observed: &Observed, timeline: &Timeline, next: &Next) -> Next
     requires observed { IsObserved observed.now }
     requires timeline { IsTimeline observed.now timeline.now }
     ensures took { result.took ≡ next.now.took }

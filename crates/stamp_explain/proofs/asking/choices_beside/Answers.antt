@@ -43,18 +43,23 @@ loop-k-preserved c =
     c.requires.at.past c.index.ensures c.as_slice-calls.ensures.value in
     let one : AwaitsOne asking.seen asking.timeline node =
     awaits_one asking.seen asking.timeline node c.requires.at.asks.observed c.requires.at.asks.timeline
-    c.requires.at.past c.requires.awaited in
+    c.requires.at.past c.requires.at.reached.settled in
     elim c.if-i-asking.branch [
       | then-i-asking+in-Some+in_ok-push w ↦
-          let same : c.if-i-asking.nexts.items ≡ nexts ++ w.in-Some.next ∷ [] =
+          let same : c.if-i-asking.nexts.items ≡ nexts ++ w.settled.result ∷ [] =
           ap (λ (v : Vec Next Global). v.items) w.nexts-is ∙ w.in_ok-push.ensures.items in
           subst (λ (ns : List Next). TriesBeside asking node calls (k + 1) ns) (sym same)
-          (beside_some asking node one.entry calls k nexts w.in-Some.next one.awaits c.requires.at.reached.reached
+          (beside_some asking node one.entry calls k nexts w.in-Some.next w.settled.result one.awaits c.requires.at.reached.reached
           one.bit c.requires.at_once are c.loop-k.invariant c.loop-k-test.true
           (λ same. omega (arith, same, w.if-i-asking.true)) c.index-awaited.result.now
           (awaited_read asking.seen returns node.past c.index-awaited.result.now one.entry
           (awaited_at asking.seen asking.timeline node one.entry one.awaits) c.index-awaited.ensures)
-          (w.in-Some.ensures returns c.requires.at.asks.timeline.are it))
+          (w.in-Some.ensures returns c.requires.at.asks.timeline.are it)
+          (record {
+            passes = w.settled.ensures.passes;
+            took = w.settled.ensures.took;
+            settled = w.settled.ensures.settled;
+          }))
       | then-i-asking+in_default w ↦
           let same : c.if-i-asking.nexts.items ≡ nexts = ap (λ (v : Vec Next Global). v.items) w.nexts-is in
           subst (λ (ns : List Next). TriesBeside asking node calls (k + 1) ns) (sym same)
@@ -72,7 +77,7 @@ loop-k-preserved c =
 pub returns-clause-whole : goal.returns-clause-whole
 returns-clause-whole c = λ reply h is none.
     suffice_beside c.args.asking.now c.args.node.now c.as_slice-calls.result.now c.loop-k.k c.loop-k.nexts.items reply h
-    c.requires.at.asks c.requires.at.past c.requires.awaited
+    c.requires.at.asks c.requires.at.past c.requires.at.reached.settled
     (opens_read h c.args.asking.now.timeline c.args.node.now.past c.index.result.now c.as_slice-calls.result.now
     (timeline_alike c.args.asking.now.seen h c.args.asking.now.place c.args.asking.now.timeline
     (alike_of c.args.asking.now reply h is) c.requires.at.asks.timeline) c.requires.at.past c.index.ensures

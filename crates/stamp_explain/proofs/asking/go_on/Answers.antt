@@ -15,15 +15,6 @@ returns-in-Some-clause-whole c = record {
       ap (λ (ns : List Next). ns ++ c.in-Some.next ∷ []) c.clear.ensures.items)) (c.in-Some.ensures.one reply h is);
 }
 
-pub returns-in-Some-observed_beside-clause-whole :
-    goal.returns-in-Some-observed_beside-clause-whole
-returns-in-Some-observed_beside-clause-whole c = record {
-  suffice = λ reply h is misses. subst (λ (ns : List Next). Suffice h c.args.asking.now.timeline.returns.items
-      c.args.node.now ns) (sym (c.in_ok-push-2.ensures.items ∙
-      ap (λ (ns : List Next). ns ++ c.in-Some-observed_beside.next ∷ []) c.clear.ensures.items))
-      (c.in-Some-observed_beside.ensures.one reply h is);
-}
-
 pub returns-clause-whole : goal.returns-clause-whole
 returns-clause-whole c = IfOk-weaker c.choices_beside.result
     (λ _. (reply : Reply) (h : ObservedHistory) → IsSeenWith c.args.asking.now reply h →

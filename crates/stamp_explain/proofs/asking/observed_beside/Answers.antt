@@ -18,17 +18,23 @@ returns-in-Some-clause-leads c =
     let other : get_or c.as_slice-i-items.result.now c.loop-i.i-index 0 ≢ asking.place =
     λ same. omega (arith, same, c.if-i-asking.true) in
     let there : AwaitsOne asking.seen asking.timeline node =
-    awaits_one asking.seen asking.timeline node c.requires.at.asks.observed c.requires.at.asks.timeline
-    c.requires.at.past c.requires.awaited in
+    awaits_one asking.seen asking.timeline node c.requires.asks.observed c.requires.asks.timeline
+    c.requires.past c.requires.reached.settled in
     at_once_leads asking node there.entry c.as_slice-i-items.result.now c.loop-i.i-index c.in-Some.next
-    there.awaits c.requires.at.reached.reached there.bit
+    c.settled.result
+    there.awaits c.requires.reached.reached there.bit
     (opens_read asking.seen asking.timeline node.past c.index.result.now c.as_slice-i-items.result.now
-    c.requires.at.asks.timeline c.requires.at.past c.index.ensures c.as_slice-i-items.ensures.value)
+    c.requires.asks.timeline c.requires.past c.index.ensures c.as_slice-i-items.ensures.value)
     c.loop-i.invariant c.loop-i-test.true (sym c.observes_at.ensures ∙ c.if-observes_at.true)
-    (c.in-Some.ensures asking.timeline.returns.items c.requires.at.asks.timeline.are
+    (c.in-Some.ensures asking.timeline.returns.items c.requires.asks.timeline.are
     (open_read asking.seen asking.timeline node.past c.index.result.now c.as_slice-i-items.result.now
-    c.loop-i.i-index c.requires.at.asks.timeline c.requires.at.past c.index.ensures c.as_slice-i-items.ensures.value
+    c.loop-i.i-index c.requires.asks.timeline c.requires.past c.index.ensures c.as_slice-i-items.ensures.value
     c.loop-i-test.true)) other
+    (record {
+      passes = c.settled.ensures.passes;
+      took = c.settled.ensures.took;
+      settled = c.settled.ensures.settled;
+    })
 
 pub returns-in-Some-clause-one : goal.returns-in-Some-clause-one
 returns-in-Some-clause-one c =
@@ -37,17 +43,23 @@ returns-in-Some-clause-one c =
     let other : get_or c.as_slice-i-items.result.now c.loop-i.i-index 0 ≢ asking.place =
     λ same. omega (arith, same, c.if-i-asking.true) in
     let there : AwaitsOne asking.seen asking.timeline node =
-    awaits_one asking.seen asking.timeline node c.requires.at.asks.observed c.requires.at.asks.timeline
-    c.requires.at.past c.requires.awaited in
+    awaits_one asking.seen asking.timeline node c.requires.asks.observed c.requires.asks.timeline
+    c.requires.past c.requires.reached.settled in
     let it : IsOpenAt asking.seen asking.timeline.returns.items node.past
     (get_or c.as_slice-i-items.result.now c.loop-i.i-index 0) =
     open_read asking.seen asking.timeline node.past c.index.result.now c.as_slice-i-items.result.now
-    c.loop-i.i-index c.requires.at.asks.timeline c.requires.at.past c.index.ensures c.as_slice-i-items.ensures.value
+    c.loop-i.i-index c.requires.asks.timeline c.requires.past c.index.ensures c.as_slice-i-items.ensures.value
     c.loop-i-test.true in
     at_once_suffices asking node there.entry (get_or c.as_slice-i-items.result.now c.loop-i.i-index 0) c.in-Some.next
-    c.requires.at.asks there.awaits it.entry it.is_entry
+    c.settled.result
+    c.requires.asks there.awaits it.entry it.is_entry
     (sym c.observes_at.ensures ∙ c.if-observes_at.true)
-    (c.in-Some.ensures asking.timeline.returns.items c.requires.at.asks.timeline.are it) other
+    (c.in-Some.ensures asking.timeline.returns.items c.requires.asks.timeline.are it) other
+    (record {
+      passes = c.settled.ensures.passes;
+      took = c.settled.ensures.took;
+      settled = c.settled.ensures.settled;
+    })
 
 pub returns-clause-none : goal.returns-clause-none
 returns-clause-none c =
@@ -55,7 +67,7 @@ returns-clause-none c =
     let node = c.args.node.now in
     none_at_once asking.seen (Some asking.place) asking.timeline node c.as_slice-i-items.result.now c.loop-i.i-index
     (opens_read asking.seen asking.timeline node.past c.index.result.now c.as_slice-i-items.result.now
-    c.requires.at.asks.timeline c.requires.at.past c.index.ensures c.as_slice-i-items.ensures.value)
+    c.requires.asks.timeline c.requires.past c.index.ensures c.as_slice-i-items.ensures.value)
     (omega (arith, c.loop-i-test.false)) c.loop-i.invariant
 
 pub loop-i-preserved : goal.loop-i-preserved
@@ -68,9 +80,9 @@ loop-i-preserved c =
     elim c.if-i-asking.branch [
       | then-i-asking+then-observes_at+in_default w ↦
           none_by_took asking.seen (Some asking.place) returns node calls k c.loop-i.invariant
-          (w.in_default.ensures returns c.requires.at.asks.timeline.are
-          (open_read asking.seen asking.timeline node.past c.index.result.now calls k c.requires.at.asks.timeline
-          c.requires.at.past c.index.ensures c.as_slice-i-items.ensures.value c.loop-i-test.true))
+          (w.in_default.ensures returns c.requires.asks.timeline.are
+          (open_read asking.seen asking.timeline node.past c.index.result.now calls k c.requires.asks.timeline
+          c.requires.past c.index.ensures c.as_slice-i-items.ensures.value c.loop-i-test.true))
       | else-i-asking w ↦
           elim w.else-i-asking.branch [
             | else-i-asking-via-then-i-asking+else-observes_at v ↦

@@ -3,7 +3,8 @@ use Rattle.std.specs.Int.{bit_at}
 use Rattle.std.proofs.lemmas.Option.{same_Some}
 use Rattle.stamp_explain.specs.declared.observed.Observation.{Observation}
 use Rattle.stamp_explain.specs.Expand.PassesTo.{passes_none, passes_more}
-use Rattle.stamp_explain.proofs.Awaiting.{Awaits, awaits_of, leads_past}
+use Rattle.stamp_explain.specs.Expand.{ComesNext}
+use Rattle.stamp_explain.proofs.Awaiting.{Awaits, awaits_of, leads_past, past_of}
 use Rattle.stamp_explain.proofs.search.settled.Goals as goal
 use Rattle.stamp_explain.proofs.search.settled.Goals.{else-loop-node-test, then-loop-node-test+then-not-has_bit}
 
@@ -12,12 +13,14 @@ loop-node-init c = passes_none
 
 pub loop-node-preserved : goal.loop-node-preserved
 loop-node-preserved c =
-    passes_more c.loop-node.invariant (leads_past c.args.observed.now None c.args.timeline.now c.loop-node.node
+    let on : ComesNext c.args.observed.now None c.args.timeline.now.returns.items c.loop-node.node
+    (past_of c.loop-node.node c.without_bit.result) = leads_past c.args.observed.now None c.args.timeline.now c.loop-node.node
     (get_or c.entries.result.now c.index.result.now c.index-entries-index.result) c.without_bit.result
     (awaits_of c.args.observed.now c.args.timeline.now c.loop-node.node c.index.result.now c.entries.result.now
     c.index-entries-index.result c.requires.observed c.requires.timeline
     (omega (arith, c.loop-node-test.true, c.len.ensures)) c.index.ensures c.entries.ensures.entries)
-    (c.has_bit.ensures.0 c.if-not-has_bit.false) c.without_bit.ensures)
+    (c.has_bit.ensures.0 c.if-not-has_bit.false) c.without_bit.ensures in
+    passes_more c.loop-node.invariant (record { inside = on.inside; leads = on.leads })
 
 pub returns-clause-passes : goal.returns-clause-passes
 returns-clause-passes c = c.loop-node.invariant
