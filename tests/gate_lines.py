@@ -63,4 +63,7 @@ def main():
             break
 
 
-main()
+try:
+    main()
+except KeyboardInterrupt:
+    sys.exit(130)
