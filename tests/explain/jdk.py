@@ -4,7 +4,7 @@
 
 Run at the top of the repository; it wants javac and java. ROUNDS times (once if not said) runs of 2 to 64
 threads are recorded, CALLS each (2,000 if not said). All must be explained, and `stamped check` must accept
-what explains them, with as many entries as calls; it takes 16 MiB, some 130,000 calls. So must a run of the
+what explains them, with as many entries as calls; it takes 16 MiB, 130,000 to 170,000 calls. So must a run of the
 program Accounts. Where the JDK's class differs from this lock, the smallest history that shows it must be
 stuck."""
 import itertools
