@@ -3,7 +3,8 @@
     call_table.py
 
 A row names its variant with its fields, the replies that the contracts allow, the handle's methods
-that make the call, and Java's name as these methods' docs have it."""
+that make the call, with the arguments of each, as `unlock_read(rt, stamp)`, and Java's name as these
+methods' docs have it."""
 import os
 import re
 import sys
@@ -43,11 +44,17 @@ def named_in(cell):
     return re.findall(r"`([\w:]+)[^`]*`", cell)
 
 
-def methods():
-    """The doc and the body of each public method of a lock's handle."""
-    text = "".join(text_of(f"crates/stamped_lock/src/{file}.rt") for file in ("handle", "handle_once"))
-    parts = re.findall(r"((?:    ///[^\n]*\n)+)(?:    #[^\n]*\n)*    pub fn (\w+)(.*?)\n    }\n", text, re.S)
-    return {name: (doc, body) for doc, name, body in parts}
+def forms_in(cell):
+    """The methods that a cell names, each with its arguments."""
+    return dict(re.findall(r"`(\w+)\(([\w, ]*)\)`", cell))
+
+
+def methods(*files):
+    """The doc, the arguments and the body of each public method in these files of stamped_lock."""
+    text = "".join(text_of(f"crates/stamped_lock/src/{file}.rt") for file in files)
+    parts = re.findall(r"((?:    ///[^\n]*\n)+)(?:    #[^\n]*\n)*"
+                       r"    pub fn (\w+)(?:<[^>]*>)?\(([^)]*)\)(.*?)\n    }\n", text, re.S)
+    return {name: (doc, ", ".join(re.findall(r"(\w+):", given)), body) for doc, name, given, body in parts}
 
 
 def replies_by_contract():
@@ -75,22 +82,30 @@ def faults_of_rows(name, rows):
 
 def faults_of_calls(rows):
     """What is wrong with the other cells of the table of calls."""
-    known, replies_to, told = methods(), replies_by_contract(), []
+    known, of_record = methods("handle", "handle_once"), methods("record_handle")
+    replies_to, told = replies_by_contract(), []
     for call, _, replies, makers, java in rows:
         variant = named_in(call)[0]
         if set(named_in(replies)) != replies_to(variant):
             yield f"{variant}: the replies are not those of its contract"
-        names = [] if variant in OF_RECORD else named_in(makers)
+        for maker, given in forms_in(makers).items():
+            _, wanted, _ = (of_record if variant in OF_RECORD else known).get(maker, ("", None, ""))
+            if given != wanted:
+                yield f"{variant}: the row has {maker}({given}), and the code {maker}({wanted})"
+        names = [name for name in named_in(makers) if name != "RecordHandle"]
+        if names != [*forms_in(makers)]:
+            yield f"{variant}: a method stands without its arguments"
+        names = [] if variant in OF_RECORD else names
         told += names
         for maker in names:
-            doc, body = known.get(maker, ("", ""))
+            doc, _, body = known.get(maker, ("", "", ""))
             if f"Call::{variant}" not in re.findall(r"Call::\w+", body):
                 yield f"{variant}: no method {maker} makes this call"
             if not maker.endswith("_once") and f"(`{named_in(java)[0]}`)" not in doc:
                 yield f"{variant}: the doc of {maker} has another name of Java's"
         if variant not in OF_RECORD and not names:
             yield f"{variant}: no method is named"
-    makers = [name for name, (_, body) in known.items() if "Call::" in body]
+    makers = [name for name, (_, _, body) in known.items() if "Call::" in body]
     yield from (f"the method {name} has no place in the table" for name in makers if name not in told)
 
 
