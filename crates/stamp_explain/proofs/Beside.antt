@@ -8,51 +8,41 @@ use Rattle.std.proofs.lemmas.Bool.Decides.{nat_tests}
 use Rattle.stamp_explain.specs.Cut.{begun_by}
 use Rattle.std.specs.Prelude.{slice_get, slice_index, drop, take, ◌↔◌}
 use Rattle.std.specs.Int.{bit_at}
-use Rattle.std.specs.List.{AllPairs, Contains}
+use Rattle.std.specs.List.{Contains}
 use Rattle.std.proofs.lemmas.List.Elements.{Contains-append_left, Contains-push, Contains-push_cases, Contains-get_or}
 use Rattle.std.proofs.lemmas.List.Quantifiers.{all_pairs_push}
 use Rattle.std.proofs.lemmas.Option.{none-some, same_Some, slice_get_within, slice_get-get_or}
 use Rattle.std.proofs.lemmas.Option.{get_or_from_slice_get}
-use Rattle.std.proofs.lemmas.List.{get_or-set_same, length-set, take_all}
-use Rattle.std.proofs.lemmas.List.Elements.{All-contains}
-use Rattle.std.proofs.lemmas.List.Elements.{Contains-append_cases}
+use Rattle.std.proofs.lemmas.List.{get_or-set_same, length-set}
 use Rattle.stamp_core.specs.Limits.{Bounds}
 use Rattle.stamp_core.specs.declared.reply.Reply.{Reply}
 use Rattle.stamp_explain.specs.declared.observed.Observation.{Observation}
 use Rattle.stamp_explain.specs.declared.node.Node.{Node}
 use Rattle.stamp_explain.specs.declared.node.Next.{Next}
 use Rattle.stamp_explain.specs.declared.node.Step.{Step}
-use Rattle.stamp_explain.specs.declared.store.Store.{Store}
 use Rattle.stamp_explain.specs.declared.asking.Asking.{Asking}
 use Rattle.stamp_explain.specs.Observed.{ObservedHistory, IsObserved, IsBefore, AllowsReply, AreOfOneObject}
 use Rattle.stamp_explain.specs.Observer.{asks_at, asks_in, observes_at, observes_in}
 use Rattle.stamp_explain.specs.Search.{LockState, LockSteps, IsReturnAt, after_call}
-use Rattle.stamp_explain.specs.Configuration.{AwaitsNext, Configuration, ReachesMoreBeside}
-use Rattle.stamp_explain.specs.Node.{IsReached, IsStateBy, HasGone, IsFirstNode}
+use Rattle.stamp_explain.specs.Node.{IsReached, IsStateBy, HasGone}
 use Rattle.stamp_explain.specs.Timeline.{AreOpen, IsAwaitedAt}
-use Rattle.stamp_explain.specs.Expand.{Suffice, ComesNextBy, Took, IsNotInEffect, IsTakenTo, Enters, nodes_of}
-use Rattle.stamp_explain.specs.Expand.{ComesByReturn, IsChoiceOf, IsNoChoice, PassesTo}
-use Rattle.stamp_explain.specs.Expand.PassesTo.{passes_none, passes_more}
+use Rattle.stamp_explain.specs.Expand.{Suffice, Took, IsNotInEffect, IsTakenTo}
+use Rattle.stamp_explain.specs.Expand.{IsChoiceOf, IsNoChoice, PassesTo}
 use Rattle.stamp_explain.specs.Expand.IsNoChoice.{of_other, questions, comes_later, stays}
 use Rattle.stamp_explain.specs.Possible.{without_return, returned_with}
-use Rattle.stamp_explain.specs.Asking.{Adds, AreAsked, AreLed, AreMore, AreReplies, Gets, GetsMore}
+use Rattle.stamp_explain.specs.Asking.{Adds, AreAsked, AreLed, AreMore, Gets}
 use Rattle.stamp_explain.specs.Asking.{IsSeenWith, IsAsking, IsReachedBeside, ComesNextBeside, NoneIsAtOnceBeside}
-use Rattle.stamp_explain.specs.Asking.{SufficeBeside, SufficeUnless}
+use Rattle.stamp_explain.specs.Asking.{SufficeBeside}
 use Rattle.stamp_explain.specs.Turn.{IsOutOfTurn}
-use Rattle.stamp_explain.proofs.Lists.{each_push, none_in_empty, contains_cases, pairs_none}
+use Rattle.stamp_explain.proofs.Lists.{each_push, none_in_empty}
 use Rattle.stamp_explain.proofs.Replying.{IsAlike, alike_before, replied_is_observed}
 use Rattle.stamp_explain.proofs.Answering.{AreAlike, alike_with_reply, timeline_alike, there, other_there, took_alike}
 use Rattle.stamp_explain.proofs.Answering.{passes_alike, turned}
-use Rattle.stamp_explain.proofs.Answering.{same_calls_before, at_same, at_alike, opening_alike}
+use Rattle.stamp_explain.proofs.Answering.{same_calls_before, at_same, at_alike}
 use Rattle.stamp_explain.proofs.Expanding.{one_reply, at_place}
-use Rattle.stamp_explain.proofs.Leading.{come, way_past, way_by}
-use Rattle.stamp_explain.proofs.Counting.{all_differ, as_many, configuration_of, configurations_of, each_has}
-use Rattle.stamp_explain.proofs.Counting.{is_for_its}
-use Rattle.stamp_explain.proofs.GivingUp.{awaits_next, first_settled}
+use Rattle.stamp_explain.proofs.Leading.{come}
+use Rattle.stamp_explain.proofs.Counting.{configuration_of}
 use Rattle.stamp_explain.proofs.Settling.{follows_of, suffices_settled}
-use Rattle.stamp_explain.proofs.Exploring.{Explores, explores_first, explores_more, only_first, popped_node}
-use Rattle.stamp_explain.proofs.Exploring.{Searches, searches_first, searches_more, found_nothing, opening_reached}
-use Rattle.stamp_explain.proofs.Exploring.{named, contains_at}
 use Rattle.stamp_explain.proofs.Awaiting.{Awaits, awaited_at}
 use Rattle.stamp_explain.proofs.Trying.{Tries}
 use Rattle.stamp_explain.proofs.Trying.{suffice_open}
@@ -604,214 +594,3 @@ asked_suits asking asks e at = subst (λ (g : ObservedHistory). IsTrue (call_sui
         (omega (arith, within, length-set asking.seen.entries asking.place y)) ∙
         ap (λ (o : Observation). Some o) (get_or-set_same asking.seen.entries asking.place y y within)) ∙
         ap (λ (g : ObservedHistory). slice_get g.entries asking.place) (sym asks.before) ∙ at)
-
--- a search without the call begins at the first node
-opening_beside : (asking : Asking) (node : Node) → IsFirstNode asking.seen node → IsReachedBeside asking node
-opening_beside asking node is = record {
-  reached = opening_reached asking.seen (Some asking.place) asking.timeline.returns.items node is;
-  still = none_in_empty asking.place;
-  settled = first_settled asking.seen asking.timeline.returns.items node is;
-}
-
--- a node that is reached with these calls in effect
-record IsReachedWith (asking : Asking) (node : Node) (taken : List ℕ) : Type 0 where
-  reached : IsReached asking.seen (Some asking.place) asking.timeline.returns.items node
-  same : reached.taken ≡ taken
-
--- so is one at which more returns are past
-passed_reached : (asking : Asking) (v w : Node) (taken : List ℕ) → IsReachedWith asking v taken →
-    PassesTo asking.seen asking.timeline.returns.items v w → IsReachedWith asking w taken
-passed_reached asking v w taken is passes_none = is
-passed_reached asking v w taken is (passes_more {u} before step) =
-    let at : IsReachedWith asking u taken = passed_reached asking v u taken is before in
-    let returns : List ℕ = asking.timeline.returns.items in
-    let l : ComesByReturn asking.seen returns u w at.reached.state at.reached.taken =
-    step.leads at.reached.state at.reached.taken at.reached.stands in
-    record {
-      reached = record {
-        state = at.reached.state;
-        taken = at.reached.taken;
-        inside = omega (arith, step.inside, l.past);
-        stands = l.stands;
-        way = way_past asking.seen (Some asking.place) returns u w at.reached.state at.reached.taken step.inside
-            at.reached.way l;
-      };
-      same = at.same;
-    }
-
-leads_beside : (asking : Asking) (node : Node) (next : Next) → IsReachedBeside asking node →
-    ComesNextBeside asking node next → IsReachedBeside asking next.node
-leads_beside asking node next is leads = by next.took refl (leads.leads.comes.leads s taken is.reached.stands)
-  where
-    h : ObservedHistory
-    h = asking.seen
-
-    returns : List ℕ
-    returns = asking.timeline.returns.items
-
-    via : Node
-    via = leads.leads.via
-
-    s : LockState
-    s = is.reached.state
-
-    taken : List ℕ
-    taken = is.reached.taken
-
-    then : (now : List ℕ) → IsReachedWith asking via now → ¬ Contains now asking.place → IsReachedBeside asking next.node
-    then now at misses =
-        let on : IsReachedWith asking next.node now = passed_reached asking via next.node now at leads.leads.passes in
-        record {
-          reached = on.reached;
-          still = λ has. misses (subst (λ (xs : List ℕ). Contains xs asking.place) on.same has);
-          settled = leads.leads.settled;
-        }
-
-    by : (o : Option ℕ) → next.took ≡ o → ComesNextBy h (Some asking.place) returns node via s taken o →
-        IsReachedBeside asking next.node
-    by None at l = then taken (record {
-      reached = record {
-        state = s;
-        taken = taken;
-        inside = omega (arith, leads.leads.comes.inside, l.past);
-        stands = l.stands;
-        way = way_past h (Some asking.place) returns node via s taken leads.leads.comes.inside is.reached.way l;
-      };
-      same = refl;
-    }) is.still
-    by (Some i) at l = then (l.effect.index ∷ taken) (record {
-      reached = record {
-        state = l.state;
-        taken = l.effect.index ∷ taken;
-        inside = omega (arith, leads.leads.comes.inside, l.past);
-        stands = l.stands;
-        way = way_by h (Some asking.place) returns node via s taken i leads.leads.comes.inside is.reached.way l;
-      };
-      same = refl;
-    }) (λ has. cases (contains_cases l.effect.index taken asking.place has))
-      where
-        cases : (l.effect.index ≡ asking.place) ⊎ Contains taken asking.place → ⊥
-        cases (inl same) = leads.other (at ∙ ap (λ (k : ℕ). Some k) (sym l.index ∙ same))
-        cases (inr has) = is.still has
-
--- so a return is awaited there
-pub beside_inside : (asking : Asking) (node : Node) → IsAsking asking → IsReachedBeside asking node →
-    node.past < length asking.timeline.returns.items
-beside_inside asking node asks is = which (cases node.past (length asking.timeline.returns.items))
-  where
-    cases : (k n : ℕ) → (k < n) ⊎ (n ≤ k)
-    cases k n = grind arith
-
-    which : (node.past < length asking.timeline.returns.items) ⊎ (length asking.timeline.returns.items ≤ node.past) →
-        node.past < length asking.timeline.returns.items
-    which (inl lt) = lt
-    which (inr le) = absurd (is.still (is.reached.stands.in_effect.all_past asking.place
-        (subst (λ (xs : List ℕ). Contains xs asking.place) (sym (take_all node.past asking.timeline.returns.items le))
-        (asks.timeline.are.whole asking.place asks.entry asks.is_entry (asks.return, asks.returned)))))
-
--- what the search keeps
-pub record Walks (asking : Asking) (looked : ℕ) (store : Store) (waiting : List ℕ) (replies : List Reply) :
-    Type 0 where
-  pub explores : Explores looked store waiting
-  pub reached : (v : Node) → Contains store.nodes.items v → IsReachedBeside asking v
-  pub once : AllPairs (λ (a b : Reply). a ≢ b) replies
-  pub gets : (reply : Reply) → Contains replies reply → Gets asking reply
-  pub searches : (reply : Reply) (h : ObservedHistory) → IsSeenWith asking reply h → ¬ Contains replies reply →
-      Searches h asking.timeline.returns.items store waiting
-
-pub walks_first : (asking : Asking) (old new : Store) (waiting : List ℕ) (next : Next) → old.nodes.items ≡ [] →
-    IsFirstNode asking.seen next.node → Enters old new 0 [] waiting (next ∷ []) → Walks asking 0 new waiting []
-walks_first asking old new waiting next empty is enters = record {
-  explores = explores_first old new waiting next empty enters;
-  reached = λ v has. subst (IsReachedBeside asking) (only_first old new waiting next empty enters v has)
-      (opening_beside asking next.node is);
-  once = pairs_none (λ (a b : Reply). a ≢ b);
-  gets = λ reply has. absurd (none_in_empty reply has);
-  searches = λ reply h answered misses. searches_first h asking.timeline.returns.items old new waiting next empty
-      (opening_alike asking.seen h asking.place next.node (alike_of asking reply h answered) is) enters;
-}
-
-pub walks_more : (asking : Asking) (looked : ℕ) (old new : Store) (before popped after : List ℕ) (nexts : List Next)
-    (replies more : List Reply) (place : ℕ) (v : Node) → Walks asking looked old before replies →
-    before ≡ popped ++ place ∷ [] → slice_get old.nodes.items place ≡ Some v → AreLed asking v nexts →
-    AreMore replies more → GetsMore asking replies more → SufficeUnless asking v nexts more →
-    Enters old new place popped after nexts → Walks asking (looked + 1) new after more
-walks_more asking looked old new before popped after nexts replies more place v is split at led grows gets suffice
-    enters =
-    record {
-      explores = explores_more looked old new before popped after nexts place is.explores split enters;
-      reached = λ w has. by w (Contains-append_cases old.nodes.items (nodes_of enters.added) w
-          (subst (λ (ns : List Node). Contains ns w) enters.nodes has));
-      once = grows.once is.once;
-      gets = λ reply has. gotten reply (gets reply has);
-      searches = λ reply h answered misses. searches_more h asking.timeline.returns.items old new before popped after
-          nexts place v (is.searches reply h answered (λ has. misses (grows.kept reply has))) split at
-          (suffice.suffice reply h answered misses) enters;
-    }
-  where
-    gotten : (reply : Reply) → Contains replies reply ⊎ Gets asking reply → Gets asking reply
-    gotten reply (inl has) = is.gets reply has
-    gotten reply (inr new) = new
-
-    by : (w : Node) → Contains old.nodes.items w ⊎ Contains (nodes_of enters.added) w → IsReachedBeside asking w
-    by w (inl has) = is.reached w has
-    by w (inr has) = let found : (x : Next) × (Contains enters.added x × (x.node ≡ w)) = named enters.added w has in
-        subst (IsReachedBeside asking) found.1.1 (leads_beside asking v found.0
-        (is.reached v (contains_at old.nodes.items place v at))
-        (led.each found.0 (All-contains (Contains nexts) enters.added found.0 enters.among found.1.0)))
-
--- where none waits, no other reply is explained
-pub walks_end : (asking : Asking) (looked : ℕ) (store : Store) (waiting : List ℕ) (replies : List Reply) →
-    IsAsking asking → Walks asking looked store waiting replies → waiting ≡ [] → AreReplies asking replies
-walks_end asking looked store waiting replies asks is none = record {
-  gets = is.gets;
-  once = is.once;
-  whole = λ reply h answered misses. found_nothing h asking.timeline.returns.items store waiting
-      (timeline_alike asking.seen h asking.place asking.timeline (alike_of asking reply h answered) asks.timeline).are
-      (is.searches reply h answered misses) none;
-}
-
--- where one waits, more than so many configurations are reached
-pub walks_on : (asking : Asking) (most looked : ℕ) (store : Store) (waiting : List ℕ) (replies : List Reply) →
-    IsAsking asking → Walks asking looked store waiting replies → most ≤ looked → 1 ≤ length waiting →
-    ReachesMoreBeside asking.seen asking.place most
-walks_on asking most looked store waiting replies asks is all waits = record {
-  returns = asking.timeline.returns.items;
-  are = asks.timeline.are;
-  once = asks.timeline.once;
-  reached = record {
-    configurations = configurations_of asking.seen (Some asking.place) asking.timeline.returns.items store.nodes.items
-        (λ v has. (is.reached v has).reached);
-    different = all_differ asking.seen (Some asking.place) asking.timeline.returns.items store.nodes.items
-        (λ v has. (is.reached v has).reached) is.explores.keeps.different;
-    many = omega (
-      arith,
-      is.explores.count,
-      all,
-      waits,
-      as_many asking.seen (Some asking.place) asking.timeline.returns.items store.nodes.items
-          (λ v has. (is.reached v has).reached),
-    );
-  };
-  settled = each_has asking.seen (Some asking.place) asking.timeline.returns.items store.nodes.items
-      (λ v has. (is.reached v has).reached)
-      (AwaitsNext asking.seen (Some asking.place) asking.timeline.returns.items)
-      (λ v has. awaits_next asking.seen (Some asking.place) asking.timeline.returns.items v
-      (configuration_of asking.seen (Some asking.place) asking.timeline.returns.items v (is.reached v has).reached)
-      (record { observed = asks.observed; are = asks.timeline.are; once = asks.timeline.once })
-      (beside_inside asking v asks (is.reached v has)) (is.reached v has).settled
-      (is_for_its asking.seen (Some asking.place) asking.timeline.returns.items v (is.reached v has).reached));
-  beside = each_has asking.seen (Some asking.place) asking.timeline.returns.items store.nodes.items
-      (λ v has. (is.reached v has).reached)
-      (λ (c : Configuration asking.seen (Some asking.place) asking.timeline.returns.items). ¬ Contains c.taken
-      asking.place)
-      (λ v has. (is.reached v has).still);
-}
-
--- the node whose place is popped
-pub walked_reached : (asking : Asking) (looked : ℕ) (store : Store) (before popped : List ℕ) (replies : List Reply)
-    (place : ℕ) (v : Node) → Walks asking looked store before replies → before ≡ popped ++ place ∷ [] →
-    v ≡ get_or store.nodes.items place v → IsReachedBeside asking v
-walked_reached asking looked store before popped replies place v is split read =
-    is.reached v (contains_at store.nodes.items place v
-    (popped_node looked store before popped place v is.explores split read))

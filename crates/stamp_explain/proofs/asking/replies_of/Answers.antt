@@ -3,8 +3,8 @@ use Rattle.stamp_core.specs.declared.reply.Reply.{Reply}
 use Rattle.stamp_explain.specs.declared.node.Next.{Next}
 use Rattle.stamp_explain.specs.Expand.{Enters}
 use Rattle.stamp_explain.proofs.Exploring.{is_zero, is_more, nil_of_length, popped_inside, popped_node}
-use Rattle.stamp_explain.proofs.Beside.{Walks, walks_first, walks_more, walks_end, walks_on, walked_reached}
-use Rattle.stamp_explain.proofs.Beside.{beside_inside}
+use Rattle.stamp_explain.proofs.Walking.{Walks, walks_first, walks_more, walks_end, walks_on, walked_reached}
+use Rattle.stamp_explain.proofs.Walking.{beside_inside}
 use Rattle.stamp_explain.specs.Asking.{IsReachedBeside}
 use Rattle.stamp_explain.proofs.asking.replies_of.Goals as goal
 

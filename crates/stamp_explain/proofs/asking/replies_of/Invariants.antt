@@ -1,4 +1,4 @@
-use Rattle.stamp_explain.proofs.Beside.{Walks}
+use Rattle.stamp_explain.proofs.Walking.{Walks}
 use Rattle.stamp_explain.proofs.asking.replies_of.Given as goal
 
 abbrev pub invariant-loop : goal.invariant-loop
