@@ -21,7 +21,8 @@ use Rattle.stamp_explain.specs.declared.timeline.Timeline.{Timeline}
 use Rattle.stamp_explain.specs.Observed.{ObservedHistory, HasReturned}
 use Rattle.stamp_explain.specs.Explained.{Effect}
 use Rattle.stamp_explain.specs.Search.{LockState, LockSteps, MayTake, IsReturnAt, AreReturns, ReturnsNoLater}
-use Rattle.stamp_explain.specs.Node.{IsNext, HasNext, AreTaken, IsStateBy, StandsFor, words_put, words_put_at, content_by}
+use Rattle.stamp_explain.specs.Node.{IsNext, HasNext, AreTaken, IsStateBy, StandsFor, words_put, words_put_at}
+use Rattle.stamp_explain.specs.Node.{content_by}
 use Rattle.stamp_explain.specs.Node.{IsFirstNode}
 use Rattle.stamp_explain.specs.Timeline.{IsTimeline, IsOpenAt, AreOpen}
 use Rattle.stamp_explain.specs.Expand.{Took, Takes}

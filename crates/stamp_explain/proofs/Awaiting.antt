@@ -63,14 +63,16 @@ steps_of h timeline node a n is hope =
     hope.taken n in
     subst P (left_of h timeline node a is) (record { rest = hope.rest; by = hope.by; steps = hope.steps })
 
-pub the_awaited : (h : ObservedHistory) (timeline : Timeline) (node : Node) (a : Observation) → Awaits h timeline node a →
+pub the_awaited : (h : ObservedHistory) (timeline : Timeline) (node : Node) (a : Observation) → Awaits h timeline
+    node a →
     IsAwaited h.entries (get_or timeline.returns.items node.past 0) a
 the_awaited h timeline node a is = record {
   is_entry = is.at;
   begun = not_before_itself a ((orderly h is.observed).interval (get_or timeline.returns.items node.past 0) a is.at);
 }
 
-pub not_yet : (h : ObservedHistory) (timeline : Timeline) (node : Node) (a : Observation) (s : LockState) (taken : List ℕ) →
+pub not_yet : (h : ObservedHistory) (timeline : Timeline) (node : Node) (a : Observation) (s : LockState) (taken :
+    List ℕ) →
     Awaits h timeline node a → bit_at node.threads a.thread ≢ 1 → StandsFor h timeline.returns.items node s taken →
     ¬ Contains taken (get_or timeline.returns.items node.past 0)
 not_yet h timeline node a s taken is bit stands has =
@@ -81,7 +83,8 @@ not_yet h timeline node a s taken is bit stands has =
 pub leads_by_call : (h : ObservedHistory) (asked : Option ℕ) (timeline : Timeline) (node : Node) (a : Observation)
     (i : ℕ) (s : LockState) (taken : List ℕ) (w : Next) → Awaits h timeline node a →
     bit_at node.threads a.thread ≢ 1 → StandsFor h timeline.returns.items node s taken →
-    (to : IsTakenTo h timeline.returns.items node a i s taken w) → IsTried h asked timeline.returns.items a s taken to.effect →
+    (to : IsTakenTo h timeline.returns.items node a i s taken w) → IsTried h asked timeline.returns.items a s taken
+    to.effect →
     ComesNextBy h asked timeline.returns.items node w.node s taken w.took
 leads_by_call h asked timeline node a i s taken w is bit stands to tried =
     subst (λ (o : Option ℕ). ComesNextBy h asked timeline.returns.items node w.node s taken o) (sym to.took) (record {
@@ -143,7 +146,8 @@ pub awaited_in_effect : (h : ObservedHistory) (timeline : Timeline) (node : Node
 awaited_in_effect h timeline node a s taken is bit stands =
     stands.in_effect.each_next (get_or timeline.returns.items node.past 0) a (the_next h timeline node a is) bit
 
-pub stands_past : (h : ObservedHistory) (timeline : Timeline) (node : Node) (a : Observation) (threads : ℕ) (s : LockState)
+pub stands_past : (h : ObservedHistory) (timeline : Timeline) (node : Node) (a : Observation) (threads : ℕ) (s :
+    LockState)
     (taken : List ℕ) → Awaits h timeline node a → bit_at node.threads a.thread ≡ 1 →
     ClearsBit node.threads threads a.thread → StandsFor h timeline.returns.items node s taken →
     StandsFor h timeline.returns.items (past_of node threads).node s taken

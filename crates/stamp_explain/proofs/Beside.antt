@@ -526,7 +526,8 @@ asked_gets asking node step a asks is awaits begun went = record {
     next = after_call asking.seen.limits is.reached.state (asks.entry.call, step.reply);
     steps = (subst (λ (g : ObservedHistory). HasGone g asking.place y node.writer is.reached.state (Some step))
         asks.before
-        (went y is.reached.state here (subst (λ (g : ObservedHistory). IsStateBy g node.bits node.writer is.reached.state)
+        (went y is.reached.state here (subst (λ (g : ObservedHistory). IsStateBy g node.bits node.writer
+        is.reached.state)
         (sym asks.before) (at_same asking.seen (without_return asking.place asks.entry asking.seen) node.bits
         node.writer is.reached.state (same_calls_before asking.seen asking.place asks.entry asks.is_entry)
         is.reached.stands.at)))).steps;

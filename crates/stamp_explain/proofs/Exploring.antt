@@ -97,7 +97,8 @@ pub opening_way : (h : ObservedHistory) (asked : Option ℕ) (returns : List ℕ
     Reaches h asked returns (drop node.past returns) (first_state h.width) node.writer []
 opening_way h asked returns node is =
     subst (λ (put : Option ℕ). Reaches h asked returns (drop node.past returns) (first_state h.width) put [])
-    (sym is.writer) (subst (λ (n : ℕ). Reaches h asked returns (drop n returns) (first_state h.width) None []) (sym is.past)
+    (sym is.writer) (subst (λ (n : ℕ). Reaches h asked returns (drop n returns) (first_state h.width) None []) (sym
+    is.past)
     begins)
 
 abbrev pub opening_reached : (h : ObservedHistory) (asked : Option ℕ) (returns : List ℕ) (node : Node) →

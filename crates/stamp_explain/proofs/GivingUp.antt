@@ -224,7 +224,8 @@ deepened_more h returns store waiting expanded most awaited is enough = record {
         by : ((get_or nodes (most + 1) none).past < length returns) ⊎
             (length returns ≤ (get_or nodes (most + 1) none).past) →
             AwaitsNext h None returns (get_or cs (most + 1) first_one)
-        by (inl less) = awaits_next h None returns (get_or nodes (most + 1) none) (get_or cs (most + 1) first_one) awaited
+        by (inl less) = awaits_next h None returns (get_or nodes (most + 1) none) (get_or cs (most + 1) first_one)
+            awaited
             less (settled_at h returns store (most + 1) (get_or nodes (most + 1) none) was.linked here) it
         by (inr all) = λ i rest same has. omega (
           arith,

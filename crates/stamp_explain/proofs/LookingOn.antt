@@ -285,7 +285,11 @@ deepens_on h returns old new waited waiting expanded before all looks = record {
           node = from.node;
           is_node = more last.origin.from from.node from.is_node;
           reached = reached_from;
-          leads = subst (λ (u : Node). ComesAfter h None returns from.node (record { node = u; took = last.origin.took }))
+          leads = subst (λ (u : Node). ComesAfter h None returns from.node (record {
+            node = u;
+            took =
+                last.origin.took;
+          }))
               same
               from.leads;
         }

@@ -303,7 +303,8 @@ other_kind hs x y x_is y_is lock guarded same =
     y_is.is_entry) in
     true≢false (sym lock ∙ ap (λ (o : Observation). is_lock_call o.call) it ∙ guarded)
 
-pub sound_of : (h : ObservedHistory) (xs : List Effect) → IsObserved h → All (IsEffectOf h.entries) xs → All MayBeTold xs
+pub sound_of : (h : ObservedHistory) (xs : List Effect) → IsObserved h → All (IsEffectOf h.entries) xs → All
+    MayBeTold xs
 sound_of h xs observed all = All-weaker (IsEffectOf h.entries) MayBeTold
     (λ x is. subst IsInterval (get_or_from_slice_get h.entries x.index x.entry x.entry is.is_entry)
     (observed.intervals x.index x.entry (slice_get_within h.entries x.index x.entry is.is_entry))) xs all

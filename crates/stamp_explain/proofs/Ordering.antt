@@ -68,7 +68,8 @@ walks_past h returns store at origin node found walk read is = record {
   ends = by origin.took read.leads is;
 }
   where
-    by : (o : Option ℕ) → ComesAfter h None returns node (record { node = walk.node; took = o }) → IsTakenAt h node o None →
+    by : (o : Option ℕ) → ComesAfter h None returns node (record { node = walk.node; took = o }) → IsTakenAt h node o
+        None →
         Ends h returns node (reverse found)
     by None leads is = follows_past h returns node walk.node (reverse found) leads walk.ends
     by (Some i) leads is = absurd is

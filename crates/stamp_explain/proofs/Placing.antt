@@ -21,7 +21,8 @@ use Rattle.stamp_explain.specs.declared.order.Taken.{Taken}
 use Rattle.stamp_explain.specs.Observed.{ObservedHistory, IsObserved, IsSmall}
 use Rattle.stamp_explain.specs.Explained.{Effect, IsEffectOf, IsExplainedBy, indices_of}
 use Rattle.stamp_explain.specs.Order.{IsOrderOf, taken_of}
-use Rattle.stamp_explain.specs.Points.{IsEntryOf, HasPoints, IsLastTold, EndsAsTold, told_until, told_last_by, entry_with_point}
+use Rattle.stamp_explain.specs.Points.{IsEntryOf, HasPoints, IsLastTold, EndsAsTold, told_until, told_last_by}
+use Rattle.stamp_explain.specs.Points.{entry_with_point}
 use Rattle.stamp_explain.specs.Points.{ends_at, position_at, there_at}
 use Rattle.stamp_explain.proofs.Threads.{few_threads}
 use Rattle.stamp_explain.proofs.Expanding.{at_place}

@@ -25,7 +25,8 @@ pub record HopesWithin (h : ObservedHistory) (returns : List ℕ) (node : Node) 
   pub hope : Hope h returns node left
 
 -- what an order completes, it completes after a return too
-hope_past : (h : ObservedHistory) (returns : List ℕ) (u w : Node) (n : ℕ) → PassesOne h returns u w → Hope h returns u n → HopesWithin h returns w n
+hope_past : (h : ObservedHistory) (returns : List ℕ) (u w : Node) (n : ℕ) → PassesOne h returns u w → Hope h returns
+    u n → HopesWithin h returns w n
 hope_past h returns u w n step hope = record {
   left = length (drop w.past returns) + length hope.rest;
   no_more = omega (arith, hope.steps, ap (λ (xs : List ℕ). length xs) to_come);
@@ -84,7 +85,8 @@ pub follows_of : (h : ObservedHistory) (asked : Option ℕ) (returns : List ℕ)
     IsNotInEffect h returns next.node → ComesAfter h asked returns node next
 follows_of h asked returns node w next comes passes took settled = record {
   via = w.node;
-  comes = subst (λ (o : Option ℕ). ComesNext h asked returns node (record { node = w.node; took = o })) (sym took) comes;
+  comes = subst (λ (o : Option ℕ). ComesNext h asked returns node (record { node = w.node; took = o })) (sym took)
+      comes;
   passes = passes;
   settled = settled;
 }
@@ -109,5 +111,6 @@ follows_call h returns node w i one left leads same replies after = ends_call h 
     leads.comes same replies (ends_passes h returns leads.via w left leads.passes after)
 
 pub follows_led : (h : ObservedHistory) (returns : List ℕ) (node w : Node) (took : Option ℕ) →
-    IsReached h None returns node → ComesAfter h None returns node (record { node = w; took = took }) → IsLed h node took
+    IsReached h None returns node → ComesAfter h None returns node (record { node = w; took = took }) → IsLed h node
+    took
 follows_led h returns node w took reached leads = led_by h returns node leads.via took reached leads.comes

@@ -46,7 +46,8 @@ pub record Makes (h : ObservedHistory) (returns : List ℕ) (node : Node) (u : L
   pub passes : PassesTo h returns via next.node
 
 -- or another call goes ahead of it
-abbrev pub MakesOrWaits : ObservedHistory → Option ℕ → List ℕ → Node → List ℕ → Effect → LockState → List ℕ → List Next →
+abbrev pub MakesOrWaits : ObservedHistory → Option ℕ → List ℕ → Node → List ℕ → Effect → LockState → List ℕ → List
+    Next →
     Type 0
 MakesOrWaits h asked returns node calls x u taken nexts =
     IsOutOfTurn h asked node calls x.index ⊎ Makes h returns node u (x.index ∷ taken) nexts
@@ -58,7 +59,8 @@ pub record Tries (h : ObservedHistory) (asked : Option ℕ) (returns : List ℕ)
   pub tried : (a : Observation) (s : LockState) (taken : List ℕ) → IsAwaitedAt h returns node.past a →
       StandsFor h returns node s taken → (x : Effect) (u : LockState) →
       MayTake (LockSteps h.limits) h.entries a s taken x u → AreOfOneObject a x.entry →
-      is_open_question x.entry ≡ false → (p : ℕ) → p < length calls → length calls ≤ p + k → get_or calls p 0 ≡ x.index → MakesOrWaits h asked returns node calls x u taken nexts
+      is_open_question x.entry ≡ false → (p : ℕ) → p < length calls → length calls ≤ p + k → get_or calls p 0 ≡
+      x.index → MakesOrWaits h asked returns node calls x u taken nexts
 
 pub none_tried : (h : ObservedHistory) (asked : Option ℕ) (returns : List ℕ) (node : Node) (calls : List ℕ) →
     Tries h asked returns node calls 0 []
@@ -111,7 +113,8 @@ pub tried_none : (h : ObservedHistory) (asked : Option ℕ) (returns : List ℕ)
     Took h returns node (get_or calls (length calls - 1 - k) 0) None → Tries h asked returns node calls (k + 1) nexts
 tried_none h asked returns node calls k nexts tries more took =
     one_more_tried h asked returns node calls k nexts nexts tries more (λ w has. has)
-    (λ a s taken awaited stands x u may alike asks_not is. absurd (took.takes a s taken awaited stands x u may (sym is)))
+    (λ a s taken awaited stands x u may alike asks_not is. absurd (took.takes a s taken awaited stands x u may (sym
+    is)))
 
 -- it is of the other object
 pub tried_other : (h : ObservedHistory) (asked : Option ℕ) (returns : List ℕ) (node : Node) (calls : List ℕ) (k : ℕ)
@@ -364,7 +367,8 @@ suffice_step h asked timeline node a calls k nexts is bit are all tries n again 
         let P : List ℕ → Type 0 = λ (xs : List ℕ). CompletesIn (LockSteps h.limits) h.entries xs hope.state hope.taken
         on.left in
         let can : CompletesIn (LockSteps h.limits) h.entries (drop node.past returns) hope.state hope.taken on.left =
-        subst P (sym (left_of h timeline node a is)) (without_question h.limits h.entries to_come hope.state on.state hope.taken
+        subst P (sym (left_of h timeline node a is)) (without_question h.limits h.entries to_come hope.state on.state
+        hope.taken
         on.effect on.left are_returns on.may.effect on.may.steps asking on.completes) in
         record {
           state = hope.state;

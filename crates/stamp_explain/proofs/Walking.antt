@@ -86,7 +86,8 @@ leads_beside asking node next is leads = by next.took refl (leads.leads.comes.le
     taken : List ℕ
     taken = is.reached.taken
 
-    then : (now : List ℕ) → IsReachedWith asking via now → ¬ Contains now asking.place → IsReachedBeside asking next.node
+    then : (now : List ℕ) → IsReachedWith asking via now → ¬ Contains now asking.place → IsReachedBeside asking
+        next.node
     then now at misses =
         let on : IsReachedWith asking next.node now = passed_reached asking via next.node now at leads.leads.passes in
         record {

@@ -146,10 +146,10 @@ pub record StepsFromOne (h : ObservedHistory) (returns : List ℕ) (looked : Lis
   pub is_from : slice_get looked place ≡ Some from
   pub steps : StepsOn h returns from d
 
--- a search has looked at more than so many configurations, no two of which are one, and reached a further one. It begins
--- at its beginning, and each other comes by one step from one that was looked at before it. At each
--- some return is to come, the next one of a call that is not in effect, and after one from which an order goes on to the end it has looked at such alone as go on
--- from that one. So but for those on one way it has looked at dead ends
+-- a search has looked at more than so many configurations, no two of which are one, and reached a further one. It
+-- begins at its beginning, and each other comes by one step from one that was looked at before it. At each some
+-- return is to come, the next one of a call that is not in effect, and after one from which an order goes on to the
+-- end it has looked at such alone as go on from that one. So but for those on one way it has looked at dead ends
 pub record LookedAtMore (h : ObservedHistory) (returns : List ℕ) (most : ℕ) : Type 0 where
   pub looked : List (Configuration h None returns)
   pub different : AllPairs (λ (c d : Configuration h None returns). ¬ AreOne h None returns c d) looked

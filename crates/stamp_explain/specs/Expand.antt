@@ -77,10 +77,11 @@ ComesNextBy h asked returns node w s taken None = ComesByReturn h returns node w
 ComesNextBy h asked returns node w s taken (Some i) = ComesByCall h asked returns node w s taken i
 
 -- whatever the node stands for
-pub record ComesNext (h : ObservedHistory) (asked : Option ℕ) (returns : List ℕ) (node : Node) (next : Next) : Type 0 where
-  pub inside : node.past < length returns
-  pub leads : (s : LockState) (taken : List ℕ) → StandsFor h returns node s taken →
-      ComesNextBy h asked returns node next.node s taken next.took
+pub record ComesNext (h : ObservedHistory) (asked : Option ℕ) (returns : List ℕ) (node : Node) (next : Next) : Type 0
+  where
+    pub inside : node.past < length returns
+    pub leads : (s : LockState) (taken : List ℕ) → StandsFor h returns node s taken →
+        ComesNextBy h asked returns node next.node s taken next.took
 
 -- the awaited call, which is in effect, returns, whatever the node stands for
 pub record PassesOne (h : ObservedHistory) (returns : List ℕ) (node w : Node) : Type 0 where

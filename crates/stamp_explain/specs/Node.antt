@@ -82,7 +82,10 @@ pub record Does (h : ObservedHistory) (i : ℕ) (e : Observation) (put : Option 
 
 -- what was found of a call in the state: what it does, or that no reply that its observation allows is given
 abbrev pub HasGone : ObservedHistory → ℕ → Observation → Option ℕ → LockState → Option Step → Type 0
-HasGone h i e put s None = (reply : Reply) (t : LockState) → AllowsReply e reply → ¬ LockSteps h.limits s (e.call, reply) t
+HasGone h i e put s None = (reply : Reply) (t : LockState) → AllowsReply e reply → ¬ LockSteps h.limits s (
+  e.call,
+  reply,
+) t
 HasGone h i e put s (Some step) = Does h i e put s step
 
 -- the node stands for what a way through the search reaches, with the words of its writer in the record

@@ -49,7 +49,8 @@ loop-k-preserved c =
           let same : c.if-i-asking.nexts.items ≡ nexts ++ w.settled.result ∷ [] =
           ap (λ (v : Vec Next Global). v.items) w.nexts-is ∙ w.in_ok-push.ensures.items in
           subst (λ (ns : List Next). TriesBeside asking node calls (k + 1) ns) (sym same)
-          (beside_some asking node one.entry calls k nexts w.in-Some.next w.settled.result one.awaits c.requires.at.reached.reached
+          (beside_some asking node one.entry calls k nexts w.in-Some.next w.settled.result one.awaits
+          c.requires.at.reached.reached
           one.bit c.requires.at_once are c.loop-k.invariant c.loop-k-test.true
           (λ same. omega (arith, same, w.if-i-asking.true)) c.index-awaited.result.now
           (awaited_read asking.seen returns node.past c.index-awaited.result.now one.entry

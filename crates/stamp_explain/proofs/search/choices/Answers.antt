@@ -40,7 +40,8 @@ loop-k-preserved c =
           let same : c.match-choice_of.nexts.items ≡ nexts ++ w.settled.result ∷ [] =
           ap (λ (v : Vec Next Global). v.items) w.nexts-is ∙ w.in_ok-push.ensures.items in
           subst (λ (ns : List Next). Chooses h returns node calls (k + 1) ns) (sym same)
-          (chooses_one h c.args.timeline.now node one.entry calls k nexts w.in-Some.next w.settled.result one.awaits one.bit
+          (chooses_one h c.args.timeline.now node one.entry calls k nexts w.in-Some.next w.settled.result one.awaits
+          one.bit
           c.requires.at_once are c.loop-k.invariant c.loop-k-test.true c.index-awaited.result.now
           (awaited_read h returns node.past c.index-awaited.result.now one.entry
           (awaited_at h c.args.timeline.now node one.entry one.awaits) c.index-awaited.ensures)

@@ -14,7 +14,8 @@ loop-node-init c = passes_none
 pub loop-node-preserved : goal.loop-node-preserved
 loop-node-preserved c =
     let on : ComesNext c.args.observed.now None c.args.timeline.now.returns.items c.loop-node.node
-    (past_of c.loop-node.node c.without_bit.result) = leads_past c.args.observed.now None c.args.timeline.now c.loop-node.node
+    (past_of c.loop-node.node c.without_bit.result) = leads_past c.args.observed.now None c.args.timeline.now
+    c.loop-node.node
     (get_or c.entries.result.now c.index.result.now c.index-entries-index.result) c.without_bit.result
     (awaits_of c.args.observed.now c.args.timeline.now c.loop-node.node c.index.result.now c.entries.result.now
     c.index-entries-index.result c.requires.observed c.requires.timeline
