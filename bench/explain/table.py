@@ -1,4 +1,4 @@
-"""Explains histories by `stamped_explain` and by the search in C++, in turns, and prints tables.
+"""Explains histories by `stamped_explain` and by the search in C++, alternating, and prints tables.
 
     table.py PROGRAM CPP STAMPED FOLDER ROUNDS
 

@@ -1,4 +1,4 @@
-"""Judges histories by `stamped check` and in python, in turns, and prints a table.
+"""Judges histories by `stamped check` and in python, alternating, and prints a table.
 
     judge_table.py PROGRAM JUDGE FOLDER ROUNDS
 

@@ -1,6 +1,6 @@
 #!/usr/bin/env bash
 # Times pairs of calls on a running lock beside the same accesses in C11 and the JDK's StampedLock:
-# nanoseconds a pair, the medians of many short rounds, the programs in turns.
+# nanoseconds a pair, the medians of many short rounds, the programs alternating.
 #
 #   bench/lock/time.sh [PAIRS [ROUNDS]]
 #

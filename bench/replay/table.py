@@ -1,4 +1,4 @@
-"""Runs a program's `replay` and python's json on the same file, in turns, and prints a table.
+"""Runs a program's `replay` and python's json on the same file, alternating, and prints a table.
 
     replay_table.py PROGRAM FILE CALLS ROUNDS
 

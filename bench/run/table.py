@@ -1,4 +1,4 @@
-"""Runs a script by `stamped run`, in C and in python, in turns, and prints a table.
+"""Runs a script by `stamped run`, in C and in python, alternating, and prints a table.
 
     run_table.py PROGRAM PYTHON_PROGRAM FOLDER STEPS ROUNDS
 

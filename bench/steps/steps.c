@@ -41,12 +41,12 @@ static struct script_call record_call(uint64_t i, const uint64_t *words) {
     return i % 40 == 0 ? put : call(GET);
 }
 
-static uint64_t name_of(uint64_t turn) {
-    return turn * UINT64_C(2654435761) % (UINT64_C(1) << 32) >> 26;
+static uint64_t thread_of(uint64_t round) {
+    return round * UINT64_C(2654435761) % (UINT64_C(1) << 32) >> 26;
 }
 
-// How many steps a turn has: a call of the record has many.
-static size_t turn_of(size_t width) { return width ? 100 : 1; }
+// How many steps a thread makes before the next one: a call of the record has many.
+static size_t round_of(size_t width) { return width ? 100 : 1; }
 
 static struct calls calls_of(uint64_t thread, size_t width) {
     struct calls calls = {made(malloc(CALLS * sizeof *calls.items)), CALLS};
@@ -64,7 +64,7 @@ static struct script *made_script(size_t steps, size_t width) {
     script->thread_count = THREADS;
     script->step_count = steps;
     script->steps = made(malloc(steps * sizeof *script->steps));
-    for (size_t i = 0; i < steps; i++) script->steps[i] = name_of(i / turn_of(width));
+    for (size_t i = 0; i < steps; i++) script->steps[i] = thread_of(i / round_of(width));
     for (uint64_t t = 0; t < THREADS; t++) script->threads[t] = calls_of(t, width);
     return script;
 }

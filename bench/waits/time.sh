@@ -1,6 +1,6 @@
 #!/usr/bin/env bash
 # Times how eight threads on one core wait for a lock that one of them holds for a millisecond at a
-# time: wall and processor time until so many acquisitions, beside the JDK's StampedLock, in turns.
+# time: wall and processor time until so many acquisitions, beside the JDK's StampedLock, alternating.
 #
 #   bench/waits/time.sh [EACH [TURNS [NAME=PROGRAM..]]]
 #

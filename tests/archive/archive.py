@@ -4,7 +4,8 @@
 
 Run at the top of the repository, with libstamped_c.a and the program. `calls.c` calls the library's functions.
 
-    walks    random calls from the opening on, in both layouts, with stamps that were issued, their
+    sequences
+             random calls from the opening on, in both layouts, with stamps that were issued, their
              neighbours and other numbers: the replies and the last word are those of `stamped replay`,
              and a call that waits is one that `stamped replay` says would wait
     numbers  random words of any version, and what is wrong with numbers, limits and codes, beside the
@@ -25,7 +26,7 @@ import tempfile
 sys.path.insert(0, "bench/common")
 import call_table  # noqa: E402 (a file of bench/common)
 
-WALKS, LENGTH = 220, 500
+SEQUENCES, LENGTH = 220, 500
 WORDS, STAMPS, SEED = 20000, 60, 1
 INCLUDE = "crates/stamped_c/include"
 C_FLAGS = ["-O2", "-Wall", "-Wextra", "-pedantic", "-Werror", "-I", INCLUDE]
@@ -88,7 +89,7 @@ def drawn_stamp(layout, issued, word):
     return number % 2**64
 
 
-def walk(library, layout, limits):
+def sequence(library, layout, limits):
     """The calls that were made, their replies, the last word, and the calls made before each one that waits."""
     (word,) = library.ask("o", layout)
     calls, replies, issued, waits = [], [], [word], []
@@ -116,15 +117,15 @@ def replayed(stamped, layout, limits, calls):
     return subprocess.run([stamped, "replay"], input=text, capture_output=True, text=True, check=False)
 
 
-def compare_walk(library, stamped, layout, limits):
-    calls, replies, word, waits = walk(library, layout, limits)
+def compare_sequence(library, stamped, layout, limits):
+    calls, replies, word, waits = sequence(library, layout, limits)
     run = replayed(stamped, layout, limits, calls)
     if run.returncode:
-        fail(f"stamped refuses the calls of a walk under {limits}: {run.stderr}")
+        fail(f"stamped refuses the calls of a sequence under {limits}: {run.stderr}")
     told = json.loads(run.stdout)
     for call, ours, wanted in zip(calls, replies, told["replies"], strict=True):
-        same(f"{call} in a walk of layout {layout} under {limits}", ours, wanted)
-    same(f"the last word of a walk of layout {layout}", word, told["word"])
+        same(f"{call} in a sequence of layout {layout} under {limits}", ours, wanted)
+    same(f"the last word of a sequence of layout {layout}", word, told["word"])
     for before, call in waits[:1]:
         run = replayed(stamped, layout, limits, [*calls[:before], call])
         if run.returncode != 1 or f"call {before}" not in run.stderr:
@@ -132,15 +133,15 @@ def compare_walk(library, stamped, layout, limits):
     return len(calls), len(waits)
 
 
-def compare_walks(library, stamped):
+def compare_sequences(library, stamped):
     made = waited = 0
-    for turn in range(WALKS):
-        layout = 1 + turn % 2
+    for number in range(SEQUENCES):
+        layout = 1 + number % 2
         most, versions = LAYOUTS[layout][2:]
         limits = random.choice([(most, versions), (1, versions), (3, 20), (most, 0), (2, random.randrange(1, 100))])
-        calls, waits = compare_walk(library, stamped, layout, limits)
+        calls, waits = compare_sequence(library, stamped, layout, limits)
         made, waited = made + calls, waited + waits
-    print(f"walks: {made} replies as those of stamped replay, {waited} calls that wait")
+    print(f"sequences: {made} replies as those of stamped replay, {waited} calls that wait")
     if made < 100000:
         fail("too few calls were made")
 
@@ -351,7 +352,7 @@ def main():
         compare_words(library)
         compare_stamps(library, stamped)
         compare_names(library)
-        compare_walks(library, stamped)
+        compare_sequences(library, stamped)
         try_page()
         try_header(archive, room)
         try_shared(archive, room)

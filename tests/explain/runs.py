@@ -2,8 +2,8 @@
 
     runs.py EXPLAIN STAMPED
 
-Run at the top of the repository. Threads make calls of a lock, and of a record that it guards, in turns
-at random. Of the history that `run` tells, the points are taken off and the entries listed in another
+Run at the top of the repository. Threads make calls of a lock, and of a record that it guards, and are
+interleaved at random. Of the history that `run` tells, the points are taken off and the entries listed in another
 order; of some, what returned after a moment is under way, or was never begun. Each is explained, and
 `stamped check` accepts what is found: a record of at least the calls that returned."""
 import json

@@ -1,4 +1,4 @@
-"""Runs the programs where each read gives one byte and each write takes one, and fails each in turn.
+"""Runs the programs where each read gives one byte and each write takes one, and fails each, one in each run.
 
     failing_io.py NARROW REFUSE STAMPED EXPLAIN PICTURE
 
@@ -51,7 +51,7 @@ def assert_ended(words, answer, wanted, when):
 
 
 def reads_of(runs, words, text, ample):
-    """Fails each read in turn, that of the end among them; returns how many there were."""
+    """Fails each read, one in each run, that of the end among them; returns how many there were."""
     reads = 0 if "stamp" in words[1:] else len(text) + 1
     for number in range(1, reads + 1):
         answer, _ = runs.ended(words, text, FAIL_READ=number)
@@ -62,7 +62,7 @@ def reads_of(runs, words, text, ample):
 
 
 def writes_of(runs, words, text, ample):
-    """Fails each write in turn, in both ways; returns how many there were."""
+    """Fails each write, one in each run, in both ways; returns how many there were."""
     line = ample[1]
     for number in range(1, len(line) + 1):
         front = (1, line[: number - 1], WRITE_FAULT)
@@ -80,7 +80,7 @@ def pictures_of(runs, picture):
         drawn, _ = runs.ended([picture, *words], OLD)
         reads = reads_of(runs, [picture, *words], OLD, drawn)
         writes = writes_of(runs, [picture, *words], OLD, drawn)
-        print(f"{['stamped_picture', *words]}: {reads} reads and {writes} writes failed in turn")
+        print(f"{['stamped_picture', *words]}: {reads} reads and {writes} writes failed, one in each run")
 
 
 def without_errors(explain):
@@ -99,7 +99,7 @@ def main():
         ample = (status, line + b"\n", note)
         reads = reads_of(runs, words, text, ample)
         writes = writes_of(runs, words, text, ample)
-        print(f"{[os.path.basename(words[0]), *words[1:]]}: {reads} reads and {writes} writes failed in turn")
+        print(f"{[os.path.basename(words[0]), *words[1:]]}: {reads} reads and {writes} writes failed, one in each run")
     pictures_of(runs, picture)
     without_errors(explain)
     runs.tell()

@@ -1,4 +1,4 @@
-"""Runs programs with each of their allocations refused in turn, until a run makes fewer.
+"""Runs programs with each of their allocations refused, one in each run, until a run makes fewer.
 
     refused_memory.py SHIM STAMPED EXPLAIN PICTURE TRIAL
 
@@ -90,7 +90,7 @@ def drawn(picture, text, status, *words):
 
 
 def runs_of(runs, words, text, wanted, refusals):
-    """Refuses each allocation in turn; returns how many there were, and how many runs bore it."""
+    """Refuses each allocation, one in each run; returns how many there were, and how many runs bore it."""
     ample, _ = runs.ended(words, text)
     if ample != wanted:
         sys.exit(f"{words}: {ample}, and not {wanted}")
@@ -150,7 +150,7 @@ def main():
     trials = {}
     for words, text, wanted, refusals in table:
         count, borne = runs_of(runs, words, text, wanted, refusals)
-        print(f"{[os.path.basename(words[0]), *words[1:]]}: {count} allocations refused in turn")
+        print(f"{[os.path.basename(words[0]), *words[1:]]}: {count} allocations refused, one in each run")
         if words[0] == trial:
             trials[words[-1]] = count, borne
     if trials[trial][1] <= trials["make"][1]:

@@ -10,13 +10,13 @@ mod threads;
 use anyhow::Result;
 use point::Point;
 use std::thread::join;
-use threads::{walk_by_two, watch_by_two};
+use threads::{move_by_two, watch_by_two};
 
 fn main(rt: HostRuntime) -> Result<()> {
     let point = Point::new(rt.alloc())?;
     let (starts, watched) = join(
         &rt,
-        || walk_by_two(&rt, &point),
+        || move_by_two(&rt, &point),
         || watch_by_two(&rt, &point),
     );
     watched?;

@@ -5,20 +5,20 @@ use std::sync::Wait;
 use std::thread::{Threads, join};
 
 /// How often each thread moves the point, or asks for its distance.
-const TURNS: u64 = 10_000;
+const TIMES: u64 = 10_000;
 
-/// Moves the point from the origin if it is still there, and then TURNS times; whether it was there.
-fn walk<R: Wait>(rt: &R, mut point: PointHandle<'_>) -> Result<bool> {
+/// Moves the point from the origin if it is still there, and then TIMES times; whether it was there.
+fn move_around<R: Wait>(rt: &R, mut point: PointHandle<'_>) -> Result<bool> {
     let is_first = point.move_if_at_origin(rt, 3, 4)?;
-    for _ in 0..TURNS {
+    for _ in 0..TIMES {
         point.move_by(rt, 3, 4)?;
     }
     Ok(is_first)
 }
 
-/// Asks for the distance TURNS times. It fails where one isn't a multiple of 5.
+/// Asks for the distance TIMES times. It fails where one isn't a multiple of 5.
 fn watch<R: Wait>(rt: &R, mut point: PointHandle<'_>) -> Result<()> {
-    for _ in 0..TURNS {
+    for _ in 0..TIMES {
         let square = point.squared_distance(rt)?;
         let distance = square.isqrt();
         ensure!(
@@ -30,8 +30,8 @@ fn watch<R: Wait>(rt: &R, mut point: PointHandle<'_>) -> Result<()> {
 }
 
 /// Two threads that move the point; how many of them moved it from the origin.
-pub fn walk_by_two<R: Threads + Wait + Sync>(rt: &R, point: &Point) -> Result<u64> {
-    let (first, second) = join(rt, || walk(rt, point.enter()), || walk(rt, point.enter()));
+pub fn move_by_two<R: Threads + Wait + Sync>(rt: &R, point: &Point) -> Result<u64> {
+    let (first, second) = join(rt, || move_around(rt, point.enter()), || move_around(rt, point.enter()));
     Ok(u64::from(first?) + u64::from(second?))
 }
 

@@ -6,11 +6,11 @@ use std::sync::Wait;
 use std::thread::{Threads, join};
 
 /// How many quotes are written, and how many each reader reads.
-const TURNS: u64 = 10_000;
+const QUOTES: u64 = 10_000;
 
 /// Writes a quote for each bid from 1 up, its ask from one to seven above it.
 pub fn quote<R: Wait>(rt: &R, mut board: BoardHandle<'_>) -> Result<(), Spent> {
-    for bid in 1..=TURNS {
+    for bid in 1..=QUOTES {
         board.put(rt, [bid, bid + 1 + bid % 7])?;
     }
     Ok(())
@@ -18,7 +18,7 @@ pub fn quote<R: Wait>(rt: &R, mut board: BoardHandle<'_>) -> Result<(), Spent> {
 
 /// Reads this many quotes. It fails where a spread is none that was written.
 fn watch<R: Wait>(rt: &R, mut board: BoardHandle<'_>) -> Result<()> {
-    for _ in 0..TURNS {
+    for _ in 0..QUOTES {
         let spread = spread(rt, &mut board);
         ensure!(spread <= 7, "a spread of {spread}");
     }

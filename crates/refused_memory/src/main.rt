@@ -62,20 +62,20 @@ fn outcome_of_all(rt: &(impl Wait + AllocGlobal), limits: Limits) -> Outcome {
     all
 }
 
-/// The outcome that the word after the program's name asks for, or that of all where there is none.
+/// The outcome that the first argument asks for, or that of all where there is none.
 fn outcome_given(rt: &(impl Env + Wait + AllocGlobal)) -> Outcome {
     let Ok(limits) = Limits::new(1, 1) else {
         return Outcome::Wrong;
     };
-    let mut words = match env::args(rt) {
-        Ok(words) => words,
+    let mut args = match env::args(rt) {
+        Ok(args) => args,
         Err(fault) if fault.kind() == io::ErrorKind::OutOfMemory => return Outcome::Refused,
         Err(_) => return Outcome::Wrong,
     };
-    let Some(word) = words.nth(1) else {
+    let Some(wanted) = args.nth(1) else {
         return outcome_of_all(rt, limits);
     };
-    match word.as_str() {
+    match wanted.as_str() {
         "make" => task_outcome(rt.alloc(), Task::Make),
         "check" => task_outcome(rt.alloc(), Task::Check),
         "migrate" => task_outcome(rt.alloc(), Task::Migrate),

@@ -29,14 +29,14 @@ one_word word =
     else if bytes_eq word (codes "migrate") then Some Migrate
     else None
 
-abbrev pub two_words : List ℕ → List ℕ → Option Order
-two_words command second =
+abbrev pub two_args : List ℕ → List ℕ → Option Order
+two_args command second =
     if bytes_eq command (codes "stamp") then option_map Stamp (number_in second)
     else if bytes_eq command (codes "run") && bytes_eq second (codes "--report") then Some RunReported
     else None
 
-abbrev pub four_words : List ℕ → List ℕ → List ℕ → List ℕ → Option Order
-four_words command option layout number =
+abbrev pub four_args : List ℕ → List ℕ → List ℕ → List ℕ → Option Order
+four_args command option layout number =
     if bytes_eq command (codes "stamp") && bytes_eq option (codes "--layout")
     then option_and_then (λ found. option_map (StampIn found) (number_in number)) (layout_in layout)
     else None
@@ -44,10 +44,10 @@ four_words command option layout number =
 -- the forms of the command line: replay, run, run --report, check, migrate, stamp N, stamp --layout L N
 abbrev pub form_of : List (List ℕ) → Option Order
 form_of (word ∷ []) = one_word word
-form_of (command ∷ second ∷ []) = two_words command second
-form_of (command ∷ option ∷ layout ∷ number ∷ []) = four_words command option layout number
+form_of (command ∷ second ∷ []) = two_args command second
+form_of (command ∷ option ∷ layout ∷ number ∷ []) = four_args command option layout number
 form_of _ = None
 
--- the order that words give
+-- the order that arguments give
 abbrev pub order_in : List (List ℕ) → Result Order CommandFault
-order_in words = option_map_or Ok (form_of words) (Err Bad)
+order_in args = option_map_or Ok (form_of args) (Err Bad)

@@ -1,4 +1,4 @@
--- What a number is as a stamp, in words.
+-- What a number is as a stamp, as a text.
 use Rattle.std.specs.Prelude.{ℕ, ◌≡◌, List, ◌++◌, codes, decimal}
 use Rattle.stamp_core.specs.Layout.{units_of}
 use Rattle.stamp_core.specs.StampKind.{HasKind}

@@ -1,4 +1,4 @@
-//! The verdict on a history, in words.
+//! The line of a verdict on a history.
 
 ghost use Rattle.std.specs.Prelude.{◌≡◌, Some, Ok, Err, IfOk};
 ghost use Rattle.stamp_cli.specs.CheckText.{why_text, bad_text, ok_text, check_verdict_text, verdict_of};

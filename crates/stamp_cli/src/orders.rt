@@ -28,10 +28,10 @@ pub enum Order {
     StampIn(Layout, u64),
 }
 
-/// Why words are no order.
+/// Why arguments are no order.
 #[derive(Clone, Copy, Debug, PartialEq, Eq)]
 pub enum CommandFault {
-    /// 1: the words are no form of the command line.
+    /// 1: the arguments are no form of the command line.
     Bad,
 }
 
@@ -85,8 +85,8 @@ fn one_word(word: &str) -> Option<Order>
     }
 }
 
-fn two_words(command: &str, second: &str) -> Option<Order>
-    ensures { result ≡ order.two_words command.now second.now }
+fn two_args(command: &str, second: &str) -> Option<Order>
+    ensures { result ≡ order.two_args command.now second.now }
 {
     match command {
         "stamp" => Some(Order::Stamp(number_in(second)?)),
@@ -95,8 +95,8 @@ fn two_words(command: &str, second: &str) -> Option<Order>
     }
 }
 
-fn four_words(command: &str, option: &str, layout: &str, number: &str) -> Option<Order>
-    ensures { result ≡ order.four_words command.now option.now layout.now number.now }
+fn four_args(command: &str, option: &str, layout: &str, number: &str) -> Option<Order>
+    ensures { result ≡ order.four_args command.now option.now layout.now number.now }
 {
     match command {
         "stamp" if option == "--layout" => {
@@ -106,20 +106,20 @@ fn four_words(command: &str, option: &str, layout: &str, number: &str) -> Option
     }
 }
 
-fn form_of(words: &[&str]) -> Option<Order>
-    ensures { result ≡ order.form_of (map (λ word. word.now) words.now) }
+fn form_of(args: &[&str]) -> Option<Order>
+    ensures { result ≡ order.form_of (map (λ arg. arg.now) args.now) }
 {
-    match words {
+    match args {
         [word] => one_word(word),
-        [command, second] => two_words(command, second),
-        [command, option, layout, number] => four_words(command, option, layout, number),
+        [command, second] => two_args(command, second),
+        [command, option, layout, number] => four_args(command, option, layout, number),
         _ => None,
     }
 }
 
-/// The order that the words after the program's name give.
-pub fn order_of(words: &[&str]) -> Result<Order, CommandFault>
-    ensures { result ≡ order.order_in (map (λ word. word.now) words.now) }
+/// The order that the program's arguments give.
+pub fn order_of(args: &[&str]) -> Result<Order, CommandFault>
+    ensures { result ≡ order.order_in (map (λ arg. arg.now) args.now) }
 {
-    form_of(words).ok_or(CommandFault::Bad)
+    form_of(args).ok_or(CommandFault::Bad)
 }

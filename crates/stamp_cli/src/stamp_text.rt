@@ -1,4 +1,4 @@
-//! What a number is as a stamp, in words.
+//! What a number is as a stamp, as a text.
 
 ghost use Rattle.std.specs.Prelude.{◌≡◌, Some, IfOk, OnErr};
 ghost use Rattle.stamp_core.specs.Layout.{units_of};
@@ -25,7 +25,7 @@ impl fmt::Display for KindText {
     }
 }
 
-/// What a number is as a stamp of the layout, in words.
+/// What a number is as a stamp of the layout, as a text.
 pub(crate) fn stamp_line(alloc: Global, layout: Layout, stamp: u64) -> Result<Vec<u8>, AllocError>
     ensures { IfOk result (λ line. IsStampText layout stamp line.items) }
 {

@@ -1,4 +1,4 @@
-pub mod Words
+pub mod Labels
 pub mod Markup
 pub mod Places
 pub mod Sheet

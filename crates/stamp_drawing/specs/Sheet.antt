@@ -16,10 +16,10 @@ use Rattle.stamp_drawing.specs.declared.sheet.Shape.{Shape}
 use Rattle.stamp_drawing.specs.declared.sheet.Sheet.{Sheet}
 use Rattle.stamp_drawing.specs.Places.{ends_of, lanes_in, right_of, border, point_x, bar_place, mark_place}
 use Rattle.stamp_drawing.specs.Places.{moment_place, opening_place, content_place, lane_place, foot_of}
-use Rattle.stamp_drawing.specs.Words.{call_text, reply_text, answered_text, state_text, short_mode_text, content_text}
-use Rattle.stamp_drawing.specs.Words.{verdict_text}
+use Rattle.stamp_drawing.specs.Labels.{call_text, reply_text, answered_text, state_text, short_mode_text, content_text}
+use Rattle.stamp_drawing.specs.Labels.{verdict_text}
 
--- where a box stands, and its words
+-- where a box stands, and its label
 pub record Box : Type 0 where
   pub place : Place
   pub title : List ℕ

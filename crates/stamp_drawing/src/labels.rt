@@ -1,8 +1,8 @@
-//! The words of a picture.
+//! The labels of a picture: calls, replies, states and verdicts as texts.
 ghost use Rattle.std.specs.Prelude.{Some};
-ghost use Rattle.stamp_drawing.specs.Words.{words_text, call_text, reply_text, answered_text, mode_text};
-ghost use Rattle.stamp_drawing.specs.Words.{short_mode_text, content_text, state_text};
-ghost use Rattle.stamp_drawing.specs.Words.{brief_text, callee_text, why_text, due_text, verdict_text};
+ghost use Rattle.stamp_drawing.specs.Labels.{words_text, call_text, reply_text, answered_text, mode_text};
+ghost use Rattle.stamp_drawing.specs.Labels.{short_mode_text, content_text, state_text};
+ghost use Rattle.stamp_drawing.specs.Labels.{brief_text, callee_text, why_text, due_text, verdict_text};
 
 use stamp_check::Why;
 use stamp_core::{Call, Reply, Words};

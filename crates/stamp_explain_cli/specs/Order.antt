@@ -6,15 +6,15 @@ use Rattle.stamp_cli.specs.Order.{number_in}
 use Rattle.stamp_cli.specs.declared.orders.CommandFault.{CommandFault}
 use Rattle.stamp_cli.specs.declared.orders.CommandFault.TheVariants.{Bad}
 
-abbrev pub two_words : List ℕ → List ℕ → Option ℕ
-two_words option number = if bytes_eq option (codes "--most") then number_in number else None
+abbrev pub two_args : List ℕ → List ℕ → Option ℕ
+two_args option number = if bytes_eq option (codes "--most") then number_in number else None
 
--- the forms of the command line: no word, and --most N
+-- the forms of the command line: no argument, and --most N
 abbrev pub form_of : List (List ℕ) → Option ℕ
 form_of [] = Some 4000000
-form_of (option ∷ number ∷ []) = two_words option number
+form_of (option ∷ number ∷ []) = two_args option number
 form_of _ = None
 
--- the most configurations that words give
+-- the most configurations that arguments give
 abbrev pub most_in : List (List ℕ) → Result ℕ CommandFault
-most_in words = option_map_or Ok (form_of words) (Err Bad)
+most_in args = option_map_or Ok (form_of args) (Err Bad)

@@ -8,8 +8,8 @@ use stamp_cli::{CommandFault, number_in};
 /// The most configurations that are looked at, if the command line says no other number.
 pub const MOST: u64 = 4_000_000;
 
-fn two_words(option: &str, number: &str) -> Option<u64>
-    ensures { result ≡ order.two_words option.now number.now }
+fn two_args(option: &str, number: &str) -> Option<u64>
+    ensures { result ≡ order.two_args option.now number.now }
 {
     match option {
         "--most" => number_in(number),
@@ -17,20 +17,20 @@ fn two_words(option: &str, number: &str) -> Option<u64>
     }
 }
 
-fn form_of(words: &[&str]) -> Option<u64>
-    ensures { result ≡ order.form_of (map (λ word. word.now) words.now) }
+fn form_of(args: &[&str]) -> Option<u64>
+    ensures { result ≡ order.form_of (map (λ arg. arg.now) args.now) }
 {
-    match words {
+    match args {
         [] => Some(MOST),
-        [option, number] => two_words(option, number),
+        [option, number] => two_args(option, number),
         _ => None,
     }
 }
 
-/// The most configurations that the words after the program's name allow: those of no word, or of
-/// `--most N`, where `N` is a number below 2^64 in decimal digits alone. Other words are no form.
-pub fn most_of(words: &[&str]) -> Result<u64, CommandFault>
-    ensures { result ≡ order.most_in (map (λ word. word.now) words.now) }
+/// The most configurations that the program's arguments allow: those of no argument, or of
+/// `--most N`, where `N` is a number below 2^64 in decimal digits alone. Other arguments are no form.
+pub fn most_of(args: &[&str]) -> Result<u64, CommandFault>
+    ensures { result ≡ order.most_in (map (λ arg. arg.now) args.now) }
 {
-    form_of(words).ok_or(CommandFault::Bad)
+    form_of(args).ok_or(CommandFault::Bad)
 }

@@ -52,7 +52,7 @@ pub record IsPicture (r : Recorded) (w : Window) (p : Drawn) : Type 0 where
   pub opening : p.opening ≡ opening_state r.limits r.width w (take (right_in p.verdict) r.entries)
   pub ribbon : p.ribbon ≡ moments_of r.limits r.width w (take (right_in p.verdict) r.entries)
 
--- why there is no picture, in words
+-- why there is no picture
 abbrev pub error_text : PictureError → List ℕ
 error_text Memory = codes "out of memory"
 error_text (TooMany n) = decimal n ++ codes " entries to draw, of at most 2000"

@@ -1,4 +1,4 @@
-//! Answers commands on a lock: words and standard input in, one line out.
+//! Answers commands on a lock: arguments and standard input in, one line out.
 #![tactic(auto)]
 
 use stamp_cli::{
@@ -9,19 +9,19 @@ use std::process::ExitCode;
 use std::rt::Env;
 use std::{env, io};
 
-/// The order that the words after the program's name give. Words that are no text give none.
+/// The order that the program's arguments give. Those that are no text give none.
 fn order_given(rt: &(impl Env + AllocGlobal)) -> Result<Result<Order, CommandFault>, AllocError> {
     let args: Vec<String> = match env::args(rt) {
         Ok(args) => args.collect(rt.alloc())?,
         Err(fault) if fault.kind() == io::ErrorKind::OutOfMemory => return Err(AllocError),
         Err(_) => return Ok(Err(CommandFault::Bad)),
     };
-    let words: Vec<&str> = args
+    let texts: Vec<&str> = args
         .iter()
         .skip(1)
-        .map(|word| word.as_str())
+        .map(|arg| arg.as_str())
         .collect(rt.alloc())?;
-    Ok(order_of(&words))
+    Ok(order_of(&texts))
 }
 
 /// Serves the order between standard input and standard output.

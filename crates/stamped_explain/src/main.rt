@@ -8,20 +8,19 @@ use std::process::ExitCode;
 use std::rt::Env;
 use std::{env, io};
 
-/// The most configurations that the words after the program's name allow. Words that are no text allow
-/// none.
+/// The most configurations that the program's arguments allow. Those that are no text allow none.
 fn most_given(rt: &(impl Env + AllocGlobal)) -> Result<Result<u64, CommandFault>, AllocError> {
     let args: Vec<String> = match env::args(rt) {
         Ok(args) => args.collect(rt.alloc())?,
         Err(fault) if fault.kind() == io::ErrorKind::OutOfMemory => return Err(AllocError),
         Err(_) => return Ok(Err(CommandFault::Bad)),
     };
-    let words: Vec<&str> = args
+    let texts: Vec<&str> = args
         .iter()
         .skip(1)
-        .map(|word| word.as_str())
+        .map(|arg| arg.as_str())
         .collect(rt.alloc())?;
-    Ok(most_of(&words))
+    Ok(most_of(&texts))
 }
 
 /// Explains what comes from standard input to standard output.

@@ -57,13 +57,13 @@ form_within (text ∷ wide ∷ width ∷ option ∷ from ∷ other ∷ to ∷ []
     both (wide_form text wide width) (window_in option from other to)
 form_within _ = None
 
--- the forms of the command line: no word, --text, --text --width N, or one of these with --from A --to B behind
+-- the forms of the command line: no argument, --text, --text --width N, or one of these with --from A --to B behind
 abbrev pub form_of : List (List ℕ) → Option PictureOrder
 form_of [] = both (Some Svg) all
 form_of (text ∷ []) = both (text_form text) all
 form_of (text ∷ option ∷ width ∷ []) = both (wide_form text option width) all
-form_of words = form_within words
+form_of args = form_within args
 
--- the order that words give
+-- the order that arguments give
 abbrev pub order_in : List (List ℕ) → Result PictureOrder CommandFault
-order_in words = option_map_or Ok (form_of words) (Err Bad)
+order_in args = option_map_or Ok (form_of args) (Err Bad)

@@ -1,4 +1,4 @@
-//! Draws a recorded history: words and standard input in, one picture out.
+//! Draws a recorded history: arguments and standard input in, one picture out.
 #![tactic(auto)]
 
 mod answer;
@@ -17,7 +17,7 @@ use std::process::ExitCode;
 use std::rt::Env;
 use std::{env, io};
 
-/// The order that the words after the program's name give. Words that are no text give none.
+/// The order that the program's arguments give. Those that are no text give none.
 fn order_given(
     rt: &(impl Env + AllocGlobal),
 ) -> Result<Result<PictureOrder, CommandFault>, AllocError> {
@@ -26,12 +26,12 @@ fn order_given(
         Err(fault) if fault.kind() == io::ErrorKind::OutOfMemory => return Err(AllocError),
         Err(_) => return Ok(Err(CommandFault::Bad)),
     };
-    let words: Vec<&str> = args
+    let texts: Vec<&str> = args
         .iter()
         .skip(1)
-        .map(|word| word.as_str())
+        .map(|arg| arg.as_str())
         .collect(rt.alloc())?;
-    Ok(order_of(&words))
+    Ok(order_of(&texts))
 }
 
 /// Serves the order between standard input and standard output.

@@ -1,12 +1,9 @@
 //! The command line.
 
 ghost use Rattle.std.specs.Prelude.{◌≡◌, map, option_and_then, option_map};
-ghost use Rattle.std.specs.Char.{is_ascii_digit};
-ghost use Rattle.std.specs.List.{list_all};
-ghost use Rattle.stamp_cli.specs.Order as order;
 ghost use Rattle.stamped_picture.specs.Order.{width_in, text_form, wide_form, window_of, window_in, both, form_within, form_of, order_in};
 
-use stamp_cli::CommandFault;
+use stamp_cli::{CommandFault, number_in};
 use stamp_picture::Window;
 
 /// How a picture is drawn.
@@ -25,24 +22,6 @@ pub(crate) struct PictureOrder {
     pub(crate) form: Form,
     /// The part of the history.
     pub(crate) window: Window,
-}
-
-fn is_digits(text: &str) -> bool
-    ensures { result ≡ list_all is_ascii_digit text.now }
-{
-    text.bytes().all(|byte| byte.is_ascii_digit())
-}
-
-/// The number below 2^64 that the text is in decimal digits alone.
-#[tactic(auto, using(stamp_cli::proofs::Digits::number_parsed))]
-fn number_in(text: &str) -> Option<u64>
-    ensures { result ≡ order.number_in text.now }
-{
-    // A sign is no digit, and `parse` would take it.
-    if !is_digits(text) {
-        return None;
-    }
-    text.parse().ok()
 }
 
 fn width_in(text: &str) -> Option<u64>
@@ -107,10 +86,10 @@ fn both(form: Option<Form>, window: Option<Window>) -> Option<PictureOrder>
 }
 
 /// The forms with a window behind.
-fn form_within(words: &[&str]) -> Option<PictureOrder>
-    ensures { result ≡ form_within (map (λ word. word.now) words.now) }
+fn form_within(args: &[&str]) -> Option<PictureOrder>
+    ensures { result ≡ form_within (map (λ arg. arg.now) args.now) }
 {
-    match words {
+    match args {
         [option, from, other, to] => both(Some(Form::Svg), window_in(option, from, other, to)),
         [text, option, from, other, to] => {
             both(text_form(text), window_in(option, from, other, to))
@@ -123,21 +102,21 @@ fn form_within(words: &[&str]) -> Option<PictureOrder>
     }
 }
 
-fn form_of(words: &[&str]) -> Option<PictureOrder>
-    ensures { result ≡ form_of (map (λ word. word.now) words.now) }
+fn form_of(args: &[&str]) -> Option<PictureOrder>
+    ensures { result ≡ form_of (map (λ arg. arg.now) args.now) }
 {
     let all = Some(Window::all());
-    match words {
+    match args {
         [] => both(Some(Form::Svg), all),
         [text] => both(text_form(text), all),
         [text, option, width] => both(wide_form(text, option, width), all),
-        _ => form_within(words),
+        _ => form_within(args),
     }
 }
 
-/// The order that the words after the program's name give.
-pub(crate) fn order_of(words: &[&str]) -> Result<PictureOrder, CommandFault>
-    ensures { result ≡ order_in (map (λ word. word.now) words.now) }
+/// The order that the program's arguments give.
+pub(crate) fn order_of(args: &[&str]) -> Result<PictureOrder, CommandFault>
+    ensures { result ≡ order_in (map (λ arg. arg.now) args.now) }
 {
-    form_of(words).ok_or(CommandFault::Bad)
+    form_of(args).ok_or(CommandFault::Bad)
 }

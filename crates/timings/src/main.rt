@@ -1,7 +1,7 @@
 //! Times what the libraries do: `timings WHAT [NUMBER..]` writes its lines to standard error.
 //!
 //! WHAT is `decide`, `steps`, `check`, `lock`, `record`, `write_waits` or `read_waits`, and each has
-//! its own numbers. Where nothing is named, each is timed once, for a moment. Any other word is
+//! its own numbers. Where nothing is given, each is timed once, for a moment. Any other argument is
 //! refused, with status 2.
 #![tactic(auto)]
 
@@ -51,7 +51,7 @@ enum What {
     Waits(Mode),
 }
 
-/// All of it by its words, in the order of the libraries.
+/// All of it by its arguments, in the order of the libraries.
 const ALL: [(&str, What); 7] = [
     ("decide", What::Decide),
     ("steps", What::Steps),
@@ -79,23 +79,23 @@ impl What {
     }
 }
 
-/// A word as a number, if it is there and is one.
-fn number_of(word: Option<String>) -> Option<u64> {
-    word?.parse().ok()
+/// An argument as a number, if it is there and is one.
+fn number_of(arg: Option<String>) -> Option<u64> {
+    arg?.parse().ok()
 }
 
 fn main(rt: HostRuntime) -> io::Result<ExitCode> {
-    let mut words = env::args(&rt)?.skip(1);
-    let wanted = words.next();
+    let mut args = env::args(&rt)?.skip(1);
+    let wanted = args.next();
     let numbers = Numbers {
-        first: number_of(words.next()),
-        second: number_of(words.next()),
-        third: number_of(words.next()),
+        first: number_of(args.next()),
+        second: number_of(args.next()),
+        third: number_of(args.next()),
     };
     let mut is_known = false;
-    for (word, what) in ALL {
+    for (arg, what) in ALL {
         let is_wanted = match &wanted {
-            Some(wanted) => wanted.as_str() == word,
+            Some(wanted) => wanted.as_str() == arg,
             None => true,
         };
         if is_wanted {

@@ -5,7 +5,7 @@ use Rattle.stamp_picture.specs.declared.bar.Bar.{Bar}
 use Rattle.stamp_picture.specs.declared.picture.Fault.{Fault}
 use Rattle.stamp_picture.specs.declared.state.State.{State}
 use Rattle.stamp_drawing.specs.Places.{lanes_in}
-use Rattle.stamp_drawing.specs.Words.{verdict_text}
+use Rattle.stamp_drawing.specs.Labels.{verdict_text}
 use Rattle.stamp_drawing.specs.Rows.{row_text, cut_text, legend_text, at_first_text, heading_text, lines_of, AreTimes}
 use Rattle.stamp_drawing.specs.Rows.{AreNarrow}
 use Rattle.stamp_drawing.proofs.Appending.{onto}

@@ -1,7 +1,7 @@
 use Rattle.std.proofs.Common.{◌≡◌, ℕ, Some, Option, List, [], ◌∷◌, codes, refl, ap}
 use Rattle.std.specs.Prelude.{decimal}
 use Rattle.std.specs.Fmt.{debug_items, ◌++?◌}
-use Rattle.stamp_drawing.specs.Words.{numbers_text}
+use Rattle.stamp_drawing.specs.Labels.{numbers_text}
 use Rattle.stamp_drawing.proofs.labels.WordsLabelDisplay.fmt.Goals as goal
 
 items_shown : (lead ns : List ℕ) → debug_items (λ (n : ℕ). Some (decimal n)) lead ns ≡ Some (numbers_text lead ns)

@@ -1,4 +1,4 @@
--- The words of a picture: calls, replies, states and verdicts.
+-- The labels of a picture: its calls, replies, states and verdicts as texts.
 use Rattle.std.specs.Prelude.{ℕ, ◌==◌, List, [], ◌∷◌, ◌++◌, Option, Some, None, Result, Ok, Err}
 use Rattle.std.specs.Prelude.{codes, decimal, if◌then◌else◌}
 use Rattle.stamp_core.specs.Call.{is_lock_call}
