@@ -16,7 +16,7 @@ use Rattle.stamp_explain.specs.Observed.{IsObserved, ObservedHistory}
 use Rattle.stamp_explain.specs.Explained.{IsExplained}
 use Rattle.stamp_explain.specs.Search.{LockSteps, IsCompletedBy, IsReturnAt, AreReturns, first_state}
 use Rattle.stamp_explain.specs.Configuration.{AreOne, AwaitsNext, Configuration, GoesOnFrom, IsAlive, LookedAtMore}
-use Rattle.stamp_explain.specs.Configuration.{StepsFromOne}
+use Rattle.stamp_explain.specs.Configuration.{MovesFromOne}
 use Rattle.stamp_explain.specs.Node.{IsFirstNode, IsNext, IsReached}
 use Rattle.std.specs.Int.{bit_at}
 use Rattle.std.proofs.lemmas.Nat.Bits.{bit_at-zero}
@@ -54,10 +54,10 @@ deepens_no_more h returns store waited expanded are before all seen explained =
     of_first : HasFor h returns was.configurations 0 first
     of_first = of_node h returns store.nodes.items was.configurations 0 first was.are was.linked.at_first
 
-    steps : ℕ
-    steps = length (drop first.past returns) + length explained.order
+    moves : ℕ
+    moves = length (drop first.past returns) + length explained.order
 
-    hope : Hope h returns first steps
+    hope : Hope h returns first moves
     hope = record {
       state = first_state h.width;
       taken = [];
@@ -65,12 +65,12 @@ deepens_no_more h returns store waited expanded are before all seen explained =
       rest = explained.order;
       by = subst (λ (n : ℕ). IsCompletedBy (LockSteps h.limits) h.entries (drop n returns) (first_state h.width) []
           explained.order) (sym was.linked.is_first.past) (explained_by h returns are explained);
-      steps = refl;
+      moves = refl;
     }
 
     by : IsDead h returns first ⊎ IsOpen h returns was.configurations [] None_now 0 first of_first.configuration → ⊥
-    by (inl dead) = dead steps hope
-    by (inr going) = all_passed h returns was.configurations [] 0 first of_first.configuration going (omega arith) steps
+    by (inl dead) = dead moves hope
+    by (inr going) = all_passed h returns was.configurations [] 0 first of_first.configuration going (omega arith) moves
         hope
 
 -- where a search begins no call is in effect
@@ -191,8 +191,8 @@ deepened_more h returns store waiting expanded most awaited is enough = record {
     back k d here = at k d (omega (arith, slice_get_within (take (most + 1) cs) k d here, many)) ∙
         ap (λ (c : Configuration h None returns). Some c) (get_or_from_slice_get (take (most + 1) cs) k d d here)
 
-    in_looked : (k : ℕ) (d : Configuration h None returns) → k ≤ most + 1 → StepsFromOne h returns cs k d →
-        StepsFromOne h returns (take (most + 1) cs) k d
+    in_looked : (k : ℕ) (d : Configuration h None returns) → k ≤ most + 1 → MovesFromOne h returns cs k d →
+        MovesFromOne h returns (take (most + 1) cs) k d
     in_looked k d le one = record {
       place = one.place;
       before = one.before;
@@ -201,7 +201,7 @@ deepened_more h returns store waiting expanded most awaited is enough = record {
           ap (λ (c : Configuration h None returns). Some c)
           (get_or-take (most + 1) cs one.place one.from (omega (arith, one.before, le)) ∙
           get_or_from_slice_get cs one.place one.from one.from one.is_from);
-      steps = one.steps;
+      moves = one.moves;
     }
 
     -- the further one is settled too, or at the end
@@ -288,7 +288,7 @@ deepened_more h returns store waiting expanded most awaited is enough = record {
           rest = alive.rest;
           by = subst (λ (xs : List ℕ). IsCompletedBy (LockSteps h.limits) h.entries xs c.state c.taken alive.rest)
               it.to_come alive.by;
-          steps = refl;
+          moves = refl;
         }))
         by (inr going) = going.follow j (get_or (take (most + 1) cs) j d) lt (at j d inside)
 
