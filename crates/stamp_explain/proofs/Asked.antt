@@ -24,7 +24,7 @@ use Rattle.stamp_explain.specs.Asking.{SufficeUnless}
 use Rattle.stamp_explain.proofs.Lists.{none_in_empty, contains_cases, pairs_none}
 use Rattle.stamp_explain.proofs.Answering.{timeline_alike}
 use Rattle.stamp_explain.proofs.Answering.{opening_alike}
-use Rattle.stamp_explain.proofs.Leading.{way_past, way_by}
+use Rattle.stamp_explain.proofs.Leading.{reached_past, reached_by}
 use Rattle.stamp_explain.proofs.Counting.{all_differ, as_many, configuration_of, configurations_of, each_has}
 use Rattle.stamp_explain.proofs.Counting.{is_for_its}
 use Rattle.stamp_explain.proofs.GivingUp.{awaits_next, first_settled}
@@ -56,14 +56,7 @@ passed_reached asking v w taken is (passes_more {u} before step) =
     let l : ComesByReturn asking.seen returns u w at.reached.state at.reached.taken =
     step.leads at.reached.state at.reached.taken at.reached.stands in
     record {
-      reached = record {
-        state = at.reached.state;
-        taken = at.reached.taken;
-        inside = omega (arith, step.inside, l.past);
-        stands = l.stands;
-        way = way_past asking.seen (Some asking.place) returns u w at.reached.state at.reached.taken step.inside
-            at.reached.way l;
-      };
+      reached = reached_past asking.seen (Some asking.place) returns u w at.reached step.inside l;
       same = at.same;
     }
 
@@ -99,23 +92,11 @@ leads_beside asking node next is leads = by next.took refl (leads.leads.comes.le
     by : (o : Option ℕ) → next.took ≡ o → ComesNextBy h (Some asking.place) returns node via s taken o →
         IsReachedBeside asking next.node
     by None at l = then taken (record {
-      reached = record {
-        state = s;
-        taken = taken;
-        inside = omega (arith, leads.leads.comes.inside, l.past);
-        stands = l.stands;
-        way = way_past h (Some asking.place) returns node via s taken leads.leads.comes.inside is.reached.way l;
-      };
+      reached = reached_past h (Some asking.place) returns node via is.reached leads.leads.comes.inside l;
       same = refl;
     }) is.still
     by (Some i) at l = then (l.effect.index ∷ taken) (record {
-      reached = record {
-        state = l.state;
-        taken = l.effect.index ∷ taken;
-        inside = omega (arith, leads.leads.comes.inside, l.past);
-        stands = l.stands;
-        way = way_by h (Some asking.place) returns node via s taken i leads.leads.comes.inside is.reached.way l;
-      };
+      reached = reached_by h (Some asking.place) returns node via i is.reached leads.leads.comes.inside l;
       same = refl;
     }) (λ has. cases (contains_cases l.effect.index taken asking.place has))
       where
