@@ -195,11 +195,11 @@ replaced_length x y (here {ys}) = refl
 replaced_length x y (later {w} {ys} {zs} r) = ap suc (replaced_length x y r)
 
 -- it may take effect, too
-pub may_in_turn : (limits : Bounds) (entries : List Observation) (a : Observation) (s t : LockState) (taken : List ℕ)
-    (x : Effect) (k : ℕ) (e : Observation) → MayTake (LockSteps limits) entries a s taken x t →
+pub may_take_alike : (limits : Bounds) (entries : List Observation) (a : Observation) (s t : LockState)
+    (taken : List ℕ) (x : Effect) (k : ℕ) (e : Observation) → MayTake (LockSteps limits) entries a s taken x t →
     slice_get entries k ≡ Some e → IsAlikeSooner e x.entry → ¬ Contains taken k → ¬ IsBefore a e →
     MayTake (LockSteps limits) entries a s taken (record { index = k; entry = e; reply = x.reply }) t
-may_in_turn limits entries a s t taken x k e may at alike fresh begun = record {
+may_take_alike limits entries a s t taken x k e may at alike fresh begun = record {
   effect = record { is_entry = at; replies = may_reply_alike e x.entry x.reply alike may.effect.replies };
   fresh = fresh;
   begun = begun;
@@ -223,7 +223,7 @@ replaced_in x k entries to_come taken limits t rest by fresh other due =
     replaced x k rest (in_rest x k taken rest fresh other
     (All-contains (λ (j : ℕ). Contains (x.index ∷ taken) j ⊎ Contains (indices_of rest) j) to_come k by.returned due))
 
--- and the rest is completed in as many steps
+-- and the rest is completed in as many moves
 pub alike_in_as_many : (limits : Bounds) (entries : List Observation) (a : Observation) (to_come : List ℕ)
     (s t : LockState) (taken : List ℕ) (x : Effect) (k : ℕ) (e : Observation) (n : ℕ) →
     IsFirstReturn entries taken a → MayTake (LockSteps limits) entries a s taken x t →
@@ -236,7 +236,7 @@ alike_in_as_many limits entries a to_come s t taken x k e n first may can at ali
     record {
       rest = r.others;
       by = replaced_completes limits entries a to_come s t taken x k e can.rest first may can.by at alike other r;
-      steps = ap (λ (m : ℕ). length to_come + m) (replaced_length x r.old r.replaces) ∙ can.steps;
+      moves = ap (λ (m : ℕ). length to_come + m) (replaced_length x r.old r.replaces) ∙ can.moves;
     }
 
 same_or_not : (j k : ℕ) → (j ≡ k) ⊎ (j ≢ k)
@@ -244,7 +244,7 @@ same_or_not j k = grind arith
 
 pub alike_in_turn : AlikeInTurn
 alike_in_turn limits entries a to_come s t taken x k e first may can at alike fresh begun due = record {
-  may = may_in_turn limits entries a s t taken x k e may at alike fresh begun;
+  may = may_take_alike limits entries a s t taken x k e may at alike fresh begun;
   can = which (same_or_not k x.index);
 }
   where
@@ -253,5 +253,5 @@ alike_in_turn limits entries a to_come s t taken x k e first may can at alike fr
     which (inr other) =
         let c : CompletesIn (LockSteps limits) entries to_come t (k ∷ taken) (length to_come + length can.rest) =
         alike_in_as_many limits entries a to_come s t taken x k e (length to_come + length can.rest) first may
-        (record { rest = can.rest; by = can.by; steps = refl }) at alike other fresh due in
+        (record { rest = can.rest; by = can.by; moves = refl }) at alike other fresh due in
         record { rest = c.rest; by = c.by }

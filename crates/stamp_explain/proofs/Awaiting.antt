@@ -53,15 +53,15 @@ pub left_of : (h : ObservedHistory) (timeline : Timeline) (node : Node) (a : Obs
     timeline.returns.items
 left_of h timeline node a is = drop-cons timeline.returns.items node.past 0 is.inside
 
--- a hope at an awaited return, as the search's steps have it
-pub steps_of : (h : ObservedHistory) (timeline : Timeline) (node : Node) (a : Observation) (n : ℕ) →
+-- a hope at an awaited return, as the search has it
+pub hope_completes : (h : ObservedHistory) (timeline : Timeline) (node : Node) (a : Observation) (n : ℕ) →
     (is : Awaits h timeline node a) → (hope : Hope h timeline.returns.items node n) →
     CompletesIn (LockSteps h.limits) h.entries (get_or timeline.returns.items node.past 0 ∷ drop (suc node.past)
     timeline.returns.items) hope.state hope.taken n
-steps_of h timeline node a n is hope =
+hope_completes h timeline node a n is hope =
     let P : List ℕ → Type 0 = λ (to_come : List ℕ). CompletesIn (LockSteps h.limits) h.entries to_come hope.state
     hope.taken n in
-    subst P (left_of h timeline node a is) (record { rest = hope.rest; by = hope.by; steps = hope.steps })
+    subst P (left_of h timeline node a is) (record { rest = hope.rest; by = hope.by; moves = hope.moves })
 
 pub the_awaited : (h : ObservedHistory) (timeline : Timeline) (node : Node) (a : Observation) → Awaits h timeline
     node a →
@@ -101,7 +101,7 @@ leads_by_call h asked timeline node a i s taken w is bit stands to tried =
       stands = to.stands;
     })
 
--- one of these stands for what an order completes in fewer steps
+-- one of these stands for what an order completes in fewer moves
 pub goes_on_to : (h : ObservedHistory) (returns : List ℕ) (nexts : List Next) (w : Next) (s : LockState)
     (taken : List ℕ) (left n : ℕ) → Contains nexts w → suc left ≤ n → StandsFor h returns w.node s taken →
     CompletesIn (LockSteps h.limits) h.entries (drop w.node.past returns) s taken left → GoesOn h returns nexts n
@@ -116,7 +116,7 @@ goes_on_to h returns nexts w s taken left n among fewer stands completes = recor
     stands = stands;
     rest = completes.rest;
     by = completes.by;
-    steps = completes.steps;
+    moves = completes.moves;
   };
 }
 
@@ -180,7 +180,7 @@ pub suffices_past : (h : ObservedHistory) (timeline : Timeline) (node : Node) (a
     Suffice h timeline.returns.items node (past_of node threads ∷ [])
 suffices_past h timeline node a threads is bit clears n hope =
     goes (goes_on h.limits h.entries i a (drop (suc node.past) timeline.returns.items) hope.state hope.taken n
-    (the_awaited h timeline node a is) (steps_of h timeline node a n is hope))
+    (the_awaited h timeline node a is) (hope_completes h timeline node a n is hope))
   where
     i : ℕ
     i = get_or timeline.returns.items node.past 0

@@ -33,7 +33,7 @@ use Rattle.stamp_explain.specs.Possible.{without_return, returned_with}
 use Rattle.stamp_explain.specs.Asking.{Adds, AreAsked, AreLed, AreMore, Gets}
 use Rattle.stamp_explain.specs.Asking.{IsSeenWith, IsAsking, IsReachedBeside, ComesNextBeside, NoneIsAtOnceBeside}
 use Rattle.stamp_explain.specs.Asking.{SufficeBeside}
-use Rattle.stamp_explain.specs.Turn.{IsOutOfTurn}
+use Rattle.stamp_explain.specs.Ahead.{GivesWay}
 use Rattle.stamp_explain.proofs.Lists.{each_push, none_in_empty}
 use Rattle.stamp_explain.proofs.Replying.{IsAlike, alike_before, replied_is_observed}
 use Rattle.stamp_explain.proofs.Answering.{AreAlike, alike_with_reply, timeline_alike, there, other_there, took_alike}
@@ -237,7 +237,7 @@ beside_none asking node calls k nexts is more other took = record {
 pub beside_later : (asking : Asking) (node : Node) (calls : List ℕ) (k : ℕ) (nexts : List Next) →
     TriesBeside asking node calls k nexts → k < length calls →
     get_or calls (length calls - 1 - k) 0 ≢ asking.place →
-    IsOutOfTurn asking.seen (Some asking.place) node calls (get_or calls (length calls - 1 - k) 0) →
+    GivesWay asking.seen (Some asking.place) node calls (get_or calls (length calls - 1 - k) 0) →
     TriesBeside asking node calls (k + 1) nexts
 beside_later asking node calls k nexts is more other out = record {
   led = is.led;
@@ -246,7 +246,7 @@ beside_later asking node calls k nexts is more other out = record {
 }
   where
     out_too : (h : ObservedHistory) → AreAlike asking.seen h asking.place →
-        IsOutOfTurn h (Some asking.place) node calls (get_or calls (length calls - 1 - k) 0)
+        GivesWay h (Some asking.place) node calls (get_or calls (length calls - 1 - k) 0)
     out_too h alike = record {
       first = out.first;
       among = out.among;

@@ -13,7 +13,7 @@ use Rattle.stamp_explain.specs.declared.node.Waiting.{Waiting}
 use Rattle.stamp_explain.specs.declared.store.Store.{Store}
 use Rattle.stamp_explain.specs.Observed.{ObservedHistory}
 use Rattle.stamp_explain.specs.Search.{first_state}
-use Rattle.stamp_explain.specs.Configuration.{Configuration, GoesOnFrom, IsBeginning, StepsFromOne}
+use Rattle.stamp_explain.specs.Configuration.{Configuration, GoesOnFrom, IsBeginning, MovesFromOne}
 use Rattle.stamp_explain.specs.Node.{IsFirstNode}
 use Rattle.stamp_explain.specs.Store.{Keeps, BeginsWith}
 use Rattle.stamp_explain.specs.Expand.{Hope, GoesOn, ComesAfter, Expands}
@@ -37,7 +37,7 @@ pub record IsLedFrom (h : ObservedHistory) (returns : List ℕ) (nodes : List No
   pub is_node : slice_get nodes w.origin.from ≡ Some node
   pub leads : ComesAfter h None returns node (record { node = w.node; took = w.origin.took })
 
--- from this height on something waits that can be completed in fewer steps
+-- from this height on something waits that can be completed in fewer moves
 pub record WaitsAbove (h : ObservedHistory) (returns : List ℕ) (waiting : List Waiting) (height n : ℕ) : Type 0 where
   pub at : ℕ
   pub entry : Waiting
@@ -76,7 +76,7 @@ pub record Deepens (h : ObservedHistory) (returns : List ℕ) (store : Store) (w
   pub are : AreFor h returns store.nodes.items configurations
   pub begins : (c : Configuration h None returns) → slice_get configurations 0 ≡ Some c → IsBeginning h returns c
   pub from_one : (k : ℕ) (d : Configuration h None returns) → 0 < k → slice_get configurations k ≡ Some d →
-      StepsFromOne h returns configurations k d
+      MovesFromOne h returns configurations k d
   pub led : (i : ℕ) (w : Waiting) → slice_get waiting i ≡ Some w → IsLedFrom h returns store.nodes.items w
   pub unended : (p : ℕ) (v : Node) → p < expanded → slice_get store.nodes.items p ≡ Some v → v.past < length returns
   pub each : (p : ℕ) (u : Node) (c : Configuration h None returns) → p < expanded →

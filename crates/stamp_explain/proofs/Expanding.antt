@@ -25,7 +25,7 @@ use Rattle.stamp_explain.specs.Observed.{ObservedHistory, IsObserved, IsBefore, 
 use Rattle.stamp_explain.specs.Explained.{Effect}
 use Rattle.stamp_explain.specs.Search.{LockState, LockSteps, MayTake, AreReturns, after_call}
 use Rattle.stamp_explain.specs.Node.{IsNext, AreTaken, StandsFor, Does, HasGone}
-use Rattle.stamp_explain.specs.Timeline.{IsOpenAt}
+use Rattle.stamp_explain.specs.Timeline.{IsOpenAt, IsAwaitedAt}
 use Rattle.stamp_explain.specs.Node.{SetsBit}
 use Rattle.stamp_explain.specs.Expand.{Takes}
 use Rattle.stamp_explain.proofs.Finding.{no_later, has_returned, not_before_itself}
@@ -192,6 +192,18 @@ pub record Trying (h : ObservedHistory) (returns : List ℕ) (node : Node) (a : 
   pub at : slice_get h.entries (get_or returns node.past 0) ≡ Some a
   pub stands : StandsFor h returns node s taken
   pub it : IsOpenAt h returns node.past i
+
+abbrev pub trying : {h : ObservedHistory} {returns : List ℕ} {node : Node} {a : Observation} {i : ℕ} {s : LockState}
+    {taken : List ℕ} → IsObserved h → AreReturns h.entries returns → IsAwaitedAt h returns node.past a →
+    StandsFor h returns node s taken → IsOpenAt h returns node.past i → Trying h returns node a i s taken
+trying observed are awaited stands it = record {
+  observed = observed;
+  are = are;
+  inside = awaited.inside;
+  at = awaited.is_entry;
+  stands = stands;
+  it = it;
+}
 
 next_of : (h : ObservedHistory) (returns : List ℕ) (node : Node) (a : Observation) (i : ℕ) (s : LockState)
     (taken : List ℕ) → (is : Trying h returns node a i s taken) → IsNext h.entries (take node.past returns) i

@@ -175,7 +175,7 @@ searches_first h returns old new waiting next empty is enters = record {
   loses = record {
     kept = λ u n seen hope. record {
       node = u;
-      steps = n;
+      moves = n;
       waiting = subst (λ (ps : List ℕ). IsPlaced new.nodes.items ps u) (sym enters.to_do)
           (enters.placed u (subst (λ (ns : List Node). Contains ns u)
           (first_nodes old new waiting next empty enters) seen));
@@ -269,7 +269,7 @@ searches_more h returns old new before popped after nexts place v is split at su
           let w : Waits (Hope h returns) (IsPlaced old.nodes.items before) n = is.loses.kept u n seen hope in
           record {
             node = w.node;
-            steps = w.steps;
+            moves = w.moves;
             waiting = either w.node w.waiting;
             no_more = w.no_more;
             hope = w.hope;
@@ -281,7 +281,7 @@ searches_more h returns old new before popped after nexts place v is split at su
         let on : GoesOn h returns nexts n = suffice n hope in
         record {
           node = on.next.node;
-          steps = on.left;
+          moves = on.left;
           next = (on.next, (on.among, refl));
           fewer = omega (arith, on.fewer);
           hope = on.hope;
@@ -319,7 +319,7 @@ searches_more h returns old new before popped after nexts place v is split at su
         IsPlaced old.nodes.items popped w) n → Waits (Hope h returns) (IsPlaced new.nodes.items after) n
     turned w = record {
       node = w.node;
-      steps = w.steps;
+      moves = w.moves;
       waiting = back w.node w.waiting;
       no_more = w.no_more;
       hope =
@@ -341,7 +341,7 @@ found_nothing h returns store waiting are is none explained =
       rest = explained.order;
       by = subst (λ (n : ℕ). IsCompletedBy (LockSteps h.limits) h.entries (drop n returns) (first_state h.width) []
           explained.order) (sym is.is_first.past) (explained_by h returns are explained);
-      steps = refl;
+      moves = refl;
     })
 
 -- the test that none waits

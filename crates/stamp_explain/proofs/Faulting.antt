@@ -1,6 +1,6 @@
 -- The first return at which no order is found.
-use Rattle.std.proofs.Common.{◌≡◌, ◌⊎◌, ℕ, ◌+◌, ◌<◌, ◌≤◌, suc, Bool, true, false, List, [], ◌∷◌, length}
-use Rattle.std.proofs.Common.{◌-◌, ◌/◌, get_or, refl, sym, ◌∙◌, ap, subst, inl, inr, arith, Option, None, Some}
+use Rattle.std.proofs.Common.{◌≡◌, ◌⊎◌, ℕ, ◌+◌, ◌<◌, ◌≤◌, suc, Bool, true, false, List, [], ◌∷◌, length, Global}
+use Rattle.std.proofs.Common.{◌-◌, ◌/◌, get_or, refl, sym, ◌∙◌, ap, subst, inl, inr, arith, Option, None, Some, Vec}
 use Rattle.std.specs.Prelude.{slice_get, if◌then◌else◌, nat_lt, ◌==◌, ◌&&◌, ◌||◌}
 use Rattle.std.specs.List.{AllPairs, AllZip, Contains}
 use Rattle.std.proofs.lemmas.List.Elements.{All-nil}
@@ -21,6 +21,7 @@ use Rattle.stamp_explain.specs.Verdict.{IsUndecided, IsLastOrGivesUp, IsUnexplai
 use Rattle.stamp_explain.proofs.Lists.{pairs_none, none_in_empty}
 use Rattle.stamp_explain.proofs.Cutting.{IsLessKnown, cuts_stay_explained, less_known, back}
 use Rattle.stamp_explain.proofs.Seeing.{seen_explains_as_much}
+use Rattle.stamp_explain.specs.declared.order.Taken.{Taken}
 
 false_true : false ≡ true → ⊥
 false_true h = cc
@@ -469,14 +470,19 @@ unexplained_between h most ends low high p are is le at =
       gives_up = met.above;
     }
 
--- what becomes of the two by what was found between them
-abbrev pub Narrows : Found → ℕ → ℕ → Bool → Bool → ℕ → ℕ → ℕ → Bool → Bool → Type 0
-Narrows (Order order) low high unexplained stuck middle l u x s =
-    (l ≡ middle + 1) × (u ≡ high) × (x ≡ unexplained) × (s ≡ stuck)
-Narrows Nothing low high unexplained stuck middle l u x s =
-    (l ≡ low) × (u ≡ middle) × (x ≡ true) × (s ≡ true)
-Narrows Undecided low high unexplained stuck middle l u x s =
-    (l ≡ low) × (u ≡ middle) × (x ≡ unexplained) × (s ≡ false)
+-- what becomes of the two, and of what is known, by what was found between them
+pub data Narrows (low high : ℕ) (unexplained stuck : Bool) (middle l u : ℕ) (x s : Bool) : Found → Type 0 where
+  above : {order : Vec Taken Global} → l ≡ middle + 1 → u ≡ high → x ≡ unexplained → s ≡ stuck →
+      Narrows low high unexplained stuck middle l u x s (Order order)
+  below : l ≡ low → u ≡ middle → x ≡ true → s ≡ true → Narrows low high unexplained stuck middle l u x s Nothing
+  at_least : l ≡ low → u ≡ middle → x ≡ unexplained → s ≡ false →
+      Narrows low high unexplained stuck middle l u x s Undecided
+
+pub narrows_so : {low high : ℕ} {unexplained stuck : Bool} {middle l u : ℕ} {x s : Bool} {found it : Found} →
+    found ≡ it → Narrows low high unexplained stuck middle l u x s it →
+    Narrows low high unexplained stuck middle l u x s found
+narrows_so {low} {high} {unexplained} {stuck} {middle} {l} {u} {x} {s} is narrows =
+    subst (Narrows low high unexplained stuck middle l u x s) (sym is) narrows
 
 pub middle_inside : (low high : ℕ) → low < high → low + (high - low) / 2 < high
 middle_inside low high less = omega (arith, less)
@@ -502,23 +508,34 @@ same h most unexplained ends low high stuck l u x s l_is u_is x_is s_is is =
     (subst (λ (b : Bool). IsBetween h most b ends low high s) (sym x_is)
     (subst (λ (b : Bool). IsBetween h most unexplained ends low high b) (sym s_is) is)))
 
-pub narrowed : (h : ObservedHistory) (most : ℕ) (unexplained : Bool) (ends : List (ℕ × ℕ)) (low high middle : ℕ)
+narrowed : (h : ObservedHistory) (most : ℕ) (unexplained : Bool) (ends : List (ℕ × ℕ)) (low high middle : ℕ)
     (stuck : Bool) (found : Found) (l u : ℕ) (x s : Bool) → IsObserved h → AreEnds h.entries ends →
     IsBetween h most unexplained ends low high stuck → low ≤ middle → middle < high →
     IsFoundApart (seen_at (get_or ends middle (0, 0)).0 ((get_or ends middle (0, 0)).1 + 1) h) most found →
-    Narrows found low high unexplained stuck middle l u x s → IsBetween h most x ends l u s
+    Narrows low high unexplained stuck middle l u x s found → IsBetween h most x ends l u s
 narrowed h most unexplained ends low high middle stuck (Order order) l u x s observed are is le less found
-    (l_is, u_is, x_is, s_is) =
+    (above l_is u_is x_is s_is) =
     same h most unexplained ends (middle + 1) high stuck l u x s l_is u_is x_is s_is
     (between_above h most unexplained ends low high middle stuck (get_or ends middle (0, 0)) observed are is less
     (end_at ends middle (omega (arith, less, is.inside))) (record { order = found.order; by = found.explains }))
 narrowed h most unexplained ends low high middle stuck Nothing l u x s observed are is le less found
-    (l_is, u_is, x_is, s_is) =
+    (below l_is u_is x_is s_is) =
     same h most true ends low middle true l u x s l_is u_is x_is s_is
     (between_below h most unexplained ends low high middle stuck (get_or ends middle (0, 0)) observed is le less
     (end_at ends middle (omega (arith, less, is.inside))) found)
 narrowed h most unexplained ends low high middle stuck Undecided l u x s observed are is le less found
-    (l_is, u_is, x_is, s_is) =
+    (at_least l_is u_is x_is s_is) =
     same h most unexplained ends low middle false l u x s l_is u_is x_is s_is
     (between_undecided h most unexplained ends low high middle stuck (get_or ends middle (0, 0)) is le less
     (end_at ends middle (omega (arith, less, is.inside))) found)
+
+-- they are narrowed by what was found at the middle
+pub halved : {h : ObservedHistory} {most : ℕ} {unexplained : Bool} {ends : List (ℕ × ℕ)} {low high : ℕ}
+    {stuck : Bool} {found : Found} {l u : ℕ} {x s : Bool} → IsObserved h → AreEnds h.entries ends →
+    IsBetween h most unexplained ends low high stuck → low < high →
+    IsFoundApart (seen_at (get_or ends (low + (high - low) / 2) (0, 0)).0
+    ((get_or ends (low + (high - low) / 2) (0, 0)).1 + 1) h) most found →
+    Narrows low high unexplained stuck (low + (high - low) / 2) l u x s found → IsBetween h most x ends l u s
+halved {h} {most} {unexplained} {ends} {low} {high} {stuck} {found} {l} {u} {x} {s} observed are is less there =
+    narrowed h most unexplained ends low high (low + (high - low) / 2) stuck found l u x s observed are is
+    (omega arith) (middle_inside low high less) there

@@ -34,7 +34,7 @@ FindsWithin {S} step entries n = (to_come : List ℕ) (s : S) (taken : List ℕ)
     length to_come + length rest ≤ n → All (IsSoundReturn entries) to_come →
     IsCompletedBy step entries to_come s taken rest → FindsOrder step entries to_come s taken
 
--- what an order completes is found; n bounds the steps
+-- what an order completes is found; n bounds the moves
 pub finds : {S : Type 0} (step : S → Call × Reply → S → Type 0) (entries : List Observation) (n : ℕ)
     (to_come : List ℕ) (s : S) (taken : List ℕ) (rest : List Effect) → length to_come + length rest ≤ n →
     All (IsSoundReturn entries) to_come → IsCompletedBy step entries to_come s taken rest →

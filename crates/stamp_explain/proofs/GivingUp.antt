@@ -1,8 +1,8 @@
 -- What a search in depth finds where nothing is left, or where it gives up.
 use Rattle.std.proofs.Common.{◌≡◌, ◌≢◌, ◌⊎◌, ℕ, ◌+◌, ◌<◌, ◌≤◌, List, [], ◌∷◌, ◌++◌, length}
-use Rattle.std.proofs.Common.{get_or}
-use Rattle.std.proofs.Common.{refl, sym, ◌∙◌, ap, subst, inl, inr, arith, Option, None, Some, zero, suc}
-use Rattle.std.specs.Prelude.{take, drop, slice_get, slice_index}
+use Rattle.std.proofs.Common.{get_or, false, ◌-◌}
+use Rattle.std.proofs.Common.{refl, sym, ◌∙◌, ap, subst, inl, inr, arith, Option, None, Some, zero, suc, Bool, true}
+use Rattle.std.specs.Prelude.{take, drop, slice_get, slice_index, vec_len}
 use Rattle.std.specs.List.{All, AllPairs, Contains}
 use Rattle.std.proofs.lemmas.List.{length-drop, get_or-take}
 use Rattle.std.proofs.lemmas.List.{length-take-le}
@@ -16,12 +16,12 @@ use Rattle.stamp_explain.specs.Observed.{IsObserved, ObservedHistory}
 use Rattle.stamp_explain.specs.Explained.{IsExplained}
 use Rattle.stamp_explain.specs.Search.{LockSteps, IsCompletedBy, IsReturnAt, AreReturns, first_state}
 use Rattle.stamp_explain.specs.Configuration.{AreOne, AwaitsNext, Configuration, GoesOnFrom, IsAlive, LookedAtMore}
-use Rattle.stamp_explain.specs.Configuration.{StepsFromOne}
-use Rattle.stamp_explain.specs.Node.{IsFirstNode, IsNext, IsReached}
+use Rattle.stamp_explain.specs.Configuration.{MovesFromOne}
+use Rattle.stamp_explain.specs.Node.{IsFirstNode, IsNext}
 use Rattle.std.specs.Int.{bit_at}
 use Rattle.std.proofs.lemmas.Nat.Bits.{bit_at-zero}
 use Rattle.stamp_explain.specs.Expand.{AreLinked, Expands, Hope, IsLinkedAt, IsNotInEffect}
-use Rattle.stamp_explain.specs.Expand.{waiting_from}
+use Rattle.stamp_explain.specs.Expand.{waiting_from, MayGoOn, LooksAt}
 use Rattle.stamp_explain.proofs.Counting.{IsFor, one_node}
 use Rattle.stamp_explain.proofs.Exploring.{explained_by, opening_stands}
 use Rattle.stamp_explain.proofs.Expanding.{next_awaited}
@@ -30,10 +30,13 @@ use Rattle.stamp_explain.proofs.Standing.{taken_by_bit}
 use Rattle.stamp_explain.proofs.GoingOn.{reached_of}
 use Rattle.stamp_explain.proofs.Deepening.{IsOpen, IsDead, Deepens, None_now, IsAtLast, some_inside, HasFor, of_node}
 use Rattle.stamp_explain.proofs.Deepening.{deepens_expanded}
-use Rattle.stamp_explain.proofs.LookingOn.{all_passed, all_passed_over}
+use Rattle.stamp_explain.proofs.LookingOn.{all_passed, all_passed_over, deepens_on}
+use Rattle.stamp_explain.specs.declared.timeline.Timeline.{Timeline}
+use Rattle.stamp_explain.specs.Timeline.{IsTimeline}
+use Rattle.stamp_explain.specs.Order.{IsEnd}
 
 -- where all that waited was seen, no order explains the history
-pub deepens_no_more : (h : ObservedHistory) (returns : List ℕ) (store : Store) (waited : List Waiting)
+deepens_no_more : (h : ObservedHistory) (returns : List ℕ) (store : Store) (waited : List Waiting)
     (expanded : ℕ) → AreReturns h.entries returns → Deepens h returns store waited expanded None_now →
     length store.nodes.items ≡ expanded → All (λ (w : Waiting). Contains store.nodes.items w.node) waited →
     ¬ IsExplained h
@@ -54,10 +57,10 @@ deepens_no_more h returns store waited expanded are before all seen explained =
     of_first : HasFor h returns was.configurations 0 first
     of_first = of_node h returns store.nodes.items was.configurations 0 first was.are was.linked.at_first
 
-    steps : ℕ
-    steps = length (drop first.past returns) + length explained.order
+    moves : ℕ
+    moves = length (drop first.past returns) + length explained.order
 
-    hope : Hope h returns first steps
+    hope : Hope h returns first moves
     hope = record {
       state = first_state h.width;
       taken = [];
@@ -65,12 +68,12 @@ deepens_no_more h returns store waited expanded are before all seen explained =
       rest = explained.order;
       by = subst (λ (n : ℕ). IsCompletedBy (LockSteps h.limits) h.entries (drop n returns) (first_state h.width) []
           explained.order) (sym was.linked.is_first.past) (explained_by h returns are explained);
-      steps = refl;
+      moves = refl;
     }
 
     by : IsDead h returns first ⊎ IsOpen h returns was.configurations [] None_now 0 first of_first.configuration → ⊥
-    by (inl dead) = dead steps hope
-    by (inr going) = all_passed h returns was.configurations [] 0 first of_first.configuration going (omega arith) steps
+    by (inl dead) = dead moves hope
+    by (inr going) = all_passed h returns was.configurations [] 0 first of_first.configuration going (omega arith) moves
         hope
 
 -- where a search begins no call is in effect
@@ -90,11 +93,6 @@ settled_at h returns store zero v linked at = subst (IsNotInEffect h returns)
     (same_Some linked.first v (sym linked.at_first ∙ at)) (first_settled h returns linked.first linked.is_first)
 settled_at h returns store (suc k) v linked at =
     let link : IsLinkedAt h returns store (suc k) v = linked.each (suc k) v (omega arith) at in link.leads.settled
-
-pub last_settled : (h : ObservedHistory) (returns : List ℕ) (store : Store) (waiting : List Waiting) (expanded : ℕ)
-    (v : Node) → IsAtLast h returns store waiting expanded → slice_get store.nodes.items expanded ≡ Some v →
-    IsNotInEffect h returns v
-last_settled h returns store waiting expanded v is at = settled_at h returns store expanded v is.deepens.linked at
 
 -- what a timeline says of its returns
 pub record AreAwaited (h : ObservedHistory) (returns : List ℕ) : Type 0 where
@@ -191,8 +189,8 @@ deepened_more h returns store waiting expanded most awaited is enough = record {
     back k d here = at k d (omega (arith, slice_get_within (take (most + 1) cs) k d here, many)) ∙
         ap (λ (c : Configuration h None returns). Some c) (get_or_from_slice_get (take (most + 1) cs) k d d here)
 
-    in_looked : (k : ℕ) (d : Configuration h None returns) → k ≤ most + 1 → StepsFromOne h returns cs k d →
-        StepsFromOne h returns (take (most + 1) cs) k d
+    in_looked : (k : ℕ) (d : Configuration h None returns) → k ≤ most + 1 → MovesFromOne h returns cs k d →
+        MovesFromOne h returns (take (most + 1) cs) k d
     in_looked k d le one = record {
       place = one.place;
       before = one.before;
@@ -201,7 +199,7 @@ deepened_more h returns store waiting expanded most awaited is enough = record {
           ap (λ (c : Configuration h None returns). Some c)
           (get_or-take (most + 1) cs one.place one.from (omega (arith, one.before, le)) ∙
           get_or_from_slice_get cs one.place one.from one.from one.is_from);
-      steps = one.steps;
+      moves = one.moves;
     }
 
     -- the further one is settled too, or at the end
@@ -288,36 +286,86 @@ deepened_more h returns store waiting expanded most awaited is enough = record {
           rest = alive.rest;
           by = subst (λ (xs : List ℕ). IsCompletedBy (LockSteps h.limits) h.entries xs c.state c.taken alive.rest)
               it.to_come alive.by;
-          steps = refl;
+          moves = refl;
         }))
         by (inr going) = going.follow j (get_or (take (most + 1) cs) j d) lt (at j d inside)
 
--- the last node is read, and is reached
-pub last_read : (h : ObservedHistory) (returns : List ℕ) (store : Store) (waiting : List Waiting)
-    (expanded place : ℕ) (v : Node) → IsAtLast h returns store waiting expanded → place ≡ expanded →
-    v ≡ get_or store.nodes.items place v → slice_get store.nodes.items expanded ≡ Some v
-last_read h returns store waiting expanded place v is same read =
-    ap (λ (n : ℕ). slice_get store.nodes.items n) (sym same) ∙
-    slice_get_read store.nodes.items (length store.nodes.items) place v refl (omega (arith, same, is.count)) read
+-- the last node is read, of so many
+pub record IsLastRead (store : Store) (expanded many : ℕ) (v : Node) : Type 0 where
+  pub place : many - 1 ≡ expanded
+  pub at : slice_get store.nodes.items expanded ≡ Some v
 
-pub last_reached : (h : ObservedHistory) (returns : List ℕ) (store : Store) (waiting : List Waiting)
-    (expanded : ℕ) (v : Node) → IsAtLast h returns store waiting expanded →
-    slice_get store.nodes.items expanded ≡ Some v → IsReached h None returns v
-last_reached h returns store waiting expanded v is at =
-    let it : HasFor h returns is.deepens.configurations expanded v =
-    of_node h returns store.nodes.items is.deepens.configurations expanded v is.deepens.are at in
-    reached_of h returns v it.configuration it.is_for
+pub last_read : {h : ObservedHistory} {returns : List ℕ} {store : Store} {waiting : List Waiting} {expanded many : ℕ}
+    {v : Node} → IsAtLast h returns store waiting expanded → many ≡ vec_len store.nodes →
+    v ≡ get_or store.nodes.items (many - 1) v → IsLastRead store expanded many v
+last_read {h} {returns} {store} {waiting} {expanded} {many} {v} is counted read = record {
+  place = place;
+  at = ap (λ (n : ℕ). slice_get store.nodes.items n) (sym place) ∙ slice_get_read store.nodes.items
+      (length store.nodes.items) (many - 1) v refl (omega (arith, place, is.count)) read;
+}
+  where
+    place : many - 1 ≡ expanded
+    place = omega (arith, counted, store.nodes.ok.0, is.count)
 
--- the last node, read, is expanded
-pub expanded_last : (h : ObservedHistory) (returns : List ℕ) (store : Store) (waiting after : List Waiting)
-    (expanded place : ℕ) (nexts : List Next) (v : Node) → IsAtLast h returns store waiting expanded →
-    place ≡ expanded → slice_get store.nodes.items expanded ≡ Some v → v.past < length returns →
-    Expands h returns v nexts → after ≡ waiting ++ waiting_from place nexts →
-    Deepens h returns store after (expanded + 1) None_now
-expanded_last h returns store waiting after expanded place nexts v is same at inside expands left =
-    let last : v ≡ is.last = same_Some v is.last (sym at ∙ is.is_last) in
+-- where all returns are past, it ends an order
+pub last_ends : {returns slice : List ℕ} {store : Store} {expanded many : ℕ} {v : Node} →
+    IsLastRead store expanded many v → slice ≡ returns → length slice ≤ v.past → IsEnd returns store (many - 1)
+last_ends {returns} {slice} {store} {expanded} {many} {v} read same past = record {
+  node = v;
+  is_node = ap (λ (n : ℕ). slice_get store.nodes.items n) read.place ∙ read.at;
+  all_past = subst (λ (rs : List ℕ). length rs ≤ v.past) same past;
+}
+
+-- else the search may go on from it
+pub last_goes_on : {h : ObservedHistory} {timeline : Timeline} {slice : List ℕ} {store : Store}
+    {waiting : List Waiting} {expanded many : ℕ} {v : Node} → IsObserved h → IsTimeline h timeline →
+    IsAtLast h timeline.returns.items store waiting expanded → IsLastRead store expanded many v →
+    slice ≡ timeline.returns.items → v.past < length slice → MayGoOn h timeline v
+last_goes_on {h} {timeline} {slice} {store} {waiting} {expanded} {many} {v} observed timed is read same past = record {
+  observed = observed;
+  is_timeline = timed;
+  reached = reached_of h timeline.returns.items v of_it.configuration of_it.is_for;
+  past = subst (λ (rs : List ℕ). v.past < length rs) same past;
+}
+  where
+    of_it : HasFor h timeline.returns.items is.deepens.configurations expanded v
+    of_it = of_node h timeline.returns.items store.nodes.items is.deepens.configurations expanded v is.deepens.are
+        read.at
+
+pub last_settled : {h : ObservedHistory} {returns : List ℕ} {store : Store} {waiting : List Waiting}
+    {expanded many : ℕ} {v : Node} → IsAtLast h returns store waiting expanded → IsLastRead store expanded many v →
+    IsNotInEffect h returns v
+last_settled {h} {returns} {store} {waiting} {expanded} {many} {v} is read =
+    settled_at h returns store expanded v is.deepens.linked read.at
+
+-- it is expanded, and what comes next is left to wait
+pub last_expanded : {h : ObservedHistory} {returns slice : List ℕ} {store : Store} {waiting left : List Waiting}
+    {expanded many : ℕ} {nexts those : List Next} {v : Node} → IsAtLast h returns store waiting expanded →
+    IsLastRead store expanded many v → slice ≡ returns → v.past < length slice → Expands h returns v nexts →
+    those ≡ nexts → left ≡ waiting ++ waiting_from (many - 1) those →
+    Deepens h returns store left (expanded + 1) None_now
+last_expanded {h} {returns} {slice} {store} {waiting} {left} {expanded} {many} {nexts} {those} {v} is read same past
+    expands all leaves =
+    let last : v ≡ is.last = same_Some v is.last (sym read.at ∙ is.is_last) in
     subst (λ (ws : List Waiting). Deepens h returns store ws (expanded + 1) None_now)
-    (ap (λ (n : ℕ). waiting ++ waiting_from n nexts) (sym same) ∙ sym left)
+    (ap (λ (n : ℕ). waiting ++ waiting_from n nexts) (sym read.place) ∙
+    ap (λ (ns : List Next). waiting ++ waiting_from (many - 1) ns) (sym all) ∙ sym leaves)
     (deepens_expanded h returns store waiting expanded nexts is
-    (subst (λ (u : Node). u.past < length returns) last inside)
+    (subst (λ (u : Node). u.past < length returns) last (subst (λ (rs : List ℕ). v.past < length rs) same past))
     (subst (λ (u : Node). Expands h returns u nexts) last expands))
+
+-- then the next one that was not seen is the last
+pub looked_on : {h : ObservedHistory} {returns : List ℕ} {old new : Store} {waited waiting : List Waiting}
+    {expanded : ℕ} {found : Bool} → Deepens h returns old waited expanded None_now →
+    length old.nodes.items ≡ expanded → LooksAt old new waited waiting found → found ≡ true →
+    IsAtLast h returns new waiting expanded
+looked_on {h} {returns} {old} {new} {waited} {waiting} {expanded} {found} before all looks is =
+    deepens_on h returns old new waited waiting expanded before all (subst (LooksAt old new waited waiting) is looks)
+
+-- or there is none
+pub looked_no_more : {h : ObservedHistory} {returns : List ℕ} {old : Store} {waited : List Waiting} {expanded : ℕ}
+    {found : Bool} → (new : Store) (waiting : List Waiting) → AreReturns h.entries returns →
+    Deepens h returns old waited expanded None_now → length old.nodes.items ≡ expanded →
+    LooksAt old new waited waiting found → found ≡ false → ¬ IsExplained h
+looked_no_more {h} {returns} {old} {waited} {expanded} {found} new waiting are before all looks is =
+    deepens_no_more h returns old waited expanded are before all (subst (LooksAt old new waited waiting) is looks)

@@ -14,12 +14,12 @@ use Rattle.stamp_explain.specs.Observed.{ObservedHistory}
 use Rattle.stamp_explain.specs.Configuration.{Configuration, GoesOnFrom, Reaches}
 use Rattle.std.specs.Int.{bit_at}
 use Rattle.stamp_explain.specs.Node.{AreTaken, IsNext, IsReached}
-use Rattle.stamp_explain.specs.Expand.{ComesNext, ComesNextBy, ComesAfter, PassesTo}
+use Rattle.stamp_explain.specs.Expand.{ComesNext, ComesNextBy, ComesAfter, PassesTo, ComesByReturn, ComesByCall}
 use Rattle.stamp_explain.specs.Expand.PassesTo.{passes_none, passes_more}
 use Rattle.stamp_explain.proofs.Lists.{contains_first}
 use Rattle.stamp_explain.proofs.Entering.{read_left, read_right, read_last}
-use Rattle.stamp_explain.proofs.Leading.{come, come_less, way_past, way_by}
-use Rattle.stamp_explain.proofs.Counting.{IsFor}
+use Rattle.stamp_explain.proofs.Leading.{come, come_less, reached_past, reached_by}
+use Rattle.stamp_explain.proofs.Counting.{IsFor, configuration_of, is_for_its}
 
 -- what stands in a list behind which one more is put
 pub read_push : {X : Type 0} (xs : List X) (x y : X) (k : ℕ) → slice_get (xs ++ x ∷ []) k ≡ Some y →
@@ -76,7 +76,7 @@ goes_on_through h returns b c d one two = record {
 
 -- a node by which a search goes on, with a configuration that goes on from that of the node before. No
 -- configuration before it is of that node: more calls are in effect, or more returns past
-pub record StepsTo (h : ObservedHistory) (returns : List ℕ) (c : Configuration h None returns) (w : Node) : Type 0 where
+pub record MovesTo (h : ObservedHistory) (returns : List ℕ) (c : Configuration h None returns) (w : Node) : Type 0 where
   pub next : Configuration h None returns
   pub is_for : IsFor h None returns w next
   pub goes_on : GoesOnFrom h returns c next
@@ -92,29 +92,32 @@ same_effect h past threads one other i e are also at has = by (are.only i e at h
     by (inl is_past) = also.all_past i is_past
     by (inr both) = also.each_next i e both.1 both.0
 
-steps_by : (h : ObservedHistory) (returns : List ℕ) (v : Node) (next : Next) (c : Configuration h None returns) →
-    IsFor h None returns v c → ComesNext h None returns v next → StepsTo h returns c next.node
-steps_by h returns v next c is leads = by next.took (leads.leads c.state c.taken is.stands)
-  where
-    way : Reaches h None returns (drop v.past returns) c.state v.writer c.taken
-    way = subst (λ (rs : List ℕ). Reaches h None returns rs c.state v.writer c.taken) is.to_come
-        (subst (λ (put : Option ℕ). Reaches h None returns c.to_come c.state put c.taken) is.put c.way)
+pub reached_of : (h : ObservedHistory) (returns : List ℕ) (v : Node) (c : Configuration h None returns) →
+    IsFor h None returns v c → IsReached h None returns v
+reached_of h returns v c is = record {
+  state = c.state;
+  taken = c.taken;
+  inside = is.inside;
+  stands = is.stands;
+  way = subst (λ (rs : List ℕ). Reaches h None returns rs c.state v.writer c.taken) is.to_come
+      (subst (λ (put : Option ℕ). Reaches h None returns c.to_come c.state put c.taken) is.put c.way);
+}
 
-    by : (o : Option ℕ) → ComesNextBy h None returns v next.node c.state c.taken o → StepsTo h returns c next.node
+moves_by : (h : ObservedHistory) (returns : List ℕ) (v : Node) (next : Next) (c : Configuration h None returns) →
+    IsFor h None returns v c → ComesNext h None returns v next → MovesTo h returns c next.node
+unfolding reached_of
+moves_by h returns v next c is leads = by next.took (leads.leads c.state c.taken is.stands)
+  where
+    past : ComesByReturn h returns v next.node c.state c.taken → IsReached h None returns next.node
+    past l = reached_past h None returns v next.node (reached_of h returns v c is) leads.inside l
+
+    taken : (i : ℕ) → ComesByCall h None returns v next.node c.state c.taken i → IsReached h None returns next.node
+    taken i l = reached_by h None returns v next.node i (reached_of h returns v c is) leads.inside l
+
+    by : (o : Option ℕ) → ComesNextBy h None returns v next.node c.state c.taken o → MovesTo h returns c next.node
     by None l = record {
-      next = record {
-        to_come = drop next.node.past returns;
-        state = c.state;
-        put = next.node.writer;
-        taken = c.taken;
-        way = way_past h None returns v next.node c.state c.taken leads.inside way l;
-      };
-      is_for = record {
-        inside = omega (arith, leads.inside, l.past);
-        to_come = refl;
-        put = refl;
-        stands = l.stands;
-      };
+      next = configuration_of h None returns next.node (past l);
+      is_for = is_for_its h None returns next.node (past l);
       goes_on = record {
         later = [];
         taken = refl;
@@ -136,19 +139,8 @@ steps_by h returns v next c is leads = by next.took (leads.leads c.state c.taken
       );
     }
     by (Some i) l = record {
-      next = record {
-        to_come = drop next.node.past returns;
-        state = l.state;
-        put = next.node.writer;
-        taken = l.effect.index ∷ c.taken;
-        way = way_by h None returns v next.node c.state c.taken i leads.inside way l;
-      };
-      is_for = record {
-        inside = omega (arith, leads.inside, l.past);
-        to_come = refl;
-        put = refl;
-        stands = l.stands;
-      };
+      next = configuration_of h None returns next.node (taken i l);
+      is_for = is_for_its h None returns next.node (taken i l);
       goes_on = record {
         later = l.effect.index ∷ [];
         taken = refl;
@@ -163,13 +155,13 @@ steps_by h returns v next c is leads = by next.took (leads.leads c.state c.taken
           (contains_first l.effect.index c.taken l.effect.index refl))));
     }
 
-steps_past : (h : ObservedHistory) (returns : List ℕ) (c : Configuration h None returns) (v w : Node) →
-    StepsTo h returns c v → PassesTo h returns v w → StepsTo h returns c w
-unfolding goes_on_through steps_by
-steps_past h returns c v w to passes_none = to
-steps_past h returns c v w to (passes_more {u} before step) =
-    let there : StepsTo h returns c u = steps_past h returns c v u to before in
-    let on : StepsTo h returns there.next w = steps_by h returns u (record { node = w; took = None }) there.next
+moves_past : (h : ObservedHistory) (returns : List ℕ) (c : Configuration h None returns) (v w : Node) →
+    MovesTo h returns c v → PassesTo h returns v w → MovesTo h returns c w
+unfolding goes_on_through moves_by
+moves_past h returns c v w to passes_none = to
+moves_past h returns c v w to (passes_more {u} before step) =
+    let there : MovesTo h returns c u = moves_past h returns c v u to before in
+    let on : MovesTo h returns there.next w = moves_by h returns u (record { node = w; took = None }) there.next
     there.is_for (record { inside = step.inside; leads = step.leads }) in
     record {
       next = on.next;
@@ -180,18 +172,7 @@ steps_past h returns c v w to (passes_more {u} before step) =
     }
 
 -- where a call takes effect, and then returns are past
-pub steps_to : (h : ObservedHistory) (returns : List ℕ) (v : Node) (next : Next) (c : Configuration h None returns) →
-    IsFor h None returns v c → ComesAfter h None returns v next → StepsTo h returns c next.node
-steps_to h returns v next c is leads = steps_past h returns c leads.via next.node
-    (steps_by h returns v (record { node = leads.via; took = next.took }) c is leads.comes) leads.passes
-
-pub reached_of : (h : ObservedHistory) (returns : List ℕ) (v : Node) (c : Configuration h None returns) →
-    IsFor h None returns v c → IsReached h None returns v
-reached_of h returns v c is = record {
-  state = c.state;
-  taken = c.taken;
-  inside = is.inside;
-  stands = is.stands;
-  way = subst (λ (rs : List ℕ). Reaches h None returns rs c.state v.writer c.taken) is.to_come
-      (subst (λ (put : Option ℕ). Reaches h None returns c.to_come c.state put c.taken) is.put c.way);
-}
+pub moves_to : (h : ObservedHistory) (returns : List ℕ) (v : Node) (next : Next) (c : Configuration h None returns) →
+    IsFor h None returns v c → ComesAfter h None returns v next → MovesTo h returns c next.node
+moves_to h returns v next c is leads = moves_past h returns c leads.via next.node
+    (moves_by h returns v (record { node = leads.via; took = next.took }) c is leads.comes) leads.passes

@@ -60,6 +60,29 @@ way_by h asked returns node w s taken i inside way l =
     (goes_on_by (subst (λ (to_come : List ℕ). Reaches h asked returns to_come s node.writer taken)
     (come returns node.past inside) way) l.awaited l.effect l.state l.is_awaited l.not_yet l.tried l.may))
 
+-- so the next node is reached, by a return or by a call
+abbrev pub reached_past : (h : ObservedHistory) (asked : Option ℕ) (returns : List ℕ) (node w : Node) →
+    (is : IsReached h asked returns node) → node.past < length returns →
+    ComesByReturn h returns node w is.state is.taken → IsReached h asked returns w
+reached_past h asked returns node w is inside l = record {
+  state = is.state;
+  taken = is.taken;
+  inside = omega (arith, inside, l.past);
+  stands = l.stands;
+  way = way_past h asked returns node w is.state is.taken inside is.way l;
+}
+
+abbrev pub reached_by : (h : ObservedHistory) (asked : Option ℕ) (returns : List ℕ) (node w : Node) (i : ℕ) →
+    (is : IsReached h asked returns node) → node.past < length returns →
+    ComesByCall h asked returns node w is.state is.taken i → IsReached h asked returns w
+reached_by h asked returns node w i is inside l = record {
+  state = l.state;
+  taken = l.effect.index ∷ is.taken;
+  inside = omega (arith, inside, l.past);
+  stands = l.stands;
+  way = way_by h asked returns node w is.state is.taken i inside is.way l;
+}
+
 -- a call that took effect at a node that is reached did so in some state
 pub led_by : (h : ObservedHistory) (returns : List ℕ) (node w : Node) (took : Option ℕ) →
     IsReached h None returns node → ComesNext h None returns node (record { node = w; took = took }) → IsLed h node took

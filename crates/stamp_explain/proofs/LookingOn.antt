@@ -11,13 +11,13 @@ use Rattle.stamp_explain.specs.declared.node.Origin.{Origin}
 use Rattle.stamp_explain.specs.declared.node.Waiting.{Waiting}
 use Rattle.stamp_explain.specs.declared.store.Store.{Store}
 use Rattle.stamp_explain.specs.Observed.{ObservedHistory}
-use Rattle.stamp_explain.specs.Configuration.{Configuration, GoesOnFrom, IsBeginning, StepsFromOne, StepsOn}
+use Rattle.stamp_explain.specs.Configuration.{Configuration, GoesOnFrom, IsBeginning, MovesFromOne, MovesOn}
 use Rattle.stamp_explain.specs.Node.{IsReached}
 use Rattle.stamp_explain.specs.Expand.{Hope, ComesAfter}
 use Rattle.stamp_explain.specs.Expand.{IsLinkedAt, LooksAt}
 use Rattle.stamp_explain.proofs.Entering.{read_left, read_last}
 use Rattle.stamp_explain.proofs.Counting.{IsFor}
-use Rattle.stamp_explain.proofs.GoingOn.{read_push, at_contains, goes_on_through, StepsTo, steps_to, reached_of}
+use Rattle.stamp_explain.proofs.GoingOn.{read_push, at_contains, goes_on_through, MovesTo, moves_to, reached_of}
 use Rattle.stamp_explain.proofs.Deepening.{IsLedFrom, WaitsAbove, GoesByNow, IsOpen, IsDead, Deepens, None_now}
 use Rattle.stamp_explain.proofs.Deepening.{IsAtLast, HasFor, of_node}
 
@@ -53,8 +53,8 @@ seen_is_dead h returns store waiting last expanded was all has =
     origin : HasFor h returns was.configurations last.origin.from from.node
     origin = of_node h returns store.nodes.items was.configurations last.origin.from from.node was.are from.is_node
 
-    step : StepsTo h returns origin.configuration last.node
-    step = steps_to h returns from.node (record { node = last.node; took = last.origin.took }) origin.configuration
+    move : MovesTo h returns origin.configuration last.node
+    move = moves_to h returns from.node (record { node = last.node; took = last.origin.took }) origin.configuration
         origin.is_for from.leads
 
     order : (a b : ℕ) → (a ≤ b) ⊎ (b + 1 ≤ a)
@@ -67,7 +67,7 @@ seen_is_dead h returns store waiting last expanded was all has =
     by q b (inr going) = which (order going.height (length waiting))
       where
         which : (going.height ≤ length waiting) ⊎ (length waiting + 1 ≤ going.height) → IsDead h returns last.node
-        which (inl le) = absurd (step.is_new b.configuration b.is_for (going.above (length waiting) last
+        which (inl le) = absurd (move.is_new b.configuration b.is_for (going.above (length waiting) last
             origin.configuration le (read_last waiting last) origin.is_at))
         which (inr more) = all_passed h returns was.configurations (waiting ++ last ∷ []) q last.node b.configuration
             going (omega (arith, more, length-append waiting (last ∷ [])))
@@ -167,22 +167,22 @@ deepens_on h returns old new waited waiting expanded before all looks = record {
       each = λ k v lt at. linked k v lt (read_push old.nodes.items last.node v k
           (subst (λ (ns : List Node). slice_get ns k ≡ Some v) looks.stored.nodes at));
     };
-    configurations = was.configurations ++ step.next ∷ [];
+    configurations = was.configurations ++ move.next ∷ [];
     are = record {
       many = omega (
         arith,
         was.are.many,
-        length-append was.configurations (step.next ∷ []),
+        length-append was.configurations (move.next ∷ []),
         ap (λ (ns : List Node). length ns) looks.stored.nodes,
         length-append old.nodes.items (last.node ∷ []),
       );
       each = λ p v c at here. are p v c
           (read_push old.nodes.items last.node v p
           (subst (λ (ns : List Node). slice_get ns p ≡ Some v) looks.stored.nodes at))
-          (read_push was.configurations step.next c p here);
+          (read_push was.configurations move.next c p here);
     };
-    begins = λ c here. first c (read_push was.configurations step.next c 0 here);
-    from_one = λ k d lt here. from_one k d lt (read_push was.configurations step.next d k here);
+    begins = λ c here. first c (read_push was.configurations move.next c 0 here);
+    from_one = λ k d lt here. from_one k d lt (read_push was.configurations move.next d k here);
     led = λ i w at.
         let from : IsLedFrom h returns old.nodes.items w =
         was.led i w (read_left waiting (last ∷ []) i w at) in
@@ -192,7 +192,7 @@ deepens_on h returns old new waited waiting expanded before all looks = record {
     each = λ p u c lt at here. each p u c lt
         (read_push old.nodes.items last.node u p
         (subst (λ (ns : List Node). slice_get ns p ≡ Some u) looks.stored.nodes at))
-        (read_push was.configurations step.next c p here);
+        (read_push was.configurations move.next c p here);
   };
 }
   where
@@ -210,13 +210,13 @@ deepens_on h returns old new waited waiting expanded before all looks = record {
     origin : HasFor h returns was.configurations last.origin.from from.node
     origin = of_node h returns old.nodes.items was.configurations last.origin.from from.node was.are from.is_node
 
-    step : StepsTo h returns origin.configuration last.node
-    step = steps_to h returns from.node (record { node = last.node; took = last.origin.took }) origin.configuration
+    move : MovesTo h returns origin.configuration last.node
+    move = moves_to h returns from.node (record { node = last.node; took = last.origin.took }) origin.configuration
         origin.is_for from.leads
 
-    -- the configuration of the node is one step on from that of the node that it comes from
+    -- the configuration of the node is one move on from that of the node that it comes from
     first : (c : Configuration h None returns) → (slice_get was.configurations 0 ≡ Some c) ⊎
-        ((0 ≡ length was.configurations) × (step.next ≡ c)) → IsBeginning h returns c
+        ((0 ≡ length was.configurations) × (move.next ≡ c)) → IsBeginning h returns c
     first c (inl at) = was.begins c at
     first c (inr (end, same)) = absurd (omega (
       arith,
@@ -225,16 +225,16 @@ deepens_on h returns old new waited waiting expanded before all looks = record {
     ))
 
     from_one : (k : ℕ) (d : Configuration h None returns) → 0 < k → (slice_get was.configurations k ≡ Some d) ⊎
-        ((k ≡ length was.configurations) × (step.next ≡ d)) →
-        StepsFromOne h returns (was.configurations ++ step.next ∷ []) k d
+        ((k ≡ length was.configurations) × (move.next ≡ d)) →
+        MovesFromOne h returns (was.configurations ++ move.next ∷ []) k d
     from_one k d lt (inl at) =
-        let one : StepsFromOne h returns was.configurations k d = was.from_one k d lt at in
+        let one : MovesFromOne h returns was.configurations k d = was.from_one k d lt at in
         record {
           place = one.place;
           before = one.before;
           from = one.from;
-          is_from = read_left was.configurations (step.next ∷ []) one.place one.from one.is_from;
-          steps = one.steps;
+          is_from = read_left was.configurations (move.next ∷ []) one.place one.from one.is_from;
+          moves = one.moves;
         }
     from_one k d lt (inr (end, same)) = record {
       place = last.origin.from;
@@ -244,8 +244,8 @@ deepens_on h returns old new waited waiting expanded before all looks = record {
         slice_get_within was.configurations last.origin.from origin.configuration origin.is_at,
       );
       from = origin.configuration;
-      is_from = read_left was.configurations (step.next ∷ []) last.origin.from origin.configuration origin.is_at;
-      steps = subst (StepsOn h returns origin.configuration) same (record { goes = step.goes_on; one = step.one });
+      is_from = read_left was.configurations (move.next ∷ []) last.origin.from origin.configuration origin.is_at;
+      moves = subst (MovesOn h returns origin.configuration) same (record { goes = move.goes_on; one = move.one });
     }
 
     more : (k : ℕ) (v : Node) → slice_get old.nodes.items k ≡ Some v → slice_get new.nodes.items k ≡ Some v
@@ -296,14 +296,14 @@ deepens_on h returns old new waited waiting expanded before all looks = record {
 
     are : (p : ℕ) (v : Node) (c : Configuration h None returns) → (slice_get old.nodes.items p ≡ Some v) ⊎
         ((p ≡ length old.nodes.items) × (last.node ≡ v)) → (slice_get was.configurations p ≡ Some c) ⊎
-        ((p ≡ length was.configurations) × (step.next ≡ c)) → IsFor h None returns v c
+        ((p ≡ length was.configurations) × (move.next ≡ c)) → IsFor h None returns v c
     are p v c (inl at) (inl here) = was.are.each p v c at here
     are p v c (inl at) (inr (end, same)) =
         absurd (omega (arith, end, was.are.many, slice_get_within old.nodes.items p v at))
     are p v c (inr (end, same)) (inl here) =
         absurd (omega (arith, end, was.are.many, slice_get_within was.configurations p c here))
     are p v c (inr (end, same)) (inr (end_too, same_too)) = subst (IsFor h None returns v) same_too
-        (subst (λ (u : Node). IsFor h None returns u step.next) same step.is_for)
+        (subst (λ (u : Node). IsFor h None returns u move.next) same move.is_for)
 
     unended : (p : ℕ) (v : Node) → p < expanded → (slice_get old.nodes.items p ≡ Some v) ⊎
         ((p ≡ length old.nodes.items) × (last.node ≡ v)) → v.past < length returns
@@ -316,15 +316,15 @@ deepens_on h returns old new waited waiting expanded before all looks = record {
     each : (p : ℕ) (u : Node) (c : Configuration h None returns) → p < expanded →
         (slice_get old.nodes.items p ≡ Some u) ⊎
         ((p ≡ length old.nodes.items) × (last.node ≡ u)) → (slice_get was.configurations p ≡ Some c) ⊎
-        ((p ≡ length was.configurations) × (step.next ≡ c)) → IsDead h returns u ⊎
-        IsOpen h returns (was.configurations ++ step.next ∷ []) waiting (Hope h returns last.node) p u c
+        ((p ≡ length was.configurations) × (move.next ≡ c)) → IsDead h returns u ⊎
+        IsOpen h returns (was.configurations ++ move.next ∷ []) waiting (Hope h returns last.node) p u c
     each p u c lt (inr (end, same)) here = absurd (omega (arith, lt, end, all))
     each p u c lt (inl at) (inr (end, same)) = absurd (omega (arith, lt, end, all, was.are.many))
     each p u c lt (inl at) (inl here) = by (was.each p u c lt at here)
       where
         by : IsDead h returns u ⊎ IsOpen h returns was.configurations (waiting ++ last ∷ []) None_now p u c →
             IsDead h returns u ⊎
-            IsOpen h returns (was.configurations ++ step.next ∷ []) waiting (Hope h returns last.node) p u c
+            IsOpen h returns (was.configurations ++ move.next ∷ []) waiting (Hope h returns last.node) p u c
         by (inl dead) = inl dead
         by (inr going) = which (order going.height (length waiting))
           where
@@ -358,16 +358,16 @@ deepens_on h returns old new waited waiting expanded before all looks = record {
                 omega (arith, was.are.many, slice_get_within old.nodes.items w.origin.from led.node led.is_node)
 
             old_place : (f : Configuration h None returns) (k : ℕ) → k < length was.configurations →
-                slice_get (was.configurations ++ step.next ∷ []) k ≡ Some f → slice_get was.configurations k ≡ Some f
-            old_place f k less at_k = left (read_push was.configurations step.next f k at_k)
+                slice_get (was.configurations ++ move.next ∷ []) k ≡ Some f → slice_get was.configurations k ≡ Some f
+            old_place f k less at_k = left (read_push was.configurations move.next f k at_k)
               where
                 left : (slice_get was.configurations k ≡ Some f) ⊎ ((k ≡ length was.configurations) ×
-                    (step.next ≡ f)) → slice_get was.configurations k ≡ Some f
+                    (move.next ≡ f)) → slice_get was.configurations k ≡ Some f
                 left (inl found) = found
                 left (inr (end, same)) = absurd (omega (arith, less, end))
 
             which : (going.height ≤ length waiting) ⊎ (length waiting + 1 ≤ going.height) → IsDead h returns u ⊎
-                IsOpen h returns (was.configurations ++ step.next ∷ []) waiting (Hope h returns last.node) p u c
+                IsOpen h returns (was.configurations ++ move.next ∷ []) waiting (Hope h returns last.node) p u c
             which (inr higher) = inl (all_passed h returns was.configurations (waiting ++ last ∷ []) p u c going
                 (omega (arith, higher, length-append waiting (last ∷ []))))
             which (inl le) = inr (record {
@@ -376,14 +376,14 @@ deepens_on h returns old new waited waiting expanded before all looks = record {
               above = λ i w f le_i at_i from_f. going.above i w f le_i (read_left waiting (last ∷ []) i w at_i)
                   (old_place f w.origin.from (inside w i at_i) from_f);
               goes_on = λ n hope. on n (going.goes_on n hope);
-              follow = λ q d later at_q. follow q d later (read_push was.configurations step.next d q at_q);
+              follow = λ q d later at_q. follow q d later (read_push was.configurations move.next d q at_q);
             })
               where
                 follow : (q : ℕ) (d : Configuration h None returns) → p < q →
                     (slice_get was.configurations q ≡ Some d) ⊎
-                    ((q ≡ length was.configurations) × (step.next ≡ d)) → GoesOnFrom h returns c d
+                    ((q ≡ length was.configurations) × (move.next ≡ d)) → GoesOnFrom h returns c d
                 follow q d later (inl found) = going.follow q d later found
                 follow q d later (inr (end, same)) = subst (GoesOnFrom h returns c) same
-                    (goes_on_through h returns c origin.configuration step.next
+                    (goes_on_through h returns c origin.configuration move.next
                     (going.above (length waiting) last origin.configuration le (read_last waiting last) origin.is_at)
-                    step.goes_on)
+                    move.goes_on)

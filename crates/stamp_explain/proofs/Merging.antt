@@ -1,18 +1,18 @@
 -- Orders of the lock's calls and of the record's are merged by their beginnings.
 use Rattle.std.proofs.Common.{◌≡◌, ◌≢◌, ◌⊎◌, ℕ, ◌+◌, ◌<◌, ◌≤◌, zero, suc, Bool, true, false, List, [], ◌∷◌}
-use Rattle.std.proofs.Common.{◌++◌, length, get_or, refl, sym, ◌∙◌, ap, subst, inl, inr, arith, Option, None}
+use Rattle.std.proofs.Common.{◌++◌, length, refl, sym, ◌∙◌, ap, subst, inl, inr, arith, Option, None}
 use Rattle.std.proofs.Common.{Some}
 use Rattle.std.specs.Prelude.{slice_get, MatchOption}
 use Rattle.std.specs.Bool.{MatchBool}
 use Rattle.std.specs.List.{All, AllPairs, Contains}
 use Rattle.std.proofs.lemmas.List.{append-nil}
-use Rattle.std.proofs.lemmas.List.Elements.{All-nil, All-cons, All-head, All-tail, All-weaker, All-contains}
+use Rattle.std.proofs.lemmas.List.Elements.{All-nil, All-cons, All-head, All-tail, All-weaker}
 use Rattle.std.proofs.lemmas.Option.{get_or_from_slice_get, slice_get_within, same_Some}
 use Rattle.std.proofs.lemmas.Bool.{cases_lt, cases_Bool, true≢false}
 use Rattle.stamp_core.specs.LockEvent.{LockEvent}
 use Rattle.stamp_core.specs.Limits.{Bounds}
 use Rattle.stamp_core.specs.Call.{is_lock_call}
-use Rattle.stamp_core.specs.Content.{zeros, content_next, RecordReplies}
+use Rattle.stamp_core.specs.Content.{content_next, RecordReplies}
 use Rattle.stamp_core.specs.Transition.{transition}
 use Rattle.stamp_core.specs.History.{Replies, IsLegalFrom, appended_by}
 use Rattle.stamp_core.specs.declared.call.Call.{Call}
@@ -20,12 +20,10 @@ use Rattle.stamp_core.specs.declared.call.Call.TheVariants.{Get, Put, PutIf}
 use Rattle.stamp_core.specs.declared.reply.Reply.{Reply}
 use Rattle.stamp_explain.specs.declared.observed.Observation.{Observation}
 use Rattle.stamp_explain.specs.declared.observed.Returned.{Returned}
-use Rattle.stamp_explain.specs.Observed.{ObservedHistory, IsBefore, HasReturned, IsInterval, IsObserved}
+use Rattle.stamp_explain.specs.Observed.{ObservedHistory, IsBefore, IsInterval, IsObserved}
 use Rattle.stamp_explain.specs.Explained.{Effect, IsEffectOf, history_of, indices_of, AreApart, RespectsBefore}
-use Rattle.stamp_explain.specs.Explained.{IsExplained}
-use Rattle.stamp_explain.specs.Search.{Runs, IsCompletedBy, CanComplete, IsReturnOf, LockAlone, RecordAlone}
-use Rattle.stamp_explain.specs.ExplainLaws.{Locality}
-use Rattle.stamp_explain.proofs.Lists.{none_in_empty, contains_cases, contains_first, contains_rest, pairs_cons}
+use Rattle.stamp_explain.specs.Search.{Runs, LockAlone, RecordAlone}
+use Rattle.stamp_explain.proofs.Lists.{contains_cases, contains_first, contains_rest, pairs_cons}
 use Rattle.stamp_explain.proofs.Lists.{pairs_head, pairs_tail}
 
 -- the third list is the first two, each in its order
@@ -308,86 +306,3 @@ pub sound_of : (h : ObservedHistory) (xs : List Effect) → IsObserved h → All
 sound_of h xs observed all = All-weaker (IsEffectOf h.entries) MayBeTold
     (λ x is. subst IsInterval (get_or_from_slice_get h.entries x.index x.entry x.entry is.is_entry)
     (observed.intervals x.index x.entry (slice_get_within h.entries x.index x.entry is.is_entry))) xs all
-
-pub locality : Locality
-locality h locks records observed are_locks are_records = (apart, together)
-  where
-    apart : IsExplained h → CanComplete (LockAlone h.limits) h.entries locks [] [] ×
-        CanComplete RecordAlone h.entries records (zeros h.width) []
-    apart explained = (record { rest = s.locks; by = on_locks }, record { rest = s.records; by = on_records })
-      where
-        s : Splits h.limits [] (zeros h.width) explained.order
-        s = splits h.limits [] (zeros h.width) explained.order explained.by.legal
-
-        flip : IsMerge s.records s.locks explained.order
-        flip = flipped s.merge
-
-        lock_effects : All (IsEffectOf h.entries) s.locks
-        lock_effects = left_all (IsEffectOf h.entries) s.merge explained.by.effects
-
-        record_effects : All (IsEffectOf h.entries) s.records
-        record_effects = left_all (IsEffectOf h.entries) flip explained.by.effects
-
-        on_locks : IsCompletedBy (LockAlone h.limits) h.entries locks [] [] s.locks
-        on_locks = record {
-          effects = lock_effects;
-          once = left_pairs AreApart s.merge explained.by.once;
-          fresh = λ k d lt. none_in_empty (get_or s.locks k d).index;
-          returned = All-weaker (IsReturnOf h.entries true) (λ (i : ℕ). Contains [] i ⊎
-              Contains (indices_of s.locks) i)
-              (λ i r. inr (left_only h.entries i r.entry true false r.is_entry r.kind true≢false s.merge
-              record_effects (all_records (zeros h.width) s.records s.record_runs)
-              (explained.by.returned i r.entry r.is_entry r.returned))) locks are_locks.each;
-          ordered = left_pairs RespectsBefore s.merge explained.by.ordered;
-          runs = s.lock_runs;
-        }
-
-        on_records : IsCompletedBy RecordAlone h.entries records (zeros h.width) [] s.records
-        on_records = record {
-          effects = record_effects;
-          once = left_pairs AreApart flip explained.by.once;
-          fresh = λ k d lt. none_in_empty (get_or s.records k d).index;
-          returned = All-weaker (IsReturnOf h.entries false) (λ (i : ℕ). Contains [] i ⊎
-              Contains (indices_of s.records) i)
-              (λ i r. inr (left_only h.entries i r.entry false true r.is_entry r.kind (λ e. true≢false (sym e)) flip
-              lock_effects (all_locks h.limits [] s.locks s.lock_runs)
-              (explained.by.returned i r.entry r.is_entry r.returned))) records are_records.each;
-          ordered = left_pairs RespectsBefore flip explained.by.ordered;
-          runs = s.record_runs;
-        }
-
-    together : CanComplete (LockAlone h.limits) h.entries locks [] [] ×
-        CanComplete RecordAlone h.entries records (zeros h.width) [] → IsExplained h
-    together both = record {
-      order = m.order;
-      by = record {
-        effects = merge_all (IsEffectOf h.entries) m.merge both.0.by.effects both.1.by.effects;
-        once = merge_apart m.merge both.0.by.once both.1.by.once
-            (λ k d lt j c less. other_kind h.entries (get_or both.0.rest k d) (get_or both.1.rest j c)
-            (both.0.by.effects k d lt) (both.1.by.effects j c less)
-            (all_locks h.limits [] both.0.rest both.0.by.runs k d lt)
-            (all_records (zeros h.width) both.1.rest both.1.by.runs j c less));
-        returned = λ i e at returned. which i e at returned (cases_Bool (is_lock_call e.call));
-        ordered = m.ordered;
-        legal = merge_legal h.limits [] (zeros h.width) m.merge both.0.by.runs both.1.by.runs;
-      };
-    }
-      where
-        m : Merges both.0.rest both.1.rest
-        m = merges (length both.0.rest + length both.1.rest) both.0.rest both.1.rest (omega arith)
-            (sound_of h both.0.rest observed both.0.by.effects) (sound_of h both.1.rest observed both.1.by.effects)
-            both.0.by.ordered both.1.by.ordered
-
-        only : (xs : List ℕ) (i : ℕ) → Contains [] i ⊎ Contains xs i → Contains xs i
-        only xs i (inl has) = absurd (none_in_empty i has)
-        only xs i (inr has) = has
-
-        which : (i : ℕ) (e : Observation) → slice_get h.entries i ≡ Some e → HasReturned e →
-            (is_lock_call e.call ≡ true) ⊎ (is_lock_call e.call ≡ false) → Contains (indices_of m.order) i
-        which i e at returned (inl lock) = left_index i m.merge
-            (only (indices_of both.0.rest) i (All-contains (λ (j : ℕ). Contains [] j ⊎
-            Contains (indices_of both.0.rest) j) locks i both.0.by.returned (are_locks.whole i e at returned lock)))
-        which i e at returned (inr guarded) = left_index i (flipped m.merge)
-            (only (indices_of both.1.rest) i (All-contains (λ (j : ℕ). Contains [] j ⊎
-            Contains (indices_of both.1.rest) j) records i both.1.by.returned
-            (are_records.whole i e at returned guarded)))

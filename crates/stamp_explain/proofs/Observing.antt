@@ -181,7 +181,7 @@ observers_at_once limits entries awaited to_come s t taken x may returned h can 
     (λ s t steps. observers_change_nothing limits x.entry.call x.reply s t h steps) can.by in
     record { rest = now.others; by = now.by }
 
--- so it is a step of a search
+-- so it is a move of a search
 pub record TakesAtOnce {S : Type 0} (step : S → Call × Reply → S →
     Type 0) (entries : List Observation) (to_come : List ℕ) (s : S) (taken : List ℕ) (n : ℕ) : Type 0 where
   pub left : ℕ
@@ -198,6 +198,6 @@ takes_at_once step entries to_come s taken x n is returned nothing not_yet due c
     at_once step entries to_come s taken x can.rest is returned nothing can.by in
     record {
       left = length to_come + length now.others;
-      fewer = omega (arith, now.fewer not_yet due, can.steps);
-      completes = record { rest = now.others; by = now.by; steps = refl };
+      fewer = omega (arith, now.fewer not_yet due, can.moves);
+      completes = record { rest = now.others; by = now.by; moves = refl };
     }

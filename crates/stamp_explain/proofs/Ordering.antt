@@ -18,15 +18,15 @@ use Rattle.stamp_explain.proofs.Leading.{EndsFor, Ends, ends_last}
 use Rattle.stamp_explain.proofs.Settling.{follows_past, follows_call, follows_led}
 
 -- the calls found so far, last first, complete what the node at this place stands for
-pub record WalksTo (h : ObservedHistory) (returns : List ℕ) (store : Store) (at : ℕ) (found : List Taken) : Type 0
+pub record GoesBack (h : ObservedHistory) (returns : List ℕ) (store : Store) (at : ℕ) (found : List Taken) : Type 0
   where
     pub node : Node
     pub is_node : slice_get store.nodes.items at ≡ Some node
     pub ends : Ends h returns node (reverse found)
 
-pub walks_last : (h : ObservedHistory) (returns : List ℕ) (store : Store) (place : ℕ) (found : List Taken) →
-    IsEnd returns store place → found ≡ [] → WalksTo h returns store place found
-walks_last h returns store place found end empty = record {
+pub back_last : (h : ObservedHistory) (returns : List ℕ) (store : Store) (place : ℕ) (found : List Taken) →
+    IsEnd returns store place → found ≡ [] → GoesBack h returns store place found
+back_last h returns store place found end empty = record {
   node = end.node;
   is_node = end.is_node;
   ends = subst (λ (xs : List Taken). Ends h returns end.node (reverse xs)) (sym empty)
@@ -58,43 +58,43 @@ reads h returns store at origin node v link is_origin is_node =
       leads = subst (λ (u : Node). ComesAfter h None returns u (record { node = v; took = origin.took })) n leads;
     }
 
-pub walks_past : (h : ObservedHistory) (returns : List ℕ) (store : Store) (at : ℕ) (origin : Origin) (node : Node)
-    (found : List Taken) (walk : WalksTo h returns store at found) →
-    Reads h returns store at origin node walk.node → IsTakenAt h node origin.took None →
-    WalksTo h returns store origin.from found
-walks_past h returns store at origin node found walk read is = record {
+pub back_past : (h : ObservedHistory) (returns : List ℕ) (store : Store) (at : ℕ) (origin : Origin) (node : Node)
+    (found : List Taken) (way : GoesBack h returns store at found) →
+    Reads h returns store at origin node way.node → IsTakenAt h node origin.took None →
+    GoesBack h returns store origin.from found
+back_past h returns store at origin node found way read is = record {
   node = node;
   is_node = read.is_node;
   ends = by origin.took read.leads is;
 }
   where
-    by : (o : Option ℕ) → ComesAfter h None returns node (record { node = walk.node; took = o }) → IsTakenAt h node o
+    by : (o : Option ℕ) → ComesAfter h None returns node (record { node = way.node; took = o }) → IsTakenAt h node o
         None →
         Ends h returns node (reverse found)
-    by None leads is = follows_past h returns node walk.node (reverse found) leads walk.ends
+    by None leads is = follows_past h returns node way.node (reverse found) leads way.ends
     by (Some i) leads is = absurd is
 
-pub walks_call : (h : ObservedHistory) (returns : List ℕ) (store : Store) (at : ℕ) (origin : Origin) (node : Node)
-    (found : List Taken) (one : Taken) (walk : WalksTo h returns store at found) →
-    Reads h returns store at origin node walk.node → IsTakenAt h node origin.took (Some one) →
-    WalksTo h returns store origin.from (found ++ one ∷ [])
-walks_call h returns store at origin node found one walk read is = record {
+pub back_call : (h : ObservedHistory) (returns : List ℕ) (store : Store) (at : ℕ) (origin : Origin) (node : Node)
+    (found : List Taken) (one : Taken) (way : GoesBack h returns store at found) →
+    Reads h returns store at origin node way.node → IsTakenAt h node origin.took (Some one) →
+    GoesBack h returns store origin.from (found ++ one ∷ [])
+back_call h returns store at origin node found one way read is = record {
   node = node;
   is_node = read.is_node;
   ends = subst (λ (xs : List Taken). Ends h returns node xs) (sym (reverse-append found (one ∷ [])))
       (by origin.took read.leads is);
 }
   where
-    by : (o : Option ℕ) → ComesAfter h None returns node (record { node = walk.node; took = o }) →
+    by : (o : Option ℕ) → ComesAfter h None returns node (record { node = way.node; took = o }) →
         IsTakenAt h node o (Some one) → Ends h returns node (one ∷ reverse found)
     by None leads is = absurd is
-    by (Some i) leads is = follows_call h returns node walk.node i one (reverse found) leads is.0 is.1 walk.ends
+    by (Some i) leads is = follows_call h returns node way.node i one (reverse found) leads is.0 is.1 way.ends
 
 -- at the first node the order is whole
-pub walked : (h : ObservedHistory) (returns : List ℕ) (store : Store) (found : List Taken) →
-    AreReturns h.entries returns → AreLinked h returns store → WalksTo h returns store 0 found →
+pub back_first : (h : ObservedHistory) (returns : List ℕ) (store : Store) (found : List Taken) →
+    AreReturns h.entries returns → AreLinked h returns store → GoesBack h returns store 0 found →
     IsOrderOf h (reverse found)
-walked h returns store found are linked walk = record {
+back_first h returns store found are linked way = record {
   order = end.rest;
   explains = completed_from h returns end.rest are
       (subst (λ (to_come : List ℕ). IsCompletedBy (LockSteps h.limits) h.entries to_come (first_state h.width) []
@@ -102,11 +102,11 @@ walked h returns store found are linked walk = record {
   are = end.are;
 }
   where
-    same : linked.first ≡ walk.node
-    same = same_Some linked.first walk.node (sym linked.at_first ∙ walk.is_node)
+    same : linked.first ≡ way.node
+    same = same_Some linked.first way.node (sym linked.at_first ∙ way.is_node)
 
     ends : Ends h returns linked.first (reverse found)
-    ends = subst (λ (v : Node). Ends h returns v (reverse found)) (sym same) walk.ends
+    ends = subst (λ (v : Node). Ends h returns v (reverse found)) (sym same) way.ends
 
     all : drop linked.first.past returns ≡ returns
     all = ap (λ (n : ℕ). drop n returns) linked.is_first.past
@@ -120,34 +120,34 @@ walked h returns store found are linked walk = record {
 
 -- what is read on the way
 pub origin_inside : (h : ObservedHistory) (returns : List ℕ) (store : Store) (at : ℕ) (found : List Taken) →
-    AreLinked h returns store → 0 < at → WalksTo h returns store at found → at < length store.origins.items
-origin_inside h returns store at found linked lt walk =
-    let link : IsLinkedAt h returns store at walk.node = linked.each at walk.node lt walk.is_node in
+    AreLinked h returns store → 0 < at → GoesBack h returns store at found → at < length store.origins.items
+origin_inside h returns store at found linked lt way =
+    let link : IsLinkedAt h returns store at way.node = linked.each at way.node lt way.is_node in
     slice_get_within store.origins.items at link.origin link.is_origin
 
 pub read_origin : (h : ObservedHistory) (returns : List ℕ) (store : Store) (at : ℕ) (found : List Taken)
-    (origin : Origin) → AreLinked h returns store → 0 < at → WalksTo h returns store at found →
+    (origin : Origin) → AreLinked h returns store → 0 < at → GoesBack h returns store at found →
     origin ≡ get_or store.origins.items at origin → slice_get store.origins.items at ≡ Some origin
-read_origin h returns store at found origin linked lt walk read =
+read_origin h returns store at found origin linked lt way read =
     slice_get_read store.origins.items (length store.origins.items) at origin refl
-    (origin_inside h returns store at found linked lt walk) read
+    (origin_inside h returns store at found linked lt way) read
 
 pub node_inside : (h : ObservedHistory) (returns : List ℕ) (store : Store) (at : ℕ) (found : List Taken)
-    (origin : Origin) → AreLinked h returns store → 0 < at → WalksTo h returns store at found →
+    (origin : Origin) → AreLinked h returns store → 0 < at → GoesBack h returns store at found →
     origin ≡ get_or store.origins.items at origin → origin.from < length store.nodes.items
-node_inside h returns store at found origin linked lt walk read =
-    let link : IsLinkedAt h returns store at walk.node = linked.each at walk.node lt walk.is_node in
+node_inside h returns store at found origin linked lt way read =
+    let link : IsLinkedAt h returns store at way.node = linked.each at way.node lt way.is_node in
     let o : link.origin ≡ origin = same_Some link.origin origin (sym link.is_origin ∙
-    read_origin h returns store at found origin linked lt walk read) in
+    read_origin h returns store at found origin linked lt way read) in
     subst (λ (k : Origin). k.from < length store.nodes.items) o
     (slice_get_within store.nodes.items link.origin.from link.node link.is_node)
 
 pub reads_there : (h : ObservedHistory) (returns : List ℕ) (store : Store) (at : ℕ) (found : List Taken)
     (origin : Origin) (node : Node) → AreLinked h returns store → 0 < at →
-    (walk : WalksTo h returns store at found) → origin ≡ get_or store.origins.items at origin →
-    node ≡ get_or store.nodes.items origin.from node → Reads h returns store at origin node walk.node
-reads_there h returns store at found origin node linked lt walk read_o read_n =
-    reads h returns store at origin node walk.node (linked.each at walk.node lt walk.is_node)
-    (read_origin h returns store at found origin linked lt walk read_o)
+    (way : GoesBack h returns store at found) → origin ≡ get_or store.origins.items at origin →
+    node ≡ get_or store.nodes.items origin.from node → Reads h returns store at origin node way.node
+reads_there h returns store at found origin node linked lt way read_o read_n =
+    reads h returns store at origin node way.node (linked.each at way.node lt way.is_node)
+    (read_origin h returns store at found origin linked lt way read_o)
     (slice_get_read store.nodes.items (length store.nodes.items) origin.from node refl
-    (node_inside h returns store at found origin linked lt walk read_o) read_n)
+    (node_inside h returns store at found origin linked lt way read_o) read_n)

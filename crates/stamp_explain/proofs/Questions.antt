@@ -79,7 +79,7 @@ without_question limits entries returns s u taken x left are effect steps asks c
     ordered = can.by.ordered;
     runs = subst (λ (t : LockState). Runs (LockSteps limits) t (history_of can.rest)) same can.by.runs;
   };
-  steps = can.steps;
+  moves = can.moves;
 }
   where
     question : (x.entry.returned ≡ None) × (is_question x.entry.call ≡ true)
@@ -110,5 +110,5 @@ pub open_questions_are_not_needed : OpenQuestionsAreNotNeeded
 open_questions_are_not_needed limits entries to_come s t taken x are effect asks steps can =
     let left : CompletesIn (LockSteps limits) entries to_come s taken (length to_come + length can.rest) =
     without_question limits entries to_come s t taken x (length to_come + length can.rest) are effect steps asks
-    (record { rest = can.rest; by = can.by; steps = refl }) in
+    (record { rest = can.rest; by = can.by; moves = refl }) in
     record { rest = left.rest; by = left.by }

@@ -13,14 +13,14 @@ use Rattle.stamp_explain.proofs.Lists.{either_in}
 use Rattle.stamp_explain.proofs.Completing.{IsAwaited, past_return}
 use Rattle.stamp_explain.proofs.Swapping.{TakesAlike, takes_alike}
 
--- an order completes it, in so many steps: returns and calls that take effect
+-- an order completes it, in so many moves: returns and calls that take effect
 pub record CompletesIn {S : Type 0} (step : S → Call × Reply → S →
     Type 0) (entries : List Observation) (to_come : List ℕ) (s : S) (taken : List ℕ) (n : ℕ) : Type 0 where
   pub rest : List Effect
   pub by : IsCompletedBy step entries to_come s taken rest
-  pub steps : length to_come + length rest ≡ n
+  pub moves : length to_come + length rest ≡ n
 
--- the return is past, and the rest takes a step less
+-- the return is past, and the rest takes a move less
 pub record GoesPast {S : Type 0} (step : S → Call × Reply → S →
     Type 0) (entries : List Observation) (i : ℕ) (to_come : List ℕ) (s : S) (taken : List ℕ) (n : ℕ) : Type 0 where
   pub in_effect : Contains taken i
@@ -28,7 +28,7 @@ pub record GoesPast {S : Type 0} (step : S → Call × Reply → S →
   pub fewer : n ≡ suc left
   pub completes : CompletesIn step entries to_come s taken left
 
--- a call of the awaited one's object takes effect, and the rest takes a step less
+-- a call of the awaited one's object takes effect, and the rest takes a move less
 pub record GoesOnBy (limits : Bounds) (entries : List Observation) (i : ℕ) (a : Observation) (to_come : List ℕ)
     (s : LockState) (taken : List ℕ) (n : ℕ) : Type 0 where
   pub awaited : ¬ Contains taken i
@@ -40,7 +40,7 @@ pub record GoesOnBy (limits : Bounds) (entries : List Observation) (i : ℕ) (a 
   pub fewer : n ≡ suc left
   pub completes : CompletesIn (LockSteps limits) entries (i ∷ to_come) state (effect.index ∷ taken) left
 
--- what can be completed goes on by one step of these two
+-- what can be completed goes on by one of these two moves
 pub goes_on : (limits : Bounds) (entries : List Observation) (i : ℕ) (a : Observation) (to_come : List ℕ)
     (s : LockState) (taken : List ℕ) (n : ℕ) → IsAwaited entries i a →
     CompletesIn (LockSteps limits) entries (i ∷ to_come) s taken n →
@@ -52,11 +52,11 @@ goes_on limits entries i a to_come s taken n awaited can = which (either_in take
     which (inl has) = inl (record {
       in_effect = has;
       left = length to_come + length can.rest;
-      fewer = omega (arith, can.steps);
+      fewer = omega (arith, can.moves);
       completes = record {
         rest = can.rest;
         by = past_return (LockSteps limits) entries i to_come s taken can.rest can.by;
-        steps = refl;
+        moves = refl;
       };
     })
     which (inr not_yet) =
@@ -69,32 +69,32 @@ goes_on limits entries i a to_come s taken n awaited can = which (either_in take
           state = one.state;
           may = one.may;
           left = length (i ∷ to_come) + length one.others;
-          fewer = omega (arith, can.steps, one.fewer);
-          completes = record { rest = one.others; by = one.by; steps = refl };
+          fewer = omega (arith, can.moves, one.fewer);
+          completes = record { rest = one.others; by = one.by; moves = refl };
         })
 
--- a waiting node that can be completed, in no more steps
+-- a waiting node that can be completed, in no more moves
 pub record Waits {N : Type 0} (Hope : N → ℕ → Type 0) (Waiting : N → Type 0) (n : ℕ) : Type 0 where
   pub node : N
-  pub steps : ℕ
+  pub moves : ℕ
   pub waiting : Waiting node
-  pub no_more : steps ≤ n
-  pub hope : Hope node steps
+  pub no_more : moves ≤ n
+  pub hope : Hope node moves
 
 -- a node that comes next
 pub record Follows {N : Type 0} (Hope : N → ℕ → Type 0) (Next : N → Type 0) (n : ℕ) : Type 0 where
   pub node : N
-  pub steps : ℕ
+  pub moves : ℕ
   pub next : Next node
-  pub fewer : suc steps ≤ n
-  pub hope : Hope node steps
+  pub fewer : suc moves ≤ n
+  pub hope : Hope node moves
 
--- of each node that was seen and can be completed some waiting node can, in no more steps
+-- of each node that was seen and can be completed some waiting node can, in no more moves
 pub record LosesNothing {N : Type 0} (Hope : N → ℕ → Type 0) (Seen Waiting : N → Type 0) : Type 0 where
   pub kept : (u : N) (n : ℕ) → Seen u → Hope u n → Waits Hope Waiting n
 
--- A node is taken from those that wait, and those that come next and were not seen are added to both. Steps
--- fall, so a next node that was seen leads to another than the one taken
+-- A node is taken from those that wait, and those that come next and were not seen are added to both. Moves
+-- grow fewer, so a next node that was seen leads to another than the one taken
 pub node_kept : {N : Type 0} (Hope : N → ℕ → Type 0) (Seen Waiting Next New : N → Type 0) (v : N) →
     LosesNothing Hope Seen (λ (w : N). (w ≡ v) ⊎ Waiting w) →
     ((n : ℕ) → Hope v n → Follows Hope Next n) →
@@ -111,22 +111,22 @@ node_kept {N} Hope Seen Waiting Next New v before expands known = record { kept 
             Waits Hope (λ (w : N). New w ⊎ Waiting w) n
         by waits again = which waits.waiting
           where
-            after : (f : Follows Hope Next waits.steps) → Seen f.node ⊎ New f.node →
+            after : (f : Follows Hope Next waits.moves) → Seen f.node ⊎ New f.node →
                 Waits Hope (λ (w : N). New w ⊎ Waiting w) n
             after f (inr new) = record {
               node = f.node;
-              steps = f.steps;
+              moves = f.moves;
               waiting = inl new;
               no_more =
                   omega (arith, f.fewer, waits.no_more);
               hope = f.hope;
             }
             after f (inl seen) =
-                let w : Waits Hope (λ (w : N). New w ⊎ Waiting w) f.steps =
-                again f.node f.steps (omega (arith, f.fewer, waits.no_more)) seen f.hope in
+                let w : Waits Hope (λ (w : N). New w ⊎ Waiting w) f.moves =
+                again f.node f.moves (omega (arith, f.fewer, waits.no_more)) seen f.hope in
                 record {
                   node = w.node;
-                  steps = w.steps;
+                  moves = w.moves;
                   waiting = w.waiting;
                   no_more =
                       omega (arith, w.no_more, f.fewer, waits.no_more);
@@ -135,12 +135,12 @@ node_kept {N} Hope Seen Waiting Next New v before expands known = record { kept 
 
             which : (waits.node ≡ v) ⊎ Waiting waits.node → Waits Hope (λ (w : N). New w ⊎ Waiting w) n
             which (inl same) =
-                let f : Follows Hope Next waits.steps = expands waits.steps
-                (subst (λ (w : N). Hope w waits.steps) same waits.hope) in
+                let f : Follows Hope Next waits.moves = expands waits.moves
+                (subst (λ (w : N). Hope w waits.moves) same waits.hope) in
                 after f (known f.node f.next)
             which (inr waiting) = record {
               node = waits.node;
-              steps = waits.steps;
+              moves = waits.moves;
               waiting = inr waiting;
               no_more =
                   waits.no_more;
@@ -149,7 +149,7 @@ node_kept {N} Hope Seen Waiting Next New v before expands known = record { kept 
 
     all : (u : N) (n : ℕ) → Seen u ⊎ New u → Hope u n → Waits Hope (λ (w : N). New w ⊎ Waiting w) n
     all u n (inl seen) hope = bounded (suc n) u n (omega arith) seen hope
-    all u n (inr new) hope = record { node = u; steps = n; waiting = inl new; no_more = omega arith; hope = hope }
+    all u n (inr new) hope = record { node = u; moves = n; waiting = inl new; no_more = omega arith; hope = hope }
 
 -- where none waits, none that was seen can be completed
 pub none_left : {N : Type 0} (Hope : N → ℕ → Type 0) (Seen Waiting : N → Type 0) → LosesNothing Hope Seen Waiting →

@@ -235,37 +235,37 @@ abbrev pub HasReturnsOf : ObservedHistory → (Observation → Bool) → List Ef
 HasReturnsOf h p order = (i : ℕ) (e : Observation) → slice_get h.entries i ≡ Some e → HasReturned e → p e ≡ true →
     Contains (indices_of order) i
 
--- explain the history of these entries alone
-pub parted : (h : ObservedHistory) (p : Observation → Bool) (order : List Effect) → IsPartOf h order →
-    AllPass p order → HasReturnsOf h p order → IsExplained (record h { entries = kept p h.entries })
-unfolding WasReturned
-parted h p order by passes returned = reindexed h (kept p h.entries) (rank_of p h.entries) (place_in_whole p
-    h.entries) order
-    by (λ k d lt. moves (get_or order k d) (by.effects k d lt) (passes k d lt)) was
-  where
-    moves : (x : Effect) → IsEffectOf h.entries x → p x.entry ≡ true →
-        IsMovedTo (kept p h.entries) (rank_of p h.entries) (place_in_whole p h.entries) x
-    moves x is pass =
-        let found : (k : ℕ) × IsKeptAt p h.entries k x.index x.entry =
-        rank_gives p h.entries x.index x.entry is.is_entry pass in
-        record {
-          there = ap (λ (k : ℕ). slice_get (kept p h.entries) k) found.1.rank ∙ found.1.is_kept;
-          inverse = ap (place_in_whole p h.entries) found.1.rank ∙ found.1.place;
-        }
-
-    was : WasReturned (kept p h.entries) (rank_of p h.entries) order
-    was k e at has = let found : (i : ℕ) × IsKeptAt p h.entries k i e = place_gives p h.entries k e at in
-        (found.0, (found.1.rank, returned found.0 e found.1.is_entry has found.1.passes))
-
--- and back
-pub record Restored (h : ObservedHistory) (p : Observation → Bool) : Type 0 where
+-- an order of the entries that pass alone, at their places among all
+pub record PartOrder (h : ObservedHistory) (p : Observation → Bool) : Type 0 where
   pub order : List Effect
   pub by : IsPartOf h order
   pub passes : AllPass p order
   pub returned : HasReturnsOf h p order
 
+-- it explains the history of these entries alone
+pub parted : (h : ObservedHistory) (p : Observation → Bool) → PartOrder h p →
+    IsExplained (record h { entries = kept p h.entries })
+unfolding WasReturned
+parted h p is = reindexed h (kept p h.entries) (rank_of p h.entries) (place_in_whole p h.entries) is.order is.by
+    (λ k d lt. moves (get_or is.order k d) (is.by.effects k d lt) (is.passes k d lt)) was
+  where
+    moves : (x : Effect) → IsEffectOf h.entries x → p x.entry ≡ true →
+        IsMovedTo (kept p h.entries) (rank_of p h.entries) (place_in_whole p h.entries) x
+    moves x effect pass =
+        let found : (k : ℕ) × IsKeptAt p h.entries k x.index x.entry =
+        rank_gives p h.entries x.index x.entry effect.is_entry pass in
+        record {
+          there = ap (λ (k : ℕ). slice_get (kept p h.entries) k) found.1.rank ∙ found.1.is_kept;
+          inverse = ap (place_in_whole p h.entries) found.1.rank ∙ found.1.place;
+        }
+
+    was : WasReturned (kept p h.entries) (rank_of p h.entries) is.order
+    was k e at has = let found : (i : ℕ) × IsKeptAt p h.entries k i e = place_gives p h.entries k e at in
+        (found.0, (found.1.rank, is.returned found.0 e found.1.is_entry has found.1.passes))
+
+-- and the other way round
 pub restored : (h : ObservedHistory) (p : Observation → Bool) → IsExplained (record h { entries = kept p h.entries }) →
-    Restored h p
+    PartOrder h p
 unfolding moved
 restored h p explained = record {
   order = map (moved f) explained.order;
@@ -582,17 +582,21 @@ seen_is_observed h last bound is = record {
 leaves_out : (h : ObservedHistory) (last : ℕ) → All (IsUntil last) h.entries → IsExplained h →
     IsExplained (record h { entries = kept (is_early last) h.entries })
 unfolding WasReturned
-leaves_out h last ends explained = parted h (is_early last) (until last explained.order) (record {
-  effects = until_all (IsEffectOf h.entries) last explained.order explained.by.effects;
-  once = until_pairs AreApart last explained.order explained.by.once;
-  ordered = until_pairs RespectsBefore last explained.order explained.by.ordered;
-  legal = until_legal h.limits [] (zeros h.width) last explained.order explained.by.legal;
-}) (until_early last explained.order)
-    (λ i e at has early.
-    let ended : (e.first ≤ last) × (has.0.last ≤ last) = (at_place (IsUntil last) h.entries i e ends at).ended has.0
-    has.1 in
-    until_has h.entries last i e has.0 explained.order at has.1 ended.1 ended.0 explained.by.effects
-    explained.by.ordered (explained.by.returned i e at has))
+leaves_out h last ends explained = parted h (is_early last) (record {
+  order = until last explained.order;
+  by = record {
+    effects = until_all (IsEffectOf h.entries) last explained.order explained.by.effects;
+    once = until_pairs AreApart last explained.order explained.by.once;
+    ordered = until_pairs RespectsBefore last explained.order explained.by.ordered;
+    legal = until_legal h.limits [] (zeros h.width) last explained.order explained.by.legal;
+  };
+  passes = until_early last explained.order;
+  returned = λ i e at has early.
+      let ended : (e.first ≤ last) × (has.0.last ≤ last) = (at_place (IsUntil last) h.entries i e ends at).ended has.0
+      has.1 in
+      until_has h.entries last i e has.0 explained.order at has.1 ended.1 ended.0 explained.by.effects
+      explained.by.ordered (explained.by.returned i e at has);
+})
 
 takes_back : (h : ObservedHistory) (last : ℕ) → All (IsUntil last) h.entries →
     IsExplained (record h { entries = kept (is_early last) h.entries }) → IsExplained h
@@ -608,7 +612,7 @@ takes_back h last ends explained = record {
   };
 }
   where
-    back : Restored h (is_early last)
+    back : PartOrder h (is_early last)
     back = restored h (is_early last) explained
 
 pub seen_explains_as_much : SeenExplainsAsMuch

@@ -18,7 +18,7 @@ use Rattle.stamp_explain.proofs.Lists.{contains_cases, contains_first, none_in_e
 use Rattle.stamp_explain.proofs.Completing.{past_return}
 use Rattle.stamp_explain.proofs.Leading.{Ends, come, come_less, ends_past, ends_call, led_by}
 
--- what completes one node completes another, in no more steps
+-- what completes one node completes another, in no more moves
 pub record HopesWithin (h : ObservedHistory) (returns : List ℕ) (node : Node) (n : ℕ) : Type 0 where
   pub left : ℕ
   pub no_more : left ≤ n
@@ -29,7 +29,7 @@ hope_past : (h : ObservedHistory) (returns : List ℕ) (u w : Node) (n : ℕ) �
     u n → HopesWithin h returns w n
 hope_past h returns u w n step hope = record {
   left = length (drop w.past returns) + length hope.rest;
-  no_more = omega (arith, hope.steps, ap (λ (xs : List ℕ). length xs) to_come);
+  no_more = omega (arith, hope.moves, ap (λ (xs : List ℕ). length xs) to_come);
   hope = record {
     state = hope.state;
     taken = hope.taken;
@@ -37,7 +37,7 @@ hope_past h returns u w n step hope = record {
     rest = hope.rest;
     by = past_return (LockSteps h.limits) h.entries (slice_index returns u.past) (drop w.past returns) hope.state
         hope.taken hope.rest (subst (λ (rest : List ℕ). IsCompleted rest) to_come hope.by);
-    steps = refl;
+    moves = refl;
   };
 }
   where

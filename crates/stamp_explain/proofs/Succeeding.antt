@@ -18,8 +18,8 @@ use Rattle.stamp_explain.specs.Observer.{changes_nothing, observes_by, observes,
 use Rattle.stamp_explain.specs.Observer.{asks_in, asks_at}
 use Rattle.stamp_explain.specs.Search.{LockState, LockSteps, MayTake}
 use Rattle.stamp_explain.specs.Search.{StandsBefore}
-use Rattle.stamp_explain.specs.Turn.{IsOutOfTurn}
-use Rattle.stamp_explain.specs.Configuration.{IsAtOnce, IsFirstAtOnce, IsInTurn}
+use Rattle.stamp_explain.specs.Ahead.{GivesWay}
+use Rattle.stamp_explain.specs.Configuration.{IsAtOnce, IsFirstAtOnce, IsFirstAlike}
 use Rattle.stamp_explain.specs.Node.{StandsFor}
 use Rattle.stamp_explain.specs.Timeline.{IsTimeline, IsAwaitedAt, IsOpenAt, AreOpen}
 use Rattle.stamp_explain.specs.Expand.{GoesOn, Expands, ComesNext, ComesNextBy, IsTakenTo, Took}
@@ -143,13 +143,13 @@ first_at_once h asked timeline node a s taken calls k x is stands are before ins
             (subst (λ (j : ℕ). StandsBefore returns j (get_or calls k 0)) (sym there)
             (subst (λ (j : ℕ). StandsBefore returns y.index j) (sym here) sooner))
 
--- a call that is not out of turn is in turn
-is_in_turn : (h : ObservedHistory) (asked : Option ℕ) (timeline : Timeline) (node : Node) (a : Observation)
+-- a call that gives no way is the first of those that are alike
+is_first_alike : (h : ObservedHistory) (asked : Option ℕ) (timeline : Timeline) (node : Node) (a : Observation)
     (s : LockState) (taken calls : List ℕ) (x : Effect) → Awaits h timeline node a →
     AreOpen h timeline.returns.items node.past calls → StandsFor h timeline.returns.items node s taken →
-    slice_get h.entries x.index ≡ Some x.entry → ¬ IsOutOfTurn h asked node calls x.index →
-    IsInTurn h asked a taken x
-is_in_turn h asked timeline node a s taken calls x is are stands at turn j e other at_j ahead begun =
+    slice_get h.entries x.index ≡ Some x.entry → ¬ GivesWay h asked node calls x.index →
+    IsFirstAlike h asked a taken x
+is_first_alike h asked timeline node a s taken calls x is are stands at keeps j e other at_j ahead begun =
     which (either_in taken j)
   where
     opened : ¬ Contains taken j → IsOpenAt h timeline.returns.items node.past j
@@ -162,7 +162,7 @@ is_in_turn h asked timeline node a s taken calls x is are stands at turn j e oth
 
     which : Contains taken j ⊎ (¬ Contains taken j) → Contains taken j
     which (inl has) = has
-    which (inr misses) = absurd (turn (record {
+    which (inr misses) = absurd (keeps (record {
       first = j;
       among = are.whole j (opened misses);
       other = other;
@@ -197,8 +197,8 @@ choice_leads h asked timeline node a calls i w is bit none are awaited at choice
       object = choice.object a it.effect.entry at (ap (λ (j : ℕ). slice_get h.entries j) (sym it.index) ∙
           it.may.effect.is_entry);
       asks_not = ap asks_in (sym it.may.effect.is_entry) ∙ ap (asks_at h.entries) it.index ∙ choice.asks_not;
-      in_turn = is_in_turn h asked timeline node a s taken calls it.effect is are stands it.may.effect.is_entry
-          (subst (λ (j : ℕ). ¬ IsOutOfTurn h asked node calls j) (sym it.index) choice.in_turn);
+      first = is_first_alike h asked timeline node a s taken calls it.effect is are stands it.may.effect.is_entry
+          (subst (λ (j : ℕ). ¬ GivesWay h asked node calls j) (sym it.index) choice.gives_no_way);
     }))
 
 -- an observation tells that it changed nothing
@@ -265,7 +265,7 @@ suffices_at_once h timeline node a i w is observer takes n hope =
         (λ s t steps. observers_change_nothing h.limits x.entry.call x.reply s t tells.1 steps) took.may.fresh
         (due h timeline node hope.state hope.taken x.index x.entry is.timeline_is hope.stands took.may.effect.is_entry
         tells.0 took.may.fresh)
-        (record { rest = hope.rest; by = hope.by; steps = hope.steps }) in
+        (record { rest = hope.rest; by = hope.by; moves = hope.moves }) in
         let same : took.state ≡ hope.state = observers_change_nothing h.limits x.entry.call x.reply hope.state
         took.state tells.1 took.may.steps in
         let P : List ℕ → Type 0 = λ (to_come : List ℕ). CompletesIn (LockSteps h.limits) h.entries to_come hope.state

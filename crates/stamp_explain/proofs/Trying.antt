@@ -17,7 +17,7 @@ use Rattle.stamp_explain.specs.Observed.{AreOfOneObject}
 use Rattle.stamp_explain.specs.Explained.{Effect}
 use Rattle.stamp_explain.specs.Observer.{asks_by, asks_in, is_open_question}
 use Rattle.stamp_explain.specs.Search.{IsAlikeSooner, LockState, LockSteps, MayTake, IsReturnAt}
-use Rattle.stamp_explain.specs.Turn.{IsAhead, IsOutOfTurn}
+use Rattle.stamp_explain.specs.Ahead.{IsAhead, GivesWay}
 use Rattle.stamp_core.specs.Call.{is_lock_call}
 use Rattle.stamp_explain.specs.Node.{StandsFor}
 use Rattle.stamp_explain.specs.Timeline.{IsTimeline, IsAwaitedAt, IsOpenAt, AreOpen}
@@ -25,14 +25,14 @@ use Rattle.stamp_explain.specs.Expand.{Hope, GoesOn, IsTakenTo, Took}
 use Rattle.stamp_explain.specs.Expand.{IsNoChoice, IsNotInEffect, PassesTo}
 use Rattle.stamp_explain.specs.Expand.{Suffice}
 use Rattle.stamp_explain.specs.Expand.IsNoChoice.{of_other, questions, comes_later, stays}
-use Rattle.stamp_explain.proofs.Alike.{alike_in_as_many, may_in_turn}
+use Rattle.stamp_explain.proofs.Alike.{alike_in_as_many, may_take_alike}
 use Rattle.stamp_explain.proofs.Finding.{ArePending, first_of_pending}
 use Rattle.stamp_explain.proofs.Searching.{CompletesIn, GoesPast, GoesOnBy, goes_on}
 use Rattle.stamp_explain.proofs.Standing.{taken_by_bit}
 use Rattle.stamp_explain.proofs.Questions.{without_question}
 use Rattle.stamp_explain.proofs.Settling.{HopesWithin, hope_passes}
 use Rattle.stamp_explain.proofs.Expanding.{open_may, same_read}
-use Rattle.stamp_explain.proofs.Awaiting.{Awaits, awaited_at, left_of, steps_of, the_awaited, not_yet, due}
+use Rattle.stamp_explain.proofs.Awaiting.{Awaits, awaited_at, left_of, hope_completes, the_awaited, not_yet, due}
 use Rattle.stamp_explain.proofs.Awaiting.{pending, AwaitsOne, awaits_one}
 
 -- by one of these nodes returns are past in one that stands for the state, with these calls in effect
@@ -50,10 +50,10 @@ abbrev pub MakesOrWaits : ObservedHistory → Option ℕ → List ℕ → Node �
     Next →
     Type 0
 MakesOrWaits h asked returns node calls x u taken nexts =
-    IsOutOfTurn h asked node calls x.index ⊎ Makes h returns node u (x.index ∷ taken) nexts
+    GivesWay h asked node calls x.index ⊎ Makes h returns node u (x.index ∷ taken) nexts
 
 -- of whatever the node stands for, the last k of these calls were tried: each of the awaited one's object that may
--- take effect, and is no question under way, leads to one of these nodes, or is out of turn
+-- take effect, and is no question under way, leads to one of these nodes, or gives way
 pub record Tries (h : ObservedHistory) (asked : Option ℕ) (returns : List ℕ) (node : Node) (calls : List ℕ) (k : ℕ)
     (nexts : List Next) : Type 0 where
   pub tried : (a : Observation) (s : LockState) (taken : List ℕ) → IsAwaitedAt h returns node.past a →
@@ -71,7 +71,7 @@ none_tried h asked returns node calls = record {
 pub last_or_less : (p k n : ℕ) → n ≤ p + (k + 1) → p < n → k < n → (n ≤ p + k) ⊎ (p ≡ n - 1 - k)
 last_or_less p k n le lt less = grind arith
 
--- one more was tried, if it leads to a node, or is out of turn
+-- one more was tried, if it leads to a node, or gives way
 pub one_more_tried : (h : ObservedHistory) (asked : Option ℕ) (returns : List ℕ) (node : Node) (calls : List ℕ) (k : ℕ)
     (old new : List Next) → Tries h asked returns node calls k old → k < length calls →
     ((w : Next) → Contains old w → Contains new w) →
@@ -143,11 +143,11 @@ tried_question h asked returns node calls k nexts tries more question =
 -- another goes ahead of it
 pub tried_later : (h : ObservedHistory) (asked : Option ℕ) (returns : List ℕ) (node : Node) (calls : List ℕ) (k : ℕ)
     (nexts : List Next) → Tries h asked returns node calls k nexts → k < length calls →
-    IsOutOfTurn h asked node calls (get_or calls (length calls - 1 - k) 0) →
+    GivesWay h asked node calls (get_or calls (length calls - 1 - k) 0) →
     Tries h asked returns node calls (k + 1) nexts
 tried_later h asked returns node calls k nexts tries more out =
     one_more_tried h asked returns node calls k nexts nexts tries more (λ w has. has)
-    (λ a s taken awaited stands x u may alike asks_not is. inl (subst (IsOutOfTurn h asked node calls) is out))
+    (λ a s taken awaited stands x u may alike asks_not is. inl (subst (GivesWay h asked node calls) is out))
 
 -- it takes effect, and then returns are past
 pub tried_some : (h : ObservedHistory) (asked : Option ℕ) (returns : List ℕ) (node : Node) (calls : List ℕ) (k : ℕ)
@@ -219,13 +219,13 @@ pub completes_ahead : (h : ObservedHistory) (asked : Option ℕ) (timeline : Tim
     (calls : List ℕ) (s : LockState) (taken : List ℕ) (u : LockState) (left : ℕ) (x : Effect) →
     Awaits h timeline node a → AreOpen h timeline.returns.items node.past calls →
     StandsFor h timeline.returns.items node s taken → Completes h timeline node a s taken u left x →
-    (out : IsOutOfTurn h asked node calls x.index) → out.goes.other ≡ x.entry →
+    (out : GivesWay h asked node calls x.index) → out.goes.other ≡ x.entry →
     Completes h timeline node a s taken u left
     (record { index = out.first; entry = out.goes.entry; reply = x.reply })
 completes_ahead h asked timeline node a calls s taken u left x is are stands it out same = record {
   object = it.object ∙ ap is_lock_call (sym ahead.call);
   asks_not = ap (asks_by out.goes.entry.call) ahead.at_first;
-  may = may_in_turn h.limits h.entries a s u taken x out.first out.goes.entry it.may out.goes.is_entry sooner fresh
+  may = may_take_alike h.limits h.entries a s u taken x out.first out.goes.entry it.may out.goes.is_entry sooner fresh
       begun;
   rest = alike_in_as_many h.limits h.entries a (i ∷ drop (suc node.past) returns) s u taken x out.first
       out.goes.entry left (first_of_pending h.entries i a (drop (suc node.past) returns) taken is.at
@@ -268,7 +268,7 @@ completes_ahead h asked timeline node a calls s taken u left x is are stands it 
         it.may.effect.is_entry)))
 
 -- it leads to a node, or one that returned sooner does
-pub one_turn : (h : ObservedHistory) (asked : Option ℕ) (timeline : Timeline) (node : Node) (a : Observation)
+pub goes_or_waits : (h : ObservedHistory) (asked : Option ℕ) (timeline : Timeline) (node : Node) (a : Observation)
     (calls : List ℕ) (k : ℕ) (nexts : List Next) (s : LockState) (taken : List ℕ) (most : ℕ) (u : LockState)
     (left : ℕ) (x : Effect) → Awaits h timeline node a → AreOpen h timeline.returns.items node.past calls →
     length calls ≤ k → StandsFor h timeline.returns.items node s taken →
@@ -277,7 +277,7 @@ pub one_turn : (h : ObservedHistory) (asked : Option ℕ) (timeline : Timeline) 
     ((y : Effect) → suc (bound y.entry.returned) ≤ bound x.entry.returned →
     Completes h timeline node a s taken u left y → GoesOn h timeline.returns.items nexts most) →
     GoesOn h timeline.returns.items nexts most
-one_turn h asked timeline node a calls k nexts s taken most u left x is are all stands tries fewer it again =
+goes_or_waits h asked timeline node a calls k nexts s taken most u left x is are all stands tries fewer it again =
     by (tries.tried a s taken (awaited_at h timeline node a is) stands x u it.may it.object it.asks_not at.0 at.1
     (omega (arith, all)) (same_read calls at.0 0 x.index at.1 ∙ at.2))
   where
@@ -310,7 +310,7 @@ one_turn h asked timeline node a calls k nexts s taken most u left x is are all 
           stands = found.stands;
           rest = rest.rest;
           by = rest.by;
-          steps = rest.steps;
+          moves = rest.moves;
         }) in
         record {
           next = found.next;
@@ -320,32 +320,32 @@ one_turn h asked timeline node a calls k nexts s taken most u left x is are all 
           hope = there.hope;
         }
 
-pub in_turn : (h : ObservedHistory) (asked : Option ℕ) (timeline : Timeline) (node : Node) (a : Observation)
+pub some_goes_on : (h : ObservedHistory) (asked : Option ℕ) (timeline : Timeline) (node : Node) (a : Observation)
     (calls : List ℕ) (k : ℕ) (nexts : List Next) (s : LockState) (taken : List ℕ) (most : ℕ) (u : LockState)
     (left n : ℕ) (x : Effect) → Awaits h timeline node a → AreOpen h timeline.returns.items node.past calls →
     length calls ≤ k → StandsFor h timeline.returns.items node s taken →
     Tries h asked timeline.returns.items node calls k nexts → suc left ≤ most →
     bound x.entry.returned ≤ n → Completes h timeline node a s taken u left x →
     GoesOn h timeline.returns.items nexts most
-in_turn h asked timeline node a calls k nexts s taken most u left zero x is are all stands tries fewer few it =
-    one_turn h asked timeline node a calls k nexts s taken most u left x is are all stands tries fewer it
+some_goes_on h asked timeline node a calls k nexts s taken most u left zero x is are all stands tries fewer few it =
+    goes_or_waits h asked timeline node a calls k nexts s taken most u left x is are all stands tries fewer it
     (λ y less more. absurd (omega (arith, few, less)))
-in_turn h asked timeline node a calls k nexts s taken most u left (suc n) x is are all stands tries fewer few it =
-    one_turn h asked timeline node a calls k nexts s taken most u left x is are all stands tries fewer it
-    (λ y less more. in_turn h asked timeline node a calls k nexts s taken most u left n y is are all stands tries fewer
-    (omega (arith, few, less)) more)
+some_goes_on h asked timeline node a calls k nexts s taken most u left (suc n) x is are all stands tries fewer few it =
+    goes_or_waits h asked timeline node a calls k nexts s taken most u left x is are all stands tries fewer it
+    (λ y less more. some_goes_on h asked timeline node a calls k nexts s taken most u left n y is are all stands tries
+    fewer (omega (arith, few, less)) more)
 
 -- else an open call of the same object takes effect, which is no question under way; or the node can be completed in
--- fewer steps
-pub suffice_step : (h : ObservedHistory) (asked : Option ℕ) (timeline : Timeline) (node : Node) (a : Observation)
+-- fewer moves
+pub suffice_by_one : (h : ObservedHistory) (asked : Option ℕ) (timeline : Timeline) (node : Node) (a : Observation)
     (calls : List ℕ) (k : ℕ) (nexts : List Next) → Awaits h timeline node a → bit_at node.threads a.thread ≢ 1 →
     AreOpen h timeline.returns.items node.past calls → length calls ≤ k →
     Tries h asked timeline.returns.items node calls k nexts → (n : ℕ) →
     ((m : ℕ) → suc m ≤ n → Hope h timeline.returns.items node m → GoesOn h timeline.returns.items nexts m) →
     Hope h timeline.returns.items node n → GoesOn h timeline.returns.items nexts n
-suffice_step h asked timeline node a calls k nexts is bit are all tries n again hope =
+suffice_by_one h asked timeline node a calls k nexts is bit are all tries n again hope =
     goes (goes_on h.limits h.entries i a (drop (suc node.past) returns) hope.state hope.taken n
-    (the_awaited h timeline node a is) (steps_of h timeline node a n is hope))
+    (the_awaited h timeline node a is) (hope_completes h timeline node a n is hope))
   where
     returns : List ℕ
     returns = timeline.returns.items
@@ -360,7 +360,7 @@ suffice_step h asked timeline node a calls k nexts is bit are all tries n again 
     are_returns = subst (All (IsReturnAt h.entries)) (left_of h timeline node a is)
         (All-drop (IsReturnAt h.entries) node.past returns is.timeline_is.are.each)
 
-    -- the same node can be completed in fewer steps
+    -- the same node can be completed in fewer moves
     hope_without : (on : GoesOnBy h.limits h.entries i a (drop (suc node.past) returns) hope.state hope.taken n) →
         is_open_question on.effect.entry ≡ true → Hope h returns node on.left
     hope_without on asking =
@@ -376,7 +376,7 @@ suffice_step h asked timeline node a calls k nexts is bit are all tries n again 
           stands = hope.stands;
           rest = can.rest;
           by = can.by;
-          steps = can.steps;
+          moves = can.moves;
         }
 
     later : (m : ℕ) → suc m ≤ n → GoesOn h returns nexts m → GoesOn h returns nexts n
@@ -399,7 +399,7 @@ suffice_step h asked timeline node a calls k nexts is bit are all tries n again 
 
         by : (b : Bool) → is_open_question on.effect.entry ≡ b → GoesOn h returns nexts n
         by true asking = later on.left fewer (again on.left fewer (hope_without on asking))
-        by false asks_not = in_turn h asked timeline node a calls k nexts hope.state hope.taken n on.state on.left
+        by false asks_not = some_goes_on h asked timeline node a calls k nexts hope.state hope.taken n on.state on.left
             (bound on.effect.entry.returned) on.effect is are all hope.stands tries fewer (omega arith)
             (record { object = on.alike; asks_not = asks_not; may = on.may; rest = on.completes })
 
@@ -409,10 +409,10 @@ pub suffice_bounded : (h : ObservedHistory) (asked : Option ℕ) (timeline : Tim
     Tries h asked timeline.returns.items node calls k nexts → (most n : ℕ) → n ≤ most →
     Hope h timeline.returns.items node n → GoesOn h timeline.returns.items nexts n
 suffice_bounded h asked timeline node a calls k nexts is bit are all tries zero n few hope =
-    suffice_step h asked timeline node a calls k nexts is bit are all tries n
+    suffice_by_one h asked timeline node a calls k nexts is bit are all tries n
     (λ m fewer less. absurd (omega (arith, few, fewer))) hope
 suffice_bounded h asked timeline node a calls k nexts is bit are all tries (suc most) n few hope =
-    suffice_step h asked timeline node a calls k nexts is bit are all tries n
+    suffice_by_one h asked timeline node a calls k nexts is bit are all tries n
     (λ m fewer less. suffice_bounded h asked timeline node a calls k nexts is bit are all tries most m
     (omega (arith, few, fewer)) less) hope
 

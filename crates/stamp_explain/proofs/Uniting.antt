@@ -27,7 +27,8 @@ use Rattle.stamp_explain.proofs.Merging.IsMerge.{none, left, right}
 use Rattle.stamp_explain.proofs.Merging.{merge_all, Merges, MayBeTold, respects_all, sound_of}
 use Rattle.stamp_explain.proofs.Parting.{judged_apart, merged_explains}
 use Rattle.stamp_explain.proofs.Subhistories.{all_of_lock, no_calls_explained, none_of_record, subhistory_entries}
-use Rattle.stamp_explain.proofs.Seeing.{place_in_whole, kept, Restored, restored, restored_at, restored_many, places_at}
+use Rattle.stamp_explain.proofs.Seeing.{place_in_whole, kept, PartOrder, restored, restored_at, restored_many}
+use Rattle.stamp_explain.proofs.Seeing.{places_at}
 
 -- where lock or record isn't explained, the whole isn't
 pub not_by_part : (h : ObservedHistory) → IsObserved h →
@@ -37,7 +38,7 @@ not_by_part h observed (inr misses) explained = misses ((judged_apart h observed
 
 -- an order of the entries that pass, in the whole
 abbrev pub in_whole : (h : ObservedHistory) (p : Observation → Bool) (taken : List Taken) →
-    IsOrderOf (record h { entries = kept p h.entries }) taken → Restored h p
+    IsOrderOf (record h { entries = kept p h.entries }) taken → PartOrder h p
 in_whole h p taken o = restored h p (record { order = o.order; by = o.explains })
 
 abbrev as_taken : Effect → Taken

@@ -13,7 +13,7 @@ use Rattle.stamp_explain.specs.declared.observed.Observation.{Observation}
 use Rattle.stamp_explain.specs.Observed.{ObservedHistory, AreOfOneObject, IsBefore, of_lock, of_record}
 use Rattle.stamp_explain.specs.Observer.{observes, is_open_question}
 use Rattle.stamp_explain.specs.Explained.{Effect, IsExplained}
-use Rattle.stamp_explain.specs.Turn.{IsAhead}
+use Rattle.stamp_explain.specs.Ahead.{IsAhead}
 use Rattle.stamp_explain.specs.Search.{LockState, LockSteps, CanComplete, MayTake, AreReturns, StandsBefore}
 use Rattle.stamp_explain.specs.Search.{first_state}
 
@@ -41,18 +41,18 @@ NoneIsAtOnce h asked awaited s taken = (x : Effect) (t : LockState) → IsAtOnce
     ¬ MayTake (LockSteps h.limits) h.entries awaited s taken x t
 
 -- each call that is alike and returned sooner is in effect, or begins after the awaited one has returned
-abbrev pub IsInTurn : ObservedHistory → Option ℕ → Observation → List ℕ → Effect → Type 0
-IsInTurn h asked awaited taken x = (i : ℕ) (e : Observation) → asked ≢ Some i → slice_get h.entries i ≡ Some e →
+abbrev pub IsFirstAlike : ObservedHistory → Option ℕ → Observation → List ℕ → Effect → Type 0
+IsFirstAlike h asked awaited taken x = (i : ℕ) (e : Observation) → asked ≢ Some i → slice_get h.entries i ≡ Some e →
     IsAhead e x.entry → ¬ IsBefore awaited e → Contains taken i
 
--- where none takes effect at once, one of the awaited one's object is chosen: of those that are alike, in turn. A
--- question that is under way is left out
+-- where none takes effect at once, one of the awaited one's object is chosen: of those that are alike, the
+-- one that returned first. A question that is under way is left out
 pub record IsChosen (h : ObservedHistory) (asked : Option ℕ) (awaited : Observation) (s : LockState) (taken : List ℕ)
     (x : Effect) : Type 0 where
   pub none : NoneIsAtOnce h asked awaited s taken
   pub object : AreOfOneObject awaited x.entry
   pub asks_not : is_open_question x.entry ≡ false
-  pub in_turn : IsInTurn h asked awaited taken x
+  pub first : IsFirstAlike h asked awaited taken x
 
 -- of the open calls this one is tried
 abbrev pub IsTried : ObservedHistory → Option ℕ → List ℕ → Observation → LockState → List ℕ → Effect → Type 0
@@ -133,21 +133,21 @@ pub record IsBeginning (h : ObservedHistory) (returns : List ℕ) (c : Configura
   pub all : c.to_come ≡ returns
 
 -- one goes on from the other by one call that takes effect, and returns that are past then
-pub record StepsOn (h : ObservedHistory) (returns : List ℕ) (c d : Configuration h None returns) : Type 0 where
+pub record MovesOn (h : ObservedHistory) (returns : List ℕ) (c d : Configuration h None returns) : Type 0 where
   pub goes : GoesOnFrom h returns c d
   pub one : length goes.later ≤ 1
 
 -- so it does from one of the first k of these
-pub record StepsFromOne (h : ObservedHistory) (returns : List ℕ) (looked : List (Configuration h None returns))
+pub record MovesFromOne (h : ObservedHistory) (returns : List ℕ) (looked : List (Configuration h None returns))
     (k : ℕ) (d : Configuration h None returns) : Type 0 where
   pub place : ℕ
   pub before : place < k
   pub from : Configuration h None returns
   pub is_from : slice_get looked place ≡ Some from
-  pub steps : StepsOn h returns from d
+  pub moves : MovesOn h returns from d
 
 -- a search has looked at more than so many configurations, no two of which are one, and reached a further one. It
--- begins at its beginning, and each other comes by one step from one that was looked at before it. At each some
+-- begins at its beginning, and each other comes by one move from one that was looked at before it. At each some
 -- return is to come, the next one of a call that is not in effect, and after one from which an order goes on to the
 -- end it has looked at such alone as go on from that one. So but for those on one way it has looked at dead ends
 pub record LookedAtMore (h : ObservedHistory) (returns : List ℕ) (most : ℕ) : Type 0 where
@@ -160,10 +160,10 @@ pub record LookedAtMore (h : ObservedHistory) (returns : List ℕ) (most : ℕ) 
   pub many : length looked ≡ most + 1
   pub begins : (c : Configuration h None returns) → slice_get looked 0 ≡ Some c → IsBeginning h returns c
   pub linked : (k : ℕ) (d : Configuration h None returns) → 0 < k → slice_get looked k ≡ Some d →
-      StepsFromOne h returns looked k d
+      MovesFromOne h returns looked k d
   pub further : Configuration h None returns
   pub further_settled : AwaitsNext h None returns further
-  pub further_linked : StepsFromOne h returns looked (most + 1) further
+  pub further_linked : MovesFromOne h returns looked (most + 1) further
   pub is_further : All (λ (c : Configuration h None returns). ¬ AreOne h None returns c further) looked
 
 -- a search for an order gives up: it has looked at more than so many. The returns come in their order, each once

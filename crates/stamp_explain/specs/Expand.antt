@@ -15,7 +15,7 @@ use Rattle.stamp_explain.specs.declared.found.Found.TheVariants.{Order, Nothing,
 use Rattle.stamp_explain.specs.declared.timeline.Timeline.{Timeline}
 use Rattle.stamp_explain.specs.Observed.{ObservedHistory, IsObserved, AreOfOneObject}
 use Rattle.stamp_explain.specs.Observer.{asks_at}
-use Rattle.stamp_explain.specs.Turn.{IsOutOfTurn}
+use Rattle.stamp_explain.specs.Ahead.{GivesWay}
 use Rattle.stamp_explain.specs.Explained.{Effect, IsEffectOf, IsExplained}
 use Rattle.stamp_explain.specs.Search.{LockState, LockSteps, MayTake, IsCompletedBy}
 use Rattle.stamp_explain.specs.Configuration.{GivesUp, IsGivenUp, IsTried, NoneIsAtOnce, put_after}
@@ -31,16 +31,16 @@ pub record MayGoOn (h : ObservedHistory) (timeline : Timeline) (node : Node) : T
   pub reached : IsReached h None timeline.returns.items node
   pub past : node.past < length timeline.returns.items
 
--- an order completes what the node stands for, in so many steps: returns and calls that take effect
+-- an order completes what the node stands for, in so many moves: returns and calls that take effect
 pub record Hope (h : ObservedHistory) (returns : List ℕ) (node : Node) (n : ℕ) : Type 0 where
   pub state : LockState
   pub taken : List ℕ
   pub stands : StandsFor h returns node state taken
   pub rest : List Effect
   pub by : IsCompletedBy (LockSteps h.limits) h.entries (drop node.past returns) state taken rest
-  pub steps : length (drop node.past returns) + length rest ≡ n
+  pub moves : length (drop node.past returns) + length rest ≡ n
 
--- a node that comes next can be completed in fewer steps
+-- a node that comes next can be completed in fewer moves
 pub record GoesOn (h : ObservedHistory) (returns : List ℕ) (nexts : List Next) (n : ℕ) : Type 0 where
   pub next : Next
   pub left : ℕ
@@ -165,7 +165,7 @@ pub data IsNoChoice (h : ObservedHistory) (asked : Option ℕ) (returns : List �
   of_other : ((a e : Observation) → slice_get h.entries awaited ≡ Some a → slice_get h.entries i ≡ Some e →
       ¬ AreOfOneObject a e) → IsNoChoice h asked returns node calls awaited i
   questions : asks_at h.entries i ≡ true → IsNoChoice h asked returns node calls awaited i
-  comes_later : IsOutOfTurn h asked node calls i → IsNoChoice h asked returns node calls awaited i
+  comes_later : GivesWay h asked node calls i → IsNoChoice h asked returns node calls awaited i
   stays : Took h returns node i None → IsNoChoice h asked returns node calls awaited i
 
 -- or it is one, and leads to this node
@@ -174,7 +174,7 @@ pub record IsChoiceOf (h : ObservedHistory) (asked : Option ℕ) (returns : List
   pub object : (a e : Observation) → slice_get h.entries awaited ≡ Some a → slice_get h.entries i ≡ Some e →
       AreOfOneObject a e
   pub asks_not : asks_at h.entries i ≡ false
-  pub in_turn : ¬ IsOutOfTurn h asked node calls i
+  pub gives_no_way : ¬ GivesWay h asked node calls i
   pub took : Took h returns node i (Some w)
 
 abbrev pub IsChoice : ObservedHistory → Option ℕ → List ℕ → Node → List ℕ → ℕ → ℕ → Option Next → Type 0

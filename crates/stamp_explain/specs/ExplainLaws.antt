@@ -121,7 +121,7 @@ JudgedApart =
     (IsObserved (of_lock h) × IsObserved (of_record h)) ×
     (IsExplained h ↔ (IsExplained (of_lock h) × IsExplained (of_record h)))
 
--- And each by its own steps alone, in a search among all calls.
+-- And each by what its own calls do alone, in a search among all calls.
 abbrev pub Locality : Type 0
 Locality =
     (h : ObservedHistory) (locks records : List ℕ) → IsObserved h → AreReturnsOf h.entries true locks →

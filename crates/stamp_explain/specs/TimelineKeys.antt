@@ -1,4 +1,4 @@
--- The steps in which a timeline is made.
+-- How a timeline is made: by numbers beside the places of calls, put in order, and by ranks.
 use Rattle.std.specs.Prelude.{ℕ, ◌≡◌, ◌≢◌, ◌<◌, ◌≤◌, ◌↔◌, ◌⊎◌, List, length, map, take, slice_get, slice_index}
 use Rattle.std.specs.Prelude.{slice_index_or, Some, Vec}
 use Rattle.std.specs.Global.{Global}

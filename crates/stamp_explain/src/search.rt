@@ -9,6 +9,7 @@ ghost use Rattle.stamp_explain.specs.Timeline.{IsTimeline, IsOpenAt};
 ghost use Rattle.stamp_explain.specs.Store.{Keeps};
 ghost use Rattle.stamp_explain.specs.Expand.{MayGoOn, Expands, Took, PassesTo, IsChoice, IsNotInEffect, NoneIsAtOnceAt, IsSearched, LooksAt, waiting_from};
 
+use crate::ahead::gives_way;
 use crate::found::Found;
 use crate::node::{Next, Node, Origin, Waiting, has_bit, with_bit, without_bit};
 use crate::observed::{Observed, are_of_one_object};
@@ -17,7 +18,6 @@ use crate::order::order_to;
 use crate::stepping::step_of;
 use crate::store::Store;
 use crate::timeline::Timeline;
-use crate::turn::is_out_of_turn;
 use stamp_core::Word;
 use std::alloc::{AllocError, Global};
 
@@ -149,7 +149,7 @@ pub(crate) fn choice_of(
         return None;
     }
     let next = take_of(observed, node, i)?;
-    if is_out_of_turn(observed, asked, node, calls, i) {
+    if gives_way(observed, asked, node, calls, i) {
         return None;
     }
     Some(next)

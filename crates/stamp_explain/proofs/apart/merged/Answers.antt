@@ -55,51 +55,29 @@ first_of-requires-then-i-lock_order-2 c = call_inside c.args.observed.now false 
     c.index-record_order-j.result refl
     (omega (arith, c.loop-i.invariant.records_within, c.if-j-record_order-2.false)) c.index-record_order-j.is)
 
+-- where the lock's call is next, there is one
+lock_inside : (c : goal.After-index-lock_order-i-then-lock_is_next) → c.loop-i.i < length c.args.lock_order.now
+lock_inside c = elim c.if-j-record_order-2.branch [
+  | then-j-record_order-2 w ↦ elim c.if-i-lock_order.branch [
+    | then-i-lock_order v ↦ v.if-i-lock_order.true
+    | else-i-lock_order+then-j-record_order v ↦
+        absurd (omega (arith, v.if-j-record_order.true, w.if-j-record_order-2.true))
+  ]
+  | else-j-record_order-2+then-i-lock_order-2 w ↦ w.if-i-lock_order-2.true
+  | else-j-record_order-2+else-i-lock_order-2 w ↦
+      test_lt c.loop-i.i (length c.args.lock_order.now) w.lock_is_next-is c.if-lock_is_next.true
+]
+
 pub in_whole-requires : goal.in_whole-requires
 in_whole-requires c =
-    let inside : c.loop-i.i < length c.args.lock_order.now = elim c.if-j-record_order-2.branch [
-      | then-j-record_order-2 w ↦ elim c.if-i-lock_order.branch [
-        | then-i-lock_order v ↦ v.if-i-lock_order.true
-        | else-i-lock_order+then-j-record_order v ↦ absurd (omega (
-          arith,
-          v.if-j-record_order.true,
-          w.if-j-record_order-2.true,
-        ))
-      ]
-      | else-j-record_order-2+then-i-lock_order-2 w ↦ w.if-i-lock_order-2.true
-      | else-j-record_order-2+else-i-lock_order-2 w ↦
-          absurd (omega (
-            arith,
-            w.if-i-lock_order-2.false,
-            test_lt c.loop-i.i (length c.args.lock_order.now) w.lock_is_next-is
-                c.if-lock_is_next.true,
-          ))
-    ] in
     place_inside c.args.observed.now true c.args.locks.now c.args.lock_order.now c.loop-i.i
     c.index-lock_order-i-then-lock_is_next.result c.requires.locks c.requires.lock_order
     (slice_get_read c.args.lock_order.now (length c.args.lock_order.now) c.loop-i.i
-    c.index-lock_order-i-then-lock_is_next.result refl inside c.index-lock_order-i-then-lock_is_next.is)
+    c.index-lock_order-i-then-lock_is_next.result refl (lock_inside c) c.index-lock_order-i-then-lock_is_next.is)
 
 pub loop-i-preserved-then-lock_is_next : goal.loop-i-preserved-then-lock_is_next
 loop-i-preserved-then-lock_is_next c =
-    let inside : c.loop-i.i < length c.args.lock_order.now = elim c.if-j-record_order-2.branch [
-      | then-j-record_order-2 w ↦ elim c.if-i-lock_order.branch [
-        | then-i-lock_order v ↦ v.if-i-lock_order.true
-        | else-i-lock_order+then-j-record_order v ↦ absurd (omega (
-          arith,
-          v.if-j-record_order.true,
-          w.if-j-record_order-2.true,
-        ))
-      ]
-      | else-j-record_order-2+then-i-lock_order-2 w ↦ w.if-i-lock_order-2.true
-      | else-j-record_order-2+else-i-lock_order-2 w ↦
-          absurd (omega (
-            arith,
-            w.if-i-lock_order-2.false,
-            test_lt c.loop-i.i (length c.args.lock_order.now) w.lock_is_next-is
-                c.if-lock_is_next.true,
-          ))
-    ] in
+    let inside : c.loop-i.i < length c.args.lock_order.now = lock_inside c.before.before.before.before in
     let t = c.index-lock_order-i-then-lock_is_next.result in
     let at : slice_get c.args.lock_order.now c.loop-i.i ≡ Some t =
     slice_get_read c.args.lock_order.now (length c.args.lock_order.now) c.loop-i.i t refl inside
@@ -139,31 +117,28 @@ loop-i-preserved-then-lock_is_next c =
     c.requires.locks c.requires.records at c.in_whole.ensures.entry c.in_whole.ensures.reply first
     c.loop-i.invariant)
 
+-- and where it is not, there is one of the record's
+record_inside : (c : goal.After-index-record_order-j-else-lock_is_next) →
+    c.loop-i.j < length c.args.record_order.now
+record_inside c = elim c.if-j-record_order-2.branch [
+  | then-j-record_order-2 w ↦ absurd (test_eq c.loop-i.j (length c.args.record_order.now)
+      w.lock_is_next-is c.if-lock_is_next.false w.if-j-record_order-2.true)
+  | else-j-record_order-2+then-i-lock_order-2 w ↦
+      omega (arith, c.loop-i.invariant.records_within, w.if-j-record_order-2.false)
+  | else-j-record_order-2+else-i-lock_order-2 w ↦
+      omega (arith, c.loop-i.invariant.records_within, w.if-j-record_order-2.false)
+]
+
 pub in_whole-requires-else-lock_is_next : goal.in_whole-requires-else-lock_is_next
 in_whole-requires-else-lock_is_next c =
-    let inside : c.loop-i.j < length c.args.record_order.now = elim c.if-j-record_order-2.branch [
-      | then-j-record_order-2 w ↦ absurd (test_eq c.loop-i.j (length c.args.record_order.now)
-          w.lock_is_next-is c.if-lock_is_next.false w.if-j-record_order-2.true)
-      | else-j-record_order-2+then-i-lock_order-2 w ↦
-          omega (arith, c.loop-i.invariant.records_within, w.if-j-record_order-2.false)
-      | else-j-record_order-2+else-i-lock_order-2 w ↦
-          omega (arith, c.loop-i.invariant.records_within, w.if-j-record_order-2.false)
-    ] in
     place_inside c.args.observed.now false c.args.records.now c.args.record_order.now c.loop-i.j
     c.index-record_order-j-else-lock_is_next.result c.requires.records c.requires.record_order
     (slice_get_read c.args.record_order.now (length c.args.record_order.now) c.loop-i.j
-    c.index-record_order-j-else-lock_is_next.result refl inside c.index-record_order-j-else-lock_is_next.is)
+    c.index-record_order-j-else-lock_is_next.result refl (record_inside c) c.index-record_order-j-else-lock_is_next.is)
 
 pub loop-i-preserved : goal.loop-i-preserved
 loop-i-preserved c =
-    let inside : c.loop-i.j < length c.args.record_order.now = elim c.if-j-record_order-2.branch [
-      | then-j-record_order-2 w ↦ absurd (test_eq c.loop-i.j (length c.args.record_order.now)
-          w.lock_is_next-is c.if-lock_is_next.false w.if-j-record_order-2.true)
-      | else-j-record_order-2+then-i-lock_order-2 w ↦
-          omega (arith, c.loop-i.invariant.records_within, w.if-j-record_order-2.false)
-      | else-j-record_order-2+else-i-lock_order-2 w ↦
-          omega (arith, c.loop-i.invariant.records_within, w.if-j-record_order-2.false)
-    ] in
+    let inside : c.loop-i.j < length c.args.record_order.now = record_inside c.before.before.before.before in
     let t = c.index-record_order-j-else-lock_is_next.result in
     let at : slice_get c.args.record_order.now c.loop-i.j ≡ Some t =
     slice_get_read c.args.record_order.now (length c.args.record_order.now) c.loop-i.j t refl inside

@@ -3,22 +3,22 @@ use Rattle.stamp_core.specs.declared.reply.Reply.{Reply}
 use Rattle.stamp_explain.specs.declared.node.Next.{Next}
 use Rattle.stamp_explain.specs.Expand.{Enters}
 use Rattle.stamp_explain.proofs.Exploring.{is_zero, is_more, nil_of_length, popped_inside, popped_node}
-use Rattle.stamp_explain.proofs.Walking.{Walks, walks_first, walks_more, walks_end, walks_on, walked_reached}
-use Rattle.stamp_explain.proofs.Walking.{beside_inside}
+use Rattle.stamp_explain.proofs.Asked.{AsksSoFar, asked_first, asked_more, asked_end, asked_on, asked_reached}
+use Rattle.stamp_explain.proofs.Asked.{beside_inside}
 use Rattle.stamp_explain.specs.Asking.{IsReachedBeside}
 use Rattle.stamp_explain.proofs.asking.replies_of.Goals as goal
 
 pub loop-init : goal.loop-init
-loop-init c = subst (λ (rs : List Reply). Walks c.args.asking.now 0 c.enter.new.store c.enter.new.waiting.items rs)
+loop-init c = subst (λ (rs : List Reply). AsksSoFar c.args.asking.now 0 c.enter.new.store c.enter.new.waiting.items rs)
     (sym c.new-replies.ensures.items)
-    (walks_first c.args.asking.now c.new-store.result c.enter.new.store c.enter.new.waiting.items
+    (asked_first c.args.asking.now c.new-store.result c.enter.new.store c.enter.new.waiting.items
     (record { node = c.opening.result; took = None }) c.new-store.ensures.nodes c.opening.ensures
     (subst (λ (ps : List ℕ). Enters c.new-store.result c.enter.new.store 0 ps c.enter.new.waiting.items
     (record { node = c.opening.result; took = None } ∷ [])) c.new-waiting.ensures.items c.in_ok-enter.ensures))
 
 pub returns-in_default-clause-some : goal.returns-in_default-clause-some
 returns-in_default-clause-some c =
-    walks_end c.args.asking.now c.loop.counter c.loop.store c.loop.waiting.items c.loop.replies.items c.requires
+    asked_end c.args.asking.now c.loop.counter c.loop.store c.loop.waiting.items c.loop.replies.items c.requires
     c.loop.invariant
     (nil_of_length c.loop.waiting.items (sym c.loop.waiting.ok.0 ∙ c.in_default.ensures.cases.0))
 
@@ -29,19 +29,19 @@ index-requires c = subst (λ (n : ℕ). c.in-Some.place < n) (sym c.loop.store.n
 
 pub go_on-requires : goal.go_on-requires
 go_on-requires c =
-    let walked : IsReachedBeside c.args.asking.now c.index.result.now =
-    walked_reached c.args.asking.now c.loop.counter c.loop.store c.loop.waiting.items c.pop.new.self.items
+    let reached : IsReachedBeside c.args.asking.now c.index.result.now =
+    asked_reached c.args.asking.now c.loop.counter c.loop.store c.loop.waiting.items c.pop.new.self.items
     c.loop.replies.items c.in-Some.place c.index.result.now c.loop.invariant c.in-Some.ensures.items
     c.index.ensures in
     record {
       asks = c.requires;
-      reached = walked;
-      past = beside_inside c.args.asking.now c.index.result.now c.requires walked;
+      reached = reached;
+      past = beside_inside c.args.asking.now c.index.result.now c.requires reached;
     }
 
 pub loop-preserved : goal.loop-preserved
 loop-preserved c =
-    walks_more c.args.asking.now c.loop.counter c.loop.store c.enter-in-loop.new.store c.loop.waiting.items
+    asked_more c.args.asking.now c.loop.counter c.loop.store c.enter-in-loop.new.store c.loop.waiting.items
     c.pop.new.self.items c.enter-in-loop.new.waiting.items c.go_on.new.nexts.items c.loop.replies.items
     c.go_on.new.replies.items c.in-Some.place c.index.result.now c.loop.invariant c.in-Some.ensures.items
     (popped_node c.loop.counter c.loop.store c.loop.waiting.items c.pop.new.self.items c.in-Some.place
@@ -53,12 +53,12 @@ loop-preserved c =
 
 pub returns-then-is_empty-clause-some : goal.returns-then-is_empty-clause-some
 returns-then-is_empty-clause-some c =
-    walks_end c.args.asking.now c.loop.counter c.loop.store c.loop.waiting.items c.loop.replies.items c.requires
+    asked_end c.args.asking.now c.loop.counter c.loop.store c.loop.waiting.items c.loop.replies.items c.requires
     c.loop.invariant
     (nil_of_length c.loop.waiting.items (sym c.loop.waiting.ok.0 ∙ is_zero c.loop.waiting.len c.if-is_empty.ensures))
 
 pub returns-clause-none : goal.returns-clause-none
 returns-clause-none c =
-    walks_on c.args.asking.now c.args.most c.loop.counter c.loop.store c.loop.waiting.items c.loop.replies.items
+    asked_on c.args.asking.now c.args.most c.loop.counter c.loop.store c.loop.waiting.items c.loop.replies.items
     c.requires c.loop.invariant (omega (arith, c.loop-test.false))
     (omega (arith, c.loop.waiting.ok.0, is_more c.loop.waiting.len c.if-is_empty.ensures))

@@ -1,10 +1,10 @@
-use Rattle.std.proofs.Common.{◌<◌, ◌+◌, ◌-◌, ◌/◌, ℕ, Bool, false, sym, subst, arith, length}
-use Rattle.stamp_explain.specs.declared.found.Found.{Found}
-use Rattle.stamp_explain.proofs.Faulting.{IsBetween, Narrows, between_at_first, stuck_between, undecided_between}
+use Rattle.std.proofs.Common.{◌<◌, ◌+◌, ◌-◌, ◌/◌, Bool, false, subst, arith, length}
+use Rattle.stamp_explain.proofs.Faulting.{IsBetween, between_at_first, stuck_between, undecided_between}
 use Rattle.stamp_explain.proofs.Faulting.{unexplained_between}
-use Rattle.stamp_explain.proofs.Faulting.{middle_inside, end_at, end_is_entry, narrowed}
+use Rattle.stamp_explain.proofs.Faulting.{middle_inside, end_at, end_is_entry, halved, narrows_so}
 use Rattle.stamp_explain.proofs.first_fault.first_fault.Goals as goal
 use Rattle.stamp_explain.proofs.first_fault.first_fault.Goals.{in-Order, in-Nothing, in-Undecided}
+use Rattle.stamp_explain.proofs.Faulting.Narrows.{above, below, at_least}
 
 pub loop-low-init : goal.loop-low-init
 loop-low-init c = between_at_first c.args.observed.now c.args.most c.args.ends.now (length c.args.ends.now - 1)
@@ -19,39 +19,21 @@ found_at-requires-clause-end c =
     (omega (arith, inside, c.loop-low.invariant.inside))
 
 pub loop-low-preserved-after-branch-2 : goal.loop-low-preserved-after-branch-2
-loop-low-preserved-after-branch-2 c =
-    let middle : ℕ = c.loop-low.low + (c.loop-low.high - c.loop-low.low) / 2 in
-    let Now : Found → Type 0 = λ (f : Found). Narrows f c.loop-low.low c.loop-low.high c.loop-low.unexplained
-    c.loop-low.stuck middle
-    c.match-branch-2.low c.match-branch-2.high c.match-branch-2.unexplained c.match-branch-2.stuck in
-    narrowed c.args.observed.now c.args.most c.loop-low.unexplained c.args.ends.now c.loop-low.low c.loop-low.high
-    middle c.loop-low.stuck
-    c.in_ok-found_at.field-0 c.match-branch-2.low c.match-branch-2.high c.match-branch-2.unexplained
-    c.match-branch-2.stuck
-    c.requires.observed c.requires.ends c.loop-low.invariant (omega arith)
-    (middle_inside c.loop-low.low c.loop-low.high c.loop-low-test.true) c.in_ok-found_at.ensures
+loop-low-preserved-after-branch-2 c = halved c.requires.observed c.requires.ends c.loop-low.invariant
+    c.loop-low-test.true c.in_ok-found_at.ensures
     (elim c.match-branch-2.branch [
-      | in-Order w ↦ subst Now (sym w.in-Order.is) (w.low-is, w.high-is, w.unexplained-is, w.stuck-is)
-      | in-Nothing w ↦ subst Now (sym w.in-Nothing.is) (w.low-is, w.high-is, w.unexplained-is, w.stuck-is)
-      | in-Undecided w ↦ subst Now (sym w.in-Undecided.is) (w.low-is, w.high-is, w.unexplained-is, w.stuck-is)
+      | in-Order w ↦ narrows_so w.in-Order.is (above w.low-is w.high-is w.unexplained-is w.stuck-is)
+      | in-Nothing w ↦ narrows_so w.in-Nothing.is (below w.low-is w.high-is w.unexplained-is w.stuck-is)
+      | in-Undecided w ↦ narrows_so w.in-Undecided.is (at_least w.low-is w.high-is w.unexplained-is w.stuck-is)
     ])
 
 pub loop-low-preserved : goal.loop-low-preserved
-loop-low-preserved c =
-    let middle : ℕ = c.loop-low.low + (c.loop-low.high - c.loop-low.low) / 2 in
-    let Now : Found → Type 0 = λ (f : Found). Narrows f c.loop-low.low c.loop-low.high c.loop-low.unexplained
-    c.loop-low.stuck middle
-    c.match-branch-2.low c.match-branch-2.high c.match-branch-2.unexplained c.match-branch-2.stuck in
-    narrowed c.args.observed.now c.args.most c.loop-low.unexplained c.args.ends.now c.loop-low.low c.loop-low.high
-    middle c.loop-low.stuck
-    c.in_ok-found_at.field-0 c.match-branch-2.low c.match-branch-2.high c.match-branch-2.unexplained
-    c.match-branch-2.stuck
-    c.requires.observed c.requires.ends c.loop-low.invariant (omega arith)
-    (middle_inside c.loop-low.low c.loop-low.high c.loop-low-test.true) c.in_ok-found_at.ensures
+loop-low-preserved c = halved c.requires.observed c.requires.ends c.loop-low.invariant
+    c.loop-low-test.true c.in_ok-found_at.ensures
     (elim c.match-branch-2.branch [
-      | in-Order w ↦ subst Now (sym w.in-Order.is) (w.low-is, w.high-is, w.unexplained-is, w.stuck-is)
-      | in-Nothing w ↦ subst Now (sym w.in-Nothing.is) (w.low-is, w.high-is, w.unexplained-is, w.stuck-is)
-      | in-Undecided w ↦ subst Now (sym w.in-Undecided.is) (w.low-is, w.high-is, w.unexplained-is, w.stuck-is)
+      | in-Order w ↦ narrows_so w.in-Order.is (above w.low-is w.high-is w.unexplained-is w.stuck-is)
+      | in-Nothing w ↦ narrows_so w.in-Nothing.is (below w.low-is w.high-is w.unexplained-is w.stuck-is)
+      | in-Undecided w ↦ narrows_so w.in-Undecided.is (at_least w.low-is w.high-is w.unexplained-is w.stuck-is)
     ])
 
 pub returns-then-stuck : goal.returns-then-stuck

@@ -1,12 +1,12 @@
 use Rattle.std.proofs.Common.{◌≡◌, ◌<◌, ℕ, List, sym, subst, arith}
 use Rattle.stamp_explain.specs.declared.order.Taken.{Taken}
 use Rattle.stamp_explain.specs.Order.{IsOrderOf}
-use Rattle.stamp_explain.proofs.Ordering.{WalksTo, Reads, walks_last, walks_past, walks_call, walked}
+use Rattle.stamp_explain.proofs.Ordering.{GoesBack, Reads, back_last, back_past, back_call, back_first}
 use Rattle.stamp_explain.proofs.Ordering.{origin_inside, node_inside, reads_there}
 use Rattle.stamp_explain.proofs.order.order_to.Goals as goal
 
 pub loop-at-init : goal.loop-at-init
-loop-at-init c = walks_last c.args.observed.now c.args.timeline.now.returns.items c.args.store.now c.args.place
+loop-at-init c = back_last c.args.observed.now c.args.timeline.now.returns.items c.args.store.now c.args.place
     c.in_ok-order.order.items c.requires.end c.in_ok-order.ensures.items
 
 pub index-origin-requires : goal.index-origin-requires
@@ -38,9 +38,9 @@ loop-at-smaller-in_ok-push c =
 
 pub loop-at-preserved-in_ok-push : goal.loop-at-preserved-in_ok-push
 loop-at-preserved-in_ok-push c =
-    subst (WalksTo c.args.observed.now c.args.timeline.now.returns.items c.args.store.now
+    subst (GoesBack c.args.observed.now c.args.timeline.now.returns.items c.args.store.now
     c.index-origin.result.now.from) (sym c.in_ok-push.ensures.items)
-    (walks_call c.args.observed.now c.args.timeline.now.returns.items c.args.store.now c.loop-at.at
+    (back_call c.args.observed.now c.args.timeline.now.returns.items c.args.store.now c.loop-at.at
     c.index-origin.result.now c.index-node.result.now c.loop-at.order.items c.in-Some.field-0 c.loop-at.invariant
     (reads_there c.args.observed.now c.args.timeline.now.returns.items c.args.store.now c.loop-at.at
     c.loop-at.order.items c.index-origin.result.now c.index-node.result.now c.requires.linked c.loop-at-test.true
@@ -56,7 +56,7 @@ loop-at-smaller c =
 
 pub loop-at-preserved : goal.loop-at-preserved
 loop-at-preserved c =
-    walks_past c.args.observed.now c.args.timeline.now.returns.items c.args.store.now c.loop-at.at
+    back_past c.args.observed.now c.args.timeline.now.returns.items c.args.store.now c.loop-at.at
     c.index-origin.result.now c.index-node.result.now c.loop-at.order.items c.loop-at.invariant
     (reads_there c.args.observed.now c.args.timeline.now.returns.items c.args.store.now c.loop-at.at
     c.loop-at.order.items c.index-origin.result.now c.index-node.result.now c.requires.linked c.loop-at-test.true
@@ -66,7 +66,7 @@ pub returns : goal.returns
 returns c =
     let none : c.loop-at.at ≡ 0 = omega (arith, c.loop-at-test.false) in
     subst (λ (xs : List Taken). IsOrderOf c.args.observed.now xs) (sym c.reverse.ensures.items)
-    (walked c.args.observed.now c.args.timeline.now.returns.items c.args.store.now c.loop-at.order.items
+    (back_first c.args.observed.now c.args.timeline.now.returns.items c.args.store.now c.loop-at.order.items
     c.requires.timeline.are c.requires.linked
-    (subst (λ (n : ℕ). WalksTo c.args.observed.now c.args.timeline.now.returns.items c.args.store.now n
+    (subst (λ (n : ℕ). GoesBack c.args.observed.now c.args.timeline.now.returns.items c.args.store.now n
     c.loop-at.order.items) none c.loop-at.invariant))

@@ -1,8 +1,8 @@
-use Rattle.stamp_explain.proofs.Ordering.{WalksTo}
+use Rattle.stamp_explain.proofs.Ordering.{GoesBack}
 use Rattle.stamp_explain.proofs.order.order_to.Given as goal
 
 abbrev pub invariant-loop-at : goal.invariant-loop-at
-invariant-loop-at l = WalksTo l.observed l.timeline.returns.items l.store l.at l.order.items
+invariant-loop-at l = GoesBack l.observed l.timeline.returns.items l.store l.at l.order.items
 
 abbrev pub decreases-loop-at : goal.decreases-loop-at
 decreases-loop-at l = l.at

@@ -4,7 +4,7 @@ use Rattle.std.specs.Int.{bit_at}
 use Rattle.stamp_core.specs.Call.{call_suits}
 use Rattle.stamp_explain.specs.declared.observed.Observation.{Observation}
 use Rattle.stamp_explain.specs.Node.{SetsBit}
-use Rattle.stamp_explain.proofs.Expanding.{at_place, entry_is, none_by_bit, none_by_reply, taken_to}
+use Rattle.stamp_explain.proofs.Expanding.{at_place, entry_is, none_by_bit, none_by_reply, taken_to, trying}
 use Rattle.std.proofs.Common.{subst}
 use Rattle.stamp_explain.proofs.search.take_of.Goals as goal
 
@@ -15,14 +15,7 @@ returns-then-has_bit c returns are it = record {
       c.args.observed.now.entries c.entries.result.now
       c.args.i it.entry c.index-entries-i.result it.is_entry c.entries.ensures.entries in
       none_by_bit c.args.observed.now returns c.args.node.now a c.args.i s taken
-      (record {
-        observed = c.requires.observed;
-        are = are;
-        inside = awaited.inside;
-        at = awaited.is_entry;
-        stands = stands;
-        it = it;
-      })
+      (trying c.requires.observed are awaited stands it)
       (ap (λ (o : Observation). bit_at c.args.node.now.threads o.thread) same ∙ c.has_bit.ensures.0 c.if-has_bit.true);
 }
 
@@ -35,14 +28,7 @@ pub returns-in-None : goal.returns-in-None
 returns-in-None c returns are it = record {
   takes = λ a s taken awaited stands.
       none_by_reply c.args.observed.now returns c.args.node.now a c.args.i s taken
-      (record {
-        observed = c.requires.observed;
-        are = are;
-        inside = awaited.inside;
-        at = awaited.is_entry;
-        stands = stands;
-        it = it;
-      })
+      (trying c.requires.observed are awaited stands it)
       (λ e at. c.in-None.ensures e s at stands.at);
 }
 
@@ -53,14 +39,7 @@ returns-in-Some c returns are it = record {
       c.args.observed.now.entries c.entries.result.now
       c.args.i it.entry c.index-entries-i.result it.is_entry c.entries.ensures.entries in
       taken_to c.args.observed.now returns c.args.node.now a c.args.i s taken c.with_bit.result c.in-Some.step
-      (record {
-        observed = c.requires.observed;
-        are = are;
-        inside = awaited.inside;
-        at = awaited.is_entry;
-        stands = stands;
-        it = it;
-      })
+      (trying c.requires.observed are awaited stands it)
       (λ bit. false_true (sym c.if-has_bit.false ∙ c.has_bit.ensures.1
       (ap (λ (o : Observation). bit_at c.args.node.now.threads o.thread) (sym same) ∙ bit)))
       (λ e at. c.in-Some.ensures e s at stands.at)

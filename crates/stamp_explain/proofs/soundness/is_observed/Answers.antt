@@ -5,8 +5,6 @@ use Rattle.stamp_explain.specs.declared.observed.Observation.{Observation}
 use Rattle.stamp_explain.specs.Observed.{MayBeTold, DoNotOverlap}
 use Rattle.stamp_explain.proofs.Observers.{one_below, not_alone, not_apart}
 use Rattle.stamp_explain.proofs.soundness.is_observed.Goals as goal
-use Rattle.stamp_explain.proofs.soundness.is_observed.Goals.{then-not-is_sound_alone-via-then-not-is_sound_alone}
-use Rattle.stamp_explain.proofs.soundness.is_observed.Goals.{then-not-is_sound_alone-via-else-not-is_sound_alone+then-not-is_apart_from}
 
 differ : false ≡ true → ⊥
 differ h = cc
@@ -22,10 +20,10 @@ returns-then-not-is_sound_alone c =
     c.loop-i.i e) same in (
       λ no. absurd (differ no),
       λ is. absurd (elim c.then-not-is_sound_alone.branch [
-        | then-not-is_sound_alone-via-then-not-is_sound_alone w ↦
+        | goal.then-not-is_sound_alone-via-then-not-is_sound_alone w ↦
             not_alone h c.loop-i.i e within read (λ sound. differ (sym w.if-not-is_sound_alone.true ∙
             c.is_sound_alone.ensures.1 (subst (λ (n : ℕ). MayBeTold n e) (sym c.width.ensures.width) sound))) is
-        | then-not-is_sound_alone-via-else-not-is_sound_alone+then-not-is_apart_from w ↦
+        | goal.then-not-is_sound_alone-via-else-not-is_sound_alone+then-not-is_apart_from w ↦
             not_apart h c.loop-i.i e within read (λ apart. differ (sym w.if-not-is_apart_from.true ∙
             w.is_apart_from.ensures.1 (subst (λ (xs : List Observation). All (λ (other : Observation).
             DoNotOverlap other e) (take c.loop-i.i xs)) (sym same) apart))) is

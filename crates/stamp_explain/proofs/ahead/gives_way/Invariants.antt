@@ -1,8 +1,8 @@
 use Rattle.std.proofs.Common.{ℕ, ◌≢◌, Some}
 use Rattle.std.specs.Prelude.{take}
 use Rattle.std.specs.List.{All}
-use Rattle.stamp_explain.specs.Turn.{GoesAhead}
-use Rattle.stamp_explain.proofs.turn.is_out_of_turn.Given as goal
+use Rattle.stamp_explain.specs.Ahead.{GoesAhead}
+use Rattle.stamp_explain.proofs.ahead.gives_way.Given as goal
 
 abbrev pub invariant-loop-first : goal.invariant-loop-first
 invariant-loop-first l =

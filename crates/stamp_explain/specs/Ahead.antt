@@ -27,7 +27,7 @@ pub record GoesAhead (h : ObservedHistory) (node : Node) (first later : ℕ) : T
   pub waits : bit_at node.threads entry.thread ≢ 1
 
 -- one of these calls, but for the one that is asked, goes ahead of this one
-pub record IsOutOfTurn (h : ObservedHistory) (asked : Option ℕ) (node : Node) (calls : List ℕ) (i : ℕ) : Type 0 where
+pub record GivesWay (h : ObservedHistory) (asked : Option ℕ) (node : Node) (calls : List ℕ) (i : ℕ) : Type 0 where
   pub first : ℕ
   pub among : Contains calls first
   pub other : asked ≢ Some first

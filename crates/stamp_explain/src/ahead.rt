@@ -1,7 +1,7 @@
 //! Calls that are alike, of which the one that returned first takes effect first.
 ghost use Rattle.std.specs.Prelude.{◌≡◌, ◌↔◌, IsTrue};
 ghost use Rattle.stamp_explain.specs.Observed.{IsObserved};
-ghost use Rattle.stamp_explain.specs.Turn.{IsAhead, GoesAhead, IsOutOfTurn};
+ghost use Rattle.stamp_explain.specs.Ahead.{IsAhead, GoesAhead, GivesWay};
 
 use crate::node::{Node, has_bit};
 use crate::observed::{Observation, Observed};
@@ -65,7 +65,7 @@ fn goes_ahead(observed: &Observed, node: &Node, first: usize, later: usize) -> b
 }
 
 /// Whether one of these calls, but for the one that is asked, goes ahead of this one.
-pub(crate) fn is_out_of_turn(
+pub(crate) fn gives_way(
     observed: &Observed,
     asked: Option<usize>,
     node: &Node,
@@ -73,7 +73,7 @@ pub(crate) fn is_out_of_turn(
     i: usize,
 ) -> bool
     requires { IsObserved observed.now }
-    ensures { IsTrue result ↔ IsOutOfTurn observed.now asked node.now calls.now i }
+    ensures { IsTrue result ↔ GivesWay observed.now asked node.now calls.now i }
 {
     for first in calls {
         if asked != Some(*first) && goes_ahead(observed, node, *first, i) {

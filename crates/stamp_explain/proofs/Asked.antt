@@ -24,7 +24,7 @@ use Rattle.stamp_explain.specs.Asking.{SufficeUnless}
 use Rattle.stamp_explain.proofs.Lists.{none_in_empty, contains_cases, pairs_none}
 use Rattle.stamp_explain.proofs.Answering.{timeline_alike}
 use Rattle.stamp_explain.proofs.Answering.{opening_alike}
-use Rattle.stamp_explain.proofs.Leading.{way_past, way_by}
+use Rattle.stamp_explain.proofs.Leading.{reached_past, reached_by}
 use Rattle.stamp_explain.proofs.Counting.{all_differ, as_many, configuration_of, configurations_of, each_has}
 use Rattle.stamp_explain.proofs.Counting.{is_for_its}
 use Rattle.stamp_explain.proofs.GivingUp.{awaits_next, first_settled}
@@ -56,14 +56,7 @@ passed_reached asking v w taken is (passes_more {u} before step) =
     let l : ComesByReturn asking.seen returns u w at.reached.state at.reached.taken =
     step.leads at.reached.state at.reached.taken at.reached.stands in
     record {
-      reached = record {
-        state = at.reached.state;
-        taken = at.reached.taken;
-        inside = omega (arith, step.inside, l.past);
-        stands = l.stands;
-        way = way_past asking.seen (Some asking.place) returns u w at.reached.state at.reached.taken step.inside
-            at.reached.way l;
-      };
+      reached = reached_past asking.seen (Some asking.place) returns u w at.reached step.inside l;
       same = at.same;
     }
 
@@ -99,23 +92,11 @@ leads_beside asking node next is leads = by next.took refl (leads.leads.comes.le
     by : (o : Option ℕ) → next.took ≡ o → ComesNextBy h (Some asking.place) returns node via s taken o →
         IsReachedBeside asking next.node
     by None at l = then taken (record {
-      reached = record {
-        state = s;
-        taken = taken;
-        inside = omega (arith, leads.leads.comes.inside, l.past);
-        stands = l.stands;
-        way = way_past h (Some asking.place) returns node via s taken leads.leads.comes.inside is.reached.way l;
-      };
+      reached = reached_past h (Some asking.place) returns node via is.reached leads.leads.comes.inside l;
       same = refl;
     }) is.still
     by (Some i) at l = then (l.effect.index ∷ taken) (record {
-      reached = record {
-        state = l.state;
-        taken = l.effect.index ∷ taken;
-        inside = omega (arith, leads.leads.comes.inside, l.past);
-        stands = l.stands;
-        way = way_by h (Some asking.place) returns node via s taken i leads.leads.comes.inside is.reached.way l;
-      };
+      reached = reached_by h (Some asking.place) returns node via i is.reached leads.leads.comes.inside l;
       same = refl;
     }) (λ has. cases (contains_cases l.effect.index taken asking.place has))
       where
@@ -139,7 +120,7 @@ beside_inside asking node asks is = which (cases node.past (length asking.timeli
         (asks.timeline.are.whole asking.place asks.entry asks.is_entry (asks.return, asks.returned)))))
 
 -- what the search keeps
-pub record Walks (asking : Asking) (looked : ℕ) (store : Store) (waiting : List ℕ) (replies : List Reply) :
+pub record AsksSoFar (asking : Asking) (looked : ℕ) (store : Store) (waiting : List ℕ) (replies : List Reply) :
     Type 0 where
   pub explores : Explores looked store waiting
   pub reached : (v : Node) → Contains store.nodes.items v → IsReachedBeside asking v
@@ -148,9 +129,9 @@ pub record Walks (asking : Asking) (looked : ℕ) (store : Store) (waiting : Lis
   pub searches : (reply : Reply) (h : ObservedHistory) → IsSeenWith asking reply h → ¬ Contains replies reply →
       Searches h asking.timeline.returns.items store waiting
 
-pub walks_first : (asking : Asking) (old new : Store) (waiting : List ℕ) (next : Next) → old.nodes.items ≡ [] →
-    IsFirstNode asking.seen next.node → Enters old new 0 [] waiting (next ∷ []) → Walks asking 0 new waiting []
-walks_first asking old new waiting next empty is enters = record {
+pub asked_first : (asking : Asking) (old new : Store) (waiting : List ℕ) (next : Next) → old.nodes.items ≡ [] →
+    IsFirstNode asking.seen next.node → Enters old new 0 [] waiting (next ∷ []) → AsksSoFar asking 0 new waiting []
+asked_first asking old new waiting next empty is enters = record {
   explores = explores_first old new waiting next empty enters;
   reached = λ v has. subst (IsReachedBeside asking) (only_first old new waiting next empty enters v has)
       (opening_beside asking next.node is);
@@ -160,12 +141,12 @@ walks_first asking old new waiting next empty is enters = record {
       (opening_alike asking.seen h asking.place next.node (alike_of asking reply h answered) is) enters;
 }
 
-pub walks_more : (asking : Asking) (looked : ℕ) (old new : Store) (before popped after : List ℕ) (nexts : List Next)
-    (replies more : List Reply) (place : ℕ) (v : Node) → Walks asking looked old before replies →
+pub asked_more : (asking : Asking) (looked : ℕ) (old new : Store) (before popped after : List ℕ) (nexts : List Next)
+    (replies more : List Reply) (place : ℕ) (v : Node) → AsksSoFar asking looked old before replies →
     before ≡ popped ++ place ∷ [] → slice_get old.nodes.items place ≡ Some v → AreLed asking v nexts →
     AreMore replies more → GetsMore asking replies more → SufficeUnless asking v nexts more →
-    Enters old new place popped after nexts → Walks asking (looked + 1) new after more
-walks_more asking looked old new before popped after nexts replies more place v is split at led grows gets suffice
+    Enters old new place popped after nexts → AsksSoFar asking (looked + 1) new after more
+asked_more asking looked old new before popped after nexts replies more place v is split at led grows gets suffice
     enters =
     record {
       explores = explores_more looked old new before popped after nexts place is.explores split enters;
@@ -190,9 +171,9 @@ walks_more asking looked old new before popped after nexts replies more place v 
         (led.each found.0 (All-contains (Contains nexts) enters.added found.0 enters.among found.1.0)))
 
 -- where none waits, no other reply is explained
-pub walks_end : (asking : Asking) (looked : ℕ) (store : Store) (waiting : List ℕ) (replies : List Reply) →
-    IsAsking asking → Walks asking looked store waiting replies → waiting ≡ [] → AreReplies asking replies
-walks_end asking looked store waiting replies asks is none = record {
+pub asked_end : (asking : Asking) (looked : ℕ) (store : Store) (waiting : List ℕ) (replies : List Reply) →
+    IsAsking asking → AsksSoFar asking looked store waiting replies → waiting ≡ [] → AreReplies asking replies
+asked_end asking looked store waiting replies asks is none = record {
   gets = is.gets;
   once = is.once;
   whole = λ reply h answered misses. found_nothing h asking.timeline.returns.items store waiting
@@ -201,10 +182,10 @@ walks_end asking looked store waiting replies asks is none = record {
 }
 
 -- where one waits, more than so many configurations are reached
-pub walks_on : (asking : Asking) (most looked : ℕ) (store : Store) (waiting : List ℕ) (replies : List Reply) →
-    IsAsking asking → Walks asking looked store waiting replies → most ≤ looked → 1 ≤ length waiting →
+pub asked_on : (asking : Asking) (most looked : ℕ) (store : Store) (waiting : List ℕ) (replies : List Reply) →
+    IsAsking asking → AsksSoFar asking looked store waiting replies → most ≤ looked → 1 ≤ length waiting →
     ReachesMoreBeside asking.seen asking.place most
-walks_on asking most looked store waiting replies asks is all waits = record {
+asked_on asking most looked store waiting replies asks is all waits = record {
   returns = asking.timeline.returns.items;
   are = asks.timeline.are;
   once = asks.timeline.once;
@@ -238,9 +219,9 @@ walks_on asking most looked store waiting replies asks is all waits = record {
 }
 
 -- the node whose place is popped
-pub walked_reached : (asking : Asking) (looked : ℕ) (store : Store) (before popped : List ℕ) (replies : List Reply)
-    (place : ℕ) (v : Node) → Walks asking looked store before replies → before ≡ popped ++ place ∷ [] →
+pub asked_reached : (asking : Asking) (looked : ℕ) (store : Store) (before popped : List ℕ) (replies : List Reply)
+    (place : ℕ) (v : Node) → AsksSoFar asking looked store before replies → before ≡ popped ++ place ∷ [] →
     v ≡ get_or store.nodes.items place v → IsReachedBeside asking v
-walked_reached asking looked store before popped replies place v is split read =
+asked_reached asking looked store before popped replies place v is split read =
     is.reached v (contains_at store.nodes.items place v
     (popped_node looked store before popped place v is.explores split read))
