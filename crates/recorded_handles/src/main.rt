@@ -60,15 +60,15 @@ fn print_history(rt: &(impl Print + AllocGlobal), history: &Observed) -> Result<
     Ok(())
 }
 
-/// The number that a word says.
-fn number_in(word: Option<String>) -> Option<u64> {
-    word?.parse().ok()
+/// The number that an argument is.
+fn number_in(arg: Option<String>) -> Option<u64> {
+    arg?.parse().ok()
 }
 
 fn main(rt: HostRuntime) -> Result<()> {
-    let mut words = env::args(&rt)?.skip(1);
-    let wanted = number_in(words.next());
-    let rounds = number_in(words.next()).unwrap_or(500);
+    let mut args = env::args(&rt)?.skip(1);
+    let wanted = number_in(args.next());
+    let rounds = number_in(args.next()).unwrap_or(500);
     let threads = wanted.unwrap_or(4);
     ensure!(
         threads <= MOST_THREADS,

@@ -1,4 +1,7 @@
 //! A recorder: a handle whose calls are kept, each with a ticket taken before it and one after it.
+ghost use Rattle.std.specs.Prelude.{◌≡◌, [], IfOk};
+ghost use Rattle.recorded_handles.specs.Recorder.{WasKept};
+
 use stamp_core::{Call, Reply};
 use stamp_explain::{Observation, Returned};
 use stamped_lock::{LockHandle, Lost, Mismatch, Stamp};
@@ -7,29 +10,56 @@ use std::sync::atomic::{AtomicU64, Ordering};
 
 /// What a handle's method answers.
 pub trait Answer: Copy {
+    ghost use Rattle.std.specs.Prelude.{◌≡◌, Option};
+    ghost use Rattle.stamp_core.specs.declared.reply.Reply.{Reply};
+
+    // The reply of the call that this answers.
+    ghost replied: { Self → Option Reply };
+
     /// The reply that the sequential call has. None where the call lost, and was not made.
-    fn reply(self) -> Option<Reply>;
+    fn reply(self) -> Option<Reply>
+        ensures { result ≡ replied self };
 }
 
 impl Answer for Option<Stamp> {
+    ghost use Rattle.std.specs.Prelude.{Some};
+    ghost use Rattle.stamped_lock.specs.Replies.{stamped};
+
+    ghost replied = { λ s. Some (stamped s) };
+
     fn reply(self) -> Option<Reply> {
         Some(Reply::Stamp(self.map_or(0, |stamp| stamp.number())))
     }
 }
 
 impl Answer for Stamp {
+    ghost use Rattle.std.specs.Prelude.{Some};
+    ghost use Rattle.stamp_core.specs.declared.reply.Reply.TheVariants as reply;
+
+    ghost replied = { λ s. Some (reply.Stamp s) };
+
     fn reply(self) -> Option<Reply> {
         Some(Reply::Stamp(self.number()))
     }
 }
 
 impl Answer for bool {
+    ghost use Rattle.std.specs.Prelude.{Some};
+    ghost use Rattle.stamped_lock.specs.Replies.{tested};
+
+    ghost replied = { λ b. Some (tested b) };
+
     fn reply(self) -> Option<Reply> {
         Some(if self { Reply::Yes } else { Reply::No })
     }
 }
 
 impl Answer for Result<(), Mismatch> {
+    ghost use Rattle.std.specs.Prelude.{Some};
+    ghost use Rattle.stamped_lock.specs.Replies.{released};
+
+    ghost replied = { λ r. Some (released r) };
+
     fn reply(self) -> Option<Reply> {
         Some(if self.is_ok() {
             Reply::Done
@@ -40,6 +70,11 @@ impl Answer for Result<(), Mismatch> {
 }
 
 impl Answer for u64 {
+    ghost use Rattle.std.specs.Prelude.{Some};
+    ghost use Rattle.stamp_core.specs.declared.reply.Reply.TheVariants.{Count};
+
+    ghost replied = { λ n. Some (Count n) };
+
     fn reply(self) -> Option<Reply> {
         Some(Reply::Count(self))
     }
@@ -47,6 +82,10 @@ impl Answer for u64 {
 
 /// Of a call that is tried once: where it lost, it was not made.
 impl<T: Answer> Answer for Result<T, Lost> {
+    ghost use Rattle.recorded_handles.specs.Recorder.{reply_unless_lost};
+
+    ghost replied = { reply_unless_lost T.replied };
+
     fn reply(self) -> Option<Reply> {
         self.ok()?.reply()
     }
@@ -69,7 +108,11 @@ impl<'a> Recorder<'a> {
         handle: LockHandle<'a>,
         tickets: &'a AtomicU64,
         thread: u64,
-    ) -> Recorder<'a> {
+    ) -> Recorder<'a>
+        ensures handle { result.handle ≡ handle }
+        ensures thread { result.thread ≡ thread }
+        ensures tape { result.tape.items ≡ [] }
+    {
         Recorder {
             handle,
             tickets,
@@ -83,8 +126,15 @@ impl<'a> Recorder<'a> {
         self.tickets.fetch_add(1, Ordering::SeqCst)
     }
 
-    /// Takes the ticket after a call, and keeps the call. It gives the answer back.
-    pub fn end<T: Answer>(&mut self, first: u64, call: Call, answer: T) -> Result<T, AllocError> {
+    /// Takes the ticket after a call, and keeps the call; one that lost is not kept. It gives the answer
+    /// back. Without memory the call is not kept.
+    pub fn end<T: Answer>(&mut self, first: u64, call: Call, answer: T) -> Result<T, AllocError>
+        ensures answer { IfOk result (λ a. a ≡ answer) }
+        ensures kept { IfOk result (λ a.
+            WasKept self.old.thread first call.now (T.replied answer) self.old.tape.items self.new.tape.items) }
+        ensures thread { self.new.thread ≡ self.old.thread }
+        ensures handle { self.new.handle ≡ self.old.handle }
+    {
         let last = self.begin();
         if let Some(reply) = answer.reply() {
             self.tape.push(Observation {
@@ -98,7 +148,9 @@ impl<'a> Recorder<'a> {
     }
 
     /// The calls, in their order.
-    pub fn tape(self) -> Vec<Observation> {
+    pub fn tape(self) -> Vec<Observation>
+        ensures { result ≡ self.tape }
+    {
         self.tape
     }
 }

@@ -1,4 +1,4 @@
-//! What the threads do: all calls that a handle has, in turns at random.
+//! What the threads do: all calls that a handle has, at random.
 use crate::recorder::Recorder;
 use stamp_core::Call;
 use stamped_lock::Stamp;

@@ -8,8 +8,8 @@ use std::alloc::Global;
 /// More calls than a list begins with room for.
 pub(crate) const CALLS: u64 = 12;
 
-/// The call whose turn it is, and its reply: reads and gives back.
-pub(crate) fn turn(number: u64) -> (Call, Reply) {
+/// The call of this number, and its reply: reads and gives back.
+pub(crate) fn call_at(number: u64) -> (Call, Reply) {
     if number % 2 == 0 {
         (Call::TryRead, Reply::Stamp(257))
     } else {
@@ -34,7 +34,7 @@ fn act_again(book: &mut Book, call: &Call) -> Result<Reply, BookError> {
 /// Makes calls until the book is full; tells whether each reply was due.
 fn is_filled(book: &mut Book) -> bool {
     for number in 0..CALLS {
-        let (call, reply) = turn(number);
+        let (call, reply) = call_at(number);
         if act_again(book, &call) != Ok(reply) {
             return false;
         }

@@ -55,7 +55,7 @@ fn fault_line_outcome(alloc: Global, fault: &ServeFault, expected: &str) -> Outc
     }
 }
 
-/// Each line in turn.
+/// Each line, one after another.
 pub(crate) fn fault_lines_outcome(alloc: Global) -> Outcome {
     let mut all = Outcome::Right;
     for (fault, line) in &FAULTS {

@@ -1,4 +1,4 @@
-//! Makes each call that takes memory, once. `test` runs this with each allocation refused in turn.
+//! Makes each call that takes memory, once. `test` runs this with each allocation refused, one in each run.
 //! A run in which a call answers that memory was refused ends with status 1; each other answer
 //! than the right one is printed, and ends with status 0. With a word, `make`, `check` or `migrate`,
 //! it makes records, and does no more than that with them; with one of `refusals` it makes calls that

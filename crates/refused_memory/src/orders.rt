@@ -140,7 +140,7 @@ fn served_outcome(alloc: Global, case: &Case) -> Outcome {
     }
 }
 
-/// Each order in turn.
+/// Each order, one after another.
 pub(crate) fn orders_outcome(alloc: Global, cases: &[Case]) -> Outcome {
     let mut all = Outcome::Right;
     for case in cases {

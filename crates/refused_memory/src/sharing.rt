@@ -1,5 +1,5 @@
 //! A book under a lock, whose calls and whose record ask for memory as a book's own do.
-use crate::booking::{CALLS, turn};
+use crate::booking::{CALLS, call_at};
 use crate::outcome::Outcome;
 use stamp_check::check;
 use stamp_core::{Call, Limits, Record, Reply};
@@ -30,7 +30,7 @@ fn call_again(rt: &impl Wait, shared: &Shared, made: u64, call: &Call) -> Result
 /// Makes calls until the book is full; tells whether each reply was due.
 fn is_filled(rt: &impl Wait, shared: &Shared) -> bool {
     for number in 0..CALLS {
-        let (call, reply) = turn(number);
+        let (call, reply) = call_at(number);
         if call_again(rt, shared, number, &call) != Ok(reply) {
             return false;
         }

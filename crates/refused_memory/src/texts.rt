@@ -186,7 +186,7 @@ fn fault(alloc: Global, reading: Reading, text: &[u8]) -> Option<AnswerError> {
     }
 }
 
-/// Each text in turn: all are refused as they say, or for want of memory.
+/// Each text, one after another: all are refused as they say, or for want of memory.
 pub(crate) fn texts_outcome(alloc: Global, reading: Reading, texts: &[Refused]) -> Outcome {
     let mut all = Outcome::Right;
     for (text, due) in texts {

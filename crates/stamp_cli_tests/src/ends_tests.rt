@@ -9,15 +9,15 @@ use std::io::{Read, Write};
 
 /// What a read gives, or that it fails.
 #[derive(Clone, Copy)]
-enum Turn<'a> {
+enum Played<'a> {
     Gives(&'a [u8]),
     Fails,
 }
 
-/// Answers each read by the next turn, and counts the reads.
+/// Answers each read by the next of these, and counts the reads.
 #[derive(Drop)]
 struct Player<'a> {
-    turns: &'a [Turn<'a>],
+    played: &'a [Played<'a>],
     calls: &'a Cell<usize>,
 }
 
@@ -25,13 +25,13 @@ impl Read for Player<'_> {
     fn read(&mut self, buf: &mut [u8]) -> io::Result<usize> {
         let call = self.calls.get();
         self.calls.set(call.saturating_add(1));
-        match self.turns.get(call) {
-            Some(Turn::Gives(bytes)) => {
+        match self.played.get(call) {
+            Some(Played::Gives(bytes)) => {
                 let count = bytes.len().min(buf.len());
                 buf[..count].copy_from_slice(&bytes[..count]);
                 Ok(count)
             }
-            Some(Turn::Fails) => Err(io::Error::from(io::ErrorKind::Interrupted)),
+            Some(Played::Fails) => Err(io::Error::from(io::ErrorKind::Interrupted)),
             None => Ok(0),
         }
     }
@@ -39,31 +39,31 @@ impl Read for Player<'_> {
 
 #[test]
 fn a_read_of_a_source_is_one_read_of_its_reader(rt: HostRuntime) {
-    let turns = [
-        Turn::Gives(b"abc"),
-        Turn::Fails,
-        Turn::Fails,
-        Turn::Gives(b"de"),
-        Turn::Gives(b""),
-        Turn::Gives(b""),
-        Turn::Gives(b"f"),
-        Turn::Fails,
-        Turn::Gives(b""),
-        Turn::Gives(b"gh"),
+    let played = [
+        Played::Gives(b"abc"),
+        Played::Fails,
+        Played::Fails,
+        Played::Gives(b"de"),
+        Played::Gives(b""),
+        Played::Gives(b""),
+        Played::Gives(b"f"),
+        Played::Fails,
+        Played::Gives(b""),
+        Played::Gives(b"gh"),
     ];
     let calls = Cell::new(0);
     let mut source = ReadSource::new(Player {
-        turns: &turns,
+        played: &played,
         calls: &calls,
     });
     assert!(rt; calls.get() == 0);
-    for (index, turn) in turns.iter().enumerate() {
+    for (index, one) in played.iter().enumerate() {
         let mut buffer = [b' '; 8];
         let result = source.read(&mut buffer);
         assert!(rt; calls.get() == index + 1);
-        match (turn, result) {
-            (Turn::Gives(bytes), Ok(count)) => assert!(rt; buffer.get(..count) == Some(*bytes)),
-            (Turn::Fails, Err(error)) => {
+        match (one, result) {
+            (Played::Gives(bytes), Ok(count)) => assert!(rt; buffer.get(..count) == Some(*bytes)),
+            (Played::Fails, Err(error)) => {
                 assert!(rt; error.kind() == io::ErrorKind::Interrupted);
             }
             _ => assert!(rt; false, "another result at read {index}"),
@@ -143,18 +143,18 @@ fn a_write_of_a_sink_is_one_write_of_its_writer(rt: HostRuntime) {
 
 #[test]
 fn a_source_is_served_again(rt: HostRuntime) {
-    let turns = [
-        Turn::Gives(INPUT),
-        Turn::Gives(b""),
-        Turn::Gives(b""),
-        Turn::Gives(INPUT),
-        Turn::Fails,
-        Turn::Gives(INPUT),
-        Turn::Gives(b""),
+    let played = [
+        Played::Gives(INPUT),
+        Played::Gives(b""),
+        Played::Gives(b""),
+        Played::Gives(INPUT),
+        Played::Fails,
+        Played::Gives(INPUT),
+        Played::Gives(b""),
     ];
     let calls = Cell::new(0);
     let mut source = ReadSource::new(Player {
-        turns: &turns,
+        played: &played,
         calls: &calls,
     });
     let not_json = Err(ServeFault::Refused(ReadError::NotJson));

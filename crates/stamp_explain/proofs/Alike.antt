@@ -15,7 +15,7 @@ use Rattle.stamp_explain.specs.Observed.{IsBefore, AllowsReply}
 use Rattle.stamp_explain.specs.Explained.{Effect, IsEffectOf, history_of, indices_of, AreApart, RespectsBefore}
 use Rattle.stamp_explain.specs.Search.{Runs, IsCompletedBy, CanComplete, MayTake, LockState, LockSteps}
 use Rattle.stamp_explain.specs.Search.{IsFirstReturn, IsAlikeSooner}
-use Rattle.stamp_explain.specs.ExplainLaws.{AlikeInTurn}
+use Rattle.stamp_explain.specs.ExplainLaws.{AlikeByReturn}
 use Rattle.stamp_explain.proofs.Lists.{none_in_empty, contains_cases, contains_first, contains_rest, pairs_head}
 use Rattle.stamp_explain.proofs.Lists.{pairs_tail, pairs_cons}
 use Rattle.stamp_explain.proofs.Completing.{same_entry}
@@ -242,8 +242,8 @@ alike_in_as_many limits entries a to_come s t taken x k e n first may can at ali
 same_or_not : (j k : ℕ) → (j ≡ k) ⊎ (j ≢ k)
 same_or_not j k = grind arith
 
-pub alike_in_turn : AlikeInTurn
-alike_in_turn limits entries a to_come s t taken x k e first may can at alike fresh begun due = record {
+pub alike_by_return : AlikeByReturn
+alike_by_return limits entries a to_come s t taken x k e first may can at alike fresh begun due = record {
   may = may_take_alike limits entries a s t taken x k e may at alike fresh begun;
   can = which (same_or_not k x.index);
 }

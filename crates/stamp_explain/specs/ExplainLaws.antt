@@ -86,8 +86,8 @@ pub record MayGoBy (limits : Bounds) (entries : List Observation) (awaited : Obs
   pub can : CanComplete (LockSteps limits) entries to_come t (y.index ∷ taken)
 
 -- Of open calls that are alike, nothing is lost if the one that returned first takes effect before the others.
-abbrev pub AlikeInTurn : Type 0
-AlikeInTurn =
+abbrev pub AlikeByReturn : Type 0
+AlikeByReturn =
     (limits : Bounds) (entries : List Observation) (awaited : Observation) (to_come : List ℕ) (s t : LockState)
     (taken : List ℕ) (x : Effect) (k : ℕ) (e : Observation) →
     IsFirstReturn entries taken awaited → MayTake (LockSteps limits) entries awaited s taken x t →

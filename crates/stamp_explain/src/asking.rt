@@ -1,11 +1,11 @@
 //! The replies that one call could get: a search goes through all that the others may do before it.
-ghost use Rattle.std.specs.Prelude.{ℕ, ◌≡◌, ◌<◌, ◌∷◌, [], IfOk, IfSome, IsTrue, ◌↔◌, Some, None, slice_get, length};
+ghost use Rattle.std.specs.Prelude.{ℕ, ◌≡◌, ◌<◌, ◌∷◌, [], IfOk, IfSome, Some, None, slice_get, length};
 ghost use Rattle.std.specs.Option.{IfNone};
 ghost use Rattle.std.specs.List.{Contains};
 ghost use Rattle.stamp_core.specs.declared.reply.Reply.{Reply};
 ghost use Rattle.stamp_explain.specs.declared.observed.Observation.{Observation};
 ghost use Rattle.stamp_explain.specs.declared.observed.Returned.{Returned};
-ghost use Rattle.stamp_explain.specs.Observed.{ObservedHistory, IsObserved, IsBefore};
+ghost use Rattle.stamp_explain.specs.Observed.{ObservedHistory, IsObserved};
 ghost use Rattle.stamp_explain.specs.Configuration.{ReachesMoreBeside};
 ghost use Rattle.stamp_explain.specs.Cut.{place_then};
 ghost use Rattle.stamp_explain.specs.Expand.{Enters, Suffice, Took};
@@ -18,6 +18,7 @@ use crate::node::{Next, Node, Origin};
 use crate::observed::{Observation, Observed, Returned};
 use crate::observer::observes_at;
 use crate::search::{choice_of, opening, settled, take_of};
+use crate::soundness::is_before;
 use crate::stepping::step_of;
 use crate::store::Store;
 use crate::timeline::{Timeline, timeline_of};
@@ -94,16 +95,6 @@ pub(crate) fn asking_of(
         timeline,
         place,
     })
-}
-
-/// Whether the one call had returned when the other began.
-fn is_before(a: &Observation, b: &Observation) -> bool
-    ensures { IsTrue result ↔ IsBefore a.now b.now }
-{
-    match &a.returned {
-        None => false,
-        Some(returned) => returned.last < b.first,
-    }
 }
 
 /// Adds a reply, unless it is there.

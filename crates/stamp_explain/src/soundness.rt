@@ -8,7 +8,7 @@ use crate::observed::{Observation, Observed};
 use stamp_core::MOST_THREADS;
 
 /// Whether the one had returned when the other began.
-fn is_before(a: &Observation, b: &Observation) -> bool
+pub(crate) fn is_before(a: &Observation, b: &Observation) -> bool
     ensures { IsTrue result ↔ IsBefore a.now b.now }
 {
     match &a.returned {

@@ -68,23 +68,23 @@ fn read_beside<R: Wait>(
     rt: &R,
     lock: &StampedLock,
     runs: &AtomicU64,
-    turn: &Barrier,
+    meeting: &Barrier,
 ) -> Result<u64, Mismatch> {
     lock.enter().read_optimistically(rt, |_| {
         let run = runs.fetch_add(1, Ordering::SeqCst);
         if run == 0 {
-            turn.wait(rt);
-            turn.wait(rt);
+            meeting.wait(rt);
+            meeting.wait(rt);
         }
         run
     })
 }
 
 /// Makes these calls while the reader is in its closure. Answers how many were answered as they should.
-fn come_between<R: Wait>(rt: &R, lock: &StampedLock, rows: &[Row], turn: &Barrier) -> usize {
-    turn.wait(rt);
+fn come_between<R: Wait>(rt: &R, lock: &StampedLock, rows: &[Row], meeting: &Barrier) -> usize {
+    meeting.wait(rt);
     let right = right_rows(rt, lock, rows, false);
-    turn.wait(rt);
+    meeting.wait(rt);
     right
 }
 
@@ -96,11 +96,11 @@ const WRITER: [Row; 2] = [(Ask::Write, 0, 384), (Ask::UnlockWrite, 384, 1)];
 fn an_optimistic_read_that_a_writer_came_into_runs_again(rt: HostRuntime) -> Result<(), Fail> {
     for (rows, last) in [(&READER, 0), (&WRITER, 1)] {
         let lock = made(rt.alloc())?;
-        let (runs, turn) = (AtomicU64::new(0), Barrier::new(2));
+        let (runs, meeting) = (AtomicU64::new(0), Barrier::new(2));
         let (run, right) = join(
             &rt,
-            || read_beside(&rt, &lock, &runs, &turn),
-            || come_between(&rt, &lock, rows, &turn),
+            || read_beside(&rt, &lock, &runs, &meeting),
+            || come_between(&rt, &lock, rows, &meeting),
         );
         assert!(rt; run == Ok(last));
         assert!(rt; (runs.load(Ordering::SeqCst), right) == (last + 1, 2));
