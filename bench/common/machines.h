@@ -269,11 +269,11 @@ static void reserve(struct run *run) {
     run->entries = made(realloc(run->entries, run->room * sizeof *run->entries));
 }
 
-static void finish(struct run *run, uint64_t name, const struct ending *ending) {
-    struct thread *thread = &run->threads[name];
+static void finish(struct run *run, uint64_t by, const struct ending *ending) {
+    struct thread *thread = &run->threads[by];
     struct machine *m = &thread->machine;
     run->entries[run->length++] = (struct entry){
-        .thread = name, .first = thread->first, .last = run->position,
+        .thread = by, .first = thread->first, .last = run->position,
         .call = {m->kind, thread->stamp}, .reply = ending->reply,
         .expected = m->expected, .words = m->words, .content = ending->content,
     };
@@ -282,9 +282,9 @@ static void finish(struct run *run, uint64_t name, const struct ending *ending) 
 }
 
 // Makes one access of the thread's current call, if it has one left. Says whether it had.
-static int step(struct run *run, uint64_t name) {
-    struct thread *thread = &run->threads[name];
-    const struct calls *calls = &run->script->threads[name];
+static int step(struct run *run, uint64_t by) {
+    struct thread *thread = &run->threads[by];
+    const struct calls *calls = &run->script->threads[by];
     if (!thread->is_busy && thread->finished == calls->length) {
         run->position++;
         return 0;
@@ -296,7 +296,7 @@ static int step(struct run *run, uint64_t name) {
         thread->is_busy = 1;
     }
     struct ending ending = step_of(run, &thread->machine);
-    if (ending.is_ended) finish(run, name, &ending);
+    if (ending.is_ended) finish(run, by, &ending);
     run->position++;
     return 1;
 }
@@ -311,11 +311,11 @@ static struct run *start(const struct script *script) {
 }
 
 // One access, which is counted: an entry's own steps, and the changes of the lock's word by others.
-static void step_counted(struct run *run, uint64_t name) {
-    struct meter *meter = &run->threads[name].meter;
+static void step_counted(struct run *run, uint64_t by) {
+    struct meter *meter = &run->threads[by].meter;
     size_t room = run->room, length = run->length;
     uint64_t before = run->words[0];
-    if (!step(run, name)) return;
+    if (!step(run, by)) return;
     if (!run->report || run->room != room)
         run->report = made(realloc(run->report, run->room * sizeof *run->report));
     uint64_t change = run->words[0] != before;

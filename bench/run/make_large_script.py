@@ -3,18 +3,18 @@
 Run by run_script.py, with and without --report, it gives the counts that the program has to print."""
 import sys
 
-THREADS, CALLS, STEPS, TURN, WIDTH = 64, 10_000, 1_000_000, 100, 16
+THREADS, CALLS, STEPS, STRETCH, WIDTH = 64, 10_000, 1_000_000, 100, 16
 
 
 def words(word):
     return "[" + ",".join([str(word)] * WIDTH) + "]"
 
 
-def record_call(thread, turn):
-    if turn % 8 == 0:
+def record_call(thread, number):
+    if number % 8 == 0:
         return f'["put",{words(thread % 4)}]'
-    if turn % 8 == 4:
-        return f'["put_if",{words(turn % 4)},{words(thread % 4)}]'
+    if number % 8 == 4:
+        return f'["put_if",{words(number % 4)},{words(thread % 4)}]'
     return '["get"]'
 
 
@@ -34,12 +34,12 @@ def call(thread, index):
     ][index % 8]()
 
 
-def name_of(turn):
-    return turn * 2_654_435_761 % 2**32 // 2**26
+def thread_of(stretch):
+    return stretch * 2_654_435_761 % 2**32 // 2**26
 
 
 def main():
-    steps = ",".join(str(name_of(position // TURN)) for position in range(STEPS))
+    steps = ",".join(str(thread_of(position // STRETCH)) for position in range(STEPS))
     calls = (",".join(call(t, i) for i in range(CALLS)) for t in range(THREADS))
     threads = ",".join(f"[{text}]" for text in calls)
     sys.stdout.write(

@@ -1,7 +1,7 @@
 """Writes a script of 64 threads to a file: make_script.py FILE [STEPS [MIX]].
 
 MIX is `lock` (the default: acquisitions, releases by what was acquired, validations, conversions) or
-`record` (gets and puts of 16 words). The threads alternate at random. The same arguments give the same
+`record` (gets and puts of 16 words). The threads take turns at random. The same arguments give the same
 file, of at most 16,777,216 bytes and 10,000 calls a thread."""
 import json
 import random
@@ -49,12 +49,12 @@ def words(chance):
     return [chance.randrange(1_000_000) for _ in range(WIDTH)]
 
 
-def names(steps, most, chance):
-    """The threads alternate, after one step to so many."""
+def steps_of(count, most, chance):
+    """The threads make one step to so many at a stretch."""
     made = []
-    while len(made) < steps:
+    while len(made) < count:
         made += [chance.randrange(THREADS)] * chance.randint(1, most)
-    return made[:steps]
+    return made[:count]
 
 
 def main():
@@ -63,10 +63,10 @@ def main():
     mix = sys.argv[3] if len(sys.argv) > 3 else "lock"
     chance = random.Random(17)
     if mix == "lock":
-        width, turns, threads = 0, 1, [lock_calls(t, chance) for t in range(THREADS)]
+        width, most, threads = 0, 1, [lock_calls(t, chance) for t in range(THREADS)]
     else:
-        width, turns, threads = WIDTH, 200, [record_calls(chance, steps // THREADS // WIDTH + 1) for _ in range(THREADS)]
-    script = {"readers": 127, "steps": names(steps, turns, chance), "threads": threads, "versions": 2**55 - 2, "width": width}
+        width, most, threads = WIDTH, 200, [record_calls(chance, steps // THREADS // WIDTH + 1) for _ in range(THREADS)]
+    script = {"readers": 127, "steps": steps_of(steps, most, chance), "threads": threads, "versions": 2**55 - 2, "width": width}
     text = json.dumps(script, separators=(",", ":")) + "\n"
     if len(text) > 16_777_216:
         sys.exit(f"{len(text)} bytes are too many")

@@ -107,14 +107,14 @@ def run(script):
     stamps = [[] for _ in threads]
     begun = [None] * len(threads)  # the call, its machine and access, its first step, its own steps, and changes before
     entries, report, changes = [], [], 0
-    for position, name in enumerate(script["steps"]):
-        current = begun[name]
+    for position, thread in enumerate(script["steps"]):
+        current = begun[thread]
         if current is None:
-            if len(stamps[name]) == len(threads[name]):
+            if len(stamps[thread]) == len(threads[thread]):
                 continue
-            call = resolved(threads[name][len(stamps[name])], stamps)
+            call = resolved(threads[thread][len(stamps[thread])], stamps)
             going = machine(limits, width, call)
-            current = begun[name] = [call, going, next(going), position, 0, changes]
+            current = begun[thread] = [call, going, next(going), position, 0, changes]
         call, going, access, first, own, before = current
         word = words[0]
         found = accessed(words, *access)
@@ -126,10 +126,10 @@ def run(script):
             current[4], current[5] = own + 1, before
         except StopIteration as end:
             reply = end.value
-            stamps[name].append(reply if isinstance(reply, int) else 0)
-            entries.append({"call": call, "first": first, "last": position, "point": position, "reply": reply, "thread": name})
+            stamps[thread].append(reply if isinstance(reply, int) else 0)
+            entries.append({"call": call, "first": first, "last": position, "point": position, "reply": reply, "thread": thread})
             report.append([own + 1, changes - before])
-            begun[name] = None
+            begun[thread] = None
     return entries, report
 
 

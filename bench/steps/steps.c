@@ -3,7 +3,7 @@
 #include "machines.h"
 #include <time.h>
 
-enum { THREADS = 64, CALLS = 10000, TURNS = 13 };
+enum { THREADS = 64, CALLS = 10000, ROUND = 13 };
 
 static struct arg of(uint64_t thread, uint64_t index) {
     return (struct arg){.is_of = 1, .thread = thread, .index = index};
@@ -18,7 +18,7 @@ static struct script_call with(enum kind kind, struct arg stamp) {
 // The call of this index of a thread: a cycle of calls of the lock, each of which has the stamp of
 // one before it.
 static struct script_call lock_call(uint64_t thread, uint64_t i) {
-    switch (i % TURNS) {
+    switch (i % ROUND) {
     case 0: return call(TRY_READ);
     case 1: return with(VALIDATE, of(thread, i - 1));
     case 2: return with(UNLOCK_READ, of(thread, i - 2));
@@ -41,12 +41,12 @@ static struct script_call record_call(uint64_t i, const uint64_t *words) {
     return i % 40 == 0 ? put : call(GET);
 }
 
-static uint64_t thread_of(uint64_t round) {
-    return round * UINT64_C(2654435761) % (UINT64_C(1) << 32) >> 26;
+static uint64_t thread_of(uint64_t stretch) {
+    return stretch * UINT64_C(2654435761) % (UINT64_C(1) << 32) >> 26;
 }
 
-// How many steps a thread makes before the next one: a call of the record has many.
-static size_t round_of(size_t width) { return width ? 100 : 1; }
+// How many steps a stretch has: a call of the record has many.
+static size_t steps_at_a_stretch(size_t width) { return width ? 100 : 1; }
 
 static struct calls calls_of(uint64_t thread, size_t width) {
     struct calls calls = {made(malloc(CALLS * sizeof *calls.items)), CALLS};
@@ -64,7 +64,7 @@ static struct script *made_script(size_t steps, size_t width) {
     script->thread_count = THREADS;
     script->step_count = steps;
     script->steps = made(malloc(steps * sizeof *script->steps));
-    for (size_t i = 0; i < steps; i++) script->steps[i] = thread_of(i / round_of(width));
+    for (size_t i = 0; i < steps; i++) script->steps[i] = thread_of(i / steps_at_a_stretch(width));
     for (uint64_t t = 0; t < THREADS; t++) script->threads[t] = calls_of(t, width);
     return script;
 }

@@ -10,8 +10,8 @@ const CALLS: u64 = 10_000;
 
 const STEPS: u64 = 1_000_000;
 
-/// A thread makes this many steps before the next one has its turn.
-const TURN: u64 = 100;
+/// A thread makes this many steps before the next one makes its own.
+const STRETCH: u64 = 100;
 
 const WIDTH: u64 = 16;
 
@@ -97,17 +97,17 @@ fn push_calls(text: &mut Vec<u8>, thread: u64) -> Result<(), AllocError> {
     push(text, "]")
 }
 
-/// The thread that has this turn.
-fn name_of(turn: u64) -> u64
-    requires { turn < 1_000_000 }
+/// The thread that makes the steps of this stretch.
+fn thread_of(stretch: u64) -> u64
+    requires { stretch < 1_000_000 }
 {
-    (turn * 2_654_435_761) % 4_294_967_296 / 67_108_864
+    (stretch * 2_654_435_761) % 4_294_967_296 / 67_108_864
 }
 
 fn push_steps(text: &mut Vec<u8>) -> Result<(), AllocError> {
     for position in 0..STEPS {
         push_comma(text, position)?;
-        push_number(text, name_of(position / TURN))?;
+        push_number(text, thread_of(position / STRETCH))?;
     }
     Ok(())
 }

@@ -26,8 +26,8 @@ pub(crate) struct Counts {
 /// Steps through the script, and counts the calls that finish.
 fn stepped(alloc: Global, script: &Script) -> Result<usize, RunError> {
     let mut run = Run::start(alloc, script)?;
-    for name in script.steps() {
-        let _ = run.step(*name)?;
+    for thread in script.steps() {
+        let _ = run.step(*thread)?;
     }
     Ok(run.finished().len())
 }

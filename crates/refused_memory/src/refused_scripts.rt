@@ -7,14 +7,14 @@ use stamp_machines::{MOST_STEPS, Run, RunError, Script, ScriptCall, ScriptError}
 use std::alloc::{AllocError, Global};
 
 /// What a script is made of: how many threads, how many calls each of them has, whether each is a
-/// put of two words, and how many steps, which all name the same thread.
+/// put of two words, and how many steps, which are all of the same thread.
 #[derive(Clone, Copy)]
 pub(crate) struct Shape {
     threads: usize,
     calls: usize,
     is_put: bool,
     steps: usize,
-    name: u64,
+    stepping: u64,
     width: u64,
 }
 
@@ -24,7 +24,7 @@ const FIT: Shape = Shape {
     calls: 3,
     is_put: false,
     steps: 5,
-    name: 1,
+    stepping: 1,
     width: 0,
 };
 
@@ -57,7 +57,10 @@ pub(crate) const SHAPES: [Case; 5] = [
         },
         Some(ScriptError::TooManySteps),
     ),
-    (Shape { name: 2, ..FIT }, Some(ScriptError::NoSuchThread(0))),
+    (
+        Shape { stepping: 2, ..FIT },
+        Some(ScriptError::NoSuchThread(0)),
+    ),
     (FIT, None),
 ];
 
@@ -93,7 +96,7 @@ fn made(
     shape: &Shape,
 ) -> Result<Result<Script, ScriptError>, Outcome> {
     let threads = threads(alloc, shape)?;
-    let steps = vec![in alloc; shape.name; shape.steps]?;
+    let steps = vec![in alloc; shape.stepping; shape.steps]?;
     Ok(Script::new(limits, shape.width, threads, steps))
 }
 

@@ -19,12 +19,12 @@ const LONG_SCRIPT: &[u8] =
     br#"{"readers":127,"steps":[0,1,0,1,0,1,0,1,0,1,0,1,0,1,0,1,0,1,0,1,0,1,0,1,0,1,0,1,0,1,0,1,0,1,0,1,0,1,0,1,0,1,0,1,0,1,0,1],"threads":[[["try_read"],["unlock_read",[0,0]],["try_read"],["unlock_read",[0,2]],["try_read"],["unlock_read",[0,4]],["try_read"],["unlock_read",[0,6]],["try_read"],["unlock_read",[0,8]],["try_read"],["unlock_read",[0,10]]],[["put",[7,9]],["get"]]],"versions":1000,"width":2}"#;
 
 /// Makes a step, and once more where memory was refused.
-fn step_again(run: &mut Run, name: u64) -> Result<Stepped, RunError>
-    requires { name < length run.old.script.threads }
+fn step_again(run: &mut Run, thread: u64) -> Result<Stepped, RunError>
+    requires { thread < length run.old.script.threads }
     ensures { run.new.script ≡ run.old.script }
 {
-    match run.step(name) {
-        Err(RunError::Memory) => run.step(name),
+    match run.step(thread) {
+        Err(RunError::Memory) => run.step(thread),
         other => other,
     }
 }
@@ -40,8 +40,8 @@ fn is_told(run: &Run, stepped: &Stepped) -> bool {
 /// Steps through the script; the end is that of a run that was never refused.
 fn ends_alike(alloc: Global, script: &Script, entries: &[Entry]) -> Result<bool, RunError> {
     let mut run = Run::start(alloc, script)?;
-    for name in script.steps() {
-        let stepped = step_again(&mut run, *name)?;
+    for thread in script.steps() {
+        let stepped = step_again(&mut run, *thread)?;
         if !is_told(&run, &stepped) {
             return Ok(false);
         }

@@ -359,8 +359,8 @@ fn script(alloc: Global) -> Result<Script, Fail> {
     threads.push(first)?;
     threads.push(second)?;
     let mut steps = Vec::new(alloc);
-    for name in [0, 1, 1, 1, 1, 0, 0, 1, 1, 0, 1, 0, 1, 0, 0, 0, 0, 0, 0, 0] {
-        steps.push(name)?;
+    for thread in [0, 1, 1, 1, 1, 0, 0, 1, 1, 0, 1, 0, 1, 0, 0, 0, 0, 0, 0, 0] {
+        steps.push(thread)?;
     }
     Script::new(limits(1000)?, 1, threads, steps).map_err(|_| Fail::from("script"))
 }

@@ -17,7 +17,7 @@ use Rattle.stamp_core.specs.declared.script_error.ScriptError.TheVariants.{TooMa
 use Rattle.stamp_core.specs.declared.script_error.ScriptError.TheVariants.{NoSuchThread}
 use Rattle.stamp_core.specs.declared.script_error.ScriptError.TheVariants.{RecordWidth}
 use Rattle.stamp_machines.specs.Script.{Scripted, Suits}
-use Rattle.stamp_machines.specs.ScriptFault.{calls_in, AreShort, AreSuited, AreNamed}
+use Rattle.stamp_machines.specs.ScriptFault.{calls_in, AreShort, AreSuited, AreOfThreads}
 use Rattle.stamp_machines.specs.ScriptFault.{IsFirstUnknown, IsFirstFault, IsGood}
 use Rattle.stamp_machines.specs.declared.script.ScriptCall.{ScriptCall}
 use Rattle.stamp_machines.specs.declared.script.ScriptCall.TheVariants.{Get, Put, PutIf}
@@ -52,20 +52,20 @@ suited width = Decides-by_and (λ (calls : Vec ScriptCall Global). list_all (sui
     (λ calls. Decides-by_and (suits width) (Suits width) (list_all (suits width)) (one_suits width) refl
     (λ _ _. refl) calls.items) refl (λ _ _. refl)
 
--- no step before step i names none of the threads
-known_before : (threads i : ℕ) (steps : List ℕ) → AreNamed threads (take i steps) → i ≤ length steps → (k : ℕ) →
+-- each step before step i is of one of the threads
+known_before : (threads i : ℕ) (steps : List ℕ) → AreOfThreads threads (take i steps) → i ≤ length steps → (k : ℕ) →
     k < i → nat_le threads (get_or steps k 0) ≡ false
-known_before threads i steps named le k lt =
+known_before threads i steps in_range le k lt =
     let same : get_or (take i steps) k 0 ≡ get_or steps k 0 = get_or-take i steps k 0 lt in
     let within : k < length (take i steps) = omega (arith, length-take i steps) in
-    let below : get_or (take i steps) k 0 < threads = named k 0 within in
+    let below : get_or (take i steps) k 0 < threads = in_range k 0 within in
     grind (arith, nat_tests)
 
-none_unknown : (threads : ℕ) (steps : List ℕ) → AreNamed threads steps → first_unknown threads steps ≡ None
-none_unknown threads steps named =
+none_unknown : (threads : ℕ) (steps : List ℕ) → AreOfThreads threads steps → first_unknown threads steps ≡ None
+none_unknown threads steps in_range =
     let at : position_or_len (nat_le threads) steps ≡ length steps =
     position_or_len_is (nat_le threads) steps (length steps) 0 (omega arith)
-    (λ k lt. let below : get_or steps k 0 < threads = named k 0 lt in grind (arith, nat_tests))
+    (λ k lt. let below : get_or steps k 0 < threads = in_range k 0 lt in grind (arith, nat_tests))
     (λ lt. absurd (omega arith)) in
     let end : nat_lt (position_or_len (nat_le threads) steps) (length steps) ≡ false = grind (arith, nat_tests) in
     rw end refl

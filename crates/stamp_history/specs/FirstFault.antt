@@ -27,9 +27,9 @@ are_short threads = list_all (λ calls. nat_le (length calls) 10000) threads
 abbrev pub are_suited : ℕ → List (List ScriptCall) → Bool
 are_suited width threads = list_all (list_all (suits width)) threads
 
--- the first step that names none of this many threads
+-- the first step that is of none of this many threads
 abbrev pub first_unknown : ℕ → List ℕ → Option ℕ
-first_unknown threads steps = position (λ name. nat_le threads name) steps
+first_unknown threads steps = position (λ thread. nat_le threads thread) steps
 
 abbrev pub width_fault : Scripted → Option ScriptError
 width_fault script = if nat_le script.width 16 && are_suited script.width script.threads then None else Some RecordWidth

@@ -36,12 +36,12 @@ stepped-entries : (world : World) (t : ℕ) (o : Option Begun) →
 stepped-entries world t None = ([], sym (append-nil world.entries))
 stepped-entries world t (Some b) = world_after-entries world t b _ _
 
-entries-more : (script : Scripted) (world : World) (names : List ℕ) →
-    (more : List Entry) × ((fold (step script) world names).entries ≡ world.entries ++ more)
+entries-more : (script : Scripted) (world : World) (steps : List ℕ) →
+    (more : List Entry) × ((fold (step script) world steps).entries ≡ world.entries ++ more)
 entries-more script world [] = ([], sym (append-nil world.entries))
-entries-more script world (t ∷ names) =
+entries-more script world (t ∷ steps) =
     let one = stepped-entries world t (current script world t) in
-    let rest = entries-more script (step script world t) names in (
+    let rest = entries-more script (step script world t) steps in (
       one.0 ++ rest.0,
       rest.1 ∙ ap (λ (es : List Entry). es ++ rest.0) one.1
           ∙ append_assoc world.entries one.0 rest.0,
@@ -197,13 +197,13 @@ pub step-made : (script : Scripted) (old new : State) (made t : ℕ) (p : StepKi
     ((u : ℕ) → stamps_at new.workers.items u
     ≡ stamps_of u (calls_until script made ++ new.entries.items)) →
     IsOfKind script (world_at (calls_until script made) old made) t p → StepMade script new made p
-step-made script old new made t p after left none names world workers stamps told =
+step-made script old new made t p after left none taken world workers stamps told =
     let until' : List Entry = calls_until script (made + 1) in
     let here : world_at (calls_until script made) new (made + 1)
     ≡ execution_of script (take (made + 1) script.steps) =
     world ∙ ap (λ (w : World). step script w t) (world-after script old made after none)
     ∙ sym (execution_of-more script (take made script.steps) t)
-    ∙ ap (λ (ns : List ℕ). execution_of script ns) (sym names) in
+    ∙ ap (λ (xs : List ℕ). execution_of script xs) (sym taken) in
     let until : until' ≡ calls_until script made ++ new.entries.items =
     ap (λ (w : World). w.entries) (sym here) in
     record {

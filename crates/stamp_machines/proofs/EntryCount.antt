@@ -103,11 +103,11 @@ count_first e entries t = by (t == e.thread)
 -- each entry is one of the threads below n
 pub counted : (n : ℕ) (entries : List Entry) → All (λ (e : Entry). e.thread < n) entries →
     total n (count_of entries) ≡ length entries
-counted n [] named = total_zero n
-counted n (e ∷ entries) named =
+counted n [] in_range = total_zero n
+counted n (e ∷ entries) in_range =
     let more = total_more n (count_of (e ∷ entries)) (count_of entries) e.thread
-    (count_first e entries) (All-head (λ (x : Entry). x.thread < n) e entries named) in
-    omega (arith, more, counted n entries (All-tail (λ (x : Entry). x.thread < n) e entries named))
+    (count_first e entries) (All-head (λ (x : Entry). x.thread < n) e entries in_range) in
+    omega (arith, more, counted n entries (All-tail (λ (x : Entry). x.thread < n) e entries in_range))
 
 -- the call of a script's thread, resolved, suits the width as the script's does
 words_suit : (width a : ℕ) → 0 < width → a ≡ width → (nat_lt 0 width && (a == width)) ≡ true
@@ -148,7 +148,7 @@ IsOneOf script entries t (Some b) =
     × IsTrue (call_suits script.width b.machine.call)
 
 pub record IsCounted (script : Scripted) (world : World) : Type 0 where
-  pub named : All (λ (e : Entry). e.thread < length script.threads) world.entries
+  pub in_range : All (λ (e : Entry). e.thread < length script.threads) world.entries
   pub suits : All (λ (e : Entry). IsTrue (call_suits script.width e.call)) world.entries
   pub begun : (t : ℕ) → IsOneOf script world.entries t (slice_index_or world.begun t None)
 
@@ -237,7 +237,7 @@ lands-counted : (script : Scripted) (world : World) (t : ℕ) (b : Begun) (words
     (turned : Turn) → IsCounted script world → IsOneOf script world.entries t (Some b) →
     IsStillOf b.machine.call turned → IsCounted script (world_after world t b words turned)
 lands-counted script world t b words (Going m) counts one same = record {
-  named = counts.named;
+  in_range = counts.in_range;
   suits = counts.suits;
   begun = each_slot (IsOneOf script world.entries) world.begun t
       (Some (record { machine = m; first = b.first })) (λ k n. counts.begun k)
@@ -253,7 +253,7 @@ lands-counted script world t b words (Done r) counts one same =
     let room : count_of (world.entries ++ x ∷ []) t ≤ length (calls_of script t) =
     omega (arith, more, one.1) in
     record {
-      named = All-push (λ (y : Entry). y.thread < length script.threads) world.entries x counts.named
+      in_range = All-push (λ (y : Entry). y.thread < length script.threads) world.entries x counts.in_range
           one.0;
       suits = All-push (λ (y : Entry). IsTrue (call_suits script.width y.call)) world.entries x
           counts.suits one.2;
@@ -266,29 +266,29 @@ step-counted : (script : Scripted) (world : World) (t : ℕ) → IsSound script 
 step-counted script world t sound counts = by (current script world t) refl
   where
     by : (c : Option Begun) → current script world t ≡ c → IsCounted script (stepped world t c)
-    by None e = record { named = counts.named; suits = counts.suits; begun = counts.begun }
+    by None e = record { in_range = counts.in_range; suits = counts.suits; begun = counts.begun }
     by (Some b) e =
         lands-counted script world t b _ _ counts (current-one script world t b sound counts e)
         (after_same b.machine _)
 
 opening-counted : (script : Scripted) → IsCounted script (opening script)
 opening-counted script = record {
-  named = All-nil (λ (e : Entry). e.thread < length script.threads);
+  in_range = All-nil (λ (e : Entry). e.thread < length script.threads);
   suits = All-nil (λ (e : Entry). IsTrue (call_suits script.width e.call));
   begun = λ t. rw (slot_none (length script.threads) t) (omega arith);
 }
 
-steps-counted : (script : Scripted) (world : World) (names : List ℕ) → IsSound script →
-    IsCounted script world → IsCounted script (fold (step script) world names)
+steps-counted : (script : Scripted) (world : World) (steps : List ℕ) → IsSound script →
+    IsCounted script world → IsCounted script (fold (step script) world steps)
 steps-counted script world [] sound counts = counts
-steps-counted script world (t ∷ names) sound counts =
-    steps-counted script (step script world t) names sound (step-counted script world t sound counts)
+steps-counted script world (t ∷ steps) sound counts =
+    steps-counted script (step script world t) steps sound (step-counted script world t sound counts)
 
-always-counted : (script : Scripted) (names : List ℕ) → IsSound script →
-    IsCounted script (execution_of script names)
+always-counted : (script : Scripted) (steps : List ℕ) → IsSound script →
+    IsCounted script (execution_of script steps)
 unfolding execution_of
-always-counted script names sound =
-    steps-counted script (opening script) names sound (opening-counted script)
+always-counted script steps sound =
+    steps-counted script (opening script) steps sound (opening-counted script)
 
 calls_few : (threads : List (List ScriptCall)) (t : ℕ) →
     All (λ calls. length calls ≤ 10000) threads → length (slice_index_or threads t []) ≤ 10000
@@ -300,18 +300,18 @@ calls_few (x ∷ threads) (suc t) short =
     (All-tail (λ (calls : List ScriptCall). length calls ≤ 10000) x threads short)
 
 -- what a schedule finishes can stand in a record
-pub completed-recorded : (script : Scripted) (names : List ℕ) → IsSound script →
+pub completed-recorded : (script : Scripted) (steps : List ℕ) → IsSound script →
     IsRecorded (record {
       limits = script.limits;
       width = script.width;
-      entries = completed_calls script names;
+      entries = completed_calls script steps;
       report = [];
     })
-completed-recorded script names sound =
-    let world : World = execution_of script names in
-    let counts : IsCounted script world = always-counted script names sound in
+completed-recorded script steps sound =
+    let world : World = execution_of script steps in
+    let counts : IsCounted script world = always-counted script steps sound in
     let all : total (length script.threads) (count_of world.entries) ≡ length world.entries =
-    counted (length script.threads) world.entries counts.named in
+    counted (length script.threads) world.entries counts.in_range in
     let few : total (length script.threads) (count_of world.entries) ≤ length script.threads * 10000 =
     total_few (length script.threads) 10000 (count_of world.entries)
     (λ t. let a = at_most script world.entries t _ (counts.begun t) in
@@ -322,7 +322,7 @@ completed-recorded script names sound =
       entries = omega (arith, all, few, threads);
       report = inl refl;
       suit = λ k d lt. record {
-        thread = let n = counts.named k d lt in
+        thread = let n = counts.in_range k d lt in
             omega (arith, n, threads);
         call = counts.suits k d lt;
       };

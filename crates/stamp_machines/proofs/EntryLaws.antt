@@ -66,12 +66,12 @@ validates limits width before check s range split is =
     (λ yes. exact.0 (either.0 yes), λ valid. either.1 (exact.1 valid))
 
 pub stamps_validate : StampsValidateAlways
-stamps_validate script names before between after issue check s sound few is issued some asks =
+stamps_validate script steps before between after issue check s sound few is issued some asks =
     let limits : Bounds = script.limits in
     let legal : IsLegal limits script.width
     (history_of ((before ++ issue ∷ between) ++ check ∷ after)) =
     subst (λ (es : List Entry). IsLegal limits script.width (history_of es)) is
-    (always-kept script names sound few).legal in
+    (always-kept script steps sound few).legal in
     let parts : Splits limits script.width (before ++ issue ∷ between) check =
     split limits script.width (before ++ issue ∷ between) after check legal in
     let here = validates limits script.width (before ++ issue ∷ between) check s sound.range parts
@@ -94,10 +94,10 @@ stamps_validate script names before between after issue check s sound few is iss
     )
 
 pub gets_answer_content : GetsAnswerContentAlways
-gets_answer_content script names before after get sound few is asks =
+gets_answer_content script steps before after get sound few is asks =
     let legal : IsLegal script.limits script.width (history_of (before ++ get ∷ after)) =
     subst (λ (es : List Entry). IsLegal script.limits script.width (history_of es)) is
-    (always-kept script names sound few).legal in
+    (always-kept script steps sound few).legal in
     let answered : IsReply script.limits (events_of script.limits (history_of before))
     (content_after script.width (history_of before)) Get get.reply =
     rw asks at (split script.limits script.width before after get legal).answered in

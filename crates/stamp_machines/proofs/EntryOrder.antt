@@ -214,20 +214,20 @@ opening-order script = record {
   begun = λ k. rw (slot_none (length script.threads) k) tt;
 }
 
-steps-order : (script : Scripted) (world : World) (names : List ℕ) → Invariant script world → IsSound script →
-    world.position + length names ≤ 1000000 → InOrder script world →
-    InOrder script (fold (step script) world names)
+steps-order : (script : Scripted) (world : World) (steps : List ℕ) → Invariant script world → IsSound script →
+    world.position + length steps ≤ 1000000 → InOrder script world →
+    InOrder script (fold (step script) world steps)
 steps-order script world [] k sound room o = o
-steps-order script world (t ∷ names) k sound room o =
+steps-order script world (t ∷ steps) k sound room o =
     let kept : Invariant script (step script world t) =
     step-kept script world t k sound (omega (arith, room)) in
-    steps-order script (step script world t) names kept sound
+    steps-order script (step script world t) steps kept sound
     (rw (position-step script world t) (omega (arith, room)))
     (step-order script world t o kept.legal)
 
-pub always-in-order : (script : Scripted) (names : List ℕ) → IsSound script → length names ≤ 1000000 →
-    InOrder script (execution_of script names)
+pub always-in-order : (script : Scripted) (steps : List ℕ) → IsSound script → length steps ≤ 1000000 →
+    InOrder script (execution_of script steps)
 unfolding execution_of
-always-in-order script names sound few =
-    steps-order script (opening script) names (opening-kept script sound) sound (omega (arith, few))
+always-in-order script steps sound few =
+    steps-order script (opening script) steps (opening-kept script sound) sound (omega (arith, few))
     (opening-order script)

@@ -29,7 +29,7 @@ use Rattle.stamp_machines.specs.LocalAccess.{lock_after, local_seen}
 use Rattle.stamp_machines.specs.RecordKept.{IsRead}
 
 -- what a call's transition makes of the word
-pub record Turns (limits : Bounds) (call : Call) (lock now : ℕ) (r : Reply) : Type 0 where
+pub record CallLeaves (limits : Bounds) (call : Call) (lock now : ℕ) (r : Reply) : Type 0 where
   pub taken : Transition
   pub transition : row limits (counts_at limits lock) call ≡ Some taken
   pub reply : taken.reply ≡ r
@@ -37,9 +37,9 @@ pub record Turns (limits : Bounds) (call : Call) (lock now : ℕ) (r : Reply) : 
   pub represented : (events : List LockEvent) → RepresentsAt limits lock events →
       RepresentsAt limits now (events ++ taken.appended)
 
-pub turned-word : (limits : Bounds) (call : Call) (lock now : ℕ) (r : Reply) →
-    IsAdmittedAt limits lock → Turns limits call lock now r → IsAdmittedAt limits now
-turned-word limits call lock now r w t =
+pub left-admitted : (limits : Bounds) (call : Call) (lock now : ℕ) (r : Reply) →
+    IsAdmittedAt limits lock → CallLeaves limits call lock now r → IsAdmittedAt limits now
+left-admitted limits call lock now r w t =
     record {
       events = w.events ++ t.taken.appended;
       represented = t.represented w.events w.represented;
@@ -47,12 +47,12 @@ turned-word limits call lock now r w t =
 
 abbrev pub PhaseLeaves : Bounds → Call → ℕ → ℕ → PhaseTurn → Type 0
 PhaseLeaves limits call lock now (Still seen) = now ≡ lock
-PhaseLeaves limits call lock now (Ended r) = Turns limits call lock now r
+PhaseLeaves limits call lock now (Ended r) = CallLeaves limits call lock now r
 
 -- what a decision on the word says
 abbrev pub MeetsAt : Bounds → Call → ℕ → Decision → Type 0
-MeetsAt limits call lock (Answer r) = Turns limits call lock lock r
-MeetsAt limits call lock (Change new r) = Turns limits call lock new.bits r
+MeetsAt limits call lock (Answer r) = CallLeaves limits call lock lock r
+MeetsAt limits call lock (Change new r) = CallLeaves limits call lock new.bits r
 MeetsAt limits call lock Wait = Unit {0}
 
 allows : (limits : Bounds) (c : Counts) (appended : List LockEvent) → IsAllowed limits c appended →

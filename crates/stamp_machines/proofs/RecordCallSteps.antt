@@ -39,7 +39,7 @@ use Rattle.stamp_machines.specs.LocalAccess.{LoadLock, LoadItem, lock_after, ite
 use Rattle.stamp_machines.specs.LocalAccess.{local_seen}
 use Rattle.stamp_machines.specs.RecordKept.{read_by, written_by, FitsPlace, SameFor, AloneFor, MovedRightly}
 use Rattle.stamp_machines.specs.RecordKept.{Stands, IsRead}
-use Rattle.stamp_machines.proofs.LockPhaseSteps.{PhaseLeaves, phase-leaves, Turns, turned-word}
+use Rattle.stamp_machines.proofs.LockPhaseSteps.{PhaseLeaves, phase-leaves, CallLeaves, left-admitted}
 use Rattle.stamp_machines.proofs.LockPhaseSteps.{counts-of, shared_at, left_at, claimed_at}
 use Rattle.stamp_machines.proofs.LockPhaseSteps.{upgraded_at}
 
@@ -498,7 +498,7 @@ write_some limits k s e =
 
 shared : (limits : Bounds) (job : Job) (seen : Option ℕ) (lock lock' : ℕ) (items content : List ℕ)
     (r : Reply) → Stands limits job (Locking ToShare seen) lock items content →
-    Turns limits ReadLock lock lock' r →
+    CallLeaves limits ReadLock lock lock' r →
     MovedRightly limits job (Locking ToShare seen) lock items content lock' items
     (Going (Reading (stamp_in r) []))
 shared limits job seen lock lock' items content r s t =
@@ -518,13 +518,13 @@ shared limits job seen lock lock' items content r s t =
     let st : stamp_in r ≡ read_stamp (units limits) (counts_at limits lock).write_count
     ((counts_at limits lock).readers + 1) = ap stamp_in (sym t.reply ∙ h.3) in
     goes limits job (Locking ToShare seen) (Reading (stamp_in r) []) lock lock' items content s
-    (turned-word _ _ _ _ _ s.admitted t) (omega (arith, w)) (omega (arith, n)) (λ _. s.free h.0)
+    (left-admitted _ _ _ _ _ s.admitted t) (omega (arith, w)) (omega (arith, n)) (λ _. s.free h.0)
     (is_read limits _ _ _ _ s.range h.1 k st, (omega arith, refl), s.some)
     (inl (k, w, refl, refl))
 
 -- after an unlock
 left_counts : (limits : Bounds) (lock lock' t : ℕ) (r : Reply) →
-    Turns limits (UnlockRead t) lock lock' r → IsRead limits (counts_at limits lock).write_count t →
+    CallLeaves limits (UnlockRead t) lock lock' r → IsRead limits (counts_at limits lock).write_count t →
     0 < (counts_at limits lock).readers →
     ((counts_at limits lock').write_count ≡ (counts_at limits lock).write_count)
     × ((counts_at limits lock').writers ≡ (counts_at limits lock).writers)
@@ -545,7 +545,7 @@ left_counts limits lock lock' t r u i h =
 -- an unlock that ends a call which changes nothing
 leaves : (limits : Bounds) (job : Job) (place : Place) (lock lock' t : ℕ) (items content : List ℕ)
     (r : Reply) (a : Reply) → Stands limits job place lock items content → read_by place ≡ 1 →
-    written_by place ≡ 0 → Turns limits (UnlockRead t) lock lock' r →
+    written_by place ≡ 0 → CallLeaves limits (UnlockRead t) lock lock' r →
     IsRead limits (counts_at limits lock).write_count t → a ≡ reply_to content job →
     content_with content job ≡ content →
     MovedRightly limits job place lock items content lock' items (Done a)
@@ -554,7 +554,7 @@ leaves limits job place lock lock' t items content r a s rd wr u i right same =
     let free : items ≡ content =
     s.free (no_writer limits lock s.range s.admitted (omega (arith, s.reads, rd))) in (
       record {
-        admitted = turned-word _ _ _ _ _ s.admitted u;
+        admitted = left-admitted _ _ _ _ _ s.admitted u;
         writers = omega (arith, l.1, wr);
         readers = omega (arith, l.2, rd);
         width = rw same s.width;
@@ -616,7 +616,7 @@ claim_counts c w r = rw r refl
 upgraded : (limits : Bounds) (job : Job) (u : ℕ) (seen : Option ℕ) (lock lock' : ℕ)
     (items content : List ℕ) (r : Reply) →
     Stands limits job (Locking (ToUpgrade u) seen) lock items content →
-    Turns limits (ToWrite u) lock lock' r →
+    CallLeaves limits (ToWrite u) lock lock' r →
     MovedRightly limits job (Locking (ToUpgrade u) seen) lock items content lock' items
     (lock_step_done job (ToUpgrade u) (stamp_in r))
 upgraded limits job u seen lock lock' items content r s t =
@@ -638,7 +638,7 @@ upgraded limits job u seen lock lock' items content r s t =
         ap stamp_in (sym t.reply ∙ h.2) in
         let some : (stamp_in r == 0) ≡ false = write_some limits _ _ st in
         rw some (claims limits job (Locking (ToUpgrade u) seen) (Storing (stamp_in r) 0) lock lock'
-        0 items content s (turned-word _ _ _ _ _ s.admitted t) refl free h.0
+        0 items content s (left-admitted _ _ _ _ _ s.admitted t) refl free h.0
         (t.counts ∙ ap (after_events (counts_at limits lock)) h.1
         ∙ upgrade_counts (counts_at limits lock) free h.0) refl refl
         (s.fits.0, st, s.fits.2, s.some, s.free free))
@@ -653,13 +653,13 @@ upgraded limits job u seen lock lock' items content r s t =
         let n : (counts_at limits lock').readers ≡ (counts_at limits lock).readers =
         ap (λ (c : Counts). c.readers) cs in
         rw st (goes limits job (Locking (ToUpgrade u) seen) (Locking (ToReleaseFirst u) None) lock lock'
-        items content s (turned-word _ _ _ _ _ s.admitted t) (omega (arith, w))
+        items content s (left-admitted _ _ _ _ _ s.admitted t) (omega (arith, w))
         (omega (arith, n)) (λ _. s.free free)
         (s.fits.0, rw k s.fits.1) (inl (k, w, refl, refl)))
 
 claimed : (limits : Bounds) (job : Job) (seen : Option ℕ) (lock lock' : ℕ) (items content : List ℕ)
     (r : Reply) → Stands limits job (Locking ToClaim seen) lock items content →
-    Turns limits WriteLock lock lock' r →
+    CallLeaves limits WriteLock lock lock' r →
     MovedRightly limits job (Locking ToClaim seen) lock items content lock' items
     (lock_step_done job ToClaim (stamp_in r))
 claimed limits Getting seen lock lock' items content r s t = absurd (true_false s.fits)
@@ -669,21 +669,21 @@ claimed limits Getting seen lock lock' items content r s t = absurd (true_false 
 claimed limits (Putting a) seen lock lock' items content r s t =
     let h = claimed_at limits (counts_at limits lock) t.taken t.transition s.room in
     claims limits (Putting a) (Locking ToClaim seen) (Storing (stamp_in r) 0) lock lock' 0 items
-    content s (turned-word _ _ _ _ _ s.admitted t) refl h.0 h.1
+    content s (left-admitted _ _ _ _ _ s.admitted t) refl h.0 h.1
     (t.counts ∙ ap (after_events (counts_at limits lock)) h.2
     ∙ claim_counts (counts_at limits lock) h.0 h.1) refl refl
     (refl, ap stamp_in (sym t.reply ∙ h.3), refl, s.some, s.free h.0)
 claimed limits (PuttingIf a b) seen lock lock' items content r s t =
     let h = claimed_at limits (counts_at limits lock) t.taken t.transition s.room in
     claims limits (PuttingIf a b) (Locking ToClaim seen) (Checking (stamp_in r) []) lock lock' 0
-    items content s (turned-word _ _ _ _ _ s.admitted t) refl h.0 h.1
+    items content s (left-admitted _ _ _ _ _ s.admitted t) refl h.0 h.1
     (t.counts ∙ ap (after_events (counts_at limits lock)) h.2
     ∙ claim_counts (counts_at limits lock) h.0 h.1) refl refl
     (refl, ap stamp_in (sym t.reply ∙ h.3), s.free h.0, (omega arith, refl), s.some)
 
 ended : (limits : Bounds) (job : Job) (e : LockStep) (seen : Option ℕ) (lock lock' : ℕ)
     (items content : List ℕ) (r : Reply) → Stands limits job (Locking e seen) lock items content →
-    Turns limits (call_for e) lock lock' r →
+    CallLeaves limits (call_for e) lock lock' r →
     MovedRightly limits job (Locking e seen) lock items content lock' items
     (lock_step_done job e (stamp_in r))
 ended limits job ToShare seen lock lock' items content r s t =
@@ -699,7 +699,7 @@ ended limits job (ToRefuse u) seen lock lock' items content r s t =
 ended limits job (ToReleaseFirst u) seen lock lock' items content r s t =
     let l = left_counts limits lock lock' u r t s.fits.1 s.reads in
     goes limits job (Locking (ToReleaseFirst u) seen) (Locking ToClaim None) lock lock' items content s
-    (turned-word _ _ _ _ _ s.admitted t) (omega (arith, l.1)) (omega (arith, l.2))
+    (left-admitted _ _ _ _ _ s.admitted t) (omega (arith, l.1)) (omega (arith, l.2))
     (λ z. s.free (sym l.1 ∙ z)) s.fits.0 (inl (l.0, l.1, refl, refl))
 ended limits job (ToUpgrade u) seen lock lock' items content r s t =
     upgraded limits job u seen lock lock' items content r s t

@@ -29,13 +29,13 @@ same_world : (gone : List Entry) (old new : State) (n : ℕ) → SameState old n
     world_at gone new n ≡ world_at gone old n
 same_world gone old new n s = simp (s.words, s.begun, s.entries)
 
-pub world-more : (script : Scripted) (old mid new : State) (names names' : List ℕ) (t : ℕ) →
-    world_at [] old (length names) ≡ execution_of script names → SameState old mid →
-    world_at [] new (length names + 1) ≡ step script (world_at [] mid (length names)) t →
-    names' ≡ names ++ t ∷ [] → world_at [] new (length names') ≡ execution_of script names'
-world-more script old mid new names names' t w s n e =
-    rw (e, length-append) (n ∙ ap (λ x. step script x t) (same_world [] old mid (length names) s ∙ w)
-    ∙ sym (execution_of-more script names t))
+pub world-more : (script : Scripted) (old mid new : State) (steps steps' : List ℕ) (t : ℕ) →
+    world_at [] old (length steps) ≡ execution_of script steps → SameState old mid →
+    world_at [] new (length steps + 1) ≡ step script (world_at [] mid (length steps)) t →
+    steps' ≡ steps ++ t ∷ [] → world_at [] new (length steps') ≡ execution_of script steps'
+world-more script old mid new steps steps' t w s n e =
+    rw (e, length-append) (n ∙ ap (λ x. step script x t) (same_world [] old mid (length steps) s ∙ w)
+    ∙ sym (execution_of-more script steps t))
 
 pub same-kept : (script : Scripted) (old mid : State) (n : ℕ) → SameState old mid →
     Invariant script (world_at [] old n) → Invariant script (world_at [] mid n)
@@ -79,7 +79,7 @@ run-reported r h report each =
       suit = known.suit;
     }
 
--- a record with its entries is that of the names so far
+-- a record with its entries is that of the steps so far
 pub record-of : (r : Inside) → IsAt r → (report : List (ℕ × ℕ)) → (made : Recorded) →
     made ≡ recorded r.script.now.limits r.script.now.width r.state.entries.items report →
     IsRecordOf (course_of r) report made
@@ -93,7 +93,7 @@ record-of r h report made is =
       points = rw is order.points;
     }
 
--- the word as it stands represents what the names so far have finished
+-- the word as it stands represents what the steps so far have finished
 pub run-represented : (r : Inside) → IsAt r →
     Represents r.script.now.limits (word_at r.script.now.limits (slice_index r.state.words.items 0))
     (events_of r.script.now.limits (history_of (completed_calls r.script.now r.steps.items)))

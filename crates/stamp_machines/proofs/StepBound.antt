@@ -126,147 +126,147 @@ other-bound limits call word now own changes (OnLock (Some w)) b = on (now == wo
     on false q = let h = b.0 in (omega (arith, h), λ apart. omega (arith, h), b.2)
 
 -- the steps since a position, with one more
-pub own_since-more : (names : List ℕ) (n t first : ℕ) → first ≤ length names →
-    own_since (names ++ n ∷ []) t first ≡ own_since names t first + (if n == t then 1 else 0)
-own_since-more names n t first within =
-    rw (drop-append-le first names (n ∷ []) within) (by (n == t) refl)
+pub own_since-more : (steps : List ℕ) (n t first : ℕ) → first ≤ length steps →
+    own_since (steps ++ n ∷ []) t first ≡ own_since steps t first + (if n == t then 1 else 0)
+own_since-more steps n t first within =
+    rw (drop-append-le first steps (n ∷ []) within) (by (n == t) refl)
   where
-    split : count_by (λ name. name == t) (drop first names ++ n ∷ [])
-        ≡ count_by (λ name. name == t) (drop first names) + count_by (λ name. name == t) (n ∷ [])
-    split = sum_by-append _ (drop first names) (n ∷ [])
+    split : count_by (λ thread. thread == t) (drop first steps ++ n ∷ [])
+        ≡ count_by (λ thread. thread == t) (drop first steps) + count_by (λ thread. thread == t) (n ∷ [])
+    split = sum_by-append _ (drop first steps) (n ∷ [])
 
     by : (b : Bool) → (n == t) ≡ b →
-        count_by (λ name. name == t) (drop first names ++ n ∷ []) ≡ own_since names t first
+        count_by (λ thread. thread == t) (drop first steps ++ n ∷ []) ≡ own_since steps t first
         + (if b then 1 else 0)
     by true e = grind (arith, split, e)
     by false e = grind (arith, split, e)
 
-changes-append : (script : Scripted) (t : ℕ) (world : World) (names : List ℕ) (n : ℕ) →
-    changes_by_others script t world (names ++ n ∷ []) ≡ changes_by_others script t world names
-    + (if interferes script t (fold (step script) world names) n then 1 else 0)
+changes-append : (script : Scripted) (t : ℕ) (world : World) (steps : List ℕ) (n : ℕ) →
+    changes_by_others script t world (steps ++ n ∷ []) ≡ changes_by_others script t world steps
+    + (if interferes script t (fold (step script) world steps) n then 1 else 0)
 changes-append script t world [] n = omega arith
-changes-append script t world (x ∷ names) n = let rest =
-    changes-append script t (step script world x) names n in omega (arith, rest)
+changes-append script t world (x ∷ steps) n = let rest =
+    changes-append script t (step script world x) steps n in omega (arith, rest)
 
-pub execution-rest : (script : Scripted) (names : List ℕ) (first : ℕ) →
-    fold (step script) (execution_of script (take first names)) (drop first names)
-    ≡ execution_of script names
+pub execution-rest : (script : Scripted) (steps : List ℕ) (first : ℕ) →
+    fold (step script) (execution_of script (take first steps)) (drop first steps)
+    ≡ execution_of script steps
 unfolding execution_of
-execution-rest script names first =
-    sym (fold-append (step script) _ (take first names) (drop first names))
-    ∙ ap (λ (xs : List ℕ). fold (step script) _ xs) (take-append-drop first names)
+execution-rest script steps first =
+    sym (fold-append (step script) _ (take first steps) (drop first steps))
+    ∙ ap (λ (xs : List ℕ). fold (step script) _ xs) (take-append-drop first steps)
 
-pub changes_since-more : (script : Scripted) (names : List ℕ) (n t first : ℕ) → first ≤ length names →
-    changes_since script (names ++ n ∷ []) t first ≡ changes_since script names t first
-    + (if interferes script t (execution_of script names) n then 1 else 0)
-changes_since-more script names n t first within =
+pub changes_since-more : (script : Scripted) (steps : List ℕ) (n t first : ℕ) → first ≤ length steps →
+    changes_since script (steps ++ n ∷ []) t first ≡ changes_since script steps t first
+    + (if interferes script t (execution_of script steps) n then 1 else 0)
+changes_since-more script steps n t first within =
     rw (
-      drop-append-le first names (n ∷ []) within,
-      take-append-le first names (n ∷ []) within,
-      ← execution-rest script names first,
+      drop-append-le first steps (n ∷ []) within,
+      take-append-le first steps (n ∷ []) within,
+      ← execution-rest script steps first,
     )
-    (changes-append script t (execution_of script (take first names)) (drop first names) n)
+    (changes-append script t (execution_of script (take first steps)) (drop first steps) n)
 
 -- a call that has begun, and an entry
 abbrev pub BoundedSlot : Scripted → List ℕ → ℕ → Option Begun → Type 0
-BoundedSlot script names t None = Unit {0}
-BoundedSlot script names t (Some b) =
-    (b.first ≤ length names)
+BoundedSlot script steps t None = Unit {0}
+BoundedSlot script steps t (Some b) =
+    (b.first ≤ length steps)
     × (NeverWaits b.machine.call →
-    BoundedPhase script.limits b.machine.call (lock_word (execution_of script names))
-    (own_since names t b.first) (changes_since script names t b.first) b.machine.phase)
+    BoundedPhase script.limits b.machine.call (lock_word (execution_of script steps))
+    (own_since steps t b.first) (changes_since script steps t b.first) b.machine.phase)
 
 abbrev pub BoundedEntry : Scripted → List ℕ → Entry → Type 0
-BoundedEntry script names e =
-    (e.first ≤ e.last) × (e.last < length names)
-    × (NeverWaits e.call → own_steps names e ≤ interference script names e + 2)
+BoundedEntry script steps e =
+    (e.first ≤ e.last) × (e.last < length steps)
+    × (NeverWaits e.call → own_steps steps e ≤ interference script steps e + 2)
 
-pub record AreBounded (script : Scripted) (names : List ℕ) : Type 0 where
+pub record AreBounded (script : Scripted) (steps : List ℕ) : Type 0 where
   pub slots : (t : ℕ) →
-      BoundedSlot script names t (slice_index_or (execution_of script names).begun t None)
-  pub entries : All (BoundedEntry script names) (completed_calls script names)
+      BoundedSlot script steps t (slice_index_or (execution_of script steps).begun t None)
+  pub entries : All (BoundedEntry script steps) (completed_calls script steps)
 
-pub one_more : (names : List ℕ) (n : ℕ) → length (names ++ n ∷ []) ≡ length names + 1
-one_more names n = length-append names (n ∷ [])
+pub one_more : (steps : List ℕ) (n : ℕ) → length (steps ++ n ∷ []) ≡ length steps + 1
+one_more steps n = length-append steps (n ∷ [])
 
 pub flip : (n k : ℕ) → (k == n) ≡ false → (n == k) ≡ false
 flip n k apart = grind (arith, apart)
 
 -- another thread's step
-other-slot : (script : Scripted) (names : List ℕ) (n t : ℕ) (slot : Option Begun) → (n == t) ≡ false →
-    BoundedSlot script names t slot → BoundedSlot script (names ++ n ∷ []) t slot
-other-slot script names n t None e bounded = tt
-other-slot script names n t (Some b) e bounded =
-    let longer = one_more names n in
+other-slot : (script : Scripted) (steps : List ℕ) (n t : ℕ) (slot : Option Begun) → (n == t) ≡ false →
+    BoundedSlot script steps t slot → BoundedSlot script (steps ++ n ∷ []) t slot
+other-slot script steps n t None e bounded = tt
+other-slot script steps n t (Some b) e bounded =
+    let longer = one_more steps n in
     let within = bounded.0 in
-    let own : own_since (names ++ n ∷ []) t b.first ≡ own_since names t b.first =
-    own_since-more names n t b.first within ∙ rw e (omega arith) in
-    let changes : changes_since script (names ++ n ∷ []) t b.first
-    ≡ changes_since script names t b.first
-    + (if not (lock_word (step script (execution_of script names) n) == lock_word
-    (execution_of script names)) then 1 else 0) =
-    changes_since-more script names n t b.first within ∙ rw e refl in (
+    let own : own_since (steps ++ n ∷ []) t b.first ≡ own_since steps t b.first =
+    own_since-more steps n t b.first within ∙ rw e (omega arith) in
+    let changes : changes_since script (steps ++ n ∷ []) t b.first
+    ≡ changes_since script steps t b.first
+    + (if not (lock_word (step script (execution_of script steps) n) == lock_word
+    (execution_of script steps)) then 1 else 0) =
+    changes_since-more script steps n t b.first within ∙ rw e refl in (
       omega (arith, longer, within),
-      λ never. rw (own, changes, execution_of-more script names n)
+      λ never. rw (own, changes, execution_of-more script steps n)
           (other-bound script.limits b.machine.call _ _ _ _ b.machine.phase (bounded.1 never)),
     )
 
-older : (script : Scripted) (names : List ℕ) (n : ℕ) (e : Entry) → BoundedEntry script names e →
-    BoundedEntry script (names ++ n ∷ []) e
-older script names n e bounded =
-    let longer = one_more names n in
+older : (script : Scripted) (steps : List ℕ) (n : ℕ) (e : Entry) → BoundedEntry script steps e →
+    BoundedEntry script (steps ++ n ∷ []) e
+older script steps n e bounded =
+    let longer = one_more steps n in
     let whole = bounded.0 in
     let ended = bounded.1 in
-    let last : take (e.last + 1) (names ++ n ∷ []) ≡ take (e.last + 1) names =
-    take-append-le (e.last + 1) names (n ∷ []) (omega (arith, ended)) in
-    let first : take e.first (names ++ n ∷ []) ≡ take e.first names =
-    take-append-le e.first names (n ∷ []) (omega (arith, whole, ended)) in
+    let last : take (e.last + 1) (steps ++ n ∷ []) ≡ take (e.last + 1) steps =
+    take-append-le (e.last + 1) steps (n ∷ []) (omega (arith, ended)) in
+    let first : take e.first (steps ++ n ∷ []) ≡ take e.first steps =
+    take-append-le e.first steps (n ∷ []) (omega (arith, whole, ended)) in
     (whole, omega (arith, longer, ended), λ never. rw (last, first) (bounded.2 never))
 
-all-older : (script : Scripted) (names : List ℕ) (n : ℕ) (entries : List Entry) →
-    All (BoundedEntry script names) entries → All (BoundedEntry script (names ++ n ∷ [])) entries
-all-older script names n entries all =
-    λ k d lt. older script names n (slice_index_or entries k d) (all k d lt)
+all-older : (script : Scripted) (steps : List ℕ) (n : ℕ) (entries : List Entry) →
+    All (BoundedEntry script steps) entries → All (BoundedEntry script (steps ++ n ∷ [])) entries
+all-older script steps n entries all =
+    λ k d lt. older script steps n (slice_index_or entries k d) (all k d lt)
 
 -- the call that a thread is in
-current-bounded : (script : Scripted) (names : List ℕ) (n : ℕ) (b : Begun) → AreBounded script names →
-    current script (execution_of script names) n ≡ Some b → BoundedSlot script names n (Some b)
-current-bounded script names n b all = by (slice_index_or (execution_of script names).begun n None) refl
+current-bounded : (script : Scripted) (steps : List ℕ) (n : ℕ) (b : Begun) → AreBounded script steps →
+    current script (execution_of script steps) n ≡ Some b → BoundedSlot script steps n (Some b)
+current-bounded script steps n b all = by (slice_index_or (execution_of script steps).begun n None) refl
   where
-    here : (execution_of script names).position ≡ length names
-    here = execution-position script names
+    here : (execution_of script steps).position ≡ length steps
+    here = execution-position script steps
 
     fresh : (call : Call) → NeverWaits call →
-        BoundedPhase script.limits call (lock_word (execution_of script names))
-        (own_since names n (length names)) (changes_since script names n (length names))
+        BoundedPhase script.limits call (lock_word (execution_of script steps))
+        (own_since steps n (length steps)) (changes_since script steps n (length steps))
         (first_phase (job_in call))
     fresh call never =
         let lock : job_in call ≡ None = lock_none call never.lock in
-        let none : drop (length names) names ≡ [] = drop_all (length names) names (omega arith) in
+        let none : drop (length steps) steps ≡ [] = drop_all (length steps) steps (omega arith) in
         rw (lock, none) refl
 
     begins : (c : Option ScriptCall) →
-        begin (shape_of script) (λ k. stamps_of k (execution_of script names).entries)
-        (execution_of script names).position c ≡ Some b → BoundedSlot script names n (Some b)
+        begin (shape_of script) (λ k. stamps_of k (execution_of script steps).entries)
+        (execution_of script steps).position c ≡ Some b → BoundedSlot script steps n (Some b)
     begins None e = cc
     begins (Some c) e =
         let same : record {
           machine = start (shape_of script)
-              (call_of (λ k. stamps_of k (execution_of script names).entries) c);
-          first = (execution_of script names).position;
+              (call_of (λ k. stamps_of k (execution_of script steps).entries) c);
+          first = (execution_of script steps).position;
         } ≡ b = cc in
-        subst (λ (x : Begun). BoundedSlot script names n (Some x)) same
+        subst (λ (x : Begun). BoundedSlot script steps n (Some x)) same
         (rw here (omega arith, λ never. fresh _ never))
 
-    by : (slot : Option Begun) → slice_index_or (execution_of script names).begun n None ≡ slot →
-        current_of script (λ k. stamps_of k (execution_of script names).entries)
-        (execution_of script names).position n slot ≡ Some b → BoundedSlot script names n (Some b)
+    by : (slot : Option Begun) → slice_index_or (execution_of script steps).begun n None ≡ slot →
+        current_of script (λ k. stamps_of k (execution_of script steps).entries)
+        (execution_of script steps).position n slot ≡ Some b → BoundedSlot script steps n (Some b)
     by None at e =
         begins (slice_get (calls_of script n)
-        (length (stamps_of n (execution_of script names).entries))) e
+        (length (stamps_of n (execution_of script steps).entries))) e
     by (Some c) at e = let same : c ≡ b =
-        cc in subst (λ (x : Begun). BoundedSlot script names n (Some x)) same
-        (subst (BoundedSlot script names n) at (all.slots n))
+        cc in subst (λ (x : Begun). BoundedSlot script steps n (Some x)) same
+        (subst (BoundedSlot script steps n) at (all.slots n))
 
 -- what its step leads to
 abbrev pub BoundedMachine : Bounds → Call → ℕ → ℕ → ℕ → Turn → Type 0
@@ -329,79 +329,79 @@ turn-bounded script world b (OnLock seen) own changes k sound shape kind never a
 itself : (n : ℕ) → (n == n) ≡ true
 itself n = grind arith
 
-pub own-more : (names : List ℕ) (n first : ℕ) → first ≤ length names →
-    own_since (names ++ n ∷ []) n first ≡ own_since names n first + 1
-own-more names n first within = own_since-more names n n first within ∙ rw (itself n) refl
+pub own-more : (steps : List ℕ) (n first : ℕ) → first ≤ length steps →
+    own_since (steps ++ n ∷ []) n first ≡ own_since steps n first + 1
+own-more steps n first within = own_since-more steps n n first within ∙ rw (itself n) refl
 
-pub changes-same : (script : Scripted) (names : List ℕ) (n first : ℕ) → first ≤ length names →
-    changes_since script (names ++ n ∷ []) n first ≡ changes_since script names n first
-changes-same script names n first within =
-    changes_since-more script names n n first within ∙ rw (itself n) (omega arith)
+pub changes-same : (script : Scripted) (steps : List ℕ) (n first : ℕ) → first ≤ length steps →
+    changes_since script (steps ++ n ∷ []) n first ≡ changes_since script steps n first
+changes-same script steps n first within =
+    changes_since-more script steps n n first within ∙ rw (itself n) (omega arith)
 
 -- the entry's steps are those since its first one
-entry-bounded : (script : Scripted) (names : List ℕ) (n : ℕ) (b : Begun) (r : Reply) →
-    b.first ≤ length names →
-    (NeverWaits b.machine.call → own_since names n b.first + 1 ≤ changes_since script names n b.first
-    + 2) → BoundedEntry script (names ++ n ∷ []) (entry_of (execution_of script names) n b r)
-entry-bounded script names n b r within few =
-    let here : (execution_of script names).position ≡ length names = execution-position script names in
-    let longer = one_more names n in
-    let whole : take ((execution_of script names).position + 1) (names ++ n ∷ []) ≡ names ++ n ∷ [] =
-    ap (λ (k : ℕ). take k (names ++ n ∷ [])) (ap (λ (k : ℕ). k + 1) here ∙ sym longer)
-    ∙ take-length (names ++ n ∷ []) in
-    let own = own-more names n b.first within in
-    let changes = changes-same script names n b.first within in (
+entry-bounded : (script : Scripted) (steps : List ℕ) (n : ℕ) (b : Begun) (r : Reply) →
+    b.first ≤ length steps →
+    (NeverWaits b.machine.call → own_since steps n b.first + 1 ≤ changes_since script steps n b.first
+    + 2) → BoundedEntry script (steps ++ n ∷ []) (entry_of (execution_of script steps) n b r)
+entry-bounded script steps n b r within few =
+    let here : (execution_of script steps).position ≡ length steps = execution-position script steps in
+    let longer = one_more steps n in
+    let whole : take ((execution_of script steps).position + 1) (steps ++ n ∷ []) ≡ steps ++ n ∷ [] =
+    ap (λ (k : ℕ). take k (steps ++ n ∷ [])) (ap (λ (k : ℕ). k + 1) here ∙ sym longer)
+    ∙ take-length (steps ++ n ∷ []) in
+    let own = own-more steps n b.first within in
+    let changes = changes-same script steps n b.first within in (
       omega (arith, within, here),
       omega (arith, longer, here),
       λ never. let h = few never in
           rw whole (omega (arith, own, changes, h)),
     )
 
-lands-bounded : (script : Scripted) (names : List ℕ) (n : ℕ) (b : Begun) (words : List ℕ)
-    (turned : Turn) → AreBounded script names → BoundedSlot script names n (Some b) →
-    execution_of script (names ++ n ∷ []) ≡ world_after (execution_of script names) n b words turned →
+lands-bounded : (script : Scripted) (steps : List ℕ) (n : ℕ) (b : Begun) (words : List ℕ)
+    (turned : Turn) → AreBounded script steps → BoundedSlot script steps n (Some b) →
+    execution_of script (steps ++ n ∷ []) ≡ world_after (execution_of script steps) n b words turned →
     IsStillOf b.machine.call turned →
     (NeverWaits b.machine.call →
     BoundedMachine script.limits b.machine.call (slice_index words 0)
-    (own_since names n b.first + 1) (changes_since script names n b.first) turned) →
-    AreBounded script (names ++ n ∷ [])
-lands-bounded script names n b words (Going m) all bounded now same turn =
-    let names' : List ℕ = names ++ n ∷ [] in
-    let longer = one_more names n in
+    (own_since steps n b.first + 1) (changes_since script steps n b.first) turned) →
+    AreBounded script (steps ++ n ∷ [])
+lands-bounded script steps n b words (Going m) all bounded now same turn =
+    let steps' : List ℕ = steps ++ n ∷ [] in
+    let longer = one_more steps n in
     let within = bounded.0 in
-    let own = own-more names n b.first within in
-    let changes = changes-same script names n b.first within in
-    let word : lock_word (execution_of script names') ≡ slice_index words 0 = ap lock_word now in
-    let begun : (execution_of script names').begun
-    ≡ slice_set (execution_of script names).begun n
+    let own = own-more steps n b.first within in
+    let changes = changes-same script steps n b.first within in
+    let word : lock_word (execution_of script steps') ≡ slice_index words 0 = ap lock_word now in
+    let begun : (execution_of script steps').begun
+    ≡ slice_set (execution_of script steps).begun n
     (Some (record { machine = m; first = b.first })) = ap (λ (w : World). w.begun) now in
-    let slot : BoundedSlot script names' n (Some (record { machine = m; first = b.first })) = (
+    let slot : BoundedSlot script steps' n (Some (record { machine = m; first = b.first })) = (
       omega (arith, longer, within),
       λ never. rw (word, own, changes, same) (turn (subst NeverWaits same never)),
     ) in
     record {
       slots = λ t. rw begun
-          (each_slot (BoundedSlot script names') (execution_of script names).begun n
+          (each_slot (BoundedSlot script steps') (execution_of script steps).begun n
           (Some (record { machine = m; first = b.first }))
-          (λ k apart. other-slot script names n k _ (flip n k apart) (all.slots k)) slot tt t);
+          (λ k apart. other-slot script steps n k _ (flip n k apart) (all.slots k)) slot tt t);
       entries = rw (ap (λ (w : World). w.entries) now)
-          (all-older script names n (completed_calls script names) all.entries);
+          (all-older script steps n (completed_calls script steps) all.entries);
     }
-lands-bounded script names n b words (Done r) all bounded now same turn =
-    let names' : List ℕ = names ++ n ∷ [] in
-    let begun : (execution_of script names').begun
-    ≡ slice_set (execution_of script names).begun n None = ap (λ (w : World). w.begun) now in
-    let e : Entry = entry_of (execution_of script names) n b r in
-    let entries : (execution_of script names').entries ≡ completed_calls script names ++ e ∷ [] =
+lands-bounded script steps n b words (Done r) all bounded now same turn =
+    let steps' : List ℕ = steps ++ n ∷ [] in
+    let begun : (execution_of script steps').begun
+    ≡ slice_set (execution_of script steps).begun n None = ap (λ (w : World). w.begun) now in
+    let e : Entry = entry_of (execution_of script steps) n b r in
+    let entries : (execution_of script steps').entries ≡ completed_calls script steps ++ e ∷ [] =
     ap (λ (w : World). w.entries) now in
     record {
       slots = λ t. rw begun
-          (each_slot (BoundedSlot script names') (execution_of script names).begun n None
-          (λ k apart. other-slot script names n k _ (flip n k apart) (all.slots k)) tt tt t);
+          (each_slot (BoundedSlot script steps') (execution_of script steps).begun n None
+          (λ k apart. other-slot script steps n k _ (flip n k apart) (all.slots k)) tt tt t);
       entries = rw entries
-          (All-push (BoundedEntry script names') (completed_calls script names) e
-          (all-older script names n (completed_calls script names) all.entries)
-          (entry-bounded script names n b r bounded.0 turn));
+          (All-push (BoundedEntry script steps') (completed_calls script steps) e
+          (all-older script steps n (completed_calls script steps) all.entries)
+          (entry-bounded script steps n b r bounded.0 turn));
     }
 
 -- a thread with no call left has begun none
@@ -414,33 +414,33 @@ idle-slot script world n = by (slice_index_or world.begun n None)
     by None e = refl
     by (Some b) e = e
 
-step-bounded : (script : Scripted) (names : List ℕ) (n : ℕ) → IsSound script → length names ≤ 1000000 →
-    AreBounded script names → AreBounded script (names ++ n ∷ [])
-step-bounded script names n sound few all = by (current script world n) refl
+step-bounded : (script : Scripted) (steps : List ℕ) (n : ℕ) → IsSound script → length steps ≤ 1000000 →
+    AreBounded script steps → AreBounded script (steps ++ n ∷ [])
+step-bounded script steps n sound few all = by (current script world n) refl
   where
     world : World
-    world = execution_of script names
+    world = execution_of script steps
 
     k : Invariant script world
-    k = always-kept script names sound few
+    k = always-kept script steps sound few
 
-    by : (c : Option Begun) → current script world n ≡ c → AreBounded script (names ++ n ∷ [])
+    by : (c : Option Begun) → current script world n ≡ c → AreBounded script (steps ++ n ∷ [])
     by None e =
-        let now : execution_of script (names ++ n ∷ []) ≡ stepped world n None =
-        execution_of-more script names n ∙ ap (stepped world n) e in
+        let now : execution_of script (steps ++ n ∷ []) ≡ stepped world n None =
+        execution_of-more script steps n ∙ ap (stepped world n) e in
         record {
           slots = λ t. rw (ap (λ (w : World). w.begun) now) (idle t e);
           entries = rw (ap (λ (w : World). w.entries) now)
-              (all-older script names n (completed_calls script names) all.entries);
+              (all-older script steps n (completed_calls script steps) all.entries);
         }
       where
         idle : (t : ℕ) → current script world n ≡ None →
-            BoundedSlot script (names ++ n ∷ []) t (slice_index_or world.begun t None)
+            BoundedSlot script (steps ++ n ∷ []) t (slice_index_or world.begun t None)
         idle t e = on (n == t) refl
           where
             on : (x : Bool) → (n == t) ≡ x →
-                BoundedSlot script (names ++ n ∷ []) t (slice_index_or world.begun t None)
-            on false apart = other-slot script names n t _ apart (all.slots t)
+                BoundedSlot script (steps ++ n ∷ []) t (slice_index_or world.begun t None)
+            on false apart = other-slot script steps n t _ apart (all.slots t)
             on true q =
                 let same : t ≡ n = grind (arith, q) in
                 let none : slice_index_or world.begun t None ≡ None =
@@ -448,24 +448,24 @@ step-bounded script names n sound few all = by (current script world n) refl
                 rw none tt
     by (Some b) e =
         let of : IsOf (shape_of script) (Some b) = current-of script world n b k sound e in
-        let bounded : BoundedSlot script names n (Some b) = current-bounded script names n b all e in
-        let now : execution_of script (names ++ n ∷ []) ≡ stepped world n (Some b) =
-        execution_of-more script names n ∙ ap (stepped world n) e in
-        lands-bounded script names n b (words_after (next_access b.machine) world.words)
+        let bounded : BoundedSlot script steps n (Some b) = current-bounded script steps n b all e in
+        let now : execution_of script (steps ++ n ∷ []) ≡ stepped world n (Some b) =
+        execution_of-more script steps n ∙ ap (stepped world n) e in
+        lands-bounded script steps n b (words_after (next_access b.machine) world.words)
         (after_access b.machine (seen_by (next_access b.machine) world.words)) all bounded now
         (after_same b.machine _)
         (λ never. turn-bounded script world b b.machine.phase _ _ k sound of.0 of.1 never refl
         (bounded.1 never))
 
-steps-bounded : (script : Scripted) (names rest : List ℕ) → IsSound script →
-    length names + length rest ≤ 1000000 → AreBounded script names → AreBounded script (names ++ rest)
-steps-bounded script names [] sound few all = rw (append-nil names) all
-steps-bounded script names (n ∷ rest) sound few all =
-    let longer = one_more names n in
-    let whole : (names ++ n ∷ []) ++ rest ≡ names ++ n ∷ rest = append_assoc names (n ∷ []) rest in
+steps-bounded : (script : Scripted) (steps rest : List ℕ) → IsSound script →
+    length steps + length rest ≤ 1000000 → AreBounded script steps → AreBounded script (steps ++ rest)
+steps-bounded script steps [] sound few all = rw (append-nil steps) all
+steps-bounded script steps (n ∷ rest) sound few all =
+    let longer = one_more steps n in
+    let whole : (steps ++ n ∷ []) ++ rest ≡ steps ++ n ∷ rest = append_assoc steps (n ∷ []) rest in
     subst (AreBounded script) whole
-    (steps-bounded script (names ++ n ∷ []) rest sound (omega (arith, longer, few))
-    (step-bounded script names n sound (omega (arith, few)) all))
+    (steps-bounded script (steps ++ n ∷ []) rest sound (omega (arith, longer, few))
+    (step-bounded script steps n sound (omega (arith, few)) all))
 
 none-bounded : (script : Scripted) → AreBounded script []
 unfolding execution_of
@@ -475,9 +475,9 @@ none-bounded script = record {
 }
 
 pub steps_are_bounded : StepsBoundedAlways
-steps_are_bounded script names sound few =
+steps_are_bounded script steps sound few =
     λ k d lt never.
-    ((steps-bounded script [] names sound (omega (arith, few)) (none-bounded script)).entries k d lt).2
+    ((steps-bounded script [] steps sound (omega (arith, few)) (none-bounded script)).entries k d lt).2
     never
 
 -- a call that has begun and not ended
@@ -493,10 +493,10 @@ under-way limits call word own changes (OnRecord job place) kind never bounded =
     cc
 
 pub under_way_bounded : UnderWayBoundedAlways
-under_way_bounded script names t b sound few at never =
-    let all = steps-bounded script [] names sound (omega (arith, few)) (none-bounded script) in
-    let slot : BoundedSlot script names t (Some b) =
-    subst (BoundedSlot script names t) at (all.slots t) in
-    let k : Invariant script (execution_of script names) = always-kept script names sound few in
+under_way_bounded script steps t b sound few at never =
+    let all = steps-bounded script [] steps sound (omega (arith, few)) (none-bounded script) in
+    let slot : BoundedSlot script steps t (Some b) =
+    subst (BoundedSlot script steps t) at (all.slots t) in
+    let k : Invariant script (execution_of script steps) = always-kept script steps sound few in
     let of : IsOf (shape_of script) (Some b) = subst (IsOf (shape_of script)) at (k.begun t) in
     under-way script.limits b.machine.call _ _ _ b.machine.phase of.1 never (slot.1 never)

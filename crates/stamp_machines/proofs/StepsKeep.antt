@@ -466,19 +466,19 @@ position-step script world t = go (current script world t)
     go None = refl
     go (Some b) = done b _ _
 
-steps-kept : (script : Scripted) (world : World) (names : List ℕ) → Invariant script world → IsSound script →
-    world.position + length names ≤ 1000000 → Invariant script (fold (step script) world names)
+steps-kept : (script : Scripted) (world : World) (steps : List ℕ) → Invariant script world → IsSound script →
+    world.position + length steps ≤ 1000000 → Invariant script (fold (step script) world steps)
 steps-kept script world [] k sound room = k
-steps-kept script world (t ∷ names) k sound room =
-    steps-kept script (step script world t) names (step-kept script world t k sound (omega (arith, room)))
+steps-kept script world (t ∷ steps) k sound room =
+    steps-kept script (step script world t) steps (step-kept script world t k sound (omega (arith, room)))
     sound (rw (position-step script world t) (omega (arith, room)))
 
 -- the headline, of the definitions
-pub always-kept : (script : Scripted) (names : List ℕ) → IsSound script → length names ≤ 1000000 →
-    Invariant script (execution_of script names)
+pub always-kept : (script : Scripted) (steps : List ℕ) → IsSound script → length steps ≤ 1000000 →
+    Invariant script (execution_of script steps)
 unfolding execution_of
-always-kept script names sound few =
-    steps-kept script (opening script) names (opening-kept script sound) sound (omega (arith, few))
+always-kept script steps sound few =
+    steps-kept script (opening script) steps (opening-kept script sound) sound (omega (arith, few))
 
 phase-safe : (script : Scripted) (world : World) (call : Call) (phase : Phase) → Invariant script world →
     world.position < 1000000 →
@@ -533,28 +533,28 @@ releases script world t b job s r k sound room e at =
           (content_in script world) stands,
     )
 
-position-after : (script : Scripted) (world : World) (names : List ℕ) →
-    (fold (step script) world names).position ≡ world.position + length names
+position-after : (script : Scripted) (world : World) (steps : List ℕ) →
+    (fold (step script) world steps).position ≡ world.position + length steps
 position-after script world [] = omega arith
-position-after script world (t ∷ names) = let rest = position-after script (step script world t) names in
+position-after script world (t ∷ steps) = let rest = position-after script (step script world t) steps in
     let one = position-step script world t in omega (arith, rest, one)
 
 pub releases_win : ReleasesWinAlways
 unfolding execution_of
-releases_win script names t b job s r sound few e at =
-    let here = position-after script (opening script) names in
-    releases script (execution_of script names) t b job s r
-    (always-kept script names sound (omega (arith, few))) sound (omega (arith, here, few)) e at
+releases_win script steps t b job s r sound few e at =
+    let here = position-after script (opening script) steps in
+    releases script (execution_of script steps) t b job s r
+    (always-kept script steps sound (omega (arith, few))) sound (omega (arith, here, few)) e at
 
-pub execution-position : (script : Scripted) (names : List ℕ) →
-    (execution_of script names).position ≡ length names
+pub execution-position : (script : Scripted) (steps : List ℕ) →
+    (execution_of script steps).position ≡ length steps
 unfolding execution_of
-execution-position script names = let h = position-after script (opening script) names in omega (arith, h)
+execution-position script steps = let h = position-after script (opening script) steps in omega (arith, h)
 
-pub execution_of-more : (script : Scripted) (names : List ℕ) (t : ℕ) →
-    execution_of script (names ++ t ∷ []) ≡ step script (execution_of script names) t
+pub execution_of-more : (script : Scripted) (steps : List ℕ) (t : ℕ) →
+    execution_of script (steps ++ t ∷ []) ≡ step script (execution_of script steps) t
 unfolding execution_of
-execution_of-more script names t = fold-append (step script) (opening script) names (t ∷ [])
+execution_of-more script steps t = fold-append (step script) (opening script) steps (t ∷ [])
 
 -- the call that a thread is in is of the script's shape, and its phase is one of its call
 pub current-of : (script : Scripted) (world : World) (t : ℕ) (b : Begun) → Invariant script world →

@@ -33,81 +33,81 @@ use Rattle.stamp_machines.proofs.StepsKeep.{execution-position, execution_of-mor
 use Rattle.stamp_machines.proofs.StepBound.{own_since-more, changes_since-more, own-more}
 use Rattle.stamp_machines.proofs.StepBound.{changes-same, one_more, flip, idle-slot}
 
--- whether the step of this name changes the lock's word
+-- whether this thread's step changes the lock's word
 abbrev pub change_by : Scripted → List ℕ → ℕ → ℕ
-change_by script names n =
-    if not (lock_word (execution_of script (names ++ n ∷ [])) == lock_word (execution_of script names))
+change_by script steps n =
+    if not (lock_word (execution_of script (steps ++ n ∷ [])) == lock_word (execution_of script steps))
     then 1 else 0
 
 -- an entry costs what it did before
-cost-older : (script : Scripted) (names : List ℕ) (n : ℕ) (e : Entry) → e.first ≤ e.last →
-    e.last < length names → cost script (names ++ n ∷ []) e ≡ cost script names e
-cost-older script names n e whole ended =
-    let last : take (e.last + 1) (names ++ n ∷ []) ≡ take (e.last + 1) names =
-    take-append-le (e.last + 1) names (n ∷ []) (omega (arith, ended)) in
-    let first : take e.first (names ++ n ∷ []) ≡ take e.first names =
-    take-append-le e.first names (n ∷ []) (omega (arith, whole, ended)) in
+cost-older : (script : Scripted) (steps : List ℕ) (n : ℕ) (e : Entry) → e.first ≤ e.last →
+    e.last < length steps → cost script (steps ++ n ∷ []) e ≡ cost script steps e
+cost-older script steps n e whole ended =
+    let last : take (e.last + 1) (steps ++ n ∷ []) ≡ take (e.last + 1) steps =
+    take-append-le (e.last + 1) steps (n ∷ []) (omega (arith, ended)) in
+    let first : take e.first (steps ++ n ∷ []) ≡ take e.first steps =
+    take-append-le e.first steps (n ∷ []) (omega (arith, whole, ended)) in
     rw (last, first) refl
 
 abbrev pub HasStood : List ℕ → Entry → Type 0
-HasStood names e = (e.first ≤ e.last) × (e.last < length names)
+HasStood steps e = (e.first ≤ e.last) × (e.last < length steps)
 
-costs-older : (script : Scripted) (names : List ℕ) (n : ℕ) (entries : List Entry) →
-    All (HasStood names) entries → map (cost script (names ++ n ∷ [])) entries
-    ≡ map (cost script names) entries
-costs-older script names n [] all = refl
-costs-older script names n (e ∷ entries) all =
-    let head = All-head (HasStood names) e entries all in
+costs-older : (script : Scripted) (steps : List ℕ) (n : ℕ) (entries : List Entry) →
+    All (HasStood steps) entries → map (cost script (steps ++ n ∷ [])) entries
+    ≡ map (cost script steps) entries
+costs-older script steps n [] all = refl
+costs-older script steps n (e ∷ entries) all =
+    let head = All-head (HasStood steps) e entries all in
     rw (
-      cost-older script names n e head.0 head.1,
-      costs-older script names n entries (All-tail (HasStood names) e entries all),
+      cost-older script steps n e head.0 head.1,
+      costs-older script steps n entries (All-tail (HasStood steps) e entries all),
     ) refl
 
-have-stood : (script : Scripted) (names : List ℕ) → IsSound script → length names ≤ 1000000 →
-    All (HasStood names) (completed_calls script names)
-have-stood script names sound few = λ k d lt.
-    let o : InOrder script (execution_of script names) = always-in-order script names sound few in
-    let within : IsWithin (slice_index_or (completed_calls script names) k d) =
+have-stood : (script : Scripted) (steps : List ℕ) → IsSound script → length steps ≤ 1000000 →
+    All (HasStood steps) (completed_calls script steps)
+have-stood script steps sound few = λ k d lt.
+    let o : InOrder script (execution_of script steps) = always-in-order script steps sound few in
+    let within : IsWithin (slice_index_or (completed_calls script steps) k d) =
     o.linearized.within k d lt in
     let begun = within.begun in
     let ended = within.ended in
     let before = o.ended k d lt in
-    let here = execution-position script names in
+    let here = execution-position script steps in
     (omega (arith, begun, ended), omega (arith, before, here))
 
 -- the thread's call, before its step
-pub record Measures (script : Scripted) (names : List ℕ) (changes n : ℕ) (b : Begun)
+pub record Measures (script : Scripted) (steps : List ℕ) (changes n : ℕ) (b : Begun)
     (m : Meter) : Type 0 where
-  pub within : b.first ≤ length names
-  pub own : m.steps ≡ own_since names n b.first
-  pub others : before_in changes m + changes_since script names n b.first ≡ changes
+  pub within : b.first ≤ length steps
+  pub own : m.steps ≡ own_since steps n b.first
+  pub others : before_in changes m + changes_since script steps n b.first ≡ changes
 
-current-measured : (script : Scripted) (names : List ℕ) (n : ℕ) (b : Begun) (s : TallyState) →
-    IsTallied script names s → current script (execution_of script names) n ≡ Some b →
-    Measures script names s.changes n b (meter_at s.meters n)
-current-measured script names n b s all =
-    by (slice_index_or (execution_of script names).begun n None) (all.meters n)
+current-measured : (script : Scripted) (steps : List ℕ) (n : ℕ) (b : Begun) (s : TallyState) →
+    IsTallied script steps s → current script (execution_of script steps) n ≡ Some b →
+    Measures script steps s.changes n b (meter_at s.meters n)
+current-measured script steps n b s all =
+    by (slice_index_or (execution_of script steps).begun n None) (all.meters n)
   where
     m : Meter
     m = meter_at s.meters n
 
-    here : (execution_of script names).position ≡ length names
-    here = execution-position script names
+    here : (execution_of script steps).position ≡ length steps
+    here = execution-position script steps
 
-    none : drop (length names) names ≡ []
-    none = drop_all (length names) names (omega arith)
+    none : drop (length steps) steps ≡ []
+    none = drop_all (length steps) steps (omega arith)
 
     begins : (c : Option ScriptCall) → m ≡ idle_meter →
-        begin (shape_of script) (λ k. stamps_of k (execution_of script names).entries)
-        (execution_of script names).position c ≡ Some b → Measures script names s.changes n b m
+        begin (shape_of script) (λ k. stamps_of k (execution_of script steps).entries)
+        (execution_of script steps).position c ≡ Some b → Measures script steps s.changes n b m
     begins None z e = cc
     begins (Some c) z e =
         let same : record {
           machine = start (shape_of script)
-              (call_of (λ k. stamps_of k (execution_of script names).entries) c);
-          first = (execution_of script names).position;
+              (call_of (λ k. stamps_of k (execution_of script steps).entries) c);
+          first = (execution_of script steps).position;
         } ≡ b = cc in
-        let first : b.first ≡ length names = ap (λ (x : Begun). x.first) (sym same) ∙ here in
+        let first : b.first ≡ length steps = ap (λ (x : Begun). x.first) (sym same) ∙ here in
         let idle : m.steps ≡ 0 = ap (λ (x : Meter). x.steps) z in
         record {
           within = omega (arith, first);
@@ -115,196 +115,196 @@ current-measured script names n b s all =
           others = rw (first, none, idle) (omega arith);
         }
 
-    by : (slot : Option Begun) → IsMetered script names s.changes n slot m →
-        current_of script (λ k. stamps_of k (execution_of script names).entries)
-        (execution_of script names).position n slot ≡ Some b → Measures script names s.changes n b m
+    by : (slot : Option Begun) → IsMetered script steps s.changes n slot m →
+        current_of script (λ k. stamps_of k (execution_of script steps).entries)
+        (execution_of script steps).position n slot ≡ Some b → Measures script steps s.changes n b m
     by None metered e =
         begins (slice_get (calls_of script n)
-        (length (stamps_of n (execution_of script names).entries))) metered e
+        (length (stamps_of n (execution_of script steps).entries))) metered e
     by (Some c) metered e =
         let same : c ≡ b = cc in
         let some : (m.steps == 0) ≡ false = (let h = metered.0 in grind (arith, h)) in
-        subst (λ (x : Begun). Measures script names s.changes n x m) same
+        subst (λ (x : Begun). Measures script steps s.changes n x m) same
         (record { within = metered.3; own = metered.1; others = rw some metered.2 })
 
 -- another thread's meter
-other-metered : (script : Scripted) (names : List ℕ) (changes n t : ℕ) (slot : Option Begun)
-    (m : Meter) → (n == t) ≡ false → IsMetered script names changes t slot m →
-    IsMetered script (names ++ n ∷ []) (changes + change_by script names n) t slot m
-other-metered script names changes n t None m apart metered = metered
-other-metered script names changes n t (Some b) m apart metered =
-    let longer = one_more names n in
+other-metered : (script : Scripted) (steps : List ℕ) (changes n t : ℕ) (slot : Option Begun)
+    (m : Meter) → (n == t) ≡ false → IsMetered script steps changes t slot m →
+    IsMetered script (steps ++ n ∷ []) (changes + change_by script steps n) t slot m
+other-metered script steps changes n t None m apart metered = metered
+other-metered script steps changes n t (Some b) m apart metered =
+    let longer = one_more steps n in
     let within = metered.3 in
-    let own : own_since (names ++ n ∷ []) t b.first ≡ own_since names t b.first =
-    own_since-more names n t b.first within ∙ rw apart (omega arith) in
-    let others : changes_since script (names ++ n ∷ []) t b.first ≡ changes_since script names t b.first
-    + change_by script names n =
-    changes_since-more script names n t b.first within
-    ∙ rw (apart, execution_of-more script names n) refl in
+    let own : own_since (steps ++ n ∷ []) t b.first ≡ own_since steps t b.first =
+    own_since-more steps n t b.first within ∙ rw apart (omega arith) in
+    let others : changes_since script (steps ++ n ∷ []) t b.first ≡ changes_since script steps t b.first
+    + change_by script steps n =
+    changes_since-more script steps n t b.first within
+    ∙ rw (apart, execution_of-more script steps n) refl in
     let h = metered.2 in
     (metered.0, metered.1 ∙ sym own, omega (arith, others, h), omega (arith, longer, within))
 
 -- the thread's own meter, where its call goes on
-own-metered : (script : Scripted) (names : List ℕ) (changes n : ℕ) (b : Begun) (m : Meter) →
-    Measures script names changes n b m →
-    IsMetered script (names ++ n ∷ []) (changes + change_by script names n) n (Some b)
-    (meter_after changes (change_by script names n) m)
-own-metered script names changes n b m measures =
-    let longer = one_more names n in
+own-metered : (script : Scripted) (steps : List ℕ) (changes n : ℕ) (b : Begun) (m : Meter) →
+    Measures script steps changes n b m →
+    IsMetered script (steps ++ n ∷ []) (changes + change_by script steps n) n (Some b)
+    (meter_after changes (change_by script steps n) m)
+own-metered script steps changes n b m measures =
+    let longer = one_more steps n in
     let within = measures.within in
-    let own = own-more names n b.first within in
-    let others = changes-same script names n b.first within in
-    let steps = measures.own in
+    let own = own-more steps n b.first within in
+    let others = changes-same script steps n b.first within in
+    let made = measures.own in
     let h = measures.others in (
       omega arith,
-      omega (arith, own, steps),
+      omega (arith, own, made),
       omega (arith, others, h),
       omega (arith, longer, within),
     )
 
-pub change_few : (script : Scripted) (names : List ℕ) (n : ℕ) → change_by script names n ≤ 1
-change_few script names n =
-    by (lock_word (execution_of script (names ++ n ∷ [])) == lock_word (execution_of script names))
+pub change_few : (script : Scripted) (steps : List ℕ) (n : ℕ) → change_by script steps n ≤ 1
+change_few script steps n =
+    by (lock_word (execution_of script (steps ++ n ∷ [])) == lock_word (execution_of script steps))
   where
     by : (x : Bool) → (if not x then 1 else 0) ≤ 1
     by true = omega arith
     by false = omega arith
 
 -- the meters, where one was set
-meters-set : (script : Scripted) (names : List ℕ) (n : ℕ) (s : TallyState) (v : Option Begun)
-    (m : Meter) → IsTallied script names s → n < length (execution_of script names).begun →
+meters-set : (script : Scripted) (steps : List ℕ) (n : ℕ) (s : TallyState) (v : Option Begun)
+    (m : Meter) → IsTallied script steps s → n < length (execution_of script steps).begun →
     n < length s.meters →
-    IsMetered script (names ++ n ∷ []) (s.changes + change_by script names n) n v m → (t : ℕ) →
-    IsMetered script (names ++ n ∷ []) (s.changes + change_by script names n) t
-    (slice_index_or (slice_set (execution_of script names).begun n v) t None)
+    IsMetered script (steps ++ n ∷ []) (s.changes + change_by script steps n) n v m → (t : ℕ) →
+    IsMetered script (steps ++ n ∷ []) (s.changes + change_by script steps n) t
+    (slice_index_or (slice_set (execution_of script steps).begun n v) t None)
     (meter_at (slice_set s.meters n m) t)
-meters-set script names n s v m all within metered here t = by (t == n) refl
+meters-set script steps n s v m all within metered here t = by (t == n) refl
   where
     by : (x : Bool) → (t == n) ≡ x →
-        IsMetered script (names ++ n ∷ []) (s.changes + change_by script names n) t
-        (slice_index_or (slice_set (execution_of script names).begun n v) t None)
+        IsMetered script (steps ++ n ∷ []) (s.changes + change_by script steps n) t
+        (slice_index_or (slice_set (execution_of script steps).begun n v) t None)
         (meter_at (slice_set s.meters n m) t)
     by true e =
         let same : t ≡ n = grind (arith, e) in
         rw (
           same,
-          get_or-set_same (execution_of script names).begun n v None within,
+          get_or-set_same (execution_of script steps).begun n v None within,
           get_or-set_same s.meters n m idle_meter metered,
         ) here
     by false e =
         let other : t ≢ n = λ same. absurd (grind (arith, e, same)) in
         rw (
-          slot_other (execution_of script names).begun n t v e,
+          slot_other (execution_of script steps).begun n t v e,
           get_or-set_other s.meters n t m idle_meter other,
         )
-        (other-metered script names s.changes n t _ _ (flip n t e) (all.meters t))
+        (other-metered script steps s.changes n t _ _ (flip n t e) (all.meters t))
 
 longer-than : (entries : List Entry) (e : Entry) → entries ++ e ∷ [] ≡ entries → ⊥
 longer-than entries e same = let l = length-append entries (e ∷ []) in let m = ap length same in
     omega (arith, l, m)
 
-tallied-going : (script : Scripted) (names : List ℕ) (n : ℕ) (s : TallyState) (b : Begun)
-    (words : List ℕ) (t : Turn) → IsSound script → length names ≤ 1000000 → n < length script.threads →
-    IsTallied script names s → Measures script names s.changes n b (meter_at s.meters n) →
-    execution_of script (names ++ n ∷ []) ≡ world_after (execution_of script names) n b words t →
-    (world_after (execution_of script names) n b words t).entries ≡ (execution_of script names).entries →
-    IsTallied script (names ++ n ∷ []) (tally_after s n (change_by script names n) Going)
-tallied-going script names n s b words (turned.Done r) sound few within all measures now entries =
+tallied-going : (script : Scripted) (steps : List ℕ) (n : ℕ) (s : TallyState) (b : Begun)
+    (words : List ℕ) (t : Turn) → IsSound script → length steps ≤ 1000000 → n < length script.threads →
+    IsTallied script steps s → Measures script steps s.changes n b (meter_at s.meters n) →
+    execution_of script (steps ++ n ∷ []) ≡ world_after (execution_of script steps) n b words t →
+    (world_after (execution_of script steps) n b words t).entries ≡ (execution_of script steps).entries →
+    IsTallied script (steps ++ n ∷ []) (tally_after s n (change_by script steps n) Going)
+tallied-going script steps n s b words (turned.Done r) sound few within all measures now entries =
     absurd (longer-than _ _ entries)
-tallied-going script names n s b words (turned.Going m) sound few within all measures now entries =
-    let world : World = execution_of script names in
-    let threads = (always-kept script names sound few).threads in
+tallied-going script steps n s b words (turned.Going m) sound few within all measures now entries =
+    let world : World = execution_of script steps in
+    let threads = (always-kept script steps sound few).threads in
     let metered : n < length s.meters = rw all.threads within in
-    let longer = one_more names n in
-    let one = change_few script names n in
+    let longer = one_more steps n in
+    let one = change_few script steps n in
     let small = all.few in
     record {
       meters = λ t. rw (ap (λ (w : World). w.begun) now)
-          (meters-set script names n s (Some (record { machine = m; first = b.first }))
-          (meter_after s.changes (change_by script names n) (meter_at s.meters n)) all
+          (meters-set script steps n s (Some (record { machine = m; first = b.first }))
+          (meter_after s.changes (change_by script steps n) (meter_at s.meters n)) all
           (rw threads within) metered
-          (own-metered script names s.changes n b (meter_at s.meters n) measures) t);
+          (own-metered script steps s.changes n b (meter_at s.meters n) measures) t);
       few = omega (arith, longer, one, small);
       threads = length-set s.meters n _ ∙ all.threads;
       report = rw (ap (λ (w : World). w.entries) now)
           (all.report ∙ sym
-          (costs-older script names n (completed_calls script names)
-          (have-stood script names sound few)));
+          (costs-older script steps n (completed_calls script steps)
+          (have-stood script steps sound few)));
     }
 
 -- the cost of the entry that is appended
-cost-last : (script : Scripted) (names : List ℕ) (n : ℕ) (b : Begun) (r : Reply) (s : TallyState) →
-    Measures script names s.changes n b (meter_at s.meters n) →
-    cost script (names ++ n ∷ []) (entry_of (execution_of script names) n b r)
+cost-last : (script : Scripted) (steps : List ℕ) (n : ℕ) (b : Begun) (r : Reply) (s : TallyState) →
+    Measures script steps s.changes n b (meter_at s.meters n) →
+    cost script (steps ++ n ∷ []) (entry_of (execution_of script steps) n b r)
     ≡ (
-      (meter_after s.changes (change_by script names n) (meter_at s.meters n)).steps,
-      s.changes + change_by script names
-          n - (meter_after s.changes (change_by script names n) (meter_at s.meters n)).before,
+      (meter_after s.changes (change_by script steps n) (meter_at s.meters n)).steps,
+      s.changes + change_by script steps
+          n - (meter_after s.changes (change_by script steps n) (meter_at s.meters n)).before,
     )
-cost-last script names n b r s measures =
-    let here : (execution_of script names).position ≡ length names = execution-position script names in
-    let longer = one_more names n in
-    let whole : take ((execution_of script names).position + 1) (names ++ n ∷ []) ≡ names ++ n ∷ [] =
-    ap (λ (k : ℕ). take k (names ++ n ∷ [])) (ap (λ (k : ℕ). k + 1) here ∙ sym longer)
-    ∙ take-length (names ++ n ∷ []) in
-    let own = own-more names n b.first measures.within in
-    let others = changes-same script names n b.first measures.within in
-    let steps = measures.own in
+cost-last script steps n b r s measures =
+    let here : (execution_of script steps).position ≡ length steps = execution-position script steps in
+    let longer = one_more steps n in
+    let whole : take ((execution_of script steps).position + 1) (steps ++ n ∷ []) ≡ steps ++ n ∷ [] =
+    ap (λ (k : ℕ). take k (steps ++ n ∷ [])) (ap (λ (k : ℕ). k + 1) here ∙ sym longer)
+    ∙ take-length (steps ++ n ∷ []) in
+    let own = own-more steps n b.first measures.within in
+    let others = changes-same script steps n b.first measures.within in
+    let made = measures.own in
     let h = measures.others in
-    let first : own_since (names ++ n ∷ []) n b.first ≡ (meter_at s.meters n).steps + 1 =
-    omega (arith, own, steps) in
-    let second : changes_since script (names ++ n ∷ []) n b.first ≡ s.changes
-    + change_by script names n - (before_in s.changes (meter_at s.meters n)
-    + change_by script names n) = omega (arith, others, h) in
+    let first : own_since (steps ++ n ∷ []) n b.first ≡ (meter_at s.meters n).steps + 1 =
+    omega (arith, own, made) in
+    let second : changes_since script (steps ++ n ∷ []) n b.first ≡ s.changes
+    + change_by script steps n - (before_in s.changes (meter_at s.meters n)
+    + change_by script steps n) = omega (arith, others, h) in
     rw (whole, first, second) refl
 
-tallied-ended : (script : Scripted) (names : List ℕ) (n : ℕ) (s : TallyState) (b : Begun) (e : Entry)
-    (words : List ℕ) (t : Turn) → IsSound script → length names ≤ 1000000 → n < length script.threads →
-    IsTallied script names s → Measures script names s.changes n b (meter_at s.meters n) →
-    execution_of script (names ++ n ∷ []) ≡ world_after (execution_of script names) n b words t →
-    (world_after (execution_of script names) n b words t).entries ≡ (execution_of script names).entries
-    ++ e ∷ [] → IsTallied script (names ++ n ∷ [])
-    (tally_after s n (change_by script names n) (Ended e))
-tallied-ended script names n s b e words (turned.Going m) sound few within all measures now entries =
+tallied-ended : (script : Scripted) (steps : List ℕ) (n : ℕ) (s : TallyState) (b : Begun) (e : Entry)
+    (words : List ℕ) (t : Turn) → IsSound script → length steps ≤ 1000000 → n < length script.threads →
+    IsTallied script steps s → Measures script steps s.changes n b (meter_at s.meters n) →
+    execution_of script (steps ++ n ∷ []) ≡ world_after (execution_of script steps) n b words t →
+    (world_after (execution_of script steps) n b words t).entries ≡ (execution_of script steps).entries
+    ++ e ∷ [] → IsTallied script (steps ++ n ∷ [])
+    (tally_after s n (change_by script steps n) (Ended e))
+tallied-ended script steps n s b e words (turned.Going m) sound few within all measures now entries =
     absurd (longer-than _ e (sym entries))
-tallied-ended script names n s b e words (turned.Done r) sound few within all measures now entries =
-    let world : World = execution_of script names in
+tallied-ended script steps n s b e words (turned.Done r) sound few within all measures now entries =
+    let world : World = execution_of script steps in
     let x : Entry = entry_of world n b r in
-    let threads = (always-kept script names sound few).threads in
+    let threads = (always-kept script steps sound few).threads in
     let metered : n < length s.meters = rw all.threads within in
-    let longer = one_more names n in
-    let one = change_few script names n in
+    let longer = one_more steps n in
+    let one = change_few script steps n in
     let small = all.few in
-    let before : s.report ≡ map (cost script (names ++ n ∷ [])) (completed_calls script names) =
+    let before : s.report ≡ map (cost script (steps ++ n ∷ [])) (completed_calls script steps) =
     all.report ∙ sym
-    (costs-older script names n (completed_calls script names) (have-stood script names sound few)) in
-    let last = cost-last script names n b r s measures in
-    let m : Meter = meter_after s.changes (change_by script names n) (meter_at s.meters n) in
-    let pair : ℕ × ℕ = (m.steps, s.changes + change_by script names n - m.before) in
-    let joined : map (cost script (names ++ n ∷ [])) (completed_calls script names ++ x ∷ [])
-    ≡ map (cost script (names ++ n ∷ [])) (completed_calls script names)
-    ++ cost script (names ++ n ∷ []) x ∷ [] =
-    map-append (cost script (names ++ n ∷ [])) (completed_calls script names) (x ∷ []) in
+    (costs-older script steps n (completed_calls script steps) (have-stood script steps sound few)) in
+    let last = cost-last script steps n b r s measures in
+    let m : Meter = meter_after s.changes (change_by script steps n) (meter_at s.meters n) in
+    let pair : ℕ × ℕ = (m.steps, s.changes + change_by script steps n - m.before) in
+    let joined : map (cost script (steps ++ n ∷ [])) (completed_calls script steps ++ x ∷ [])
+    ≡ map (cost script (steps ++ n ∷ [])) (completed_calls script steps)
+    ++ cost script (steps ++ n ∷ []) x ∷ [] =
+    map-append (cost script (steps ++ n ∷ [])) (completed_calls script steps) (x ∷ []) in
     record {
       meters = λ t. rw (ap (λ (w : World). w.begun) now)
-          (meters-set script names n s None idle_meter all (rw threads within) metered refl t);
+          (meters-set script steps n s None idle_meter all (rw threads within) metered refl t);
       few = omega (arith, longer, one, small);
       threads = length-set s.meters n _ ∙ all.threads;
       report = ap (λ (xs : List (ℕ × ℕ)). xs ++ pair ∷ []) before
-          ∙ ap (λ (y : ℕ × ℕ). map (cost script (names ++ n ∷ [])) (completed_calls script names)
+          ∙ ap (λ (y : ℕ × ℕ). map (cost script (steps ++ n ∷ [])) (completed_calls script steps)
           ++ y ∷ []) (sym last) ∙ sym joined
-          ∙ ap (λ (w : World). map (cost script (names ++ n ∷ [])) w.entries) (sym now);
+          ∙ ap (λ (w : World). map (cost script (steps ++ n ∷ [])) w.entries) (sym now);
     }
 
-tallied-idle : (script : Scripted) (names : List ℕ) (n : ℕ) (s : TallyState) → IsSound script →
-    length names ≤ 1000000 → IsTallied script names s →
-    current script (execution_of script names) n ≡ None →
-    execution_of script (names ++ n ∷ []) ≡ stepped (execution_of script names) n None →
-    IsTallied script (names ++ n ∷ []) s
-tallied-idle script names n s sound few all idle now =
-    let longer = one_more names n in
+tallied-idle : (script : Scripted) (steps : List ℕ) (n : ℕ) (s : TallyState) → IsSound script →
+    length steps ≤ 1000000 → IsTallied script steps s →
+    current script (execution_of script steps) n ≡ None →
+    execution_of script (steps ++ n ∷ []) ≡ stepped (execution_of script steps) n None →
+    IsTallied script (steps ++ n ∷ []) s
+tallied-idle script steps n s sound few all idle now =
+    let longer = one_more steps n in
     let small = all.few in
-    let begun : (execution_of script (names ++ n ∷ [])).begun ≡ (execution_of script names).begun =
+    let begun : (execution_of script (steps ++ n ∷ [])).begun ≡ (execution_of script steps).begun =
     ap (λ (w : World). w.begun) now in
     record {
       meters = λ t. rw begun (by t (n == t) refl);
@@ -312,62 +312,62 @@ tallied-idle script names n s sound few all idle now =
       threads = all.threads;
       report = rw (ap (λ (w : World). w.entries) now)
           (all.report ∙ sym
-          (costs-older script names n (completed_calls script names)
-          (have-stood script names sound few)));
+          (costs-older script steps n (completed_calls script steps)
+          (have-stood script steps sound few)));
     }
   where
-    still : lock_word (execution_of script (names ++ n ∷ [])) ≡ lock_word (execution_of script names)
+    still : lock_word (execution_of script (steps ++ n ∷ [])) ≡ lock_word (execution_of script steps)
     still = ap lock_word now
 
-    unchanged : change_by script names n ≡ 0
-    unchanged = let same : (lock_word (execution_of script (names ++ n ∷ [])) == lock_word
-        (execution_of script names)) ≡ true = grind (arith, still) in rw same refl
+    unchanged : change_by script steps n ≡ 0
+    unchanged = let same : (lock_word (execution_of script (steps ++ n ∷ [])) == lock_word
+        (execution_of script steps)) ≡ true = grind (arith, still) in rw same refl
 
-    sum : s.changes + change_by script names n ≡ s.changes
+    sum : s.changes + change_by script steps n ≡ s.changes
     sum = omega (arith, unchanged)
 
     by : (t : ℕ) (x : Bool) → (n == t) ≡ x →
-        IsMetered script (names ++ n ∷ []) s.changes t
-        (slice_index_or (execution_of script names).begun t None) (meter_at s.meters t)
+        IsMetered script (steps ++ n ∷ []) s.changes t
+        (slice_index_or (execution_of script steps).begun t None) (meter_at s.meters t)
     by t false apart =
-        subst (λ (c : ℕ). IsMetered script (names ++ n ∷ []) c t
-        (slice_index_or (execution_of script names).begun t None) (meter_at s.meters t)) sum
-        (other-metered script names s.changes n t _ _ apart (all.meters t))
+        subst (λ (c : ℕ). IsMetered script (steps ++ n ∷ []) c t
+        (slice_index_or (execution_of script steps).begun t None) (meter_at s.meters t)) sum
+        (other-metered script steps s.changes n t _ _ apart (all.meters t))
     by t true e =
         let same : t ≡ n = grind (arith, e) in
-        let none : slice_index_or (execution_of script names).begun t None ≡ None =
-        rw same (idle-slot script (execution_of script names) n idle) in
-        let zero_steps : IsMetered script names s.changes t None (meter_at s.meters t) =
+        let none : slice_index_or (execution_of script steps).begun t None ≡ None =
+        rw same (idle-slot script (execution_of script steps) n idle) in
+        let zero_steps : IsMetered script steps s.changes t None (meter_at s.meters t) =
         rw none at (all.meters t) in
         rw none zero_steps
 
-pub tallied-more : (script : Scripted) (names : List ℕ) (n : ℕ) (s : TallyState) (told : Stepped) →
-    IsSound script → length names ≤ 1000000 → n < length script.threads → IsTallied script names s →
-    Reports script (execution_of script names) n told →
-    IsTallied script (names ++ n ∷ []) (tally_after s n (change_by script names n) told)
-tallied-more script names n s told sound few within all says =
-    by (current script (execution_of script names) n) refl told says
+pub tallied-more : (script : Scripted) (steps : List ℕ) (n : ℕ) (s : TallyState) (told : Stepped) →
+    IsSound script → length steps ≤ 1000000 → n < length script.threads → IsTallied script steps s →
+    Reports script (execution_of script steps) n told →
+    IsTallied script (steps ++ n ∷ []) (tally_after s n (change_by script steps n) told)
+tallied-more script steps n s told sound few within all says =
+    by (current script (execution_of script steps) n) refl told says
   where
     world : World
-    world = execution_of script names
+    world = execution_of script steps
 
     by : (c : Option Begun) → current script world n ≡ c → (told : Stepped) →
         Reports script world n told →
-        IsTallied script (names ++ n ∷ []) (tally_after s n (change_by script names n) told)
+        IsTallied script (steps ++ n ∷ []) (tally_after s n (change_by script steps n) told)
     by None e Idle says =
-        tallied-idle script names n s sound few all e
-        (execution_of-more script names n ∙ ap (stepped world n) e)
+        tallied-idle script steps n s sound few all e
+        (execution_of-more script steps n ∙ ap (stepped world n) e)
     by None e Going says = let some = rw e at says.0 in cc
     by None e (Ended x) says = absurd (longer-than world.entries x (sym (rw e at says)))
     by (Some b) e Idle says = let apart : Some b ≡ None = sym e ∙ says in cc
     by (Some b) e Going says =
-        tallied-going script names n s b _ _ sound few within all
-        (current-measured script names n b s all e)
-        (execution_of-more script names n ∙ ap (stepped world n) e) (rw e at says.1)
+        tallied-going script steps n s b _ _ sound few within all
+        (current-measured script steps n b s all e)
+        (execution_of-more script steps n ∙ ap (stepped world n) e) (rw e at says.1)
     by (Some b) e (Ended x) says =
-        tallied-ended script names n s b x _ _ sound few within all
-        (current-measured script names n b s all e)
-        (execution_of-more script names n ∙ ap (stepped world n) e) (rw e at says)
+        tallied-ended script steps n s b x _ _ sound few within all
+        (current-measured script steps n b s all e)
+        (execution_of-more script steps n ∙ ap (stepped world n) e) (rw e at says)
 
 pub none-tallied : (script : Scripted) (threads : ℕ) → threads ≡ length script.threads →
     IsTallied script [] (record { changes = 0; meters = replicate threads idle_meter; report = [] })
@@ -384,17 +384,17 @@ none-tallied script threads same = record {
     idle-all (suc k) zero = refl
     idle-all (suc k) (suc t) = idle-all k t
 
--- no more steps than names
-pub meter_few : (script : Scripted) (names : List ℕ) (changes t : ℕ) (slot : Option Begun)
-    (m : Meter) → IsMetered script names changes t slot m → m.steps ≤ length names
-meter_few script names changes t None m metered = let none : m.steps ≡ 0 =
+-- no more steps in a call than in all
+pub meter_few : (script : Scripted) (steps : List ℕ) (changes t : ℕ) (slot : Option Begun)
+    (m : Meter) → IsMetered script steps changes t slot m → m.steps ≤ length steps
+meter_few script steps changes t None m metered = let none : m.steps ≡ 0 =
     ap (λ (x : Meter). x.steps) metered in omega (arith, none)
-meter_few script names changes t (Some b) m metered =
-    let steps = metered.1 in
-    let some : own_since names t b.first ≤ length (drop b.first names) =
-    count_by-le-length (λ name. name == t) (drop b.first names) in
-    let rest : length (drop b.first names) ≤ length names =
-    (let whole = ap length (take-append-drop b.first names) in
-    let parts = length-append (take b.first names) (drop b.first names) in
+meter_few script steps changes t (Some b) m metered =
+    let made = metered.1 in
+    let some : own_since steps t b.first ≤ length (drop b.first steps) =
+    count_by-le-length (λ thread. thread == t) (drop b.first steps) in
+    let rest : length (drop b.first steps) ≤ length steps =
+    (let whole = ap length (take-append-drop b.first steps) in
+    let parts = length-append (take b.first steps) (drop b.first steps) in
     omega (arith, whole, parts)) in
-    omega (arith, steps, some, rest)
+    omega (arith, made, some, rest)

@@ -17,19 +17,19 @@ use Rattle.stamp_machines.specs.declared.machine.Turn.TheVariants.{Going, Done}
 
 -- the call of this phase changes the word of the first number to that of the second, with this
 -- reply
-abbrev pub Turns : PhaseState → ℕ → ℕ → Reply → Type 0
-Turns p old new reply = Changes p.limits (word_at p.limits old) p.call (word_at p.limits new) reply
+abbrev pub ChangesTo : PhaseState → ℕ → ℕ → Reply → Type 0
+ChangesTo p old new reply = Changes p.limits (word_at p.limits old) p.call (word_at p.limits new) reply
 
 -- a load where no word is to be changed, and else an exchange of the word seen for the one that the
 -- call changes it to
 abbrev pub Plans : PhaseState → Access → Type 0
 Plans p (Load i) = (i ≡ p.at) × (p.seen ≡ None)
-Plans p (Cas i old new) = (i ≡ p.at) × (p.seen ≡ Some old) × (reply : Reply) × Turns p old new reply
+Plans p (Cas i old new) = (i ≡ p.at) × (p.seen ≡ Some old) × (reply : Reply) × ChangesTo p old new reply
 Plans p (Store i value) = ⊥
 
 -- it has ended: its exchange found the word that it saw, or the word found answers the call
 pub record Ends (p : PhaseState) (found : ℕ) (reply : Reply) : Type 0 where
-  pub won : p.seen ≡ Some found → (new : ℕ) × Turns p found new reply
+  pub won : p.seen ≡ Some found → (new : ℕ) × ChangesTo p found new reply
   pub answered : p.seen ≢ Some found → Answers p.limits (word_at p.limits found) p.call reply
 
 -- it goes on: to change the word found, or to load again since a call that may wait has no
@@ -37,7 +37,7 @@ pub record Ends (p : PhaseState) (found : ℕ) (reply : Reply) : Type 0 where
 pub record Goes (p : PhaseState) (found : ℕ) (q : PhaseState) : Type 0 where
   pub not_won : p.seen ≢ Some found
   pub same : (q.at ≡ p.at) × (q.limits ≡ p.limits) × (q.call ≡ p.call)
-  pub next : ((q.seen ≡ Some found) × (new : ℕ) × (reply : Reply) × Turns p found new reply)
+  pub next : ((q.seen ≡ Some found) × (new : ℕ) × (reply : Reply) × ChangesTo p found new reply)
       ⊎ ((q.seen ≡ None) × ((p.call ≡ WriteLock) ⊎ (p.call ≡ ReadLock))
       × HasNone p.limits (word_at p.limits found) p.call)
 

@@ -7,9 +7,9 @@ use Rattle.stamp_machines.specs.World.{execution_of, stamps_of}
 use Rattle.stamp_machines.specs.StateFields.{world_at, stamps_at}
 
 abbrev pub course_of : Inside → RunView
-course_of r = record { script = r.script.now; names = r.steps.items }
+course_of r = record { script = r.script.now; steps = r.steps.items }
 
--- the words, the threads' calls and the entries are those of the schedule for the names so far
+-- the words, the threads' calls and the entries are those of the schedule for the steps so far
 pub record IsAt (r : Inside) : Type 0 where
   pub world : world_at [] r.state (length r.steps.items) ≡ execution_of r.script.now r.steps.items
   pub sound : IsSound r.script.now

@@ -21,6 +21,6 @@ reported_record script =
 -- the finished calls of a run, with this report; each takes effect at its last step
 pub record IsRecordOf (run : RunView) (report : List (ℕ × ℕ)) (r : Recorded) : Type 0 where
   pub calls : r
-      ≡ recorded run.script.limits run.script.width (completed_calls run.script run.names) report
+      ≡ recorded run.script.limits run.script.width (completed_calls run.script run.steps) report
   pub linearized : IsLinearized r
   pub points : All (λ (e : Entry). e.point ≡ e.last) r.entries

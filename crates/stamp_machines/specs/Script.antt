@@ -4,7 +4,7 @@ use Rattle.stamp_core.specs.Limits.{Bounds, AreInRange}
 use Rattle.stamp_machines.specs.declared.script.ScriptCall.{ScriptCall}
 use Rattle.stamp_machines.specs.declared.script.ScriptCall.TheVariants.{Get, Put, PutIf}
 
--- the calls of each thread, and the names of the threads in the order in which they step
+-- the calls of each thread, and the numbers of the threads in the order in which they step
 pub record Scripted : Type 0 where
   pub limits : Bounds
   pub width : ℕ

@@ -20,13 +20,13 @@ abbrev pub AreSuited : ℕ → List (Vec ScriptCall Global) → Type 0
 AreSuited width threads =
     All (λ (calls : Vec ScriptCall Global). All (Suits width) calls.items) threads
 
--- each step names a thread
-abbrev pub AreNamed : ℕ → List ℕ → Type 0
-AreNamed threads steps = All (λ name. name < threads) steps
+-- each step is of one of this many threads
+abbrev pub AreOfThreads : ℕ → List ℕ → Type 0
+AreOfThreads threads steps = All (λ thread. thread < threads) steps
 
 abbrev pub IsFirstUnknown : ℕ → List ℕ → ℕ → Type 0
 IsFirstUnknown threads steps i =
-    (i < length steps) × (threads ≤ slice_index steps i) × AreNamed threads (take i steps)
+    (i < length steps) × (threads ≤ slice_index steps i) × AreOfThreads threads (take i steps)
 
 -- the fault holds, and none of those before it
 abbrev pub IsFirstFault : ℕ → List (Vec ScriptCall Global) → List ℕ → ScriptError → Type 0
@@ -39,10 +39,10 @@ IsFirstFault width threads steps (NoSuchThread i) =
     × IsFirstUnknown (length threads) steps i
 IsFirstFault width threads steps RecordWidth =
     (length threads ≤ 64) × AreShort threads × (length steps ≤ 1000000)
-    × AreNamed (length threads) steps × ((16 < width) ⊎ (AreSuited width threads → ⊥))
+    × AreOfThreads (length threads) steps × ((16 < width) ⊎ (AreSuited width threads → ⊥))
 
 -- there is no fault
 abbrev pub IsGood : ℕ → List (Vec ScriptCall Global) → List ℕ → Type 0
 IsGood width threads steps =
     (length threads ≤ 64) × AreShort threads × (length steps ≤ 1000000)
-    × AreNamed (length threads) steps × (width ≤ 16) × AreSuited width threads
+    × AreOfThreads (length threads) steps × (width ≤ 16) × AreSuited width threads

@@ -50,17 +50,17 @@ tally_after s thread change (Ended e) =
 
 -- the meter of a thread that is in this call, or in none
 abbrev pub IsMetered : Scripted → List ℕ → ℕ → ℕ → Option Begun → Meter → Type 0
-IsMetered script names changes t None m = m ≡ idle_meter
-IsMetered script names changes t (Some b) m =
-    (1 ≤ m.steps) × (m.steps ≡ own_since names t b.first)
-    × (m.before + changes_since script names t b.first ≡ changes) × (b.first ≤ length names)
+IsMetered script steps changes t None m = m ≡ idle_meter
+IsMetered script steps changes t (Some b) m =
+    (1 ≤ m.steps) × (m.steps ≡ own_since steps t b.first)
+    × (m.before + changes_since script steps t b.first ≡ changes) × (b.first ≤ length steps)
 
 -- the meters are those of the calls that have begun, and the report is the cost of the finished
 -- ones
-pub record IsTallied (script : Scripted) (names : List ℕ) (s : TallyState) : Type 0 where
+pub record IsTallied (script : Scripted) (steps : List ℕ) (s : TallyState) : Type 0 where
   pub meters : (t : ℕ) →
-      IsMetered script names s.changes t (slice_index_or (execution_of script names).begun t None)
+      IsMetered script steps s.changes t (slice_index_or (execution_of script steps).begun t None)
       (meter_at s.meters t)
-  pub few : s.changes ≤ length names
+  pub few : s.changes ≤ length steps
   pub threads : length s.meters ≡ length script.threads
-  pub report : s.report ≡ map (cost script names) (completed_calls script names)
+  pub report : s.report ≡ map (cost script steps) (completed_calls script steps)

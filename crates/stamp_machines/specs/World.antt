@@ -1,4 +1,5 @@
--- A schedule: each name in turn makes one access of its thread's current call on the common words.
+-- A schedule: one after another, each of these threads makes one access of its current call on the
+-- common words.
 use Rattle.std.specs.Prelude.{ℕ, ◌+◌, ◌==◌, Bool, List, [], ◌∷◌, ◌++◌, length, map, filter}
 use Rattle.std.specs.Prelude.{replicate, Option, Some, None, slice_get, slice_index}
 use Rattle.std.specs.Prelude.{slice_index_or, slice_set, fold}
@@ -64,7 +65,7 @@ is_of thread e = thread == e.thread
 abbrev pub stamps_of : ℕ → List Entry → List ℕ
 stamps_of thread entries = map (λ (e : Entry). stamp_in e.reply) (filter (is_of thread) entries)
 
--- an argument's number: zero where it names a call that has not finished or does not exist
+-- an argument's number: zero where it is of a call that has not finished or does not exist
 abbrev pub number_of : (ℕ → List ℕ) → Arg → ℕ
 number_of stamps (Number n) = n
 number_of stamps (Of thread index) = slice_index (stamps thread) index
@@ -157,10 +158,10 @@ stepped world thread (Some b) =
 abbrev pub step : Scripted → World → ℕ → World
 step script world thread = stepped world thread (current script world thread)
 
--- what a schedule of these names does
+-- what a schedule of these steps does
 unfoldable pub execution_of : Scripted → List ℕ → World
-execution_of script names = fold (step script) (opening script) names
+execution_of script steps = fold (step script) (opening script) steps
 
 -- one entry for each call that they finish, by rising last step
 abbrev pub completed_calls : Scripted → List ℕ → List Entry
-completed_calls script names = (execution_of script names).entries
+completed_calls script steps = (execution_of script steps).entries

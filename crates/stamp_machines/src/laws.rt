@@ -1,5 +1,5 @@
 //! What holds of every schedule. Each function does nothing; its contract is the law, over every
-//! script and every list of names.
+//! script and every list of steps.
 ghost use Rattle.stamp_machines.specs.Interference.{StepsBoundedAlways, UnderWayBoundedAlways};
 ghost use Rattle.stamp_machines.specs.Undisturbed.{EndsWithinTwo};
 ghost use Rattle.stamp_machines.specs.Laws.{LegalAlways, LinearizedAlways, RepresentedAlways};

@@ -18,8 +18,8 @@ pub fn run(alloc: Global, script: &Script) -> Result<Record, RunError>
     ensures memory { OnErr result (result ≡ Err RunError.Memory) }
 {
     let mut run = Run::start(alloc, script)?;
-    for name in script.steps() {
-        run.make_step(*name)?;
+    for thread in script.steps() {
+        run.make_step(*thread)?;
     }
     Ok(run.into_record())
 }
@@ -35,8 +35,8 @@ pub fn run_reported(alloc: Global, script: &Script) -> Result<Record, RunError>
 {
     let mut run = Run::start(alloc, script)?;
     let mut tally = Tally::new(alloc, script.thread_count())?;
-    for name in script.steps() {
-        run.step_counted(*name, &mut tally)?;
+    for thread in script.steps() {
+        run.step_counted(*thread, &mut tally)?;
     }
     Ok(run.into_reported(tally.report))
 }

@@ -90,7 +90,7 @@ impl<'a> Run<'a> {
 
     /// The run before its first step. It refuses as 6 `Memory` alone.
     pub fn start(alloc: Global, script: &'a Script) -> Result<Run<'a>, RunError>
-        ensures ok { IfOk result (λ r. r ≡ record { script = script.now; names = [] }) }
+        ensures ok { IfOk result (λ r. r ≡ record { script = script.now; steps = [] }) }
         ensures memory { OnErr result (result ≡ Err RunError.Memory) }
     {
         let state = State::new(alloc, script.shape(), script.thread_count())?;
@@ -108,7 +108,7 @@ impl<'a> Run<'a> {
         requires { thread < length self.old.script.threads }
         ensures ok { OnOk result (self.new ≡ with_step self.old thread) }
         ensures report { IfOk result
-            (Reports self.old.script (execution_of self.old.script self.old.names) thread) }
+            (Reports self.old.script (execution_of self.old.script self.old.steps) thread) }
         ensures err { OnErr result (self.new ≡ self.old) }
         ensures full { (result ≡ Err RunError.TooManySteps) ↔ HasNoStepLeft self.old }
     {
@@ -123,7 +123,7 @@ impl<'a> Run<'a> {
         requires { thread < length self.old.script.threads }
         ensures ok { OnOk result (self.new ≡ with_step self.old thread) }
         ensures report { IfOk result
-            (IsOfKind self.old.script (execution_of self.old.script self.old.names) thread) }
+            (IsOfKind self.old.script (execution_of self.old.script self.old.steps) thread) }
         ensures err { OnErr result (self.new ≡ self.old) }
         ensures full { (result ≡ Err RunError.TooManySteps) ↔ HasNoStepLeft self.old }
     {
@@ -141,7 +141,7 @@ impl<'a> Run<'a> {
     /// What each run keeps to.
     fn known(&self)
         ensures sound { IsSound self.now.script }
-        ensures few { length self.now.names ≤ 1000000 }
+        ensures few { length self.now.steps ≤ 1000000 }
     {
         let _ = &self.script;
     }
@@ -149,10 +149,10 @@ impl<'a> Run<'a> {
     /// One access, which is counted.
     pub(crate) fn step_counted(&mut self, thread: u64, tally: &mut Tally) -> Result<(), RunError>
         requires thread { thread < length self.old.script.threads }
-        requires tallied { IsTallied self.old.script self.old.names (tally_of tally.old) }
+        requires tallied { IsTallied self.old.script self.old.steps (tally_of tally.old) }
         ensures ok { OnOk result (self.new ≡ with_step self.old thread) }
         ensures tallied { OnOk result
-            (IsTallied self.new.script self.new.names (tally_of tally.new)) }
+            (IsTallied self.new.script self.new.steps (tally_of tally.new)) }
         ensures full { (result ≡ Err RunError.TooManySteps) → HasNoStepLeft self.old }
     {
         self.known();
@@ -168,11 +168,11 @@ impl<'a> Run<'a> {
         }
     }
 
-    /// The names stepped so far.
+    /// The numbers of the threads that made the steps so far.
     pub fn steps(&self) -> &[u64]
-        ensures names { result.now ≡ self.now.names }
+        ensures steps { result.now ≡ self.now.steps }
         ensures sound { IsSound self.now.script }
-        ensures few { length self.now.names ≤ 1000000 }
+        ensures few { length self.now.steps ≤ 1000000 }
     {
         self.known();
         &self.steps
@@ -180,7 +180,7 @@ impl<'a> Run<'a> {
 
     /// The finished calls, in the order of their last steps.
     pub fn finished(&self) -> &[Entry]
-        ensures entries { result.now ≡ completed_calls self.now.script self.now.names }
+        ensures entries { result.now ≡ completed_calls self.now.script self.now.steps }
         ensures linearized { AreLinearized self.now.script.limits self.now.script.width result.now }
     {
         &self.state.entries
@@ -189,10 +189,10 @@ impl<'a> Run<'a> {
     /// The lock's word.
     pub fn word(&self) -> Word
         ensures word { result ≡ word_at self.now.script.limits
-            (slice_index (execution_of self.now.script self.now.names).words 0) }
+            (slice_index (execution_of self.now.script self.now.steps).words 0) }
         ensures represented { Represents self.now.script.limits result
             (events_of self.now.script.limits
-            (history_of (completed_calls self.now.script self.now.names))) }
+            (history_of (completed_calls self.now.script self.now.steps))) }
     {
         self.script.limits().word(self.state.words[0])
     }
@@ -216,7 +216,7 @@ impl<'a> Run<'a> {
 
     /// The finished calls as a record, with a report that has a pair for each.
     pub(crate) fn into_reported(self, report: Vec<(u64, u64)>) -> Record
-        requires { length report.items ≡ length (completed_calls self.script self.names) }
+        requires { length report.items ≡ length (completed_calls self.script self.steps) }
         ensures { IsRecordOf self.entry report.items result }
     {
         Record::of_reported(

@@ -72,7 +72,7 @@ pub enum ScriptCall {
     PutIf(Words, Words),
 }
 
-/// The calls of each thread, and the names of the threads in the order in which they step.
+/// The calls of each thread, and the numbers of the threads in the order in which they step.
 #[derive(Drop)]
 pub struct Script {
     limits: Limits,
@@ -93,7 +93,7 @@ impl Model for Script {
     ghost invariant = { HasGoodFields };
 }
 
-ghost use Rattle.stamp_machines.specs.ScriptFault.{calls_in, AreShort, AreSuited, AreNamed};
+ghost use Rattle.stamp_machines.specs.ScriptFault.{calls_in, AreShort, AreSuited, AreOfThreads};
 ghost use Rattle.stamp_machines.specs.ScriptFault.{IsFirstUnknown, IsFirstFault, IsGood};
 
 fn suits(width: u64, call: &ScriptCall) -> bool
@@ -129,9 +129,9 @@ fn are_short(threads: &[Vec<ScriptCall>]) -> bool
 
 fn first_unknown(steps: &[u64], threads: u64) -> Option<usize>
     ensures some { IfSome result (λ i. IsFirstUnknown threads steps.now i) }
-    ensures none { IfNone result (AreNamed threads steps.now) }
+    ensures none { IfNone result (AreOfThreads threads steps.now) }
 {
-    steps.iter().position(|name| threads <= *name)
+    steps.iter().position(|thread| threads <= *thread)
 }
 
 impl Script {
@@ -182,7 +182,7 @@ impl Script {
     fn known(&self)
         ensures sound { IsSound self.now }
         ensures few { length self.now.steps ≤ 1000000 }
-        ensures named { All (λ n. n < length self.now.threads) self.now.steps }
+        ensures in_range { All (λ n. n < length self.now.threads) self.now.steps }
     {
         let _ = self.limits.layout();
     }
@@ -227,12 +227,12 @@ impl Script {
         &self.threads
     }
 
-    /// The names of the threads, in the order in which they step.
+    /// The numbers of the threads, in the order in which they step.
     pub fn steps(&self) -> &[u64]
         ensures steps { result.now ≡ self.now.steps }
         ensures sound { IsSound self.now }
         ensures few { length self.now.steps ≤ 1000000 }
-        ensures named { All (λ n. n < length self.now.threads) self.now.steps }
+        ensures in_range { All (λ n. n < length self.now.threads) self.now.steps }
     {
         self.known();
         &self.steps

@@ -130,13 +130,13 @@ fn stepped_beside<'a>(
     costs: &mut Costs,
 ) -> Result<Option<Run<'a>>, Fail> {
     let mut run = Run::start(alloc, script)?;
-    for name in script.steps() {
+    for thread in script.steps() {
         let before = plain.word();
-        let stepped = run.step(*name)?;
+        let stepped = run.step(*thread)?;
         if !is_answered(plain, &ended(&stepped)) || run.word().bits() != plain.word() {
             return Ok(None);
         }
-        costs.count(*name, plain.word() != before, &stepped)?;
+        costs.count(*thread, plain.word() != before, &stepped)?;
     }
     Ok(Some(run))
 }
@@ -156,10 +156,10 @@ fn agrees(
     Ok(run.finished().len())
 }
 
-/// Puts the name this many times more.
-fn name_again(names: &mut Vec<u64>, name: u64, count: usize) -> Result<(), AllocError> {
+/// Puts this many steps of the thread more.
+fn step_alone(steps: &mut Vec<u64>, thread: u64, count: usize) -> Result<(), AllocError> {
     for _ in 0..count {
-        names.push(name)?;
+        steps.push(thread)?;
     }
     Ok(())
 }
@@ -173,8 +173,8 @@ struct Setting {
     orders: u64,
     /// The factor by which an order's bits stand one after the other several times.
     repeats: u64,
-    /// How many steps the bits name.
-    named: usize,
+    /// How many steps the bits say.
+    mixed: usize,
     /// How many steps each thread then makes alone.
     alone: usize,
 }
@@ -188,7 +188,7 @@ impl Setting {
             width: 0,
             orders: 64,
             repeats: 0b100_0001,
-            named: 12,
+            mixed: 12,
             alone: 6,
         }
     }
@@ -202,7 +202,7 @@ impl Setting {
             width,
             orders: 128,
             repeats: 0b10_0000_0100_0000_1000_0001,
-            named: 28,
+            mixed: 28,
             alone: 9,
         }
     }
@@ -210,15 +210,15 @@ impl Setting {
 
 /// Two threads in the order that a number's bits say, and then each alone.
 fn steps_in_order(alloc: Global, setting: Setting, order: u64) -> Result<Vec<u64>, AllocError> {
-    let mut names = Vec::new(alloc);
+    let mut steps = Vec::new(alloc);
     let mut rest = order.wrapping_mul(setting.repeats);
-    for _ in 0..setting.named {
-        names.push(rest % 2)?;
+    for _ in 0..setting.mixed {
+        steps.push(rest % 2)?;
         rest /= 2;
     }
-    name_again(&mut names, 0, setting.alone)?;
-    name_again(&mut names, 1, setting.alone)?;
-    Ok(names)
+    step_alone(&mut steps, 0, setting.alone)?;
+    step_alone(&mut steps, 1, setting.alone)?;
+    Ok(steps)
 }
 
 /// Two threads agree with the plain lock in every order; gives how many calls have ended in all.

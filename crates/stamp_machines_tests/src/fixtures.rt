@@ -32,11 +32,11 @@ pub(crate) fn script_under(
     for thread in threads {
         made.push(calls(alloc, thread)?)?;
     }
-    let mut names = Vec::new(alloc);
-    for name in steps {
-        names.push(*name)?;
+    let mut listed = Vec::new(alloc);
+    for thread in steps {
+        listed.push(*thread)?;
     }
-    Script::new(limits, width, made, names).map_err(|_| Fail::from("script"))
+    Script::new(limits, width, made, listed).map_err(|_| Fail::from("script"))
 }
 
 /// A script of two threads, with 127 readers and 1000 versions.

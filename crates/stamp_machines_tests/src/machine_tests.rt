@@ -43,7 +43,7 @@ fn busy_thread(
     Ok(threads)
 }
 
-/// The first thread's name, this many times.
+/// This many steps of the first thread.
 fn zeros(alloc: Global, count: usize) -> Result<Vec<u64>, Fail> {
     let mut steps = Vec::new(alloc);
     for _ in 0..count {
@@ -80,8 +80,8 @@ fn a_script_is_refused_by_the_first_of_its_causes(rt: HostRuntime) -> Result<(),
     assert!(rt; matches!(long, Some(ScriptError::TooManyCalls)));
     let steps = refusal(17, Vec::new(alloc), zeros(alloc, 1_000_001)?)?;
     assert!(rt; matches!(steps, Some(ScriptError::TooManySteps)));
-    let names = vec![in alloc; 0, 64]?;
-    let unknown = refusal(17, idle_threads(alloc, 2)?, names)?;
+    let one_unknown = vec![in alloc; 0, 64]?;
+    let unknown = refusal(17, idle_threads(alloc, 2)?, one_unknown)?;
     assert!(rt; matches!(unknown, Some(ScriptError::NoSuchThread(1))));
     Ok(())
 }

@@ -19,8 +19,8 @@ fn stepped_through<'a>(
     ensures { IfOk result (λ run. run.script ≡ script.now) }
 {
     let mut run = Run::start(alloc, script)?;
-    for name in script.steps() {
-        let stepped = run.step(*name)?;
+    for thread in script.steps() {
+        let stepped = run.step(*thread)?;
         if let Stepped::Ended(entry) = &stepped {
             // The types that a step holds have to be named where one is dropped.
             let (_call, _reply): (Call, Reply) = (entry.call, entry.reply);
@@ -33,11 +33,11 @@ fn stepped_through<'a>(
 /// How many of the script's steps there are until this many calls have finished.
 fn steps_until(alloc: Global, script: &Script, calls: usize) -> Result<usize, RunError> {
     let mut run = Run::start(alloc, script)?;
-    for name in script.steps() {
+    for thread in script.steps() {
         if run.finished().len() >= calls {
             break;
         }
-        let _ = run.step(*name)?;
+        let _ = run.step(*thread)?;
     }
     Ok(run.steps().len())
 }

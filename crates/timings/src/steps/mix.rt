@@ -32,7 +32,7 @@ const THREADS: u64 = 64;
 const CALLS: u64 = 10_000;
 
 /// How many calls of the lock there are before they come again.
-const TURNS: u64 = 13;
+const ROUND: u64 = 13;
 
 /// The stamp of the thread's call that is this many calls before this one.
 fn before(thread: u64, index: u64, calls: u64) -> Arg {
@@ -41,7 +41,7 @@ fn before(thread: u64, index: u64, calls: u64) -> Arg {
 
 /// A call of the lock: each that takes a stamp is given that of a call before it.
 fn lock_call(thread: u64, index: u64) -> ScriptCall {
-    match index % TURNS {
+    match index % ROUND {
         0 => ScriptCall::TryRead,
         1 => ScriptCall::Validate(before(thread, index, 1)),
         2 => ScriptCall::UnlockRead(before(thread, index, 2)),
@@ -74,16 +74,16 @@ fn call_at(thread: u64, index: u64, words: &Option<Words>) -> ScriptCall {
     }
 }
 
-/// The thread that has this turn.
-fn name_of(turn: u64) -> u64
-    requires { turn < 1_000_000 }
+/// The thread that makes the steps of this stretch.
+fn thread_of(stretch: u64) -> u64
+    requires { stretch < 1_000_000 }
     ensures { result < 64 }
 {
-    (turn * 2_654_435_761) % 4_294_967_296 / 67_108_864
+    (stretch * 2_654_435_761) % 4_294_967_296 / 67_108_864
 }
 
-/// How many steps a turn has: a call of the record has many.
-fn turn_of(width: u64) -> u64
+/// How many steps a stretch has: a call of the record has many.
+fn steps_at_a_stretch(width: u64) -> u64
     ensures { 0 < result }
 {
     if width > 0 { 100 } else { 1 }
@@ -107,23 +107,23 @@ fn threads_of(alloc: Global, width: u64) -> Result<Vec<Vec<ScriptCall>>, AllocEr
     Ok(threads)
 }
 
-fn names_of(alloc: Global, steps: u64, turn: u64) -> Result<Vec<u64>, AllocError>
-    requires steps { steps ≤ 1_000_000 }
-    requires turn { 0 < turn }
+fn steps_of(alloc: Global, count: u64, at_a_stretch: u64) -> Result<Vec<u64>, AllocError>
+    requires count { count ≤ 1_000_000 }
+    requires stretch { 0 < at_a_stretch }
 {
-    let mut names = Vec::new(alloc);
-    for position in 0..steps {
-        names.push(name_of(position / turn))?;
+    let mut steps = Vec::new(alloc);
+    for position in 0..count {
+        steps.push(thread_of(position / at_a_stretch))?;
     }
-    Ok(names)
+    Ok(steps)
 }
 
 /// A script of 64 threads and this many steps.
-pub fn script_of(alloc: Global, steps: u64, width: u64) -> Result<Script, MixError> {
-    if steps > 1_000_000 || width > 16 {
+pub fn script_of(alloc: Global, count: u64, width: u64) -> Result<Script, MixError> {
+    if count > 1_000_000 || width > 16 {
         return Err(MixError::Script);
     }
     let threads = threads_of(alloc, width)?;
-    let names = names_of(alloc, steps, turn_of(width))?;
-    Ok(Script::new(Limits::widest(Layout::One), width, threads, names)?)
+    let steps = steps_of(alloc, count, steps_at_a_stretch(width))?;
+    Ok(Script::new(Limits::widest(Layout::One), width, threads, steps)?)
 }

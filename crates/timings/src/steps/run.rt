@@ -16,7 +16,7 @@ fn ended(stepped: &Stepped) -> Option<Call> {
 /// One step, of which only the refusal is reported.
 fn advance(run: &mut Run<'_>, thread: u64) -> Result<(), RunError>
     requires { thread < length run.old.script.threads }
-    ensures { OnOk result (run.new ≡ record run.old { names = run.old.names ++ thread ∷ [] }) }
+    ensures { OnOk result (run.new ≡ record run.old { steps = run.old.steps ++ thread ∷ [] }) }
 {
     match run.step(thread) {
         Ok(stepped) => {
@@ -29,11 +29,11 @@ fn advance(run: &mut Run<'_>, thread: u64) -> Result<(), RunError>
 
 /// Runs a script to its end, one step after the other.
 pub fn run_of(alloc: Global, script: &Script) -> Result<Run<'_>, RunError>
-    ensures { IfOk result (λ r. r ≡ record { script = script.now; names = script.now.steps }) }
+    ensures { IfOk result (λ r. r ≡ record { script = script.now; steps = script.now.steps }) }
 {
     let mut run = Run::start(alloc, script)?;
-    for name in script.steps() {
-        advance(&mut run, *name)?;
+    for thread in script.steps() {
+        advance(&mut run, *thread)?;
     }
     Ok(run)
 }

@@ -23,11 +23,11 @@ step-requires c =
     after-reserved script c.args.state.now old made same c.requires.after in
     let none : old.entries.items ≡ [] = same.entries ∙ c.requires.none in
     let few : made < 1000000 = omega (arith, c.requires.few, c.steps.ensures.few) in
-    let named : get_or script.steps made 0 < length script.threads =
+    let in_range : get_or script.steps made 0 < length script.threads =
     All-get_or (λ (n : ℕ). n < length script.threads) script.steps made 0 c.requires.few
-    c.steps.ensures.named in
+    c.steps.ensures.in_range in
     let thread : get_or c.steps.result.now made 0 < vec_len old.workers =
-    rw (c.steps.ensures.steps, after.workers) named in
+    rw (c.steps.ensures.steps, after.workers) in_range in
     let stamps : (t : ℕ) → stamps_at old.workers.items t
     ≡ stamps_of t (calls_until script made ++ old.entries.items) =
     λ t. after.stamps t ∙ ap (λ (es : List Entry). stamps_of t es)
@@ -46,10 +46,10 @@ returns-clause-ok c =
     let made : ℕ = c.args.made in
     let old : State = c.reserve.new.self in
     let same = c.reserve.ensures.same in
-    let names : take (made + 1) script.steps
+    let taken : take (made + 1) script.steps
     ≡ take made script.steps ++ get_or c.steps.result.now made 0 ∷ [] =
     rw c.steps.ensures.steps (take_more script.steps made 0 c.requires.few) in
     step-made script old c.step.new.self made (get_or c.steps.result.now made 0) c.step.result
     (after-reserved script c.args.state.now old made same c.requires.after) c.requires.few
-    (same.entries ∙ c.requires.none) names c.step.ensures.step.world c.step.ensures.workers
+    (same.entries ∙ c.requires.none) taken c.step.ensures.step.world c.step.ensures.workers
     c.step.ensures.step.stamps c.step.ensures.step.report

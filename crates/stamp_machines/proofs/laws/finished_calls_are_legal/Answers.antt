@@ -2,4 +2,4 @@ use Rattle.stamp_machines.proofs.StepsKeep.{always-kept}
 use Rattle.stamp_machines.proofs.laws.finished_calls_are_legal.Goals as goal
 
 pub returns : goal.returns
-returns c = λ script names sound few. (always-kept script names sound few).legal
+returns c = λ script steps sound few. (always-kept script steps sound few).legal

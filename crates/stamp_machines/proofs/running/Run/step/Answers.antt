@@ -7,15 +7,15 @@ use Rattle.stamp_machines.proofs.running.Run.step.Goals as goal
 
 pub returns-clause-report : goal.returns-clause-report
 returns-clause-report c =
-    let world : World = execution_of c.args.self.now.script c.args.self.now.names in
+    let world : World = execution_of c.args.self.now.script c.args.self.now.steps in
     let kept : c.self.inside.state.entries.items
-    ≡ completed_calls c.make_step.new.self.script c.make_step.new.self.names =
+    ≡ completed_calls c.make_step.new.self.script c.make_step.new.self.steps =
     rw (← c.self.view_is) (ap (λ (w : World). w.entries) c.self.invariant.world) in
     let entries : c.self.inside.state.entries.items
     ≡ (step c.args.self.now.script world c.args.thread).entries =
-    kept ∙ ap (λ (r : RunView). completed_calls r.script r.names) c.in_ok-kind.ensures.ok
+    kept ∙ ap (λ (r : RunView). completed_calls r.script r.steps) c.in_ok-kind.ensures.ok
     ∙ ap (λ (w : World). w.entries)
-    (execution_of-more c.args.self.now.script c.args.self.now.names c.args.thread) in
+    (execution_of-more c.args.self.now.script c.args.self.now.steps c.args.thread) in
     rw c.told.ensures
     (told-reports c.args.self.now.script world c.args.thread c.in_ok-kind.kind _ entries
     c.in_ok-kind.ensures.report)

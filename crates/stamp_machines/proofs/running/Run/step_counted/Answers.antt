@@ -8,7 +8,7 @@ use Rattle.stamp_machines.proofs.running.Run.step_counted.Goals as goal
 pub count-requires-clause-steps : goal.count-requires-clause-steps
 count-requires-clause-steps c =
     let few = c.known.ensures.few in
-    let small = meter_few c.args.self.now.script c.args.self.now.names c.args.tally.now.changes
+    let small = meter_few c.args.self.now.script c.args.self.now.steps c.args.tally.now.changes
     c.args.thread _ _ (c.requires.tallied.meters c.args.thread) in
     omega (arith, few, small)
 
@@ -18,12 +18,12 @@ count-requires-clause-changes c = let few = c.known.ensures.few in let small =
 
 pub returns-in_ok-count-in-Ok-clause-tallied : goal.returns-in_ok-count-in-Ok-clause-tallied
 returns-in_ok-count-in-Ok-clause-tallied c =
-    let more = tallied-more c.args.self.now.script c.args.self.now.names c.args.thread _
+    let more = tallied-more c.args.self.now.script c.args.self.now.steps c.args.thread _
     c.in-Ok.stepped c.known.ensures.sound c.known.ensures.few c.requires.thread
     c.requires.tallied c.in-Ok.ensures.report in
     let before : c.bits-before.result
-    ≡ lock_word (execution_of c.args.self.now.script c.args.self.now.names) =
+    ≡ lock_word (execution_of c.args.self.now.script c.args.self.now.steps) =
     c.bits-before.ensures.bits ∙ ap (λ (w : LockWord). w.bits) c.word.ensures.word in
-    let now : c.bits.result ≡ lock_word (execution_of c.step.new.self.script c.step.new.self.names) =
+    let now : c.bits.result ≡ lock_word (execution_of c.step.new.self.script c.step.new.self.steps) =
     c.bits.ensures.bits ∙ ap (λ (w : LockWord). w.bits) c.word-in-Ok.ensures.word in
     rw (c.in_ok-count-in-Ok.ensures, now, before, c.in-Ok.ensures.ok) more
