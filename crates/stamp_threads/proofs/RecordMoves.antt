@@ -11,7 +11,7 @@ use Rattle.stamp_threads.specs.declared.record_view.RecordShape.{RecordShape}
 use Rattle.stamp_threads.specs.declared.record_view.RecordPhase.{RecordPhase}
 use Rattle.stamp_threads.specs.declared.record_view.RecordPhase.TheVariants.{Idle}
 use Rattle.stamp_threads.specs.PassName.{HasGivenAll}
-use Rattle.stamp_threads.specs.PassView.{observing, after_split, split_off, entering}
+use Rattle.stamp_threads.specs.PassView.{knowing, after_split, split_off, entering}
 use Rattle.stamp_threads.specs.Seats.{StandsAt, AreSeated, alone, both}
 use Rattle.stamp_threads.specs.RecordLog.{RecordLog, is_locked, is_own, is_mark, marks_of}
 use Rattle.stamp_threads.specs.RecordPass.{RecordPassView, Seated, IsConsistentWith, IsConsistentIn}
@@ -161,13 +161,13 @@ splits_consistent width v idle c = (
     legal = c.legal;
     own = c.own;
     marks = c.marks;
-    given = given_more_all v.name v.splits (v.splits + 1) v.observed (omega arith) c.given;
+    given = given_more_all v.name v.splits (v.splits + 1) v.known (omega arith) c.given;
   },
   record {
     legal = c.legal;
-    own = child_none is_own v.name v.splits v.observed c.given;
-    marks = no_marks v.observed v c.given idle;
-    given = child_unused_all v.name v.splits v.observed c.given;
+    own = child_none is_own v.name v.splits v.known c.given;
+    marks = no_marks v.known v c.given idle;
+    given = child_unused_all v.name v.splits v.known c.given;
   },
 )
 
@@ -229,8 +229,8 @@ allows_meet enterable P shape slots id me is idle still s r _ at _ =
     let u : RecordPassView = second_of me.0 in
     let vs : List RecordPassView = v ∷ u ∷ [] in
     let here : get_elem? s.views id ≡ some vs = at ∙ ap (λ (m : Seated). some m.0) is in
-    let v' = observing v r.log in
-    let u' = observing u r.log in
+    let v' = knowing v r.log in
+    let u' = knowing u r.log in
     let ws : List RecordPassView = v' ∷ u' ∷ [] in
     let first = r.passes.fits id 0 v (vs, here, refl) in
     let second = r.passes.fits id 1 u (vs, here, refl) in
@@ -238,13 +238,13 @@ allows_meet enterable P shape slots id me is idle still s r _ at _ =
     (record { name = refl; splits = refl }) in
     let grows = grows_none vs r.log in
     let a : Brings P shape.width s.words r.log v' = record {
-      observed = begins_all r.log;
+      known = begins_all r.log;
       own = first.part.own;
       marks = first.marks;
       knows = first.knows;
     } in
     let b : Brings P shape.width s.words r.log u' = record {
-      observed = begins_all r.log;
+      known = begins_all r.log;
       own = second.part.own;
       marks = second.marks;
       knows = second.knows;
@@ -264,8 +264,8 @@ allows_meet enterable P shape slots id me is idle still s r _ at _ =
           (λ l. writer_stays r.log s.views id vs here (two_idle v u idle still) (r.writer l) ws)),
       record {
         log = r.log;
-        first_begins = first.part.observed;
-        second_begins = second.part.observed;
+        first_begins = first.part.known;
+        second_begins = second.part.known;
         after = λ i. (ws, (is i).1);
         apart = λ e.
             let t = (r.passes.apart id 0 id 1 v u (vs, here, refl) (vs, here, refl) e).1 in

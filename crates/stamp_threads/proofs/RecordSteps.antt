@@ -11,7 +11,7 @@ use Rattle.stamp_threads.specs.declared.record_view.RecordShape.{RecordShape}
 use Rattle.stamp_threads.specs.declared.record_view.RecordPhase.{RecordPhase}
 use Rattle.stamp_threads.specs.declared.record_view.RecordPhase.TheVariants.{Idle, Writing, Reading}
 use Rattle.stamp_threads.specs.PassName.{HasGivenAll}
-use Rattle.stamp_threads.specs.PassView.{made_by, observing, finding}
+use Rattle.stamp_threads.specs.PassView.{made_by, knowing, finding}
 use Rattle.stamp_threads.specs.Seats.{StandsAt, AreSeated}
 use Rattle.stamp_threads.specs.RecordLog.{RecordLog, IsLegalRecord, puts, puts_in, is_locked}
 use Rattle.stamp_threads.specs.RecordLog.{marker_in, content_in, is_own, is_mark, marks_of}
@@ -29,7 +29,7 @@ use Rattle.stamp_threads.proofs.SeatMoves.{stands_else}
 -- what a pass of the seat that steps knows afterwards
 pub record Brings (P : List ℕ → Type 0) (width : ℕ) (cells : List ℕ) (log : RecordLog)
     (w : RecordPassView) : Type 0 where
-  pub observed : IsPrefix w.observed log
+  pub known : IsPrefix w.known log
   pub own : made_by is_own w.name log ≡ w.own
   pub marks : marks_of w.name log ≡ puts_in w.own + marks_ahead w.phase
   pub knows : Knows P width cells log w.name w.phase
@@ -55,7 +55,7 @@ module _ {enterable : Bool} (P : List ℕ → Type 0) (shape : RecordShape) (s :
   own_fits k w h = let b = brings k w h in
       record {
         part = record {
-          observed = b.observed;
+          known = b.known;
           own = b.own;
           given = own_given Now r.roots r.log s.views r.passes id vs ws at same is_own log' grows
               (λ v f. f.part) k w h;
@@ -81,7 +81,7 @@ module _ {enterable : Bool} (P : List ℕ → Type 0) (shape : RecordShape) (s :
       (KnowsPart P shape.width cells' log') log' grows own_fits other_fits
 
   pub consistent_after : IsLegalRecord shape.width log' → (k : ℕ) (w : RecordPassView) →
-      get_elem? ws k ≡ some w → w.observed ≡ log' → IsConsistentWith shape.width w
+      get_elem? ws k ≡ some w → w.known ≡ log' → IsConsistentWith shape.width w
   consistent_after legal k w h e =
       let f = own_fits k w h in
       record {
@@ -102,7 +102,7 @@ module _ {enterable : Bool} (P : List ℕ → Type 0) (shape : RecordShape) (s :
 
   pub leaves_now : LeavesLockWord shape v (get_or s.words 0 0) r.log
   leaves_now = record {
-    begins = fits_here.part.observed;
+    begins = fits_here.part.known;
     legal = r.legal;
     word_is = r.word_is;
     few = r.few;
@@ -160,7 +160,7 @@ module _ {enterable : Bool} (P : List ℕ → Type 0) (shape : RecordShape) (s :
     one_after = passes_after P shape s r id (v ∷ []) (w ∷ []) here (same_one v w name splits) cells'
         log' grows (only_one (λ _ u. Brings P shape.width cells' log' u) w brings) others
 
-    pub one_consistent : IsLegalRecord shape.width log' → w.observed ≡ log' →
+    pub one_consistent : IsLegalRecord shape.width log' → w.known ≡ log' →
         IsConsistentWith shape.width w
     one_consistent legal = consistent_after P shape s r id (v ∷ []) (w ∷ []) here
         (same_one v w name splits) cells' log' grows
@@ -195,16 +195,16 @@ module _ {enterable : Bool} (P : List ℕ → Type 0) (shape : RecordShape) (s :
       writer = writer_else quiet (w ∷ []);
     }
 
-    pub only_consistent : w.observed ≡ r.log → IsConsistentWith shape.width w
+    pub only_consistent : w.known ≡ r.log → IsConsistentWith shape.width w
     only_consistent e = one_consistent w name splits s.words r.log (grows_none (v ∷ []) r.log)
         brings (λ _ _ _ _ _ h. h) r.legal e
 
-  pub observing_brings : (word : ℕ) →
-      Brings P shape.width s.words r.log (observing (finding v word) r.log)
-  observing_brings word =
+  pub knowing_brings : (word : ℕ) →
+      Brings P shape.width s.words r.log (knowing (finding v word) r.log)
+  knowing_brings word =
       let f = fits_here in
       record {
-        observed = begins_all r.log;
+        known = begins_all r.log;
         own = f.part.own;
         marks = f.marks;
         knows = f.knows;
