@@ -26,30 +26,8 @@ use Rattle.stamp_threads.proofs.GivenNames.{part-after_split, part-split_off}
 use Rattle.stamp_threads.proofs.NewComers.{comes, new_part, new_none}
 use Rattle.stamp_threads.proofs.SeatSteps.{same_two}
 use Rattle.stamp_threads.proofs.SeatMoves.{gives, together, parted, stands_else, stands_before}
-use Rattle.stamp_threads.proofs.RecordSteps.{Brings, passes_after, consistent_after, idle_quiet}
-
--- the views alone change
-with_views : {enterable : Bool} (P : List ℕ → Type 0) (shape : RecordShape) (s : State (Unit {0}) (List RecordPassView))
-    (r : IsKept enterable P shape s) (roots : ℕ) (one_root : enterable ≡ false → roots ≡ 1)
-    (views : List (List RecordPassView)) →
-    AreSeated (KnowsPart P shape.width s.words r.log) roots r.log views →
-    (is_locked r.log ≡ true → HasWriter r.log views) →
-    IsKept enterable P shape record { words = s.words; homes = s.homes; views = views }
-with_views P shape s r roots one_root views passes writer = record {
-  log = r.log;
-  roots = roots;
-  one_root = one_root;
-  legal = r.legal;
-  wide = r.wide;
-  word_is = r.word_is;
-  few = r.few;
-  fewer = r.fewer;
-  rests = r.rests;
-  long = r.long;
-  obeys = r.obeys;
-  passes = passes;
-  writer = writer;
-}
+use Rattle.stamp_threads.proofs.RecordSteps.{Brings, with_views, passes_after, consistent_after}
+use Rattle.stamp_threads.proofs.RecordSteps.{idle_quiet}
 
 idle_knows : (P : List ℕ → Type 0) (width : ℕ) (cells : List ℕ) (log : RecordLog) (name : List ℕ)
     (phase : RecordPhase) → phase ≡ Idle → Knows P width cells log name phase

@@ -1,7 +1,7 @@
 -- What every step of a seat on a record's words keeps, by what its passes know afterwards.
 use Rattle.std.proofs.Common.{◌≡◌, ◌≢◌, ◌⊎◌, ℕ, ◌+◌, ◌<◌, ◌≤◌, true, true≢false, List}
 use Rattle.std.proofs.Common.{[], ◌∷◌, length, set, get_or, refl, ap, sym, ◌∙◌, subst}
-use Rattle.std.proofs.Common.{⊎_elim, arith, Bool}
+use Rattle.std.proofs.Common.{⊎_elim, arith, Bool, false}
 use mathlib.Core.Option.{some, some-injective}
 use mathlib.Core.List.{IsPrefix}
 use lib.ListN.{get_elem?}
@@ -40,6 +40,29 @@ abbrev pub OthersKnow : (List ℕ → Type 0) → RecordShape → State (Unit {0
 OthersKnow P shape s log id cells' log' = (i k : ℕ) (u : RecordPassView) → i ≢ id →
     StandsAt s.views i k u → Knows P shape.width s.words log u.name u.phase →
     Knows P shape.width cells' log' u.name u.phase
+
+-- the views alone change, and maybe the number of roots that were taken
+pub with_views : {enterable : Bool} (P : List ℕ → Type 0) (shape : RecordShape)
+    (s : State (Unit {0}) (List RecordPassView)) (r : IsKept enterable P shape s) (roots : ℕ)
+    (one_root : enterable ≡ false → roots ≡ 1) (views : List (List RecordPassView)) →
+    AreSeated (KnowsPart P shape.width s.words r.log) roots r.log views →
+    (is_locked r.log ≡ true → HasWriter r.log views) →
+    IsKept enterable P shape record { words = s.words; homes = s.homes; views = views }
+with_views P shape s r roots one_root views passes writer = record {
+  log = r.log;
+  roots = roots;
+  one_root = one_root;
+  legal = r.legal;
+  wide = r.wide;
+  word_is = r.word_is;
+  few = r.few;
+  fewer = r.fewer;
+  rests = r.rests;
+  long = r.long;
+  obeys = r.obeys;
+  passes = passes;
+  writer = writer;
+}
 
 module _ {enterable : Bool} (P : List ℕ → Type 0) (shape : RecordShape) (s : State (Unit {0}) (List RecordPassView))
     (r : IsKept enterable P shape s)
@@ -178,22 +201,9 @@ module _ {enterable : Bool} (P : List ℕ → Type 0) (shape : RecordShape) (s :
       homes = s.homes;
       views = set s.views id (w ∷ []);
     }
-    only_views = record {
-      log = r.log;
-      roots = r.roots;
-      one_root = r.one_root;
-      legal = r.legal;
-      wide = r.wide;
-      word_is = r.word_is;
-      few = r.few;
-      fewer = r.fewer;
-      rests = r.rests;
-      long = r.long;
-      obeys = r.obeys;
-      passes = one_after w name splits s.words r.log (grows_none (v ∷ []) r.log) brings
-          (λ _ _ _ _ _ h. h);
-      writer = writer_else quiet (w ∷ []);
-    }
+    only_views = with_views P shape s r r.roots r.one_root (set s.views id (w ∷ []))
+        (one_after w name splits s.words r.log (grows_none (v ∷ []) r.log) brings (λ _ _ _ _ _ h. h))
+        (writer_else quiet (w ∷ []))
 
     pub only_consistent : w.known ≡ r.log → IsConsistentWith shape.width w
     only_consistent e = one_consistent w name splits s.words r.log (grows_none (v ∷ []) r.log)
