@@ -26,7 +26,7 @@ use Rattle.stamp_threads.proofs.SeatSteps.{Same, same_one, stands_on, apart_from
 use Rattle.stamp_threads.proofs.SeatSteps.{other_part}
 use Rattle.stamp_threads.proofs.SeatMoves.{stands_else}
 
--- what a pass of the seat that steps knows afterwards
+-- what a pass of the seat that makes the step knows afterwards
 pub record Brings (P : List ℕ → Type 0) (width : ℕ) (cells : List ℕ) (log : RecordLog)
     (w : RecordPassView) : Type 0 where
   pub known : IsPrefix w.known log
