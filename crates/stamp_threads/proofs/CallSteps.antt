@@ -12,7 +12,7 @@ use Rattle.stamp_core.specs.Decision.{Answers, Changes, HasNone, Moves}
 use Rattle.stamp_core.specs.declared.call.Call.{Call}
 use Rattle.stamp_core.specs.declared.reply.Reply.{Reply}
 use Rattle.stamp_core.proofs.Deciding.{only_locking_waits}
-use Rattle.stamp_threads.specs.PassView.{observing, adding, finding}
+use Rattle.stamp_threads.specs.PassView.{knowing, adding, finding}
 use Rattle.stamp_threads.specs.LockLog.{LockLog, events_after}
 use Rattle.stamp_threads.specs.LockPass.{LockPassView, IsConsistentWith, LeavesWord}
 use Rattle.stamp_threads.specs.LockRule.{Loaded, Won, Exchanged, making, reading, answering}
@@ -29,17 +29,17 @@ module _ (limits : Bounds) (call : Call) (v : LockPassView) (found : ℕ) (w : L
     left = left;
     earlier = [];
     last = ap (λ (u : LockPassView). u.found) is;
-    observed = ap (λ (u : LockPassView). u.observed) is;
+    known = ap (λ (u : LockPassView). u.known) is;
     own = ap (λ (u : LockPassView). u.own) is;
     name = ap (λ (u : LockPassView). u.name) is;
     splits = ap (λ (u : LockPassView). u.splits) is;
     consistent = consistent;
   }
 
-  went_at : (log : LockLog) → LeavesWord limits v found log → w ≡ observing (finding v found) log →
+  went_at : (log : LockLog) → LeavesWord limits v found log → w ≡ knowing (finding v found) log →
       IsConsistentWith limits w → WentOn limits v found w
   went_at log left is consistent = record {
-    left = subst (LeavesWord limits v found) (sym (ap (λ (u : LockPassView). u.observed) is)) left;
+    left = subst (LeavesWord limits v found) (sym (ap (λ (u : LockPassView). u.known) is)) left;
     own = ap (λ (u : LockPassView). u.own) is;
     name = ap (λ (u : LockPassView). u.name) is;
     splits = ap (λ (u : LockPassView). u.splits) is;
@@ -66,10 +66,10 @@ module _ (limits : Bounds) (call : Call) (v : LockPassView) (found : ℕ) (w : L
       ap (λ (o : Option Transition). making o call (finding v found) won.log) m.transition_is in
       answered_at won.log reply won.left is won.consistent
 
-  only_observed : (appended : List LockEvent) (reply : Reply) (log : LockLog) → appended ≢ [] →
-      answering appended reply call (finding v found) log ≡ observing (finding v found) log
-  only_observed [] reply log some = absurd (some refl)
-  only_observed (event ∷ appended) reply log some = refl
+  only_known : (appended : List LockEvent) (reply : Reply) (log : LockLog) → appended ≢ [] →
+      answering appended reply call (finding v found) log ≡ knowing (finding v found) log
+  only_known [] reply log some = absurd (some refl)
+  only_known (event ∷ appended) reply log some = refl
 
   -- the call is to change the word found
   pub by_change : (new : LockWord) (reply : Reply) → Loaded limits call v found w →
@@ -77,16 +77,16 @@ module _ (limits : Bounds) (call : Call) (v : LockPassView) (found : ℕ) (w : L
   by_change new reply l changes =
       let m : Moves limits (events_after limits l.log) call (word_at limits found) new reply =
       changes (events_after limits l.log) l.left.represents in
-      let is : w ≡ observing (finding v found) l.log = l.after ∙
+      let is : w ≡ knowing (finding v found) l.log = l.after ∙
       (ap (λ (o : Option Transition). reading o call (finding v found) l.log) m.transition_is ∙
-      only_observed m.appended reply l.log m.some) in
+      only_known m.appended reply l.log m.some) in
       went_at l.log l.left is l.consistent
 
   -- the call waits on the word found
   pub by_wait : Loaded limits call v found w → HasNone limits (word_at limits found) call →
       WentOn limits v found w
   by_wait l none =
-      let is : w ≡ observing (finding v found) l.log = l.after ∙
+      let is : w ≡ knowing (finding v found) l.log = l.after ∙
       ap (λ (o : Option Transition). reading o call (finding v found) l.log)
       (none (events_after limits l.log) l.left.represents) in
       went_at l.log l.left is l.consistent

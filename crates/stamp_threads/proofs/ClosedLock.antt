@@ -29,7 +29,7 @@ closes lock id v me words slots word is end at =
     record {
       log = r.log;
       left = record {
-        begins = part.observed;
+        begins = part.known;
         legal = r.legal;
         represents =
             subst (λ (n : ℕ). RepresentsAt lock.limits n (events_after lock.limits r.log)) last r.represents;

@@ -16,7 +16,7 @@ use Rattle.stamp_threads.specs.declared.record_view.RecordShape.{RecordShape}
 use Rattle.stamp_threads.specs.declared.record_view.RecordEvent.{RecordEvent}
 use Rattle.stamp_threads.specs.declared.record_view.RecordPhase.{RecordPhase}
 use Rattle.stamp_threads.specs.declared.record_view.RecordPhase.TheVariants.{Idle, Reading}
-use Rattle.stamp_threads.specs.PassView.{entry, observing, finding}
+use Rattle.stamp_threads.specs.PassView.{entry, knowing, finding}
 use Rattle.stamp_threads.specs.Seats.{alone}
 use Rattle.stamp_threads.specs.RecordWord.{word_with}
 use Rattle.stamp_threads.specs.RecordLog.{puts, puts_in, content_in, is_locked, is_own}
@@ -32,7 +32,7 @@ use Rattle.stamp_threads.proofs.RecordLogs.{locked_longer, marker_longer, conten
 use Rattle.stamp_threads.proofs.RecordLogs.{legal_longer, marks_called, puts_get, puts_in_get}
 use Rattle.stamp_threads.proofs.RecordSteps.{Brings, OthersKnow, fits_here, leaves_now}
 use Rattle.stamp_threads.proofs.RecordSteps.{others_mark, one_after, one_consistent, only_views}
-use Rattle.stamp_threads.proofs.RecordSteps.{only_consistent, observing_brings, same_knows}
+use Rattle.stamp_threads.proofs.RecordSteps.{only_consistent, knowing_brings, same_knows}
 use Rattle.stamp_threads.proofs.RecordSteps.{idle_quiet, KeptBy}
 
 module _ {enterable : Bool} (P : List ℕ → Type 0) (shape : RecordShape) (s : State (Unit {0}) (List RecordPassView))
@@ -59,7 +59,7 @@ module _ {enterable : Bool} (P : List ℕ → Type 0) (shape : RecordShape) (s :
       let h = what in
       let more : length (xs ++ x ∷ []) ≡ k + 1 =
       length-append xs (x ∷ []) ∙ ap (λ (n : ℕ). n + 1) long in
-      let known : KnowsReading shape.width r.log version (xs ++ x ∷ []) = record {
+      let loaded : KnowsReading shape.width r.log version (xs ++ x ∷ []) = record {
         before = h.before;
         few = omega arith;
         stand = λ e p j l. dite (ℕ_discrete j k)
@@ -73,11 +73,11 @@ module _ {enterable : Bool} (P : List ℕ → Type 0) (shape : RecordShape) (s :
       ap marks_ahead reading ∙
       sym (ap (λ (p : RecordPhase). marks_ahead (loading_one p x)) reading) in
       only_views P shape s r id v here reading_quiet w refl refl (record {
-        observed = f.part.observed;
+        known = f.part.known;
         own = f.part.own;
         marks = f.marks ∙ ap (λ (n : ℕ). puts_in v.own + n) ahead;
         knows = subst (Knows P shape.width s.words r.log v.name)
-            (sym (ap (λ (z : RecordPhase). loading_one z x) reading)) known;
+            (sym (ap (λ (z : RecordPhase). loading_one z x) reading)) loaded;
       })
 
   -- the lock word is as it was, and the words are the content
@@ -104,7 +104,7 @@ module _ {enterable : Bool} (P : List ℕ → Type 0) (shape : RecordShape) (s :
       let had = f.marks in
       let quiet = none_ahead in
       let brings : Brings P shape.width s.words log' w = record {
-        observed = begins_all log';
+        known = begins_all log';
         own = made_by-same is_own v.name r.log (get_of xs) ∙
             ap (λ (z : List RecordEvent). z ++ get_of xs ∷ []) f.part.own;
         marks = (let a = marks_called v.name r.log Get (Content xs) in
@@ -141,7 +141,7 @@ module _ {enterable : Bool} (P : List ℕ → Type 0) (shape : RecordShape) (s :
   stopping_brings word =
       let f = fits_here P shape s r id v here in
       record {
-        observed = begins_all r.log;
+        known = begins_all r.log;
         own = f.part.own;
         marks = f.marks ∙ ap (λ (n : ℕ). puts_in v.own + n) none_ahead;
         knows = tt;
@@ -152,16 +152,16 @@ open_at : {enterable : Bool} (P : List ℕ → Type 0) (shape : RecordShape)
     (s : State (Unit {0}) (List RecordPassView)) (r : IsKept enterable P shape s)
     (id : ℕ) (v : RecordPassView) → get_elem? s.views id ≡ some (v ∷ []) → v.phase ≡ Idle →
     (b : Bool) → is_locked r.log ≡ b →
-    (word : ℕ) → KeptBy enterable P shape s id (if b then observing (finding v word) r.log
+    (word : ℕ) → KeptBy enterable P shape s id (if b then knowing (finding v word) r.log
     else starting_to_read (finding v word) r.log) s.words
 open_at P shape s r id v here idle true e word =
-    only_views P shape s r id v here (idle_quiet v.phase idle) (observing (finding v word) r.log)
-    refl refl (observing_brings P shape s r id v here word)
+    only_views P shape s r id v here (idle_quiet v.phase idle) (knowing (finding v word) r.log)
+    refl refl (knowing_brings P shape s r id v here word)
 open_at P shape s r id v here idle false e word =
     let f = fits_here P shape s r id v here in
     only_views P shape s r id v here (idle_quiet v.phase idle) (starting_to_read (finding v word) r.log)
     refl refl (record {
-      observed = begins_all r.log;
+      known = begins_all r.log;
       own = f.part.own;
       marks = f.marks ∙ ap (λ (n : ℕ). puts_in v.own + n) (ap marks_ahead idle);
       knows = record {
@@ -179,7 +179,7 @@ allows_open P shape slots id me is idle s r _ at _ =
     let here : get_elem? s.views id ≡ some (v ∷ []) =
     at ∙ ap (λ (m : Seated). some m.0) is in
     let word : ℕ = get_or s.words 0 0 in
-    let w : RecordPassView = if is_locked r.log then observing (finding v word) r.log
+    let w : RecordPassView = if is_locked r.log then knowing (finding v word) r.log
     else starting_to_read (finding v word) r.log in
     let quiet = idle_quiet v.phase idle in (
       w ∷ [],
@@ -193,8 +193,8 @@ allows_open P shape slots id me is idle s r _ at _ =
         after = λ i. (w ∷ [], (is i).1);
         others = others_mark P shape s r id v here quiet;
         consistent = only_consistent P shape s r id v here quiet
-            (observing (finding v word) r.log) refl refl
-            (observing_brings P shape s r id v here word) refl;
+            (knowing (finding v word) r.log) refl refl
+            (knowing_brings P shape s r id v here word) refl;
       },
     )
 

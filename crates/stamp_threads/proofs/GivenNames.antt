@@ -74,7 +74,7 @@ last_or_before (x ∷ xs) (y ∷ ys) a j rest e =
 pub part-after_split : {E P : Type 0} (is_own : E → Bool) (log : List (LogEntry E))
     (v : PassView E P) → IsPart is_own log v → IsPart is_own log (after_split v)
 part-after_split is_own log v f = record {
-  observed = f.observed;
+  known = f.known;
   own = f.own;
   given =
       given_more_all v.name v.splits (v.splits + 1) log (omega arith) f.given;
@@ -83,7 +83,7 @@ part-after_split is_own log v f = record {
 pub part-split_off : {E P : Type 0} (is_own : E → Bool) (log : List (LogEntry E)) (v : PassView E P) →
     IsPart is_own log v → IsPart is_own log (split_off v)
 part-split_off is_own log v f = record {
-  observed = f.observed;
+  known = f.known;
   own =
       child_none is_own v.name v.splits log f.given;
   given =

@@ -51,7 +51,7 @@ new_none kind m (e ∷ log) r =
 pub new_part : {E P : Type 0} (is_own : E → Bool) (m : ℕ) (phase : P) (log : List (LogEntry E))
     (word : ℕ) → AreRooted m log → IsPart is_own log (entering m phase log word)
 new_part is_own m phase log word r = record {
-  observed = begins_all log;
+  known = begins_all log;
   own = new_none is_own m log r;
   given = new_unused m log r;
 }

@@ -24,7 +24,7 @@ only_place zero k v st = only_one (λ l u. (zero ≡ 0) × (l ≡ 0) × (u ≡ f
 only_place (suc i) k v st = absurd (some-ne-none st.0 (sym st.1))
 
 first_part : IsPart every [] first_pass
-first_part = record { observed = begins_all []; own = refl; given = tt }
+first_part = record { known = begins_all []; own = refl; given = tt }
 
 pub opens : {enterable : Bool} (limits : Bounds) (word : ℕ) → RepresentsAt limits word [] →
     IsKept enterable limits (opening (word ∷ []) [] (first_pass ∷ []))

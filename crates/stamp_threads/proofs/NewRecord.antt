@@ -72,7 +72,7 @@ pub opens : {enterable : Bool} (shape : RecordShape) (first : ℕ) → first ≡
 opens shape first is narrow =
     let cells : List ℕ = take (shape.width + 1) (first ∷ replicate 16 0) in
     let fits : KnowsPart (λ _. Unit {0}) shape.width cells [] first_pass = record {
-      part = record { observed = begins_all []; own = refl; given = tt };
+      part = record { known = begins_all []; own = refl; given = tt };
       marks = refl;
       knows = tt;
     } in
@@ -127,7 +127,7 @@ module _ (words : List ℕ) where
   opens_holding P limits first is version good =
       let width : ℕ = length words in
       let fits : KnowsPart P width (first ∷ words) log holder = record {
-        part = record { observed = begins_all log; own = refl; given = none_given };
+        part = record { known = begins_all log; own = refl; given = none_given };
         marks = refl;
         knows = tt;
       } in

@@ -40,7 +40,7 @@ agree is_own IsLegal v w log legal first second apart = record {
   first = first;
   second = second;
   apart = apart;
-  ordered = beginnings_ordered v.observed w.observed log first.observed second.observed;
-  first_calls = made_first is_own v.name w.observed log v.own second.observed first.own;
-  second_calls = made_first is_own w.name v.observed log w.own first.observed second.own;
+  ordered = beginnings_ordered v.known w.known log first.known second.known;
+  first_calls = made_first is_own v.name w.known log v.own second.known first.own;
+  second_calls = made_first is_own w.name v.known log w.own first.known second.own;
 }

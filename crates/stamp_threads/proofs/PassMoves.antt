@@ -78,13 +78,13 @@ splits_consistent limits v c = (
     legal = c.legal;
     own = c.own;
     given =
-        given_more_all v.name v.splits (v.splits + 1) v.observed (omega arith) c.given;
+        given_more_all v.name v.splits (v.splits + 1) v.known (omega arith) c.given;
   },
   record {
     legal = c.legal;
-    own = child_none every v.name v.splits v.observed c.given;
+    own = child_none every v.name v.splits v.known c.given;
     given =
-        child_unused_all v.name v.splits v.observed c.given;
+        child_unused_all v.name v.splits v.known c.given;
   },
 )
 

@@ -18,7 +18,7 @@ use Rattle.stamp_threads.specs.declared.record_view.RecordEvent.{RecordEvent}
 use Rattle.stamp_threads.specs.declared.record_view.RecordEvent.TheVariants.{Mark}
 use Rattle.stamp_threads.specs.declared.record_view.RecordPhase.{RecordPhase}
 use Rattle.stamp_threads.specs.declared.record_view.RecordPhase.TheVariants.{Idle, Writing}
-use Rattle.stamp_threads.specs.PassView.{entry, observing, finding}
+use Rattle.stamp_threads.specs.PassView.{entry, knowing, finding}
 use Rattle.stamp_threads.specs.Seats.{StandsAt, alone}
 use Rattle.stamp_threads.specs.RecordWord.{word_with, writer_unit}
 use Rattle.stamp_threads.specs.RecordLog.{puts, puts_in, is_locked, is_own}
@@ -36,7 +36,7 @@ use Rattle.stamp_threads.proofs.RecordLogs.{marks_marked, marks_called, puts_mar
 use Rattle.stamp_threads.proofs.RecordLogs.{puts_in_put}
 use Rattle.stamp_threads.proofs.RecordSteps.{Brings, OthersKnow, fits_here, leaves_now, not_other}
 use Rattle.stamp_threads.proofs.RecordSteps.{others_mark, one_after, one_consistent, one_stands}
-use Rattle.stamp_threads.proofs.RecordSteps.{only_views, only_consistent, observing_brings}
+use Rattle.stamp_threads.proofs.RecordSteps.{only_views, only_consistent, knowing_brings}
 use Rattle.stamp_threads.proofs.RecordSteps.{locked_by, reader_knows, idle_quiet, KeptBy}
 
 module _ {enterable : Bool} (P : List ℕ → Type 0) (shape : RecordShape) (s : State (Unit {0}) (List RecordPassView))
@@ -72,7 +72,7 @@ module _ {enterable : Bool} (P : List ℕ → Type 0) (shape : RecordShape) (s :
       let quiet : marks_ahead v.phase ≡ 0 = ap marks_ahead idle in
       let had = f.marks in
       let brings : Brings P shape.width cells' log' w = record {
-        observed = begins_all log';
+        known = begins_all log';
         own = made_by-same is_own v.name r.log Mark ∙ (append-nil _ ∙ f.part.own);
         marks = (let m = marks_marked v.name r.log in omega arith);
         knows = knows;
@@ -148,7 +148,7 @@ module _ {enterable : Bool} (P : List ℕ → Type 0) (shape : RecordShape) (s :
           ap marks_ahead writing ∙
           sym (ap (λ (p : RecordPhase). marks_ahead (storing_one p)) writing) in
           let brings : Brings P shape.width cells' r.log w = record {
-            observed = f.part.observed;
+            known = f.part.known;
             own = f.part.own;
             marks = f.marks ∙ ap (λ (n : ℕ). puts_in v.own + n)
                 ahead;
@@ -200,7 +200,7 @@ module _ {enterable : Bool} (P : List ℕ → Type 0) (shape : RecordShape) (s :
       let ahead : marks_ahead v.phase ≡ 1 = ap marks_ahead writing in
       let had = f.marks in
       let brings : Brings P shape.width cells' log' w = record {
-        observed = begins_all log';
+        known = begins_all log';
         own = made_by-same is_own v.name r.log (put_of xs) ∙
             ap (λ (l : List RecordEvent). l ++ put_of xs ∷ []) f.part.own;
         marks = (let m = marks_called v.name r.log (Put xs) Done in
@@ -238,15 +238,15 @@ look_at : {enterable : Bool} (P : List ℕ → Type 0) (shape : RecordShape)
     (s : State (Unit {0}) (List RecordPassView)) (r : IsKept enterable P shape s)
     (id : ℕ) (me : Seated) → me ≡ alone (first_of me.0) → (first_of me.0).phase ≡ Idle →
     get_elem? s.views id ≡ some (first_of me.0 ∷ []) →
-    KeptBy enterable P shape s id (observing (finding (first_of me.0) (get_or s.words 0 0)) r.log) s.words ×
+    KeptBy enterable P shape s id (knowing (finding (first_of me.0) (get_or s.words 0 0)) r.log) s.words ×
     Looked shape (first_of me.0) (get_or s.words 0 0)
-    (observing (finding (first_of me.0) (get_or s.words 0 0)) r.log ∷ [], me.1)
+    (knowing (finding (first_of me.0) (get_or s.words 0 0)) r.log ∷ [], me.1)
 look_at P shape s r id me is idle here =
     let v : RecordPassView = first_of me.0 in
     let word : ℕ = get_or s.words 0 0 in
-    let w = observing (finding v word) r.log in
+    let w = knowing (finding v word) r.log in
     let quiet = idle_quiet v.phase idle in
-    let brings = observing_brings P shape s r id v here word in (
+    let brings = knowing_brings P shape s r id v here word in (
       only_views P shape s r id v here quiet w refl refl brings,
       record {
         log = r.log;
@@ -264,7 +264,7 @@ allows_look P shape slots id me is idle s r _ at _ =
     let v : RecordPassView = first_of me.0 in
     let here : get_elem? s.views id ≡ some (v ∷ []) =
     at ∙ ap (λ (m : Seated). some m.0) is in
-    let w = observing (finding v (get_or s.words 0 0)) r.log in
+    let w = knowing (finding v (get_or s.words 0 0)) r.log in
     let t = look_at P shape s r id me is idle here in
     (w ∷ [], keeps, tt, subst (KeptBy _ P shape s id w) (sym (set-get_or s.words 0 0)) t.0, t.1)
 
@@ -300,7 +300,7 @@ acquire_at P shape s r id me n old held xs is idle here free up room long good t
     )
 acquire_at P shape s r id me n old held xs is idle here free up room long good false e =
     let v : RecordPassView = first_of me.0 in
-    let w = observing (finding v (get_or s.words 0 0)) r.log in
+    let w = knowing (finding v (get_or s.words 0 0)) r.log in
     let t = look_at P shape s r id me is idle here in
     (w ∷ [], keeps, tt, subst (KeptBy _ P shape s id w) (sym (set-get_or s.words 0 0)) t.0, t.1)
 
@@ -364,7 +364,7 @@ allows_release enterable P shape slots id me version held free xs is writing dow
           (set s.words 0 (either b free (get_or s.words 0 0)))) (sym (eq-eqb _ _ same)) t.0,
       record {
         log = r.log;
-        begins = (fits_here P shape s r id v here).part.observed;
+        begins = (fits_here P shape s r id v here).part.known;
         word_is = sym same ∙ r.word_is;
         after = λ i. (w ∷ [], (is i).1);
         few = (let l = r.fewer k.locked in let p = puts_put r.log v.name xs in omega arith);

@@ -11,7 +11,7 @@ use Rattle.stamp_threads.specs.declared.record_view.RecordShape.{RecordShape}
 use Rattle.stamp_threads.specs.declared.record_view.RecordPhase.{RecordPhase}
 use Rattle.stamp_threads.specs.declared.record_view.RecordPhase.TheVariants.{Idle}
 use Rattle.stamp_threads.specs.PassName.{HasGivenAll}
-use Rattle.stamp_threads.specs.PassView.{observing, after_split, split_off, entering}
+use Rattle.stamp_threads.specs.PassView.{knowing, after_split, split_off, entering}
 use Rattle.stamp_threads.specs.Seats.{StandsAt, AreSeated, alone, both}
 use Rattle.stamp_threads.specs.RecordLog.{RecordLog, is_locked, is_own, is_mark, marks_of}
 use Rattle.stamp_threads.specs.RecordPass.{RecordPassView, Seated, IsConsistentWith, IsConsistentIn}
@@ -26,30 +26,8 @@ use Rattle.stamp_threads.proofs.GivenNames.{part-after_split, part-split_off}
 use Rattle.stamp_threads.proofs.NewComers.{comes, new_part, new_none}
 use Rattle.stamp_threads.proofs.SeatSteps.{same_two}
 use Rattle.stamp_threads.proofs.SeatMoves.{gives, together, parted, stands_else, stands_before}
-use Rattle.stamp_threads.proofs.RecordSteps.{Brings, passes_after, consistent_after, idle_quiet}
-
--- the views alone change
-with_views : {enterable : Bool} (P : List ℕ → Type 0) (shape : RecordShape) (s : State (Unit {0}) (List RecordPassView))
-    (r : IsKept enterable P shape s) (roots : ℕ) (one_root : enterable ≡ false → roots ≡ 1)
-    (views : List (List RecordPassView)) →
-    AreSeated (KnowsPart P shape.width s.words r.log) roots r.log views →
-    (is_locked r.log ≡ true → HasWriter r.log views) →
-    IsKept enterable P shape record { words = s.words; homes = s.homes; views = views }
-with_views P shape s r roots one_root views passes writer = record {
-  log = r.log;
-  roots = roots;
-  one_root = one_root;
-  legal = r.legal;
-  wide = r.wide;
-  word_is = r.word_is;
-  few = r.few;
-  fewer = r.fewer;
-  rests = r.rests;
-  long = r.long;
-  obeys = r.obeys;
-  passes = passes;
-  writer = writer;
-}
+use Rattle.stamp_threads.proofs.RecordSteps.{Brings, with_views, passes_after, consistent_after}
+use Rattle.stamp_threads.proofs.RecordSteps.{idle_quiet}
 
 idle_knows : (P : List ℕ → Type 0) (width : ℕ) (cells : List ℕ) (log : RecordLog) (name : List ℕ)
     (phase : RecordPhase) → phase ≡ Idle → Knows P width cells log name phase
@@ -161,13 +139,13 @@ splits_consistent width v idle c = (
     legal = c.legal;
     own = c.own;
     marks = c.marks;
-    given = given_more_all v.name v.splits (v.splits + 1) v.observed (omega arith) c.given;
+    given = given_more_all v.name v.splits (v.splits + 1) v.known (omega arith) c.given;
   },
   record {
     legal = c.legal;
-    own = child_none is_own v.name v.splits v.observed c.given;
-    marks = no_marks v.observed v c.given idle;
-    given = child_unused_all v.name v.splits v.observed c.given;
+    own = child_none is_own v.name v.splits v.known c.given;
+    marks = no_marks v.known v c.given idle;
+    given = child_unused_all v.name v.splits v.known c.given;
   },
 )
 
@@ -229,8 +207,8 @@ allows_meet enterable P shape slots id me is idle still s r _ at _ =
     let u : RecordPassView = second_of me.0 in
     let vs : List RecordPassView = v ∷ u ∷ [] in
     let here : get_elem? s.views id ≡ some vs = at ∙ ap (λ (m : Seated). some m.0) is in
-    let v' = observing v r.log in
-    let u' = observing u r.log in
+    let v' = knowing v r.log in
+    let u' = knowing u r.log in
     let ws : List RecordPassView = v' ∷ u' ∷ [] in
     let first = r.passes.fits id 0 v (vs, here, refl) in
     let second = r.passes.fits id 1 u (vs, here, refl) in
@@ -238,13 +216,13 @@ allows_meet enterable P shape slots id me is idle still s r _ at _ =
     (record { name = refl; splits = refl }) in
     let grows = grows_none vs r.log in
     let a : Brings P shape.width s.words r.log v' = record {
-      observed = begins_all r.log;
+      known = begins_all r.log;
       own = first.part.own;
       marks = first.marks;
       knows = first.knows;
     } in
     let b : Brings P shape.width s.words r.log u' = record {
-      observed = begins_all r.log;
+      known = begins_all r.log;
       own = second.part.own;
       marks = second.marks;
       knows = second.knows;
@@ -264,8 +242,8 @@ allows_meet enterable P shape slots id me is idle still s r _ at _ =
           (λ l. writer_stays r.log s.views id vs here (two_idle v u idle still) (r.writer l) ws)),
       record {
         log = r.log;
-        first_begins = first.part.observed;
-        second_begins = second.part.observed;
+        first_begins = first.part.known;
+        second_begins = second.part.known;
         after = λ i. (ws, (is i).1);
         apart = λ e.
             let t = (r.passes.apart id 0 id 1 v u (vs, here, refl) (vs, here, refl) e).1 in

@@ -9,7 +9,7 @@ use Rattle.stamp_core.specs.Limits.{AreInRange}
 use Rattle.stamp_threads.specs.declared.record_view.RecordShape.{RecordShape}
 use Rattle.stamp_threads.specs.declared.record_view.RecordPhase.TheVariants.{Idle, Reading, Writing}
 use Rattle.stamp_threads.specs.declared.record_view.RecordEvent.TheVariants.{Mark}
-use Rattle.stamp_threads.specs.PassView.{entry, observing, finding, HasFound}
+use Rattle.stamp_threads.specs.PassView.{entry, knowing, finding, HasFound}
 use Rattle.stamp_threads.specs.Seats.{alone, both}
 use Rattle.stamp_threads.specs.RecordWord.{version_unit, writer_unit, word_with}
 use Rattle.stamp_threads.specs.RecordLog.{RecordLog, puts, is_locked}
@@ -27,8 +27,8 @@ pub have_met : (shape : RecordShape) (v u : RecordPassView) (me : Seated)
     (v' u' : RecordPassView) → Met shape v u me → v' ≡ first_of me.0 → u' ≡ second_of me.0 →
     RecordPassesMet shape.width v u v' u'
 have_met shape v u me v' u' m first second =
-    let a : v' ≡ observing v m.log = first ∙ ap (λ (n : Seated). first_of n.0) m.after in
-    let b : u' ≡ observing u m.log = second ∙ ap (λ (n : Seated). second_of n.0) m.after in
+    let a : v' ≡ knowing v m.log = first ∙ ap (λ (n : Seated). first_of n.0) m.after in
+    let b : u' ≡ knowing u m.log = second ∙ ap (λ (n : Seated). second_of n.0) m.after in
     subst (λ (p : RecordPassView × RecordPassView). RecordPassesMet shape.width v u p.0 p.1)
     (λ i. (sym a i, sym b i)) (record {
       first_begins = m.first_begins;
@@ -112,7 +112,7 @@ module _ (shape : RecordShape) (v : RecordPassView) (found : ℕ) where
   opened me t test =
       let free = is_free t.log t.left test in
       ap (λ (m : Seated). (first_of m.0).phase) t.after ∙
-      ap (λ (b : Bool). (if b then observing (finding v found) t.log
+      ap (λ (b : Bool). (if b then knowing (finding v found) t.log
       else starting_to_read (finding v found) t.log).phase) free
 
 abbrev HeldTest : RecordShape → ℕ → Bool → Type 0
@@ -143,7 +143,7 @@ module _ (shape : RecordShape) (v : RecordPassView) (loaded : ℕ) where
   put_busy me t idle test = record {
     looks = ap (λ (m : Seated). (first_of m.0).found) t.after;
     saw = looked_saw me t idle;
-    locked = ap (λ (m : Seated). is_locked (first_of m.0).observed) t.after ∙
+    locked = ap (λ (m : Seated). is_locked (first_of m.0).known) t.after ∙
         locked_of t.log t.left test;
   }
 
@@ -160,16 +160,16 @@ module _ (shape : RecordShape) (v : RecordPassView) (loaded : ℕ) where
       record {
         looks = ap (λ (m : Seated). (first_of m.0).found) t.after;
         saw = looked_saw me t idle;
-        free = ap (λ (m : Seated). is_locked (first_of m.0).observed) t.after ∙ free;
-        all = ap (λ (m : Seated). puts (first_of m.0).observed) t.after ∙ all;
+        free = ap (λ (m : Seated). is_locked (first_of m.0).known) t.after ∙ free;
+        all = ap (λ (m : Seated). puts (first_of m.0).known) t.after ∙ all;
         last = free_word shape v loaded t.log t.left free ∙
             ap (λ (n : ℕ). word_with shape.limits.layout n false) all;
       }
 
-  -- the pass that had observed the first history has observed a longer one
+  -- the pass that knew the first history has come to know a longer one
   lost_after : (first : RecordLog) (phase : RecordPhase) (found : ℕ) (w : RecordPassView) →
       LeavesLockWord shape v loaded first → is_locked first ≡ false → found ≢ loaded →
-      SawWord shape (with_phase (observing (finding v loaded) first) phase) found w →
+      SawWord shape (with_phase (knowing (finding v loaded) first) phase) found w →
       HasFound (finding v loaded) (found ∷ []) w → WasLost shape v loaded found w
   lost_after first phase found w left free differ saw looks = record {
     differ = λ e. differ (sym e);
@@ -180,7 +180,7 @@ module _ (shape : RecordShape) (v : RecordPassView) (loaded : ℕ) where
     longer = saw.left.begins;
     saw = record {
       left = record {
-        begins = begins_further v.observed first w.observed left.begins saw.left.begins;
+        begins = begins_further v.known first w.known left.begins saw.left.begins;
         legal = saw.left.legal;
         word_is = saw.left.word_is;
         few = saw.left.few;
@@ -198,7 +198,7 @@ module _ (shape : RecordShape) (v : RecordPassView) (loaded : ℕ) where
   get_busy me t idle test =
       let locked = locked_of t.log t.left test in
       let after = t.after ∙
-      ap (λ (b : Bool). alone (if b then observing (finding v loaded) t.log
+      ap (λ (b : Bool). alone (if b then knowing (finding v loaded) t.log
       else starting_to_read (finding v loaded) t.log)) locked in
       put_busy me (record {
         log = t.log;
@@ -217,10 +217,10 @@ module _ (shape : RecordShape) (v : RecordPassView) (loaded : ℕ) where
     free_now = is_free shape v loaded t.log t.left test
 
     abbrev reads : RecordPassView
-    reads = with_phase (observing (finding v loaded) t.log) (Reading (puts t.log) words)
+    reads = with_phase (knowing (finding v loaded) t.log) (Reading (puts t.log) words)
 
     opens : me ≡ alone (starting_to_read (finding v loaded) t.log)
-    opens = t.after ∙ ap (λ (b : Bool). alone (if b then observing (finding v loaded) t.log
+    opens = t.after ∙ ap (λ (b : Bool). alone (if b then knowing (finding v loaded) t.log
         else starting_to_read (finding v loaded) t.log)) free_now
 
     reads_is : first_of me2.0 ≡ reads
@@ -271,7 +271,7 @@ module _ (shape : RecordShape) (v : RecordPassView) (loaded : ℕ) where
           longer = o.left.begins;
           left = sym same ∙ o.left.word_is;
           replies = ap Content o.content;
-          observed = refl;
+          known = refl;
           own = refl;
           same = record { name = refl; splits = refl };
           idle = refl;
@@ -297,7 +297,7 @@ module _ (shape : RecordShape) (v : RecordPassView) (loaded : ℕ) where
       Released shape (first_of me3.0) held me4 words →
       RecordAnswered shape (Put words) Done v (first_of me4.0)
   put_made me me2 me3 me4 words found held t got hit stored up told =
-      let u : RecordPassView = observing (finding v loaded) t.log in
+      let u : RecordPassView = knowing (finding v loaded) t.log in
       let is : first_of me.0 ≡ u = ap (λ (m : Seated). first_of m.0) t.after in
       let a : Acquired shape u found me2 words =
       subst (λ (x : RecordPassView). Acquired shape x found me2 words) is got in
@@ -317,7 +317,7 @@ module _ (shape : RecordShape) (v : RecordPassView) (loaded : ℕ) where
             (λ i. v.found ++ loaded ∷ hit i ∷ up i ∷ []));
         first = a.log;
         at_first = record {
-          begins = begins_further v.observed t.log a.log t.left.begins a.left.begins;
+          begins = begins_further v.known t.log a.log t.left.begins a.left.begins;
           legal = a.left.legal;
           word_is = sym hit ∙ a.left.word_is;
           few = a.left.few;
@@ -326,7 +326,7 @@ module _ (shape : RecordShape) (v : RecordPassView) (loaded : ℕ) where
         longer = begins_further a.log (a.log ++ mark ∷ []) o.log (begins_more a.log (mark ∷ [])) o.begins;
         left = sym up ∙ o.word_is;
         replies = refl;
-        observed = refl;
+        known = refl;
         own = refl;
         same = record { name = refl; splits = refl };
         idle = refl;
@@ -339,7 +339,7 @@ module _ (shape : RecordShape) (v : RecordPassView) (loaded : ℕ) where
       Looked shape (first_of me.0) found me2 → found ≢ loaded →
       WasLost shape v loaded found (first_of me2.0)
   put_lost me t idle test found me2 told differ =
-      let u : RecordPassView = observing (finding v loaded) t.log in
+      let u : RecordPassView = knowing (finding v loaded) t.log in
       let is : first_of me.0 ≡ u = ap (λ (m : Seated). first_of m.0) t.after in
       let o : Looked shape u found me2 =
       subst (λ (x : RecordPassView). Looked shape x found me2) is told in

@@ -1,7 +1,7 @@
 -- What every step of a seat on a record's words keeps, by what its passes know afterwards.
 use Rattle.std.proofs.Common.{◌≡◌, ◌≢◌, ◌⊎◌, ℕ, ◌+◌, ◌<◌, ◌≤◌, true, true≢false, List}
 use Rattle.std.proofs.Common.{[], ◌∷◌, length, set, get_or, refl, ap, sym, ◌∙◌, subst}
-use Rattle.std.proofs.Common.{⊎_elim, arith, Bool}
+use Rattle.std.proofs.Common.{⊎_elim, arith, Bool, false}
 use mathlib.Core.Option.{some, some-injective}
 use mathlib.Core.List.{IsPrefix}
 use lib.ListN.{get_elem?}
@@ -11,7 +11,7 @@ use Rattle.stamp_threads.specs.declared.record_view.RecordShape.{RecordShape}
 use Rattle.stamp_threads.specs.declared.record_view.RecordPhase.{RecordPhase}
 use Rattle.stamp_threads.specs.declared.record_view.RecordPhase.TheVariants.{Idle, Writing, Reading}
 use Rattle.stamp_threads.specs.PassName.{HasGivenAll}
-use Rattle.stamp_threads.specs.PassView.{made_by, observing, finding}
+use Rattle.stamp_threads.specs.PassView.{made_by, knowing, finding}
 use Rattle.stamp_threads.specs.Seats.{StandsAt, AreSeated}
 use Rattle.stamp_threads.specs.RecordLog.{RecordLog, IsLegalRecord, puts, puts_in, is_locked}
 use Rattle.stamp_threads.specs.RecordLog.{marker_in, content_in, is_own, is_mark, marks_of}
@@ -26,10 +26,10 @@ use Rattle.stamp_threads.proofs.SeatSteps.{Same, same_one, stands_on, apart_from
 use Rattle.stamp_threads.proofs.SeatSteps.{other_part}
 use Rattle.stamp_threads.proofs.SeatMoves.{stands_else}
 
--- what a pass of the seat that steps knows afterwards
+-- what a pass of the seat that makes the step knows afterwards
 pub record Brings (P : List ℕ → Type 0) (width : ℕ) (cells : List ℕ) (log : RecordLog)
     (w : RecordPassView) : Type 0 where
-  pub observed : IsPrefix w.observed log
+  pub known : IsPrefix w.known log
   pub own : made_by is_own w.name log ≡ w.own
   pub marks : marks_of w.name log ≡ puts_in w.own + marks_ahead w.phase
   pub knows : Knows P width cells log w.name w.phase
@@ -40,6 +40,29 @@ abbrev pub OthersKnow : (List ℕ → Type 0) → RecordShape → State (Unit {0
 OthersKnow P shape s log id cells' log' = (i k : ℕ) (u : RecordPassView) → i ≢ id →
     StandsAt s.views i k u → Knows P shape.width s.words log u.name u.phase →
     Knows P shape.width cells' log' u.name u.phase
+
+-- the views alone change, and maybe the number of roots that were taken
+pub with_views : {enterable : Bool} (P : List ℕ → Type 0) (shape : RecordShape)
+    (s : State (Unit {0}) (List RecordPassView)) (r : IsKept enterable P shape s) (roots : ℕ)
+    (one_root : enterable ≡ false → roots ≡ 1) (views : List (List RecordPassView)) →
+    AreSeated (KnowsPart P shape.width s.words r.log) roots r.log views →
+    (is_locked r.log ≡ true → HasWriter r.log views) →
+    IsKept enterable P shape record { words = s.words; homes = s.homes; views = views }
+with_views P shape s r roots one_root views passes writer = record {
+  log = r.log;
+  roots = roots;
+  one_root = one_root;
+  legal = r.legal;
+  wide = r.wide;
+  word_is = r.word_is;
+  few = r.few;
+  fewer = r.fewer;
+  rests = r.rests;
+  long = r.long;
+  obeys = r.obeys;
+  passes = passes;
+  writer = writer;
+}
 
 module _ {enterable : Bool} (P : List ℕ → Type 0) (shape : RecordShape) (s : State (Unit {0}) (List RecordPassView))
     (r : IsKept enterable P shape s)
@@ -55,7 +78,7 @@ module _ {enterable : Bool} (P : List ℕ → Type 0) (shape : RecordShape) (s :
   own_fits k w h = let b = brings k w h in
       record {
         part = record {
-          observed = b.observed;
+          known = b.known;
           own = b.own;
           given = own_given Now r.roots r.log s.views r.passes id vs ws at same is_own log' grows
               (λ v f. f.part) k w h;
@@ -81,7 +104,7 @@ module _ {enterable : Bool} (P : List ℕ → Type 0) (shape : RecordShape) (s :
       (KnowsPart P shape.width cells' log') log' grows own_fits other_fits
 
   pub consistent_after : IsLegalRecord shape.width log' → (k : ℕ) (w : RecordPassView) →
-      get_elem? ws k ≡ some w → w.observed ≡ log' → IsConsistentWith shape.width w
+      get_elem? ws k ≡ some w → w.known ≡ log' → IsConsistentWith shape.width w
   consistent_after legal k w h e =
       let f = own_fits k w h in
       record {
@@ -102,7 +125,7 @@ module _ {enterable : Bool} (P : List ℕ → Type 0) (shape : RecordShape) (s :
 
   pub leaves_now : LeavesLockWord shape v (get_or s.words 0 0) r.log
   leaves_now = record {
-    begins = fits_here.part.observed;
+    begins = fits_here.part.known;
     legal = r.legal;
     word_is = r.word_is;
     few = r.few;
@@ -160,7 +183,7 @@ module _ {enterable : Bool} (P : List ℕ → Type 0) (shape : RecordShape) (s :
     one_after = passes_after P shape s r id (v ∷ []) (w ∷ []) here (same_one v w name splits) cells'
         log' grows (only_one (λ _ u. Brings P shape.width cells' log' u) w brings) others
 
-    pub one_consistent : IsLegalRecord shape.width log' → w.observed ≡ log' →
+    pub one_consistent : IsLegalRecord shape.width log' → w.known ≡ log' →
         IsConsistentWith shape.width w
     one_consistent legal = consistent_after P shape s r id (v ∷ []) (w ∷ []) here
         (same_one v w name splits) cells' log' grows
@@ -178,33 +201,20 @@ module _ {enterable : Bool} (P : List ℕ → Type 0) (shape : RecordShape) (s :
       homes = s.homes;
       views = set s.views id (w ∷ []);
     }
-    only_views = record {
-      log = r.log;
-      roots = r.roots;
-      one_root = r.one_root;
-      legal = r.legal;
-      wide = r.wide;
-      word_is = r.word_is;
-      few = r.few;
-      fewer = r.fewer;
-      rests = r.rests;
-      long = r.long;
-      obeys = r.obeys;
-      passes = one_after w name splits s.words r.log (grows_none (v ∷ []) r.log) brings
-          (λ _ _ _ _ _ h. h);
-      writer = writer_else quiet (w ∷ []);
-    }
+    only_views = with_views P shape s r r.roots r.one_root (set s.views id (w ∷ []))
+        (one_after w name splits s.words r.log (grows_none (v ∷ []) r.log) brings (λ _ _ _ _ _ h. h))
+        (writer_else quiet (w ∷ []))
 
-    pub only_consistent : w.observed ≡ r.log → IsConsistentWith shape.width w
+    pub only_consistent : w.known ≡ r.log → IsConsistentWith shape.width w
     only_consistent e = one_consistent w name splits s.words r.log (grows_none (v ∷ []) r.log)
         brings (λ _ _ _ _ _ h. h) r.legal e
 
-  pub observing_brings : (word : ℕ) →
-      Brings P shape.width s.words r.log (observing (finding v word) r.log)
-  observing_brings word =
+  pub knowing_brings : (word : ℕ) →
+      Brings P shape.width s.words r.log (knowing (finding v word) r.log)
+  knowing_brings word =
       let f = fits_here in
       record {
-        observed = begins_all r.log;
+        known = begins_all r.log;
         own = f.part.own;
         marks = f.marks;
         knows = f.knows;

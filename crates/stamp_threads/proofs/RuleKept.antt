@@ -20,7 +20,7 @@ use Rattle.stamp_core.specs.declared.call.Call.{Call}
 use Rattle.stamp_core.specs.declared.reply.Reply.{Reply}
 use Rattle.stamp_machines.specs.LockNumber.{RepresentsAt}
 use Rattle.stamp_threads.specs.PassName.{HasGivenAll}
-use Rattle.stamp_threads.specs.PassView.{entry, every, made_by, IsPart, observing, adding}
+use Rattle.stamp_threads.specs.PassView.{entry, every, made_by, IsPart, knowing, adding}
 use Rattle.stamp_threads.specs.PassView.{finding}
 use Rattle.stamp_threads.specs.Seats.{alone, both}
 use Rattle.stamp_threads.specs.LockLog.{LockLog, events_after, transition_after, IsLegalLog}
@@ -40,11 +40,11 @@ module _ {enterable : Bool} (limits : Bounds) (s : State (Unit {0}) (List LockPa
     (vs ws : List LockPassView) (log' : LockLog) (at : get_elem? s.views id ≡ some vs)
     (same : Same vs ws) (grows : Grows vs r.log log')
     (all : (k : ℕ) (w : LockPassView) → get_elem? ws k ≡ some w →
-    (w.observed ≡ log') × (made_by every w.name log' ≡ w.own)) where
+    (w.known ≡ log') × (made_by every w.name log' ≡ w.own)) where
   own_parts : (k : ℕ) (w : LockPassView) → get_elem? ws k ≡ some w → IsPart every log' w
   own_parts k w h = let a = all k w h in
       record {
-        observed = subst (λ (l : LockLog). IsPrefix l log') (sym a.0) (begins_all log');
+        known = subst (λ (l : LockLog). IsPrefix l log') (sym a.0) (begins_all log');
         own = a.1;
         given = own_given (IsPart every r.log) r.roots r.log s.views r.passes id vs ws at same every log'
             grows (λ _ f. f) k w h;
@@ -93,18 +93,18 @@ module _ {enterable : Bool} (limits : Bounds) (s : State (Unit {0}) (List LockPa
     part_now = r.passes.fits id 0 v (v ∷ [], at, refl)
 
     pub leaves_now : LeavesWord limits v (get_or s.words 0 0) r.log
-    leaves_now = record { begins = part_now.observed; legal = r.legal; represents = r.represents }
+    leaves_now = record { begins = part_now.known; legal = r.legal; represents = r.represents }
 
     -- the pass once it has found the word that stands there
     abbrev looked : LockPassView
     looked = finding v (get_or s.words 0 0)
 
-    pub observes_all : Steps enterable limits s id (get_or s.words 0 0) homes (observing looked r.log)
-    observes_all =
-        let w : LockPassView = observing looked r.log in
+    pub knows_all : Steps enterable limits s id (get_or s.words 0 0) homes (knowing looked r.log)
+    knows_all =
+        let w : LockPassView = knowing looked r.log in
         let same = same_one v w refl refl in
         let grows = grows_none (v ∷ []) r.log in
-        let all = only_one (λ k u. (u.observed ≡ r.log) × (made_by every u.name r.log ≡ u.own)) w
+        let all = only_one (λ k u. (u.known ≡ r.log) × (made_by every u.name r.log ≡ u.own)) w
         (refl, part_now.own) in (
           kept_after limits s r id (v ∷ []) (w ∷ []) r.log at same grows all (get_or s.words 0 0)
               homes
@@ -127,7 +127,7 @@ module _ {enterable : Bool} (limits : Bounds) (s : State (Unit {0}) (List LockPa
           let grows = grows_one v r.log m in
           let own = made_by-same every v.name r.log m ∙
           ap (λ (l : List (Call × Reply)). l ++ m ∷ []) part_now.own in
-          let all = only_one (λ k u. (u.observed ≡ log') × (made_by every u.name log' ≡ u.own)) w
+          let all = only_one (λ k u. (u.known ≡ log') × (made_by every u.name log' ≡ u.own)) w
           (refl, own) in
           let legal = legal_longer limits r.log call v.name t is lock r.legal in (
             kept_after limits s r id (v ∷ []) (w ∷ []) log' at same grows all word homes legal
@@ -143,12 +143,12 @@ module _ {enterable : Bool} (limits : Bounds) (s : State (Unit {0}) (List LockPa
       by_appended [] reply is = makes_call (record { appended = []; reply = reply })
           (get_or s.words 0 0) is (represents_unchanged limits r.log call v.name
           (record { appended = []; reply = reply }) is _ refl r.represents)
-      by_appended (event ∷ appended) reply is = observes_all
+      by_appended (event ∷ appended) reply is = knows_all
 
       by_transition : (o : Rattle.std.proofs.Common.Option Transition) →
           transition_after limits r.log call ≡ o →
           Steps enterable limits s id (get_or s.words 0 0) homes (reading o call looked r.log)
-      by_transition None is = observes_all
+      by_transition None is = knows_all
       by_transition (Some t) is = by_appended t.appended t.reply is
 
       pub loads : Steps enterable limits s id (get_or s.words 0 0) homes (after_load limits call looked r.log)
@@ -270,15 +270,15 @@ allows_meet limits slots id me is s r _ at _ =
     let here : get_elem? s.views id ≡ some (v ∷ u ∷ []) =
     at ∙ ap (λ (m : Seated). some m.0) is in
     let vs : List LockPassView = v ∷ u ∷ [] in
-    let v' : LockPassView = observing v r.log in
-    let u' : LockPassView = observing u r.log in
+    let v' : LockPassView = knowing v r.log in
+    let u' : LockPassView = knowing u r.log in
     let ws : List LockPassView = v' ∷ u' ∷ [] in
     let first = r.passes.fits id 0 v (vs, here, refl) in
     let second = r.passes.fits id 1 u (vs, here, refl) in
     let same = same_two v u v' u' (record { name = refl; splits = refl })
     (record { name = refl; splits = refl }) in
     let grows = grows_none vs r.log in
-    let all = two_of (λ k w. (w.observed ≡ r.log) × (made_by every w.name r.log ≡ w.own)) v' u'
+    let all = two_of (λ k w. (w.known ≡ r.log) × (made_by every w.name r.log ≡ w.own)) v' u'
     (refl, first.own) (refl, second.own) in
     let so = consistent_after limits s r id vs ws r.log here same grows all r.legal in (
       ws,
@@ -289,8 +289,8 @@ allows_meet limits slots id me is s r _ at _ =
       (
         λ i. (ws, (is i).1),
         record {
-          first_begins = first.observed;
-          second_begins = second.observed;
+          first_begins = first.known;
+          second_begins = second.known;
           same = refl;
           apart = λ e. let t = (r.passes.apart id 0 id 1 v u (vs, here, refl) (vs, here, refl) e).1
               in absurd (omega (arith, t));

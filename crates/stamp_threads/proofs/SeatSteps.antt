@@ -83,18 +83,18 @@ module _ {E P : Type 0} (Fits : PassView E P → Type 0) (roots : ℕ) (log : Li
         HasGivenAll w.name w.splits log'
     own_given k w h =
         let m = same k w h in
-        let known = grows.given m.0.name m.0.splits
+        let all = grows.given m.0.name m.0.splits
         (λ j u e. r.given id k id j m.0 u (vs, at, m.1) (vs, at, e))
         (part m.0 (r.fits id k m.0 (vs, at, m.1))).given in
         subst (λ (t : List ℕ × ℕ). HasGivenAll t.0 t.1 log')
-        (λ i. (sym m.2.name i, sym m.2.splits i)) known
+        (λ i. (sym m.2.name i, sym m.2.splits i)) all
 
     pub other_part : (i k : ℕ) (w : PassView E P) → i ≢ id → StandsAt seats i k w →
         IsPart is_own log' w
     other_part i k w away st =
         let f = part w (r.fits i k w st) in
         record {
-          observed = begins_further w.observed log log' f.observed grows.longer;
+          known = begins_further w.known log log' f.known grows.longer;
           own = grows.others is_own w.name (apart_from i k w away st) ∙ f.own;
           given = grows.given w.name w.splits (λ j v h. r.given i k id j w v st (vs, at, h))
               f.given;

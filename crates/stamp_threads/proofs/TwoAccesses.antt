@@ -41,12 +41,12 @@ module _ (limits : Bounds) (call : Call) (v : LockPassView) (loaded : ℕ) (u : 
     loaded = loaded;
     found = found;
     looks = looks_twice v u w loaded found first second;
-    first = u.observed;
+    first = u.known;
     at_first = went.left;
     log = a.log;
     longer = a.left.begins;
     made = entry u.name (call, reply');
-    observed = a.observed;
+    known = a.known;
   }
 
   pub twice_by_win : (w : LockPassView) → Won limits call u loaded w → LooksTwice limits v w
@@ -69,18 +69,18 @@ module _ (limits : Bounds) (call : Call) (v : LockPassView) (loaded : ℕ) (u : 
       record {
         differ = differ;
         looks = looks_twice v u w loaded found first (looks_by_load limits call u found w load');
-        first = u.observed;
+        first = u.known;
         at_first = went.left;
         at_second =
             record {
-              begins = begins_further v.observed u.observed w.observed went.left.begins
+              begins = begins_further v.known u.known w.known went.left.begins
                   later.left.begins;
               legal = later.left.legal;
               represents = later.left.represents;
             };
         longer = later.left.begins;
-        first_appends = appends limits call loaded new reply changes u.observed went.left.represents;
-        second_appends = appends limits call found new' reply' changes' w.observed
+        first_appends = appends limits call loaded new reply changes u.known went.left.represents;
+        second_appends = appends limits call found new' reply' changes' w.known
             later.left.represents;
         own = later.own ∙ went.own;
         name = later.name ∙ went.name;

@@ -45,7 +45,7 @@ waits_more : (limits : Bounds) (v u : LockPassView) (words : List ℕ) (found : 
     Waited v words u → WentOn limits u found w → HasFound u (found ∷ []) w →
     Waited v (words ++ found ∷ []) w
 waits_more limits v u words found w waited went looks = record {
-  begins = begins_further v.observed u.observed w.observed waited.begins went.left.begins;
+  begins = begins_further v.known u.known w.known waited.begins went.left.begins;
   found = looks ∙ (ap (λ (l : List ℕ). l ++ found ∷ []) waited.found ∙
       append_assoc v.found words (found ∷ []));
   own = went.own ∙ waited.own;
@@ -61,7 +61,7 @@ answered_after limits call reply v u words w waited a = record {
   log = a.log;
   word = a.word;
   left = record {
-    begins = begins_further v.observed u.observed a.log waited.begins a.left.begins;
+    begins = begins_further v.known u.known a.log waited.begins a.left.begins;
     legal = a.left.legal;
     represents = a.left.represents;
   };
@@ -69,7 +69,7 @@ answered_after limits call reply v u words w waited a = record {
   last = a.last ∙ (ap (λ (l : List ℕ). l ++ (a.earlier ++ a.word ∷ [])) waited.found ∙
       (append_assoc v.found words (a.earlier ++ a.word ∷ []) ∙
       ap (λ (l : List ℕ). v.found ++ l) (sym (append_assoc words a.earlier (a.word ∷ [])))));
-  observed = a.observed ∙ ap (λ (n : List ℕ). a.log ++ entry n (call, reply) ∷ []) waited.name;
+  known = a.known ∙ ap (λ (n : List ℕ). a.log ++ entry n (call, reply) ∷ []) waited.name;
   own = a.own ∙ ap (λ (l : List (Call × Reply)). l ++ (call, reply) ∷ []) waited.own;
   name = a.name ∙ waited.name;
   splits = a.splits ∙ waited.splits;
@@ -83,7 +83,7 @@ begins limits call v found w lock loaded = record {
   before = v;
   words = [];
   waited = record {
-    begins = begins_all v.observed;
+    begins = begins_all v.known;
     found = sym (append-nil v.found);
     own = refl;
     name = refl;

@@ -20,16 +20,15 @@ try_form call = call
 abbrev pub IsWaiting : Call → Type 0
 IsWaiting call = (call ≡ WriteLock) ⊎ (call ≡ ReadLock)
 
--- the history goes on from what the pass v had observed, and leaves the word that the last access
--- found; then comes this call with its reply, which is one more of the pass's own. w is the pass
--- after it
+-- the history goes on from what the pass v knew, and leaves the word that the last access found;
+-- then comes this call with its reply, which is one more of the pass's own. w is the pass after it
 pub record Answered (limits : Bounds) (call : Call) (reply : Reply) (v w : LockPassView) : Type 0 where
   pub log : LockLog
   pub word : ℕ
   pub left : LeavesWord limits v word log
   pub earlier : List ℕ
   pub last : HasFound v (earlier ++ word ∷ []) w
-  pub observed : w.observed ≡ log ++ entry v.name (call, reply) ∷ []
+  pub known : w.known ≡ log ++ entry v.name (call, reply) ∷ []
   pub own : w.own ≡ v.own ++ (call, reply) ∷ []
   pub name : w.name ≡ v.name
   pub splits : w.splits ≡ v.splits
@@ -46,7 +45,7 @@ pub record LooksTwice (limits : Bounds) (v w : LockPassView) : Type 0 where
   pub log : LockLog
   pub longer : IsPrefix first log
   pub made : LogEntry (Call × Reply)
-  pub observed : w.observed ≡ log ++ made ∷ []
+  pub known : w.known ≡ log ++ made ∷ []
 
 -- one access of the word was made, or two
 abbrev pub LooksOnceOrTwice : Bounds → LockPassView → LockPassView → Type 0

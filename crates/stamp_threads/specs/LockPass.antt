@@ -48,12 +48,12 @@ IsAtSeat table seat me = seats.IsAtSeat tt table 1 seat me
 abbrev pub AreAtSeat : TableId → TableId → Seated → Type 0
 AreAtSeat table seat me = seats.AreAtSeat tt table 1 seat me
 
--- what the pass has observed is legal, its entries there are its own calls, and no entry has a name
--- that it may still give
+-- what the pass knows is legal, its entries there are its own calls, and no entry has a name that it
+-- may still give
 pub record IsConsistentWith (limits : Bounds) (v : LockPassView) : Type 0 where
-  pub legal : IsLegalLog limits v.observed
-  pub own : made_by every v.name v.observed ≡ v.own
-  pub given : HasGivenAll v.name v.splits v.observed
+  pub legal : IsLegalLog limits v.known
+  pub own : made_by every v.name v.known ≡ v.own
+  pub given : HasGivenAll v.name v.splits v.known
 
 -- a new lock, and its first pass, which has made no call
 pub record IsNew (limits : Bounds) (enterable : Bool) (lock : LockView) (pass : LockToken) : Type 0 where
@@ -63,15 +63,14 @@ pub record IsNew (limits : Bounds) (enterable : Bool) (lock : LockView) (pass : 
   pub view : pass.view ≡ first_pass
   pub consistent : IsConsistentWith limits pass.view
 
--- a legal history that begins with what the pass has observed, and whose events this word
--- represents
+-- a legal history that begins with what the pass knows, and whose events this word represents
 pub record LeavesWord (limits : Bounds) (v : LockPassView) (word : ℕ) (log : LockLog) : Type 0 where
-  pub begins : IsPrefix v.observed log
+  pub begins : IsPrefix v.known log
   pub legal : IsLegalLog limits log
   pub represents : RepresentsAt limits word (events_after limits log)
 
--- a pass that entered: its path is empty, it has observed a legal history, which left the word that
--- its load found, and it has made no call
+-- a pass that entered: its path is empty, it knows a legal history, which left the word that its load
+-- found, and it has made no call
 pub record HasEntered (limits : Bounds) (v : LockPassView) : Type 0 where
   pub root : ℕ
   pub word : ℕ
@@ -79,5 +78,5 @@ pub record HasEntered (limits : Bounds) (v : LockPassView) : Type 0 where
   pub splits : v.splits ≡ 0
   pub own : v.own ≡ []
   pub found : v.found ≡ word ∷ []
-  pub represents : RepresentsAt limits word (events_after limits v.observed)
+  pub represents : RepresentsAt limits word (events_after limits v.known)
   pub consistent : IsConsistentWith limits v

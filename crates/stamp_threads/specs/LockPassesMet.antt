@@ -4,12 +4,12 @@ use mathlib.Core.List.{IsPrefix}
 use Rattle.stamp_core.specs.Limits.{Bounds}
 use Rattle.stamp_threads.specs.LockPass.{LockPassView, IsConsistentWith}
 
--- v' and w' are v and w after they met: both have observed one legal history, which begins with
--- what either had observed, and where the entries of either are just its own calls
+-- v' and w' are v and w after they met: both know one legal history, which begins with what either
+-- knew, and where the entries of either are just its own calls
 pub record LockPassesMet (limits : Bounds) (v w v' w' : LockPassView) : Type 0 where
-  pub first_begins : IsPrefix v.observed v'.observed
-  pub second_begins : IsPrefix w.observed v'.observed
-  pub same : w'.observed ≡ v'.observed
+  pub first_begins : IsPrefix v.known v'.known
+  pub second_begins : IsPrefix w.known v'.known
+  pub same : w'.known ≡ v'.known
   pub apart : v.name ≢ w.name
   pub owns : (v'.own ≡ v.own) × (w'.own ≡ w.own)
   pub finds : (v'.found ≡ v.found) × (w'.found ≡ w.found)

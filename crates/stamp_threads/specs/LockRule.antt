@@ -8,7 +8,7 @@ use Rattle.stamp_core.specs.Transition.{Transition}
 use Rattle.stamp_core.specs.declared.call.Call.{Call}
 use Rattle.stamp_core.specs.declared.reply.Reply.{Reply}
 use Rattle.stamp_machines.specs.LockNumber.{RepresentsAt}
-use Rattle.stamp_threads.specs.PassView.{IsPart, every, observing, adding, finding}
+use Rattle.stamp_threads.specs.PassView.{IsPart, every, knowing, adding, finding}
 use Rattle.stamp_threads.specs.Seats.{AreSeated, alone, both}
 use Rattle.stamp_threads.specs.LockLog.{LockLog, events_after, transition_after, IsLegalLog}
 use Rattle.stamp_threads.specs.LockPass.{LockPassView, Seated, IsConsistentWith, LeavesWord, first_of}
@@ -29,7 +29,7 @@ pub record IsKept (enterable : Bool) (limits : Bounds) (s : State (Unit {0}) (Li
 
 -- the pass after the call's transition: the call is made where there is one
 abbrev pub making : Option Transition → Call → LockPassView → LockLog → LockPassView
-making None call v log = observing v log
+making None call v log = knowing v log
 making (Some t) call v log = adding v log (call, t.reply)
 
 abbrev pub after_win : Bounds → Call → LockPassView → LockLog → LockPassView
@@ -38,10 +38,10 @@ after_win limits call v log = making (transition_after limits log call) call v l
 -- a call whose transition appends nothing is made, and no other
 abbrev pub answering : List LockEvent → Reply → Call → LockPassView → LockLog → LockPassView
 answering [] reply call v log = adding v log (call, reply)
-answering (event ∷ appended) reply call v log = observing v log
+answering (event ∷ appended) reply call v log = knowing v log
 
 abbrev pub reading : Option Transition → Call → LockPassView → LockLog → LockPassView
-reading None call v log = observing v log
+reading None call v log = knowing v log
 reading (Some t) call v log = answering t.appended t.reply call v log
 
 -- the pass after it has found the word
@@ -76,7 +76,7 @@ abbrev pub ExchangeTells : Bounds → Call → Step (Unit {0}) → Seated → �
 ExchangeTells limits call st m found n =
     (n ≡ alone (first_of n.0)) × Exchanged limits call st.first (first_of m.0) found (first_of n.0)
 
--- and the seat of two passes: both have observed the whole history
+-- and the seat of two passes: both know the whole history
 abbrev pub MeetTells : Bounds → Step (Unit {0}) → Seated → ℕ → Seated → Type 0
 MeetTells limits st m found n = (n ≡ both (first_of n.0) (second_of n.0)) ×
     LockPassesMet limits (first_of m.0) (second_of m.0) (first_of n.0) (second_of n.0)

@@ -8,18 +8,18 @@ use Rattle.stamp_threads.specs.LockLog.{LockLog, Appends}
 use Rattle.stamp_threads.specs.LockPass.{LockPassView, IsConsistentWith, LeavesWord}
 
 -- The load of the call and its exchange found the two words. Two legal histories, of which the second
--- begins with the first, left them, and after each the call changes the lock. The pass v has observed
--- the second, and made no call: it is w then.
+-- begins with the first, left them, and after each the call changes the lock. The pass v has come
+-- to know the second, and made no call: it is w then.
 pub record LostExchange (limits : Bounds) (call : Call) (loaded found : ℕ) (v w : LockPassView) : Type 0
   where
     pub differ : loaded ≢ found
     pub looks : HasFound v (loaded ∷ found ∷ []) w
     pub first : LockLog
     pub at_first : LeavesWord limits v loaded first
-    pub at_second : LeavesWord limits v found w.observed
-    pub longer : IsPrefix first w.observed
+    pub at_second : LeavesWord limits v found w.known
+    pub longer : IsPrefix first w.known
     pub first_appends : Appends limits first call
-    pub second_appends : Appends limits w.observed call
+    pub second_appends : Appends limits w.known call
     pub own : w.own ≡ v.own
     pub name : w.name ≡ v.name
     pub splits : w.splits ≡ v.splits

@@ -9,8 +9,8 @@ use Rattle.stamp_threads.specs.PassView.{IsPart, made_by}
 abbrev pub AreOrdered : {A : Type 0} → List A → List A → Type 0
 AreOrdered xs ys = IsPrefix xs ys ⊎ IsPrefix ys xs
 
--- Both know a part of one legal history, under names of their own. So what they have observed is
--- ordered, and what either has observed of the other's calls are the first of these.
+-- Both know a part of one legal history, under names of their own. So what they know is ordered,
+-- and what either knows of the other's calls are the first of these.
 pub record Agree {E P : Type 0} (is_own : E → Bool) (IsLegal : List (LogEntry E) → Type 0)
     (v w : PassView E P) : Type 0 where
   pub log : List (LogEntry E)
@@ -18,6 +18,6 @@ pub record Agree {E P : Type 0} (is_own : E → Bool) (IsLegal : List (LogEntry 
   pub first : IsPart is_own log v
   pub second : IsPart is_own log w
   pub apart : v.name ≢ w.name
-  pub ordered : AreOrdered v.observed w.observed
-  pub first_calls : IsPrefix (made_by is_own v.name w.observed) v.own
-  pub second_calls : IsPrefix (made_by is_own w.name v.observed) w.own
+  pub ordered : AreOrdered v.known w.known
+  pub first_calls : IsPrefix (made_by is_own v.name w.known) v.own
+  pub second_calls : IsPrefix (made_by is_own w.name v.known) w.own

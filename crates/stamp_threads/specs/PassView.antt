@@ -1,5 +1,5 @@
--- What a pass knows of the one history: its name, how often it was split, what it has observed, and
--- what it made itself.
+-- What a pass is seen as: its name, how often it was split, what it knows of the one history, what it
+-- made itself, and what its accesses found.
 use Rattle.std.specs.Prelude.{◌≡◌, ℕ, ◌+◌, Bool, true, if◌then◌else◌, nat_eq, List, [], ◌∷◌, ◌++◌}
 use lib.Pointwise.{pointwise}
 use mathlib.Core.List.{IsPrefix}
@@ -24,18 +24,18 @@ module _ {E P : Type 0} where
   -- the pass knows a part of the history: a beginning, and all that it made itself. No entry has a
   -- name that it may still give
   pub record IsPart (is_own : E → Bool) (log : List (LogEntry E)) (v : PassView E P) : Type 0 where
-    pub observed : IsPrefix v.observed log
+    pub known : IsPrefix v.known log
     pub own : made_by is_own v.name log ≡ v.own
     pub given : HasGivenAll v.name v.splits log
 
-  -- the pass after it observed the whole history
-  abbrev pub observing : PassView E P → List (LogEntry E) → PassView E P
-  observing v log = record v { observed = log }
+  -- the pass that knows the whole history
+  abbrev pub knowing : PassView E P → List (LogEntry E) → PassView E P
+  knowing v log = record v { known = log }
 
   -- the pass after it added an entry of its own to the whole history
   abbrev pub adding : PassView E P → List (LogEntry E) → E → PassView E P
   adding v log made =
-      record v { observed = log ++ entry v.name made ∷ []; own = v.own ++ made ∷ [] }
+      record v { known = log ++ entry v.name made ∷ []; own = v.own ++ made ∷ [] }
 
   -- the pass after one more access of the lock word, which found this
   abbrev pub finding : PassView E P → ℕ → PassView E P
@@ -49,7 +49,7 @@ module _ {E P : Type 0} where
   abbrev pub after_split : PassView E P → PassView E P
   after_split v = record v { splits = v.splits + 1 }
 
-  -- the new pass: it has observed as much, and made nothing
+  -- the new pass: it knows as much, and made nothing
   abbrev pub split_off : PassView E P → PassView E P
   split_off v =
       record v { name = v.name ++ v.splits ∷ []; splits = 0; own = []; found = [] }
@@ -57,15 +57,14 @@ module _ {E P : Type 0} where
   -- the first pass of all
   abbrev pub first_pass : P → PassView E P
   first_pass phase =
-      record { name = 0 ∷ []; splits = 0; observed = []; own = []; phase = phase; found = [] }
+      record { name = 0 ∷ []; splits = 0; known = []; own = []; phase = phase; found = [] }
 
-  -- a pass that enters by this root: it has observed the whole history, found this word, and made
-  -- nothing
+  -- a pass that enters by this root: it knows the whole history, found this word, and made nothing
   abbrev pub entering : ℕ → P → List (LogEntry E) → ℕ → PassView E P
   entering root phase log word = record {
     name = root ∷ [];
     splits = 0;
-    observed = log;
+    known = log;
     own = [];
     phase = phase;
     found = word ∷ [];

@@ -31,9 +31,9 @@ abbrev pub last_found : Layout → Call → ℕ → ℕ
 last_found layout (Put words) word = word + writer_unit layout
 last_found layout _ word = word
 
--- a first history goes on from what the pass had observed, and leaves the word that its accesses
--- found; the log goes on from that, and leaves the last of these words. Then comes this call with
--- the reply that the log gives it, which is one more of the pass's own
+-- a first history goes on from what the pass knew, and leaves the word that its accesses found; the
+-- log goes on from that, and leaves the last of these words. Then comes this call with the reply that
+-- the log gives it, which is one more of the pass's own
 pub record RecordAnswered (shape : RecordShape) (call : Call) (reply : Reply) (v w : RecordPassView) :
     Type 0 where
   pub word : ℕ
@@ -44,19 +44,19 @@ pub record RecordAnswered (shape : RecordShape) (call : Call) (reply : Reply) (v
   pub longer : IsPrefix first log
   pub left : last_found shape.limits.layout call word ≡ word_after shape.limits.layout log
   pub replies : RecordReplies (content_in shape.width log) call reply
-  pub observed : w.observed ≡ log ++ entry v.name (Called call reply) ∷ []
+  pub known : w.known ≡ log ++ entry v.name (Called call reply) ∷ []
   pub own : w.own ≡ v.own ++ Called call reply ∷ []
   pub same : IsSamePass v w
   pub idle : w.phase ≡ Idle
-  pub few : puts w.observed ≤ shape.limits.versions
+  pub few : puts w.known ≤ shape.limits.versions
   pub consistent : IsConsistentWith shape.width w
 
--- the pass has observed a history that leaves this word, and made no call: where that history is
--- locked, another pass made its last mark
+-- the pass has come to know a history that leaves this word, and made no call: where that history
+-- is locked, another pass made its last mark
 pub record SawWord (shape : RecordShape) (v : RecordPassView) (word : ℕ) (w : RecordPassView) :
     Type 0 where
-  pub left : LeavesLockWord shape v word w.observed
-  pub others : is_locked w.observed ≡ true → marker_in w.observed ≢ v.name
+  pub left : LeavesLockWord shape v word w.known
+  pub others : is_locked w.known ≡ true → marker_in w.known ≢ v.name
   pub own : w.own ≡ v.own
   pub same : IsSamePass v w
   pub idle : w.phase ≡ Idle
@@ -67,7 +67,7 @@ pub record WasBusy (shape : RecordShape) (v : RecordPassView) (word : ℕ) (w : 
     Type 0 where
   pub looks : HasFound v (word ∷ []) w
   pub saw : SawWord shape v word w
-  pub locked : is_locked w.observed ≡ true
+  pub locked : is_locked w.known ≡ true
 
 -- two histories left the two words that the call found, the first by its first load: that one is
 -- not locked, and the second history begins with it
@@ -78,7 +78,7 @@ pub record WasLost (shape : RecordShape) (v : RecordPassView) (loaded found : �
   pub first : RecordLog
   pub at_first : LeavesLockWord shape v loaded first
   pub free : is_locked first ≡ false
-  pub longer : IsPrefix first w.observed
+  pub longer : IsPrefix first w.known
   pub saw : SawWord shape v found w
 
 -- as many puts as versions: the first load found it so
@@ -86,8 +86,8 @@ pub record WasSpent (shape : RecordShape) (v : RecordPassView) (word : ℕ) (w :
     Type 0 where
   pub looks : HasFound v (word ∷ []) w
   pub saw : SawWord shape v word w
-  pub free : is_locked w.observed ≡ false
-  pub all : puts w.observed ≡ shape.limits.versions
+  pub free : is_locked w.known ≡ false
+  pub all : puts w.known ≡ shape.limits.versions
   pub last : word ≡ word_with shape.limits.layout shape.limits.versions false
 
 abbrev pub PutRefused : RecordShape → RecordPassView → PutFault → RecordPassView → Type 0
@@ -115,9 +115,9 @@ GotOrRefused P shape (Err fault) v w = GetRefused shape v fault w
 
 -- v' and w' are v and w after they met
 pub record RecordPassesMet (width : ℕ) (v w v' w' : RecordPassView) : Type 0 where
-  pub first_begins : IsPrefix v.observed v'.observed
-  pub second_begins : IsPrefix w.observed v'.observed
-  pub alike : w'.observed ≡ v'.observed
+  pub first_begins : IsPrefix v.known v'.known
+  pub second_begins : IsPrefix w.known v'.known
+  pub alike : w'.known ≡ v'.known
   pub apart : v.name ≢ w.name
   pub owns : (v'.own ≡ v.own) × (w'.own ≡ w.own)
   pub finds : (v'.found ≡ v.found) × (w'.found ≡ w.found)

@@ -55,28 +55,28 @@ abbrev pub marks_ahead : RecordPhase → ℕ
 marks_ahead (Writing version words stored) = 1
 marks_ahead _ = 0
 
--- what the pass has observed is legal, its calls there are its own, it has as many marks there as
--- puts, and no entry has a name that it may still give
+-- what the pass knows is legal, its calls there are its own, it has as many marks there as puts, and
+-- no entry has a name that it may still give
 pub record IsConsistentWith (width : ℕ) (v : RecordPassView) : Type 0 where
-  pub legal : IsLegalRecord width v.observed
-  pub own : made_by is_own v.name v.observed ≡ v.own
-  pub marks : marks_of v.name v.observed ≡ puts_in v.own + marks_ahead v.phase
-  pub given : HasGivenAll v.name v.splits v.observed
+  pub legal : IsLegalRecord width v.known
+  pub own : made_by is_own v.name v.known ≡ v.own
+  pub marks : marks_of v.name v.known ≡ puts_in v.own + marks_ahead v.phase
+  pub given : HasGivenAll v.name v.splits v.known
 
 -- so it is with the width of the record that gave the pass: its table has a word more
 abbrev pub IsConsistentIn : TableId → RecordPassView → Type 0
 IsConsistentIn table v = (width : ℕ) → table.words ≡ width + 1 → IsConsistentWith width v
 
--- a legal history that begins with what the pass has observed, and leaves this lock word
+-- a legal history that begins with what the pass knows, and leaves this lock word
 pub record LeavesLockWord (shape : RecordShape) (v : RecordPassView) (word : ℕ) (log : RecordLog) :
     Type 0 where
-  pub begins : IsPrefix v.observed log
+  pub begins : IsPrefix v.known log
   pub legal : IsLegalRecord shape.width log
   pub word_is : word ≡ word_after shape.limits.layout log
   pub few : puts log ≤ shape.limits.versions
 
--- a pass that entered: its path is empty, it has observed a legal history, which left the lock word
--- that its load found, and it has made no call
+-- a pass that entered: its path is empty, it knows a legal history, which left the lock word that its
+-- load found, and it has made no call
 pub record HasEntered (shape : RecordShape) (v : RecordPassView) : Type 0 where
   pub root : ℕ
   pub word : ℕ
@@ -84,6 +84,6 @@ pub record HasEntered (shape : RecordShape) (v : RecordPassView) : Type 0 where
   pub splits : v.splits ≡ 0
   pub own : v.own ≡ []
   pub found : v.found ≡ word ∷ []
-  pub word_is : word ≡ word_after shape.limits.layout v.observed
+  pub word_is : word ≡ word_after shape.limits.layout v.known
   pub idle : v.phase ≡ Idle
   pub consistent : IsConsistentWith shape.width v

@@ -12,7 +12,7 @@ use Rattle.stamp_threads.specs.declared.record_view.RecordEvent.{RecordEvent}
 use Rattle.stamp_threads.specs.declared.record_view.RecordEvent.TheVariants.{Mark, Called}
 use Rattle.stamp_threads.specs.declared.record_view.RecordPhase.{RecordPhase}
 use Rattle.stamp_threads.specs.declared.record_view.RecordPhase.TheVariants.{Idle, Writing, Reading}
-use Rattle.stamp_threads.specs.PassView.{IsPart, entry, observing, adding, finding}
+use Rattle.stamp_threads.specs.PassView.{IsPart, entry, knowing, adding, finding}
 use Rattle.stamp_threads.specs.Seats.{StandsAt, AreSeated, alone, both}
 use Rattle.stamp_threads.specs.RecordWord.{word_with}
 use Rattle.stamp_threads.specs.RecordLog.{RecordLog, IsLegalRecord, content_in, puts, puts_in}
@@ -41,6 +41,7 @@ pub record KnowsReading (width : ℕ) (log : RecordLog) (version : ℕ) (words :
   pub stand : is_locked log ≡ false → puts log ≡ version → (j : ℕ) → j < length words →
       slice_index words j ≡ slice_index (content_in width log) j
 
+-- what a pass knows beside its part of the history, by its phase: between two calls nothing
 abbrev pub Knows : (List ℕ → Type 0) → ℕ → List ℕ → RecordLog → List ℕ → RecordPhase → Type 0
 Knows P width cells log name Idle = Unit {0}
 Knows P width cells log name (Writing version words stored) =
@@ -89,22 +90,22 @@ pub record IsKept (enterable : Bool) (P : List ℕ → Type 0) (shape : RecordSh
 abbrev pub with_phase : RecordPassView → RecordPhase → RecordPassView
 with_phase v phase = record v { phase = phase }
 
--- it has observed the whole history, and got write mode to put these words
+-- it knows the whole history, and got write mode to put these words
 abbrev pub acquiring : RecordPassView → RecordLog → List ℕ → RecordPassView
 acquiring v log words =
-    record v { observed = log ++ entry v.name Mark ∷ []; phase = Writing (puts log) words 0 }
+    record v { known = log ++ entry v.name Mark ∷ []; phase = Writing (puts log) words 0 }
 
--- it has observed the whole history, and made a call
+-- it knows the whole history, and made a call
 abbrev pub calling : RecordPassView → RecordLog → RecordEvent → RecordPassView
 calling v log event = record (adding v log event) { phase = Idle }
 
--- it has observed the whole history, and begins to read
+-- it knows the whole history, and begins to read
 abbrev pub starting_to_read : RecordPassView → RecordLog → RecordPassView
-starting_to_read v log = with_phase (observing v log) (Reading (puts log) [])
+starting_to_read v log = with_phase (knowing v log) (Reading (puts log) [])
 
--- it has observed the whole history, and made no call
+-- it knows the whole history, and made no call
 abbrev pub stopping : RecordPassView → RecordLog → RecordPassView
-stopping v log = with_phase (observing v log) Idle
+stopping v log = with_phase (knowing v log) Idle
 
 abbrev pub put_of : List ℕ → RecordEvent
 put_of words = Called (Put words) Done
@@ -117,9 +118,9 @@ module _ (shape : RecordShape) (v : RecordPassView) (found : ℕ) (me : Seated) 
   pub record Looked : Type 0 where
     pub log : RecordLog
     pub left : LeavesLockWord shape v found log
-    pub after : me ≡ alone (observing (finding v found) log)
+    pub after : me ≡ alone (knowing (finding v found) log)
     pub others : is_locked log ≡ true → marker_in log ≢ v.name
-    pub consistent : IsConsistentWith shape.width (observing (finding v found) log)
+    pub consistent : IsConsistentWith shape.width (knowing (finding v found) log)
 
   pub record Acquired (words : List ℕ) : Type 0 where
     pub log : RecordLog
@@ -128,7 +129,7 @@ module _ (shape : RecordShape) (v : RecordPassView) (found : ℕ) (me : Seated) 
 
   pub record Released (words : List ℕ) : Type 0 where
     pub log : RecordLog
-    pub begins : IsPrefix v.observed log
+    pub begins : IsPrefix v.known log
     pub word_is : found ≡ word_after shape.limits.layout log
     pub after : me ≡ alone (calling (finding v found) log (put_of words))
     pub few : puts (log ++ entry v.name (put_of words) ∷ []) ≤ shape.limits.versions
@@ -138,10 +139,10 @@ module _ (shape : RecordShape) (v : RecordPassView) (found : ℕ) (me : Seated) 
   pub record Opened : Type 0 where
     pub log : RecordLog
     pub left : LeavesLockWord shape v found log
-    pub after : me ≡ alone (if is_locked log then observing (finding v found) log
+    pub after : me ≡ alone (if is_locked log then knowing (finding v found) log
         else starting_to_read (finding v found) log)
     pub others : is_locked log ≡ true → marker_in log ≢ v.name
-    pub consistent : IsConsistentWith shape.width (observing (finding v found) log)
+    pub consistent : IsConsistentWith shape.width (knowing (finding v found) log)
 
   -- the second load of the lock word, where it is the word of the first
   pub record Confirmed (P : List ℕ → Type 0) (words : List ℕ) : Type 0 where
@@ -163,12 +164,12 @@ module _ (shape : RecordShape) (v : RecordPassView) (found : ℕ) (me : Seated) 
 -- a load by a seat that holds two passes
 pub record Met (shape : RecordShape) (v w : RecordPassView) (me : Seated) : Type 0 where
   pub log : RecordLog
-  pub first_begins : IsPrefix v.observed log
-  pub second_begins : IsPrefix w.observed log
-  pub after : me ≡ both (observing v log) (observing w log)
+  pub first_begins : IsPrefix v.known log
+  pub second_begins : IsPrefix w.known log
+  pub after : me ≡ both (knowing v log) (knowing w log)
   pub apart : v.name ≢ w.name
-  pub first_consistent : IsConsistentWith shape.width (observing v log)
-  pub second_consistent : IsConsistentWith shape.width (observing w log)
+  pub first_consistent : IsConsistentWith shape.width (knowing v log)
+  pub second_consistent : IsConsistentWith shape.width (knowing w log)
 
 -- one more word is stored
 abbrev pub storing_one : RecordPhase → RecordPhase
@@ -240,7 +241,7 @@ opening_log (Some words) =
 abbrev pub opening_pass : Option (List ℕ) → RecordPassView
 opening_pass None = first_pass
 opening_pass (Some words) =
-    record first_pass { observed = opening_log (Some words); own = put_of words ∷ [] }
+    record first_pass { known = opening_log (Some words); own = put_of words ∷ [] }
 
 -- a record may begin with these words: they keep to its rule, and there is a version for their put
 pub record MayBegin (P : List ℕ → Type 0) (limits : Bounds) (first : List ℕ) : Type 0 where

@@ -27,17 +27,17 @@ abbrev pub turn_once : Bounds → Call → Result Reply Lost → Turn
 turn_once limits call (Ok reply) = Done reply
 turn_once limits call (Err lost) = Going (on_lock_alone limits call (Some lost.found))
 
--- the pass has observed more, found these words, and made no call
+-- the pass has come to know more, found these words, and made no call
 pub record Waited (v : LockPassView) (words : List ℕ) (w : LockPassView) : Type 0 where
-  pub begins : IsPrefix v.observed w.observed
+  pub begins : IsPrefix v.known w.known
   pub found : HasFound v words w
   pub own : w.own ≡ v.own
   pub name : w.name ≡ v.name
   pub splits : w.splits ≡ v.splits
 
--- the pass had observed the whole history when the access found this word, and made no call
+-- the pass knew the whole history when the access found this word, and made no call
 pub record WentOn (limits : Bounds) (v : LockPassView) (word : ℕ) (w : LockPassView) : Type 0 where
-  pub left : LeavesWord limits v word w.observed
+  pub left : LeavesWord limits v word w.known
   pub own : w.own ≡ v.own
   pub name : w.name ≡ v.name
   pub splits : w.splits ≡ v.splits

@@ -3,8 +3,8 @@
 ghost use Rattle.stamp_threads.specs.Laws.{LockPassesAgree, RecordPassesAgree};
 
 /// Passes of a lock that meet agreed before they met: both knew a part of one legal history. What
-/// one had observed begins what the other had, and what it had observed of the other's calls are
-/// the first of these.
+/// one knew begins what the other knew, and what it knew of the other's calls are the first of
+/// these.
 pub fn lock_passes_agree()
     ensures { LockPassesAgree }
 {}

@@ -79,8 +79,7 @@ pub fn split(table: &LockTable, seat: &mut LockSeat) -> LockSeat
     table.split_seat::<GivePass>(seat)
 }
 
-/// A load by a seat that holds two passes: it shows that both had observed beginnings of one
-/// history.
+/// A load by a seat that holds two passes: it shows that both knew beginnings of one history.
 pub fn load_both<C: CallStep>(table: &LockTable, seat: &mut LockSeat)
     requires step { C.limits ≡ table.now.key.limits }
     requires seat { AreAtSeat table.now.table_id seat.old.table_id seat.old.me }

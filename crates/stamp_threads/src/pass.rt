@@ -2,8 +2,8 @@
 use crate::lock_steps::LockSeat;
 use std::marker::Model;
 
-/// A token of what its holder has observed of a lock. It has no bytes, can be moved to another
-/// thread or dropped, can't be copied, and belongs to the lock that gave it.
+/// A token of what its holder knows of a lock. It has no bytes, can be moved to another thread or
+/// dropped, can't be copied, and belongs to the lock that gave it.
 #[derive(Drop)]
 pub struct Pass {
     pub(crate) seat: LockSeat,

@@ -17,8 +17,8 @@ pub struct PassView<E, P> {
     pub name: LinkedList<u64>,
     /// How often it was split.
     pub splits: u64,
-    /// A beginning of the one history.
-    pub observed: LinkedList<LogEntry<E>>,
+    /// What it knows: a beginning of the one history.
+    pub known: LinkedList<LogEntry<E>>,
     /// What it made itself.
     pub own: LinkedList<E>,
     /// Where it stands in what it is making; nothing for a lock, whose calls are made by one step.

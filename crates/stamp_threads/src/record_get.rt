@@ -1,4 +1,4 @@
-//! A get, step by step.
+//! A get, from its first load to its last.
 ghost use Rattle.std.specs.Prelude.{◌≡◌, ◌≤◌, IfOk, IfErr, length};
 ghost use Rattle.stamp_threads.specs.declared.record_view.RecordPhase.TheVariants.{Idle};
 ghost use Rattle.stamp_threads.specs.RecordPass.{first_of, IsAtSeat};

@@ -215,8 +215,7 @@ pub fn share_seat<P: ContentRule>(table: &RecordTable<P>, seat: &mut RecordSeat,
     table.join_seat::<ShareSeat>(seat, other);
 }
 
-/// A load by a seat that holds two passes: it shows that both had observed beginnings of one
-/// history.
+/// A load by a seat that holds two passes: it shows that both knew beginnings of one history.
 pub fn load_both<C: WordsStep, P: ContentRule>(table: &RecordTable<P>, seat: &mut RecordSeat)
     requires step { C.shape ≡ table.now.key.shape }
     requires seat { AreAtSeat table.now.table_id table.now.key.shape seat.old.table_id seat.old.me }

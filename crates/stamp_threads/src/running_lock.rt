@@ -208,8 +208,8 @@ impl RunningLock {
         unreachable!()
     }
 
-    /// A pass for a thread that has none, of an enterable lock. It has observed a history of the
-    /// lock, and made no call. It makes one load and takes no memory.
+    /// A pass for a thread that has none, of an enterable lock. It knows a history of the lock, and
+    /// has made no call. It makes one load and takes no memory.
     pub fn enter(&self) -> Pass
         requires { self.now.enterable ≡ true }
         ensures table { result.table ≡ self.now.table }
@@ -219,8 +219,8 @@ impl RunningLock {
         Pass { seat }
     }
 
-    /// A new pass, which has observed as much as this one and made no call. It makes one load and
-    /// takes no memory.
+    /// A new pass, which knows as much as this one and has made no call. It makes one load and takes
+    /// no memory.
     pub fn split_off(&self, pass: &mut Pass) -> Pass
         requires { pass.old.table ≡ self.now.table }
         ensures table { (pass.new.table ≡ self.now.table) × (result.table ≡ self.now.table) }
@@ -234,8 +234,8 @@ impl RunningLock {
         Pass { seat }
     }
 
-    /// The pass given, and a new one, which has observed as much and made no call. It
-    /// makes one load and takes no memory.
+    /// The pass given, and a new one, which knows as much and has made no call. It makes one load and
+    /// takes no memory.
     pub fn split(&self, mut pass: Pass) -> (Pass, Pass)
         requires { pass.table ≡ self.now.table }
         ensures table { (result.0.table ≡ self.now.table) × (result.1.table ≡ self.now.table) }
@@ -249,7 +249,7 @@ impl RunningLock {
         (pass, new)
     }
 
-    /// Both passes, each of which has then observed what either had. It makes three loads.
+    /// Both passes, each of which then knows what either knew. It makes three loads.
     pub fn meet(&self, mut first: Pass, second: Pass) -> (Pass, Pass)
         requires { (first.table ≡ self.now.table) × (second.table ≡ self.now.table) }
         ensures table { (result.0.table ≡ self.now.table) × (result.1.table ≡ self.now.table) }

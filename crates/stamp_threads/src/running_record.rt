@@ -214,7 +214,7 @@ impl<P: ContentRule> RuledRecord<P> {
         }
     }
 
-    /// `get_once` of a width that is known where it is compiled: words that the caller uses one by
+    /// `get_once` of a width that is fixed where it is compiled: words that the caller uses one by
     /// one aren't stored anywhere.
     #[inline(always)]
     fn get_fixed<const N: usize>(&self, pass: &mut RecordPass) -> Result<Words, GetFault>
@@ -231,7 +231,7 @@ impl<P: ContentRule> RuledRecord<P> {
         }
     }
 
-    /// `get_once` of any width. It has code of its own, so that a get of a known width makes no room
+    /// `get_once` of any width. It has code of its own, so that a get of a fixed width makes no room
     /// for 16 words.
     fn get_any(&self, pass: &mut RecordPass) -> Result<Words, GetFault>
         requires { pass.old.table ≡ self.now.table }
@@ -277,8 +277,8 @@ impl<P: ContentRule> RuledRecord<P> {
         }
     }
 
-    /// A new pass, which has observed as much as this one and made no call. It makes one load and
-    /// takes no memory.
+    /// A new pass, which knows as much as this one and has made no call. It makes one load and takes
+    /// no memory.
     pub fn split_off(&self, pass: &mut RecordPass) -> RecordPass
         requires { pass.old.table ≡ self.now.table }
         ensures table { (pass.new.table ≡ self.now.table) × (result.table ≡ self.now.table) }
@@ -291,7 +291,7 @@ impl<P: ContentRule> RuledRecord<P> {
         RecordPass { seat }
     }
 
-    /// The pass given, and a new one, which has observed as much and made no call.
+    /// The pass given, and a new one, which knows as much and has made no call.
     pub fn split(&self, mut pass: RecordPass) -> (RecordPass, RecordPass)
         requires { pass.table ≡ self.now.table }
         ensures table { (result.0.table ≡ self.now.table) × (result.1.table ≡ self.now.table) }
@@ -304,7 +304,7 @@ impl<P: ContentRule> RuledRecord<P> {
         (pass, new)
     }
 
-    /// Both passes, each of which has then observed what either had. It makes three loads.
+    /// Both passes, each of which then knows what either knew. It makes three loads.
     pub fn meet(&self, mut first: RecordPass, second: RecordPass) -> (RecordPass, RecordPass)
         requires { (first.table ≡ self.now.table) × (second.table ≡ self.now.table) }
         ensures table { (result.0.table ≡ self.now.table) × (result.1.table ≡ self.now.table) }

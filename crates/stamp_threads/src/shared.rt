@@ -20,6 +20,8 @@ impl Shared {
     /// Shares a book: threads make their calls on it from here on. It keeps the book's entries, and
     /// takes no memory.
     pub fn new(book: Book) -> Shared {
+        // No clause can say which book it holds: in contracts a lock of std has one value, whatever is
+        // in it, and where it is taken only the type of the book is known.
         Shared {
             book: Mutex::new(book),
             changed: Condvar::new(),

@@ -20,7 +20,7 @@ fn start_with_others(here: &AtomicU64, threads: u64) {
     }
 }
 
-/// Puts again and again, in turns with others, until no version is left: how many puts were made,
+/// Puts again and again, as others do beside it, until no version is left: how many puts were made,
 /// and the refusal at the end, or none after this many tries.
 fn put_until_spent(
     shared: &RunningRecord,
@@ -77,7 +77,7 @@ fn put_in_turn(shared: &RunningRecord, mut pass: RecordPass, here: &AtomicU64) -
     (made, pass)
 }
 
-/// The number of a content that was put in turn, 0 of the zeros; nothing where it is none of these,
+/// The number of a content that was put, 0 of the zeros; nothing where it is none of these,
 /// or an older one than the last.
 fn number_in_turn(words: &[u64], last: u64) -> Option<u64> {
     match *words {

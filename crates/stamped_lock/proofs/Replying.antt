@@ -46,7 +46,7 @@ pub replies_of : (limits : Bounds) (call : Call) (reply : Reply) (v w : LockPass
     Replies (transition limits (events_after limits a.log) call) reply
 replies_of limits call reply v w lock a =
     let legal = subst (IsLegal limits 0)
-    (ap history_in a.observed ∙ history-append a.log (entry v.name (call, reply) ∷ []))
+    (ap history_in a.known ∙ history-append a.log (entry v.name (call, reply) ∷ []))
     a.consistent.legal.legal in
     let is : IsReply limits (events_from limits [] (history_in a.log))
     (content_from (zeros 0) (history_in a.log)) call reply =
@@ -229,7 +229,7 @@ unlock_write_wins : (limits : Bounds) (s loaded found : ℕ) (v w : LockPassView
     LostExchange limits (UnlockWrite s) loaded found v w → ⊥
 unlock_write_wins limits s loaded found v w lost =
     lost.differ (held_word limits s loaded v lost.first lost.at_first lost.first_appends ∙
-    sym (held_word limits s found v w.observed lost.at_second lost.second_appends))
+    sym (held_word limits s found v w.known lost.at_second lost.second_appends))
 
 pub never_loses : (limits : Bounds) (call : Call) (loaded found : ℕ) (v w : LockPassView) →
     NeverLoses call → LostExchange limits (try_form call) loaded found v w → ⊥

@@ -19,14 +19,14 @@ made_after_loss limits call reply loaded found v u w l a = record {
   log = a.log;
   word = a.word;
   left = record {
-    begins = begins_further v.observed u.observed a.log l.at_second.begins a.left.begins;
+    begins = begins_further v.known u.known a.log l.at_second.begins a.left.begins;
     legal = a.left.legal;
     represents = a.left.represents;
   };
   earlier = loaded ∷ found ∷ a.earlier;
   last = a.last ∙ (ap (λ (xs : List ℕ). xs ++ (a.earlier ++ a.word ∷ [])) l.looks ∙
       append_assoc v.found (loaded ∷ found ∷ []) (a.earlier ++ a.word ∷ []));
-  observed = a.observed ∙ ap (λ (n : List ℕ). a.log ++ entry n (call, reply) ∷ []) l.name;
+  known = a.known ∙ ap (λ (n : List ℕ). a.log ++ entry n (call, reply) ∷ []) l.name;
   own = a.own ∙ ap (λ (xs : List (Call × Reply)). xs ++ (call, reply) ∷ []) l.own;
   name = a.name ∙ l.name;
   splits = a.splits ∙ l.splits;

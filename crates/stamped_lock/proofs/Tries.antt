@@ -12,7 +12,7 @@ use Rattle.stamped_lock.specs.RecordCalls.{RecordHandleView, Tried, RefusesPut, 
 pub tried_none : (h : RecordHandleView) → Tried h h
 tried_none h = record {
   same = refl;
-  begins = begins_all h.pass.observed;
+  begins = begins_all h.pass.known;
   own = refl;
   same_pass = record { name = refl; splits = refl };
 }
@@ -38,7 +38,7 @@ tried_get (get.Lost loaded found) h h' r = tried_word _ _ h h' r.same r.refused.
 pub tried_further : (h u h' : RecordHandleView) → Tried h u → Tried u h' → Tried h h'
 tried_further h u h' a b = record {
   same = b.same ∙ a.same;
-  begins = begins_further h.pass.observed u.pass.observed h'.pass.observed a.begins b.begins;
+  begins = begins_further h.pass.known u.pass.known h'.pass.known a.begins b.begins;
   own = b.own ∙ a.own;
   same_pass = record {
     name = b.same_pass.name ∙ a.same_pass.name;

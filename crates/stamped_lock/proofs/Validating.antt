@@ -50,15 +50,15 @@ events_after-push limits log e =
 -- a call that appends nothing leaves the version
 version_kept : (limits : Bounds) (call : Call) (reply : Reply) (v w : LockPassView)
     (a : Answered limits call reply v w) → appended_by (transition_after limits a.log call) ≡ [] →
-    write_count (events_after limits w.observed) ≡ write_count (events_after limits a.log)
+    write_count (events_after limits w.known) ≡ write_count (events_after limits a.log)
 version_kept limits call reply v w a none =
-    ap (λ (log : LockLog). write_count (events_after limits log)) a.observed ∙
+    ap (λ (log : LockLog). write_count (events_after limits log)) a.known ∙
     ap write_count (events_after-push limits a.log (entry v.name (call, reply))) ∙
     rw (none, append-nil)
 
 versions_same : (limits : Bounds) (s : ℕ) (h m n : LockPassView) → 0 < s →
     Answered limits Optimistic (Stamp s) h m → Answered limits (Validate s) Yes m n →
-    write_count (events_after limits n.observed) ≡ write_count (events_after limits m.observed)
+    write_count (events_after limits n.known) ≡ write_count (events_after limits m.known)
 versions_same limits s h m n some a b =
     let c = counts (events_after limits a.log) in
     let c' = counts (events_after limits b.log) in
@@ -74,7 +74,7 @@ unwritten s h m n some issued valid =
     (ap (λ l. l.limits) (sym issued.lock)) issued.answered in
     let b = valid.answered in
     record {
-      goes_on = subst (IsPrefix m.pass.observed) (sym b.observed)
-          (begins_further m.pass.observed b.log _ b.left.begins (begins_more b.log _));
+      goes_on = subst (IsPrefix m.pass.known) (sym b.known)
+          (begins_further m.pass.known b.log _ b.left.begins (begins_more b.log _));
       version = versions_same m.lock.limits s h.pass m.pass n.pass some a b;
     }

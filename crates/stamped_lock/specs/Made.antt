@@ -10,8 +10,8 @@ use Rattle.stamped_lock.specs.LockHandleView.{LockHandleView}
 use Rattle.stamped_lock.specs.declared.unlock_error.UnlockError.{UnlockError}
 use Rattle.stamped_lock.specs.declared.unlock_error.UnlockError.TheVariants as unlock
 
--- the call was made with this reply: one legal history that begins with all that the handle had
--- observed, and ends with this call; h' is the handle after it
+-- the call was made with this reply: one legal history that begins with all that the handle knew, and
+-- ends with this call; h' is the handle after it
 pub record Made (call : Call) (reply : Reply) (h h' : LockHandleView) : Type 0 where
   pub lock : h'.lock ≡ h.lock
   pub answered : Answered h.lock.limits call reply h.pass h'.pass

@@ -15,8 +15,8 @@ pub record RecordHandleView : Type 0 where
   pub shared : RecordView
   pub pass : RecordPassView
 
--- the call was made with this reply: one legal history that begins with all that the handle had
--- observed, and ends with this call; h' is the handle after it
+-- the call was made with this reply: one legal history that begins with all that the handle knew, and
+-- ends with this call; h' is the handle after it
 pub record MadeOnRecord (call : Call) (reply : Reply) (h h' : RecordHandleView) : Type 0 where
   pub same : h'.shared ≡ h.shared
   pub answered : RecordAnswered h.shared.shape call reply h.pass h'.pass
@@ -31,10 +31,10 @@ pub record RefusesGet (fault : GetFault) (h h' : RecordHandleView) : Type 0 wher
   pub same : h'.shared ≡ h.shared
   pub refused : GetRefused h.shared.shape h.pass fault h'.pass
 
--- calls were refused: the handle has observed more, and made no call
+-- calls were refused: the handle has come to know more, and made no call
 pub record Tried (h h' : RecordHandleView) : Type 0 where
   pub same : h'.shared ≡ h.shared
-  pub begins : IsPrefix h.pass.observed h'.pass.observed
+  pub begins : IsPrefix h.pass.known h'.pass.known
   pub own : h'.pass.own ≡ h.pass.own
   pub same_pass : IsSamePass h.pass h'.pass
 

@@ -45,9 +45,9 @@ ReadSection {T} Ran (Err _) h h' =
 -- the one history goes on from the earlier handle to the later, and nobody acquired write mode
 -- meanwhile
 pub record IsUnwritten (h h' : LockHandleView) : Type 0 where
-  pub goes_on : IsPrefix h.pass.observed h'.pass.observed
+  pub goes_on : IsPrefix h.pass.known h'.pass.known
   pub version : let limits = h.lock.limits in
-      write_count (events_after limits h'.pass.observed) ≡ write_count (events_after limits h.pass.observed)
+      write_count (events_after limits h'.pass.known) ≡ write_count (events_after limits h.pass.known)
 
 -- the closure ran between an optimistic stamp and a validation that said yes
 pub record ReadUnwritten (Ran : LockHandleView → Type 0) (h h' : LockHandleView) : Type 0 where

@@ -245,7 +245,7 @@ impl<'a> LockHandle<'a> {
         count_in(self.make_surely(Call::ReadCount))
     }
 
-    /// One more handle of the same lock, which has observed as much as this one and made no call.
+    /// One more handle of the same lock, which knows as much as this one and has made no call.
     pub fn split(&mut self) -> LockHandle<'a>
         ensures lock { (self.new.lock ≡ self.old.lock) × (result.lock ≡ self.old.lock) }
         ensures given { self.new.pass ≡ after_split self.old.pass }

@@ -108,7 +108,7 @@ impl<'a, const N: usize, P: ContentRule> RecordHandle<'a, N, P> {
         unreachable!()
     }
 
-    /// One more handle of the same record, which has observed as much as this one and made no call.
+    /// One more handle of the same record, which knows as much as this one and has made no call.
     pub fn split(&mut self) -> RecordHandle<'a, N, P>
         ensures shared { (self.new.shared ≡ self.old.shared) × (result.shared ≡ self.old.shared) }
         ensures given { self.new.pass ≡ after_split self.old.pass }

@@ -116,8 +116,8 @@ pub fn answer<R: Wait>(
     Some(answered)
 }
 
-/// Makes the calls of a table in turn, up to the first that answers otherwise: how many answered so. They are made by
-/// one handle, or each by a handle that enters for it.
+/// Makes the calls of a table one after another, up to the first that answers otherwise: how many answered so.
+/// They are made by one handle, or each by a handle that enters for it.
 pub fn right_rows<R: Wait>(rt: &R, lock: &StampedLock, rows: &[Row], enters_anew: bool) -> usize {
     let mut handle = lock.enter();
     for (at, (ask, taken, want)) in rows.iter().enumerate() {
