@@ -1,7 +1,7 @@
 """Writes a script of 64 threads to a file: make_script.py FILE [STEPS [MIX]].
 
 MIX is `lock` (the default: acquisitions, releases by what was acquired, validations, conversions) or
-`record` (gets and puts of 16 words). The threads take turns at random. The same arguments give the same
+`record` (gets and puts of 16 words). The threads alternate at random. The same arguments give the same
 file, of at most 16,777,216 bytes and 10,000 calls a thread."""
 import json
 import random

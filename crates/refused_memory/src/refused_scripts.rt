@@ -107,7 +107,7 @@ fn shape_outcome(alloc: Global, limits: Limits, case: &Case) -> Outcome {
     }
 }
 
-/// Each shape in turn.
+/// Each shape, one after another.
 pub(crate) fn shapes_outcome(alloc: Global, limits: Limits, cases: &[Case]) -> Outcome {
     let mut all = Outcome::Right;
     for case in cases {

@@ -13,7 +13,7 @@ const SCRIPT: &[u8] =
 const HISTORY: &[u8] =
     br#"{"entries":[{"call":["try_write"],"first":0,"last":1,"point":1,"reply":384,"thread":0},{"call":["unlock",384],"first":2,"last":3,"point":3,"reply":"done","thread":1}],"format":1,"readers":1,"versions":1,"width":0}"#;
 
-/// Two threads in turns: readers who come and go, more often than a list begins with room for, and a
+/// Two threads that alternate: readers who come and go, more often than a list begins with room for, and a
 /// put and a get of two words.
 const LONG_SCRIPT: &[u8] =
     br#"{"readers":127,"steps":[0,1,0,1,0,1,0,1,0,1,0,1,0,1,0,1,0,1,0,1,0,1,0,1,0,1,0,1,0,1,0,1,0,1,0,1,0,1,0,1,0,1,0,1,0,1,0,1],"threads":[[["try_read"],["unlock_read",[0,0]],["try_read"],["unlock_read",[0,2]],["try_read"],["unlock_read",[0,4]],["try_read"],["unlock_read",[0,6]],["try_read"],["unlock_read",[0,8]],["try_read"],["unlock_read",[0,10]]],[["put",[7,9]],["get"]]],"versions":1000,"width":2}"#;

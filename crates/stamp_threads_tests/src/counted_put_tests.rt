@@ -62,7 +62,7 @@ fn two_threads_share_the_versions(rt: HostRuntime) -> Result<(), Fail> {
 }
 
 /// How many puts of 1 to 1000 were made; nobody else puts.
-fn put_in_turn(shared: &RunningRecord, mut pass: RecordPass, here: &AtomicU64) -> (u64, RecordPass)
+fn put_rising(shared: &RunningRecord, mut pass: RecordPass, here: &AtomicU64) -> (u64, RecordPass)
     requires { (pass.table ≡ shared.now.table) × (shared.now.shape.width ≡ 2) }
     ensures { result.1.table ≡ shared.now.table }
 {
@@ -79,7 +79,7 @@ fn put_in_turn(shared: &RunningRecord, mut pass: RecordPass, here: &AtomicU64) -
 
 /// The number of a content that was put, 0 of the zeros; nothing where it is none of these,
 /// or an older one than the last.
-fn number_in_turn(words: &[u64], last: u64) -> Option<u64> {
+fn rising_number(words: &[u64], last: u64) -> Option<u64> {
     match *words {
         [k, again] if k == again && last <= k && k <= 1_000 => Some(k),
         _ => None,
@@ -87,7 +87,7 @@ fn number_in_turn(words: &[u64], last: u64) -> Option<u64> {
 }
 
 /// Gets a thousand times: the number of the last content, nothing where any was wrong.
-fn get_in_turn(
+fn get_rising(
     shared: &RunningRecord,
     mut pass: RecordPass,
     here: &AtomicU64,
@@ -99,7 +99,7 @@ fn get_in_turn(
     let mut last = Some(0);
     for _ in 0..1_000u64 {
         if let (Ok(words), Some(k)) = (shared.get_once(&mut pass), last) {
-            last = number_in_turn(words.as_slice(), k);
+            last = rising_number(words.as_slice(), k);
         }
         thread::yield_now();
     }
@@ -107,7 +107,7 @@ fn get_in_turn(
 }
 
 /// Two readers, whose passes meet.
-fn two_get_in_turn<R: Threads + Sync>(
+fn two_get_rising<R: Threads + Sync>(
     rt: &R,
     shared: &RunningRecord,
     pass: RecordPass,
@@ -119,8 +119,8 @@ fn two_get_in_turn<R: Threads + Sync>(
     let (first, second) = shared.split(pass);
     let ((a, first), (b, second)) = join(
         rt,
-        || get_in_turn(shared, first, here),
-        || get_in_turn(shared, second, here),
+        || get_rising(shared, first, here),
+        || get_rising(shared, second, here),
     );
     let (first, second) = shared.meet(first, second);
     drop(second);
@@ -134,8 +134,8 @@ fn two_threads_read_what_a_third_puts(rt: HostRuntime) -> Result<(), Fail> {
     let here = AtomicU64::new(0);
     let ((made, putting), ((a, b), reading)) = join(
         &rt,
-        || put_in_turn(&shared, putting, &here),
-        || two_get_in_turn(&rt, &shared, reading, &here),
+        || put_rising(&shared, putting, &here),
+        || two_get_rising(&rt, &shared, reading, &here),
     );
     assert!(rt; made == 1_000);
     assert!(rt; a.is_some() && b.is_some());

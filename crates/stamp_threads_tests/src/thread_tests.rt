@@ -26,7 +26,7 @@ fn write_once<R: Wait>(rt: &R, lock: &RunningLock, mut pass: Pass) -> Pass
 }
 
 #[test]
-fn two_threads_write_in_turns(rt: HostRuntime) -> Result<(), Fail> {
+fn two_threads_write_and_meet(rt: HostRuntime) -> Result<(), Fail> {
     let (lock, pass) = made(rt.alloc(), Layout::One, 127)?;
     let (first, second) = lock.split(pass);
     let (first, second) = join(

@@ -1,5 +1,5 @@
 use Rattle.std.proofs.Common.{◌≡◌}
-use Rattle.stamp_threads_tests.proofs.counted_put_tests.get_in_turn.Given as goal
+use Rattle.stamp_threads_tests.proofs.counted_put_tests.get_rising.Given as goal
 
 abbrev pub invariant-loop : goal.invariant-loop
 invariant-loop l = l.pass.table ≡ l.shared.table
