@@ -1,5 +1,5 @@
 //! A recorder: a handle whose calls are kept, each with a ticket taken before it and one after it.
-ghost use Rattle.std.specs.Prelude.{◌≡◌, [], IfOk};
+ghost use Rattle.std.specs.Prelude.{◌≡◌, [], IfOk, OnErr};
 ghost use Rattle.recorded_handles.specs.Recorder.{WasKept};
 
 use stamp_core::{Call, Reply};
@@ -132,6 +132,7 @@ impl<'a> Recorder<'a> {
         ensures answer { IfOk result (λ a. a ≡ answer) }
         ensures kept { IfOk result (λ a.
             WasKept self.old.thread first call.now (T.replied answer) self.old.tape.items self.new.tape.items) }
+        ensures refused { OnErr result (self.new.tape ≡ self.old.tape) }
         ensures thread { self.new.thread ≡ self.old.thread }
         ensures handle { self.new.handle ≡ self.old.handle }
     {

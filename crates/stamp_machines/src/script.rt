@@ -22,53 +22,49 @@ pub enum Arg {
     Of(u64, u64),
 }
 
-/// A call of a script: the call of `stamp_core` that has its name, whose stamp may be one still to
-/// come.
+/// A call of a script: the `Call` of `stamp_core` with the same name, which says what it does. Its stamp
+/// may be one that another call of the script is still to answer.
 #[derive(Clone, Copy)]
 pub enum ScriptCall {
-    /// Acquires write mode if nobody holds the lock and a version is left (`tryWriteLock`).
+    /// Makes `Call::TryWrite`.
     TryWrite,
-    /// Acquires read mode if there is no writer and room for a reader (`tryReadLock`).
+    /// Makes `Call::TryRead`.
     TryRead,
-    /// Acquires write mode, and waits while anybody holds the lock (`writeLock`). Where no version is
-    /// left it answers 0.
+    /// Makes `Call::WriteLock`.
     WriteLock,
-    /// Acquires read mode, and waits while there is a writer or no room (`readLock`).
+    /// Makes `Call::ReadLock`.
     ReadLock,
-    /// Asks for a stamp to be validated later; 0 while there is a writer (`tryOptimisticRead`).
+    /// Makes `Call::Optimistic`.
     Optimistic,
-    /// Asks whether write mode was not acquired since the stamp was issued (`validate`).
+    /// Makes `Call::Validate`.
     Validate(Arg),
-    /// Releases write mode, if the stamp matches it (`unlockWrite`).
+    /// Makes `Call::UnlockWrite`.
     UnlockWrite(Arg),
-    /// Releases one hold of read mode, if the stamp matches it (`unlockRead`).
+    /// Makes `Call::UnlockRead`.
     UnlockRead(Arg),
-    /// Releases the mode that the stamp matches (`unlock`).
+    /// Makes `Call::Unlock`.
     Unlock(Arg),
-    /// Converts to write mode (`tryConvertToWriteLock`): from write mode, from read mode with no other
-    /// reader, or from a valid optimistic stamp if nobody holds the lock. Otherwise it answers 0.
+    /// Makes `Call::ToWrite`.
     ToWrite(Arg),
-    /// Converts to read mode (`tryConvertToReadLock`): from write mode, from read mode, or from a valid
-    /// optimistic stamp if there is room. Otherwise it answers 0.
+    /// Makes `Call::ToRead`.
     ToRead(Arg),
-    /// Releases what the stamp holds, and answers an optimistic stamp (`tryConvertToOptimisticRead`); a
-    /// valid optimistic stamp is answered itself. Otherwise it answers 0.
+    /// Makes `Call::ToOptimistic`.
     ToOptimistic(Arg),
-    /// Releases write mode without a stamp, if it is held (`tryUnlockWrite`).
+    /// Makes `Call::TryUnlockWrite`.
     TryUnlockWrite,
-    /// Releases one hold of read mode without a stamp, if there is one (`tryUnlockRead`).
+    /// Makes `Call::TryUnlockRead`.
     TryUnlockRead,
-    /// Asks whether write mode is held (`isWriteLocked`).
+    /// Makes `Call::IsWriteLocked`.
     IsWriteLocked,
-    /// Asks whether read mode is held (`isReadLocked`).
+    /// Makes `Call::IsReadLocked`.
     IsReadLocked,
-    /// Asks how many hold read mode (`getReadLockCount`).
+    /// Makes `Call::ReadCount`.
     ReadCount,
-    /// Reads the words of the record.
+    /// Makes `Call::Get`.
     Get,
-    /// Writes the words of the record.
+    /// Makes `Call::Put`.
     Put(Words),
-    /// Writes the second words if the record holds the first; `No` and no change otherwise.
+    /// Makes `Call::PutIf`.
     PutIf(Words, Words),
 }
 
