@@ -3,9 +3,9 @@
 #include "lock.h"
 #include <time.h>
 
-enum { TURNS = 20 };
+enum { CYCLE = 20 };
 
-static const enum kind cycle[TURNS] = {
+static const enum kind cycle[CYCLE] = {
     OPTIMISTIC, VALIDATE, TRY_READ, READ_LOCK, IS_READ_LOCKED, UNLOCK_READ, READ_COUNT,
     TO_WRITE, IS_WRITE_LOCKED, TO_READ, TO_OPTIMISTIC,
     WRITE_LOCK, VALIDATE, UNLOCK_WRITE, TRY_WRITE, UNLOCK,
@@ -33,7 +33,7 @@ static uint64_t number_of(struct reply reply) {
 static struct run run_of(struct limits limits, uint64_t calls) {
     struct run run = {VERSION, 0, 0};
     for (uint64_t i = 0; i < calls; i++) {
-        struct decision made = decide(limits, run.word, (struct call){cycle[i % TURNS], run.stamp});
+        struct decision made = decide(limits, run.word, (struct call){cycle[i % CYCLE], run.stamp});
         if (made.effect == WAIT) continue;
         if (made.effect == CHANGE) run.word = made.word;
         if (made.reply.answer == STAMP) run.stamp = made.reply.number;

@@ -46,25 +46,25 @@ def threads(count, chance):
     return made[:count]
 
 
-def intervals(names, chance):
+def intervals(made_by, chance):
     """First position, point and last position of each entry."""
-    points = [4 * index + chance.randrange(2) for index in range(len(names))]
+    points = [4 * index + chance.randrange(2) for index in range(len(made_by))]
     firsts, lasts, before = list(points), list(points), {}
-    for index, name in enumerate(names):
+    for index, thread in enumerate(made_by):
         start = 0
-        if name in before:  # its two calls part somewhere between their points
-            earlier = before[name]
+        if thread in before:  # its two calls part somewhere between their points
+            earlier = before[thread]
             start = (points[earlier] + points[index]) // 2 + 1
             lasts[earlier] = chance.randint(points[earlier], start - 1)
         firsts[index] = chance.randint(start, points[index])
-        before[name] = index
+        before[thread] = index
     return zip(firsts, points, lasts)
 
 
 def entries(count, width):
     chance = random.Random(17)
-    names = threads(count, chance)
-    rows = zip(names, intervals(names, chance), answered(width))
+    made_by = threads(count, chance)
+    rows = zip(made_by, intervals(made_by, chance), answered(width))
     for thread, (first, point, last), (call, reply) in rows:
         yield {"call": call, "first": first, "last": last, "point": point, "reply": reply,
                "thread": thread}

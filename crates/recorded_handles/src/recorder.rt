@@ -109,7 +109,7 @@ impl<'a> Recorder<'a> {
         tickets: &'a AtomicU64,
         thread: u64,
     ) -> Recorder<'a>
-        ensures handle { result.handle ≡ handle }
+        ensures handle { result.handle ≡ handle.entry }
         ensures thread { result.thread ≡ thread }
         ensures tape { result.tape.items ≡ [] }
     {
@@ -131,8 +131,8 @@ impl<'a> Recorder<'a> {
     pub fn end<T: Answer>(&mut self, first: u64, call: Call, answer: T) -> Result<T, AllocError>
         ensures answer { IfOk result (λ a. a ≡ answer) }
         ensures kept { IfOk result (λ a.
-            WasKept self.old.thread first call.now (T.replied answer) self.old.tape.items self.new.tape.items) }
-        ensures refused { OnErr result (self.new.tape ≡ self.old.tape) }
+            WasKept self.old.thread first call (T.replied answer) self.old.tape.items self.new.tape.items) }
+        ensures refused { OnErr result (self.new.tape.items ≡ self.old.tape.items) }
         ensures thread { self.new.thread ≡ self.old.thread }
         ensures handle { self.new.handle ≡ self.old.handle }
     {
@@ -150,7 +150,7 @@ impl<'a> Recorder<'a> {
 
     /// The calls, in their order.
     pub fn tape(self) -> Vec<Observation>
-        ensures { result ≡ self.tape }
+        ensures { result ≡ self.entry.tape }
     {
         self.tape
     }

@@ -13,7 +13,7 @@ pub enum ScriptError {
     TooManyCalls,
     /// 3: more than 1,000,000 steps.
     TooManySteps,
-    /// 4: the first position in the steps whose name is no thread's.
+    /// 4: the position of the first step that is of no thread.
     NoSuchThread(u64),
     /// 5: a width above 16, words of another length than the width, or a call of the record where
     /// there is none.

@@ -12,7 +12,7 @@ use Rattle.stamp_explain.specs.declared.timeline.Timeline.{Timeline}
 use Rattle.stamp_explain.specs.declared.asking.Asking.{Asking}
 use Rattle.stamp_explain.specs.Observed.{ObservedHistory, IsObserved, IsInterval}
 use Rattle.stamp_explain.specs.Explained.{IsExplained}
-use Rattle.stamp_explain.specs.Cut.{returned_by, known_of, known_from, begun_by, seen_at, place_then}
+use Rattle.stamp_explain.specs.Cut.{returned_by, cut_entry, cut_entries, begun_by, seen_at, place_then}
 use Rattle.stamp_explain.specs.Possible.{ArePossible, AreAllPossible, GetsBeside, IsUndecidedAtGotten}
 use Rattle.stamp_explain.specs.Possible.{IsUndecidedAtReply}
 use Rattle.stamp_explain.specs.Possible.{IsUndecidedAtSome, returned_with, with_reply, without_return}
@@ -24,21 +24,21 @@ use Rattle.stamp_explain.proofs.Seeing.{seen_explains_as_much}
 use Rattle.stamp_explain.proofs.Beside.{is_begun}
 
 -- a call that returned at this position is known so
-known_kept : (e : Observation) (r : Returned) (b m : ℕ) → e.returned ≡ Some r → m < b → known_of r.last b m e ≡ e
+known_kept : (e : Observation) (r : Returned) (b m : ℕ) → e.returned ≡ Some r → m < b → cut_entry r.last b m e ≡ e
 known_kept e r b m at lt = ap (λ (t : Bool). if t then e else record e { returned = None })
     (ap (λ (o : Option Returned). returned_by r.last b m o) at ∙ back)
   where
     back : (nat_lt r.last r.last || ((r.last == r.last) && nat_lt m b)) ≡ true
     back = grind (arith, nat_tests)
 
-first_kept : (last b m : ℕ) (e : Observation) → (known_of last b m e).first ≡ e.first
+first_kept : (last b m : ℕ) (e : Observation) → (cut_entry last b m e).first ≡ e.first
 first_kept last b m e = by (returned_by last b m e.returned)
   where
     by : (t : Bool) → (if t then e else record e { returned = None }).first ≡ e.first
     by true = refl
     by false = refl
 
-begun_kept : (last b m : ℕ) (e : Observation) → is_begun last (known_of last b m e) ≡ is_begun last e
+begun_kept : (last b m : ℕ) (e : Observation) → is_begun last (cut_entry last b m e) ≡ is_begun last e
 begun_kept last b m e = ap (λ (n : ℕ). not (nat_lt last n)) (first_kept last b m e)
 
 -- what is listed first, by whether it had begun
@@ -47,13 +47,13 @@ after_first last begun e rest = cond begun (e ∷ begun_by last rest) (begun_by 
 
 -- it stands there
 pub seen_place : (last b n : ℕ) (es : List Observation) (i : ℕ) (e : Observation) → slice_get es i ≡ Some e →
-    is_begun last e ≡ true → ((m : ℕ) → m ≡ n + i → known_of last b m e ≡ e) →
-    slice_get (begun_by last (known_from last b n es)) (place_then last i es) ≡ Some e
+    is_begun last e ≡ true → ((m : ℕ) → m ≡ n + i → cut_entry last b m e ≡ e) →
+    slice_get (begun_by last (cut_entries last b n es)) (place_then last i es) ≡ Some e
 seen_place last b n [] i e at begun known = absurd (none-some e at)
 seen_place last b n (x ∷ es) zero e at begun known =
-    ap (λ (t : Bool). slice_get (after_first last t (known_of last b n x) (known_from last b (n + 1) es)) 0)
+    ap (λ (t : Bool). slice_get (after_first last t (cut_entry last b n x) (cut_entries last b (n + 1) es)) 0)
     (begun_kept last b n x ∙ ap (is_begun last) same ∙ begun) ∙
-    ap (λ (o : Observation). Some o) (ap (known_of last b n) same ∙ known n (omega arith))
+    ap (λ (o : Observation). Some o) (ap (cut_entry last b n) same ∙ known n (omega arith))
   where
     same : x ≡ e
     same = same_Some x e at
@@ -61,53 +61,53 @@ seen_place last b n (x ∷ es) (suc i) e at begun known = by (is_begun last x) r
     (seen_place last b (n + 1) es i e at begun (λ m is. known m (omega (arith, is))))
   where
     by : (t : Bool) → is_begun last x ≡ t →
-        slice_get (begun_by last (known_from last b (n + 1) es)) (place_then last i es) ≡ Some e →
-        slice_get (begun_by last (known_from last b n (x ∷ es))) (place_then last (suc i) (x ∷ es)) ≡ Some e
+        slice_get (begun_by last (cut_entries last b (n + 1) es)) (place_then last i es) ≡ Some e →
+        slice_get (begun_by last (cut_entries last b n (x ∷ es))) (place_then last (suc i) (x ∷ es)) ≡ Some e
     by t is rest =
-        ap (λ (u : Bool). slice_get (after_first last u (known_of last b n x) (known_from last b (n + 1) es))
+        ap (λ (u : Bool). slice_get (after_first last u (cut_entry last b n x) (cut_entries last b (n + 1) es))
         (place_then last (suc i) (x ∷ es))) (begun_kept last b n x ∙ is) ∙
-        ap (λ (u : Bool). slice_get (after_first last t (known_of last b n x) (known_from last b (n + 1) es))
+        ap (λ (u : Bool). slice_get (after_first last t (cut_entry last b n x) (cut_entries last b (n + 1) es))
         (length (cond u (x ∷ begun_by last (take i es)) (begun_by last (take i es))))) is ∙ step t rest
       where
-        step : (t : Bool) → slice_get (begun_by last (known_from last b (n + 1) es)) (place_then last i es) ≡ Some e →
-            slice_get (after_first last t (known_of last b n x) (known_from last b (n + 1) es))
+        step : (t : Bool) → slice_get (begun_by last (cut_entries last b (n + 1) es)) (place_then last i es) ≡ Some e →
+            slice_get (after_first last t (cut_entry last b n x) (cut_entries last b (n + 1) es))
             (length (cond t (x ∷ begun_by last (take i es)) (begun_by last (take i es)))) ≡ Some e
         step true rest = rest
         step false rest = rest
 
 -- another entry in its place is seen in its place
 pub seen_set : (last b n : ℕ) (es : List Observation) (i : ℕ) (e y : Observation) → slice_get es i ≡ Some e →
-    is_begun last e ≡ true → is_begun last y ≡ true → ((m : ℕ) → m ≡ n + i → known_of last b m y ≡ y) →
-    begun_by last (known_from last b n (set es i y)) ≡
-    set (begun_by last (known_from last b n es)) (place_then last i es) y
+    is_begun last e ≡ true → is_begun last y ≡ true → ((m : ℕ) → m ≡ n + i → cut_entry last b m y ≡ y) →
+    begun_by last (cut_entries last b n (set es i y)) ≡
+    set (begun_by last (cut_entries last b n es)) (place_then last i es) y
 seen_set last b n [] i e y at begun too known = absurd (none-some e at)
 seen_set last b n (x ∷ es) zero e y at begun too known =
-    ap (λ (o : Observation). after_first last (is_begun last o) o (known_from last b (n + 1) es))
+    ap (λ (o : Observation). after_first last (is_begun last o) o (cut_entries last b (n + 1) es))
     (known n (omega arith)) ∙
-    ap (λ (t : Bool). after_first last t y (known_from last b (n + 1) es)) too ∙
-    sym (ap (λ (t : Bool). set (after_first last t (known_of last b n x) (known_from last b (n + 1) es)) 0 y)
+    ap (λ (t : Bool). after_first last t y (cut_entries last b (n + 1) es)) too ∙
+    sym (ap (λ (t : Bool). set (after_first last t (cut_entry last b n x) (cut_entries last b (n + 1) es)) 0 y)
     (begun_kept last b n x ∙ ap (is_begun last) (same_Some x e at) ∙ begun))
 seen_set last b n (x ∷ es) (suc i) e y at begun too known = by (is_begun last x) refl
     (seen_set last b (n + 1) es i e y at begun too (λ m is. known m (omega (arith, is))))
   where
-    by : (t : Bool) → is_begun last x ≡ t → begun_by last (known_from last b (n + 1) (set es i y)) ≡
-        set (begun_by last (known_from last b (n + 1) es)) (place_then last i es) y →
-        begun_by last (known_from last b n (x ∷ set es i y)) ≡
-        set (begun_by last (known_from last b n (x ∷ es))) (place_then last (suc i) (x ∷ es)) y
+    by : (t : Bool) → is_begun last x ≡ t → begun_by last (cut_entries last b (n + 1) (set es i y)) ≡
+        set (begun_by last (cut_entries last b (n + 1) es)) (place_then last i es) y →
+        begun_by last (cut_entries last b n (x ∷ set es i y)) ≡
+        set (begun_by last (cut_entries last b n (x ∷ es))) (place_then last (suc i) (x ∷ es)) y
     by t is rest =
-        ap (λ (u : Bool). after_first last u (known_of last b n x) (known_from last b (n + 1) (set es i y)))
+        ap (λ (u : Bool). after_first last u (cut_entry last b n x) (cut_entries last b (n + 1) (set es i y)))
         (begun_kept last b n x ∙ is) ∙ step t rest ∙
-        sym (ap (λ (u : Bool). set (after_first last u (known_of last b n x) (known_from last b (n + 1) es))
+        sym (ap (λ (u : Bool). set (after_first last u (cut_entry last b n x) (cut_entries last b (n + 1) es))
         (place_then last (suc i) (x ∷ es)) y) (begun_kept last b n x ∙ is) ∙
-        ap (λ (u : Bool). set (after_first last t (known_of last b n x) (known_from last b (n + 1) es))
+        ap (λ (u : Bool). set (after_first last t (cut_entry last b n x) (cut_entries last b (n + 1) es))
         (length (cond u (x ∷ begun_by last (take i es)) (begun_by last (take i es)))) y) is)
       where
-        step : (t : Bool) → begun_by last (known_from last b (n + 1) (set es i y)) ≡
-            set (begun_by last (known_from last b (n + 1) es)) (place_then last i es) y →
-            after_first last t (known_of last b n x) (known_from last b (n + 1) (set es i y)) ≡
-            set (after_first last t (known_of last b n x) (known_from last b (n + 1) es))
+        step : (t : Bool) → begun_by last (cut_entries last b (n + 1) (set es i y)) ≡
+            set (begun_by last (cut_entries last b (n + 1) es)) (place_then last i es) y →
+            after_first last t (cut_entry last b n x) (cut_entries last b (n + 1) (set es i y)) ≡
+            set (after_first last t (cut_entry last b n x) (cut_entries last b (n + 1) es))
             (length (cond t (x ∷ begun_by last (take i es)) (begun_by last (take i es)))) y
-        step true rest = ap (λ (os : List Observation). known_of last b n x ∷ os) rest
+        step true rest = ap (λ (os : List Observation). cut_entry last b n x ∷ os) rest
         step false rest = rest
 
 -- what had returned by a position had begun by it

@@ -22,7 +22,7 @@ use Rattle.stamp_explain.specs.declared.node.Next.{Next}
 use Rattle.stamp_explain.specs.declared.node.Step.{Step}
 use Rattle.stamp_explain.specs.declared.asking.Asking.{Asking}
 use Rattle.stamp_explain.specs.Observed.{ObservedHistory, IsObserved, IsBefore, AllowsReply, AreOfOneObject}
-use Rattle.stamp_explain.specs.Observer.{asks_at, asks_in, observes_at, observes_in}
+use Rattle.stamp_explain.specs.Unchanging.{asks_at, asks_in, is_unchanging_at, unchanging_in}
 use Rattle.stamp_explain.specs.Search.{LockState, LockSteps, IsReturnAt, after_call}
 use Rattle.stamp_explain.specs.Node.{IsReached, IsStateBy, HasGone}
 use Rattle.stamp_explain.specs.Timeline.{AreOpen, IsAwaitedAt}
@@ -164,28 +164,28 @@ pub at_once_leads : (asking : Asking) (node : Node) (a : Observation) (calls : L
     IsReached asking.seen (Some asking.place) asking.timeline.returns.items node →
     bit_at node.threads a.thread ≢ 1 → AreOpen asking.seen asking.timeline.returns.items node.past calls →
     NoneOfFirst asking.seen (Some asking.place) asking.timeline.returns.items node calls k → k < length calls →
-    observes_at asking.seen.entries (get_or calls k 0) ≡ true →
+    is_unchanging_at asking.seen.entries (get_or calls k 0) ≡ true →
     Took asking.seen asking.timeline.returns.items node (get_or calls k 0) (Some w) →
     get_or calls k 0 ≢ asking.place → Settles asking w next → ComesNextBeside asking node next
-at_once_leads asking node a calls k w next awaits reached bit are before inside observes took other settles = record {
+at_once_leads asking node a calls k w next awaits reached bit are before inside is_unchanging took other settles = record {
   leads = follows_of asking.seen (Some asking.place) asking.timeline.returns.items node w next
       (leads_at_once asking.seen (Some asking.place) asking.timeline node a calls k w awaits bit are before inside
-      observes (λ same. other (sym (same_Some asking.place (get_or calls k 0) same))) took) settles.passes
+      is_unchanging (λ same. other (sym (same_Some asking.place (get_or calls k 0) same))) took) settles.passes
       settles.took settles.settled;
   other = λ same. took_other asking node (get_or calls k 0) w a awaits reached took other (sym settles.took ∙ same);
 }
 
 pub at_once_suffices : (asking : Asking) (node : Node) (a : Observation) (i : ℕ) (w next : Next) → IsAsking asking →
     Awaits asking.seen asking.timeline node a → (e : Observation) → slice_get asking.seen.entries i ≡ Some e →
-    observes_at asking.seen.entries i ≡ true → Took asking.seen asking.timeline.returns.items node i (Some w) →
+    is_unchanging_at asking.seen.entries i ≡ true → Took asking.seen asking.timeline.returns.items node i (Some w) →
     i ≢ asking.place → Settles asking w next → SufficeBeside asking node (next ∷ [])
-at_once_suffices asking node a i w next asks awaits e at observes took other settles reply h is =
+at_once_suffices asking node a i w next asks awaits e at is_unchanging took other settles reply h is =
     let alike : AreAlike asking.seen h asking.place = alike_of asking reply h is in
     let too : AwaitsToo asking h node a = awaits_too asking reply h node a asks is awaits in
     suffices_settled h asking.timeline.returns.items node w next
     (passes_alike asking.seen h asking.place asking.timeline.returns.items w.node next.node alike settles.passes)
     (suffices_at_once h asking.timeline node too.entry i w too.awaits
-    (ap observes_in (other_there asking.seen h asking.place i e alike other at) ∙ sym (ap observes_in at) ∙ observes)
+    (ap unchanging_in (other_there asking.seen h asking.place i e alike other at) ∙ sym (ap unchanging_in at) ∙ is_unchanging)
     (took_alike asking.seen h asking.place asking.timeline.returns.items node i (Some w) alike other took))
 
 pub awaited_inside : (asking : Asking) (node : Node) (i : ℕ) → IsAsking asking →

@@ -14,7 +14,7 @@ use Rattle.stamp_explain.specs.declared.observed.Returned.{Returned}
 use Rattle.stamp_explain.specs.Observed.{ObservedHistory, IsBefore, AllowsReply}
 use Rattle.stamp_explain.specs.Explained.{Effect, IsEffectOf, history_of, indices_of, AreApart, RespectsBefore}
 use Rattle.stamp_explain.specs.Explained.{IsExplainedBy, IsExplained}
-use Rattle.stamp_explain.specs.Cut.{returned_by, known_from, cut, IsStuck}
+use Rattle.stamp_explain.specs.Cut.{returned_by, cut_entries, cut, IsStuck}
 use Rattle.stamp_explain.specs.ExplainLaws.{CutsStayExplained, ExplainedIsNotStuck, OneStuck}
 use Rattle.stamp_explain.proofs.Lists.{pairs_none, pairs_cons, pairs_head, pairs_tail}
 
@@ -178,7 +178,7 @@ still_returned l b m c i (Some r) sooner is = at_return r.last sooner is
     at_return n (inr same) is = grind (arith, nat_tests)
 
 cuts_less : (l b m c i : ℕ) (es : List Observation) → IsSooner l b m c →
-    AllZip IsLessKnown (known_from m c i es) (known_from l b i es)
+    AllZip IsLessKnown (cut_entries m c i es) (cut_entries l b i es)
 cuts_less l b m c i [] sooner = tt
 cuts_less l b m c i (e ∷ es) sooner = (
   less_by e (returned_by l b i e.returned) (returned_by m c i e.returned)
@@ -186,12 +186,12 @@ cuts_less l b m c i (e ∷ es) sooner = (
   cuts_less l b m c (i + 1) es sooner,
 )
 
-whole_less : (l b i : ℕ) (es : List Observation) → AllZip IsLessKnown es (known_from l b i es)
+whole_less : (l b i : ℕ) (es : List Observation) → AllZip IsLessKnown es (cut_entries l b i es)
 whole_less l b i [] = tt
 whole_less l b i (e ∷ es) = (less_whole e (returned_by l b i e.returned), whole_less l b (i + 1) es)
 
 pub cuts_stay_explained : CutsStayExplained
-cuts_stay_explained h last bound explained = less_known h (known_from last bound 0 h.entries)
+cuts_stay_explained h last bound explained = less_known h (cut_entries last bound 0 h.entries)
     (whole_less last bound 0 h.entries) explained
 
 pub explained_is_not_stuck : ExplainedIsNotStuck
@@ -199,7 +199,7 @@ explained_is_not_stuck h i explained stuck = stuck.stuck (cuts_stay_explained h 
 
 sooner_explained : (h : ObservedHistory) (l b m c : ℕ) → IsSooner l b m c → IsExplained (cut m c h) →
     IsExplained (cut l b h)
-sooner_explained h l b m c sooner explained = less_known (cut m c h) (known_from l b 0 h.entries)
+sooner_explained h l b m c sooner explained = less_known (cut m c h) (cut_entries l b 0 h.entries)
     (cuts_less l b m c 0 h.entries sooner) explained
 
 -- a return before one that is stuck isn't

@@ -12,7 +12,7 @@ use Rattle.stamp_explain.specs.declared.found.Found.{Found}
 use Rattle.stamp_explain.specs.declared.found.Found.TheVariants.{Order, Nothing, Undecided}
 use Rattle.stamp_explain.specs.Observed.{ObservedHistory, IsObserved, HasReturned}
 use Rattle.stamp_explain.specs.Explained.{IsEffectOf, AreApart, RespectsBefore, IsExplained, IsExplainedBy}
-use Rattle.stamp_explain.specs.Cut.{known_of, known_from, returned_by, cut, seen_at, IsStuck}
+use Rattle.stamp_explain.specs.Cut.{cut_entry, cut_entries, returned_by, cut, seen_at, IsStuck}
 use Rattle.stamp_explain.specs.TimelineKeys.{IsSooner, AreEnds, EndsAt}
 use Rattle.stamp_explain.specs.Configuration.{IsGivenUp}
 use Rattle.stamp_explain.specs.Order.{IsOrderOf}
@@ -27,7 +27,7 @@ false_true : false ≡ true → ⊥
 false_true h = cc
 
 -- a call known by one test, and known so far by another
-returned_then : (l b i : ℕ) (e : Observation) (r : Returned) → (known_of l b i e).returned ≡ Some r →
+returned_then : (l b i : ℕ) (e : Observation) (r : Returned) → (cut_entry l b i e).returned ≡ Some r →
     (e.returned ≡ Some r) × (returned_by l b i (Some r) ≡ true)
 returned_then l b i e r at = by (returned_by l b i e.returned) refl at
   where
@@ -37,7 +37,7 @@ returned_then l b i e r at = by (returned_by l b i e.returned) refl at
     by true is at = (at, ap (returned_by l b i) (sym at) ∙ is)
     by false is at = absurd (none-some r at)
 
-same_call : (l b i : ℕ) (e : Observation) → ((known_of l b i e).call ≡ e.call) × ((known_of l b i e).first ≡ e.first)
+same_call : (l b i : ℕ) (e : Observation) → ((cut_entry l b i e).call ≡ e.call) × ((cut_entry l b i e).first ≡ e.first)
 same_call l b i e = by (returned_by l b i e.returned)
   where
     by : (t : Bool) → ((if t then e else record e { returned = None }).call ≡ e.call) ×
@@ -47,7 +47,7 @@ same_call l b i e = by (returned_by l b i e.returned)
 
 less_known_of : (m c i : ℕ) (e k : Observation) → k.call ≡ e.call → k.first ≡ e.first →
     ((r : Returned) → k.returned ≡ Some r → (e.returned ≡ Some r) × (returned_by m c i (Some r) ≡ true)) →
-    IsLessKnown (known_of m c i e) k
+    IsLessKnown (cut_entry m c i e) k
 less_known_of m c i e k call first was = by (returned_by m c i e.returned) refl
   where
     by : (t : Bool) → returned_by m c i e.returned ≡ t →
@@ -65,11 +65,11 @@ Knows l b m c i es = (k : ℕ) (e : Observation) (r : Returned) → slice_get es
     returned_by l b (i + k) (Some r) ≡ true → returned_by m c (i + k) (Some r) ≡ true
 
 knows_less : (l b m c i : ℕ) (es : List Observation) → Knows l b m c i es →
-    AllZip IsLessKnown (known_from m c i es) (known_from l b i es)
+    AllZip IsLessKnown (cut_entries m c i es) (cut_entries l b i es)
 unfolding Knows
 knows_less l b m c i [] knows = tt
 knows_less l b m c i (e ∷ es) knows = (
-  less_known_of m c i e (known_of l b i e) (same_call l b i e).0 (same_call l b i e).1 (λ r at. here r at),
+  less_known_of m c i e (cut_entry l b i e) (same_call l b i e).0 (same_call l b i e).1 (λ r at. here r at),
   knows_less l b m c (i + 1) es (λ k f r at returned is. subst (λ (n : ℕ). returned_by m c n (Some r) ≡ true)
       (shifts i k) (knows (suc k) f r at returned (subst (λ (n : ℕ). returned_by l b n (Some r) ≡ true)
       (sym (shifts i k)) is))),
@@ -81,7 +81,7 @@ knows_less l b m c i (e ∷ es) knows = (
     none : (i : ℕ) → i + 0 ≡ i
     none i = omega arith
 
-    here : (r : Returned) → (known_of l b i e).returned ≡ Some r →
+    here : (r : Returned) → (cut_entry l b i e).returned ≡ Some r →
         (e.returned ≡ Some r) × (returned_by m c i (Some r) ≡ true)
     here r at =
         let was : (e.returned ≡ Some r) × (returned_by l b i (Some r) ≡ true) = returned_then l b i e r at in (
@@ -95,11 +95,11 @@ KnowsAll : ℕ → ℕ → ℕ → List Observation → Type 0
 KnowsAll m c i es = (k : ℕ) (e : Observation) (r : Returned) → slice_get es k ≡ Some e → e.returned ≡ Some r →
     returned_by m c (i + k) (Some r) ≡ true
 
-known_whole : (m c i : ℕ) (es : List Observation) → KnowsAll m c i es → known_from m c i es ≡ es
+known_whole : (m c i : ℕ) (es : List Observation) → KnowsAll m c i es → cut_entries m c i es ≡ es
 unfolding KnowsAll
 known_whole m c i [] knows = refl
 known_whole m c i (e ∷ es) knows =
-    ap (λ (k : Observation). k ∷ known_from m c (i + 1) es) (here e.returned refl) ∙
+    ap (λ (k : Observation). k ∷ cut_entries m c (i + 1) es) (here e.returned refl) ∙
     ap (λ (ks : List Observation). e ∷ ks) (known_whole m c (i + 1) es
     (λ k f r at returned. subst (λ (n : ℕ). returned_by m c n (Some r) ≡ true) (shifts i k)
     (knows (suc k) f r at returned)))
@@ -110,7 +110,7 @@ known_whole m c i (e ∷ es) knows =
     none : (i : ℕ) → i + 0 ≡ i
     none i = omega arith
 
-    here : (o : Option Returned) → e.returned ≡ o → known_of m c i e ≡ e
+    here : (o : Option Returned) → e.returned ≡ o → cut_entry m c i e ≡ e
     here None at = by (returned_by m c i e.returned)
       where
         by : (t : Bool) → (if t then e else record e { returned = None }) ≡ e
@@ -121,7 +121,7 @@ known_whole m c i (e ∷ es) knows =
         (knows 0 e r refl at))
 
 -- nothing is known, and no call need have taken effect
-unknown : (i : ℕ) (es : List Observation) → AllZip (λ (e k : Observation). k.returned ≡ None) es (known_from 0 0 i es)
+unknown : (i : ℕ) (es : List Observation) → AllZip (λ (e k : Observation). k.returned ≡ None) es (cut_entries 0 0 i es)
 unknown i [] = tt
 unknown i (e ∷ es) = (by (returned_by 0 0 i e.returned) (never e.returned), unknown (i + 1) es)
   where
@@ -164,10 +164,10 @@ order_of_none h ends are none = record {
 explained_unknown : (h : ObservedHistory) → IsExplained (cut 0 0 h)
 explained_unknown h = record { order = []; by = explained_by_none (cut 0 0 h) (λ i k at has. none i k at has) }
   where
-    none : (i : ℕ) (k : Observation) → slice_get (known_from 0 0 0 h.entries) i ≡ Some k → ¬ HasReturned k
+    none : (i : ℕ) (k : Observation) → slice_get (cut_entries 0 0 0 h.entries) i ≡ Some k → ¬ HasReturned k
     none i k at has =
         let was : (e : Observation) × ((slice_get h.entries i ≡ Some e) × (k.returned ≡ None)) =
-        back (λ (e k : Observation). k.returned ≡ None) h.entries (known_from 0 0 0 h.entries) i k
+        back (λ (e k : Observation). k.returned ≡ None) h.entries (cut_entries 0 0 0 h.entries) i k
         (unknown 0 h.entries) at in
         none-some has.0 (sym was.1.1 ∙ has.1)
 
@@ -245,7 +245,7 @@ to_zero l b k r is = subst (λ (n : ℕ). returned_by l b n (Some r) ≡ true) (
 explained_at_first : (h : ObservedHistory) (ends : List (ℕ × ℕ)) (p : ℕ × ℕ) → AreEnds h.entries ends →
     slice_get ends 0 ≡ Some p → IsExplained (cut p.0 p.1 h)
 unfolding Knows
-explained_at_first h ends p are at = less_known (cut 0 0 h) (known_from p.0 p.1 0 h.entries)
+explained_at_first h ends p are at = less_known (cut 0 0 h) (cut_entries p.0 p.1 0 h.entries)
     (knows_less p.0 p.1 0 0 0 h.entries (λ k e r here returned is. absurd (none k e r here returned
     (from_zero p.0 p.1 k r is))))
     (explained_unknown h)
@@ -273,7 +273,7 @@ explained_at_next : (h : ObservedHistory) (ends : List (ℕ × ℕ)) (m : ℕ) (
     IsExplained (cut q.0 q.1 h)
 unfolding Knows
 explained_at_next h ends m p q are at next explained = less_known (cut p.0 (p.1 + 1) h)
-    (known_from q.0 q.1 0 h.entries)
+    (cut_entries q.0 q.1 0 h.entries)
     (knows_less q.0 q.1 p.0 (p.1 + 1) 0 h.entries (λ k e r here returned is. to_zero p.0 (p.1 + 1) k r
     (known k e r here returned (from_zero q.0 q.1 k r is)))) explained
   where

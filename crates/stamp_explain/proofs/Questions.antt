@@ -14,13 +14,13 @@ use Rattle.stamp_core.specs.declared.call.Call.TheVariants.{IsWriteLocked, IsRea
 use Rattle.stamp_core.specs.declared.reply.Reply.{Reply}
 use Rattle.stamp_explain.specs.declared.observed.Observation.{Observation}
 use Rattle.stamp_explain.specs.declared.observed.Returned.{Returned}
-use Rattle.stamp_explain.specs.Observer.{changes_nothing, is_question, asks_by, is_open_question}
+use Rattle.stamp_explain.specs.Unchanging.{changes_nothing, is_question, asks_by, is_open_question}
 use Rattle.stamp_explain.specs.Explained.{Effect, IsEffectOf, history_of, indices_of}
 use Rattle.stamp_explain.specs.Search.{IsReturnAt, LockState, LockSteps, Runs}
 use Rattle.stamp_explain.specs.ExplainLaws.{OpenQuestionsAreNotNeeded}
 use Rattle.stamp_explain.proofs.Lists.{contains_cases, contains_rest}
 use Rattle.stamp_explain.proofs.Searching.{CompletesIn}
-use Rattle.stamp_explain.proofs.Staying.{observers_change_nothing}
+use Rattle.stamp_explain.proofs.Staying.{unchanging_calls_change_nothing}
 
 -- a call that changes nothing by any reply
 question_changes_nothing : (call : Call) (reply : Reply) → is_question call ≡ true → changes_nothing call reply ≡ true
@@ -86,7 +86,7 @@ without_question limits entries returns s u taken x left are effect steps asks c
     question = open_question x.entry asks
 
     same : u ≡ s
-    same = observers_change_nothing limits x.entry.call x.reply s u
+    same = unchanging_calls_change_nothing limits x.entry.call x.reply s u
         (question_changes_nothing x.entry.call x.reply question.1) steps
 
     apart : (i : ℕ) → IsReturnAt entries i → x.index ≢ i

@@ -26,7 +26,7 @@ use Rattle.stamp_explain.specs.Explained.{IsExplainedBy, IsExplained}
 use Rattle.stamp_explain.proofs.Lists.{pairs_none, pairs_cons, pairs_head, pairs_tail, none_in_empty, contains_cases}
 use Rattle.stamp_explain.proofs.Lists.{contains_first, contains_rest}
 use Rattle.stamp_explain.proofs.Completing.{later_of, same_entry}
-use Rattle.stamp_explain.specs.Cut.{known_of, known_from, cut, begun_by, seen_at, returned_by}
+use Rattle.stamp_explain.specs.Cut.{cut_entry, cut_entries, cut, begun_by, seen_at, returned_by}
 use Rattle.stamp_explain.specs.Apart.{places_where}
 use Rattle.stamp_explain.specs.ExplainLaws.{SeenExplainsAsMuch}
 use Rattle.stamp_explain.proofs.Cutting.{pairs_map}
@@ -444,7 +444,7 @@ record IsSeenAs (last : ℕ) (e k : Observation) : Type 0 where
   only : (r : Returned) → k.returned ≡ Some r → (e.returned ≡ Some r) × (r.last ≤ last)
   sooner : (r : Returned) → e.returned ≡ Some r → r.last < last → k.returned ≡ Some r
 
-seen_as : (last bound i : ℕ) (e : Observation) → IsSeenAs last e (known_of last bound i e)
+seen_as : (last bound i : ℕ) (e : Observation) → IsSeenAs last e (cut_entry last bound i e)
 seen_as last bound i e = by (returned_by last bound i e.returned) refl
   where
     by_then : (o : Option Returned) (r : Returned) → o ≡ Some r → returned_by last bound i o ≡ true → r.last ≤ last
@@ -482,7 +482,7 @@ seen_as last bound i e = by (returned_by last bound i e.returned) refl
       sooner = λ r at lt. absurd (false_true (sym is ∙ sooner e.returned r at lt));
     }
 
-all_seen_as : (last bound i : ℕ) (es : List Observation) → AllZip (IsSeenAs last) es (known_from last bound i es)
+all_seen_as : (last bound i : ℕ) (es : List Observation) → AllZip (IsSeenAs last) es (cut_entries last bound i es)
 all_seen_as last bound i [] = tt
 all_seen_as last bound i (e ∷ es) = (seen_as last bound i e, all_seen_as last bound (i + 1) es)
 
@@ -561,9 +561,9 @@ seen_is_observed h last bound is = record {
 }
   where
     ks : List Observation
-    ks = known_from last bound 0 h.entries
+    ks = cut_entries last bound 0 h.entries
 
-    zip : AllZip (IsSeenAs last) h.entries (known_from last bound 0 h.entries)
+    zip : AllZip (IsSeenAs last) h.entries (cut_entries last bound 0 h.entries)
     zip = all_seen_as last bound 0 h.entries
 
     Threads : Observation → Type 0
@@ -572,9 +572,9 @@ seen_is_observed h last bound is = record {
     Suit : Observation → Type 0
     Suit e = IsTrue (call_suits h.width e.call)
 
-    apart : AllPairs (EarlyApart last) (kept (is_early last) (known_from last bound 0 h.entries))
-    apart = AllPairs-filter (EarlyApart last) (is_early last) (known_from last bound 0 h.entries)
-        (zip_pairs (IsSeenAs last) DoNotOverlap (EarlyApart last) h.entries (known_from last bound 0 h.entries)
+    apart : AllPairs (EarlyApart last) (kept (is_early last) (cut_entries last bound 0 h.entries))
+    apart = AllPairs-filter (EarlyApart last) (is_early last) (cut_entries last bound 0 h.entries)
+        (zip_pairs (IsSeenAs last) DoNotOverlap (EarlyApart last) h.entries (cut_entries last bound 0 h.entries)
         (λ a b k l a_seen b_seen apart. early_apart last a b k l a_seen b_seen apart)
         (all_seen_as last bound 0 h.entries) is.apart)
 
@@ -624,8 +624,8 @@ seen_explains_as_much h last bound is = (
   ),
 )
   where
-    ends : All (IsUntil last) (known_from last bound 0 h.entries)
-    ends = zip_all (IsSeenAs last) IsInterval (IsUntil last) h.entries (known_from last bound 0 h.entries)
+    ends : All (IsUntil last) (cut_entries last bound 0 h.entries)
+    ends = zip_all (IsSeenAs last) IsInterval (IsUntil last) h.entries (cut_entries last bound 0 h.entries)
         (λ e k seen interval. until_then last e k seen interval) (all_seen_as last bound 0 h.entries) is.intervals
 
 -- it is no larger
@@ -656,23 +656,23 @@ seen_is_small h last bound small = record {
   entries = omega (
     arith,
     small.entries,
-    filter_no_longer (is_early last) (known_from last bound 0 h.entries),
-    length_all_zip (IsSeenAs last) h.entries (known_from last bound 0 h.entries) (all_seen_as last bound 0 h.entries),
+    filter_no_longer (is_early last) (cut_entries last bound 0 h.entries),
+    length_all_zip (IsSeenAs last) h.entries (cut_entries last bound 0 h.entries) (all_seen_as last bound 0 h.entries),
   );
-  positions = All-filter (is_early last) IsLow (known_from last bound 0 h.entries)
-      (zip_all (IsSeenAs last) IsLow IsLow h.entries (known_from last bound 0 h.entries)
+  positions = All-filter (is_early last) IsLow (cut_entries last bound 0 h.entries)
+      (zip_all (IsSeenAs last) IsLow IsLow h.entries (cut_entries last bound 0 h.entries)
       (λ e k seen low. low_then last e k seen low) (all_seen_as last bound 0 h.entries) small.positions);
 }
 
 -- what was seen of the first i calls, and what will be of the others
 abbrev pub SeenSoFar : ℕ → ℕ → ℕ → List Observation → List Observation → Type 0
 SeenSoFar last bound i es seen =
-    seen ++ begun_by last (known_from last bound i (drop i es)) ≡ begun_by last (known_from last bound 0 es)
+    seen ++ begun_by last (cut_entries last bound i (drop i es)) ≡ begun_by last (cut_entries last bound 0 es)
 
 pub all_seen : (last bound i : ℕ) (es seen : List Observation) → SeenSoFar last bound i es seen → length es ≤ i →
-    seen ≡ begun_by last (known_from last bound 0 es)
+    seen ≡ begun_by last (cut_entries last bound 0 es)
 all_seen last bound i es seen so_far over = sym (append-nil seen) ∙
-    ap (λ (xs : List Observation). seen ++ begun_by last (known_from last bound i xs)) (sym (none_left es i over)) ∙
+    ap (λ (xs : List Observation). seen ++ begun_by last (cut_entries last bound i xs)) (sym (none_left es i over)) ∙
     so_far
   where
     none_left : (xs : List Observation) (k : ℕ) → length xs ≤ k → drop k xs ≡ []

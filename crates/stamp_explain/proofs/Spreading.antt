@@ -400,8 +400,8 @@ overlaps h x y observed x_is y_is apart = by (cases_order x.index y.index)
     by (inr (inl less)) = in_order x y x_is y_is less
     by (inr (inr less)) = λ thread. swap (in_order y x y_is x_is less (sym thread))
 
-known_of : (h : ObservedHistory) (x : Effect) → IsObserved h → IsEffectOf h.entries x → IsKnown x
-known_of h x observed is =
+cut_entry : (h : ObservedHistory) (x : Effect) → IsObserved h → IsEffectOf h.entries x → IsKnown x
+cut_entry h x observed is =
     let lt : x.index < length h.entries = slice_get_within h.entries x.index x.entry is.is_entry in
     let same : get_or h.entries x.index x.entry ≡ x.entry = get_or_from_slice_get h.entries x.index x.entry x.entry
     is.is_entry in
@@ -444,7 +444,7 @@ right_of h order observed by i j d lt within =
 pub ready_of : (h : ObservedHistory) (end : ℕ) (order : List Effect) → IsObserved h → IsExplainedBy h order →
     All (λ (y : Effect). y.entry.first ≤ end) order → IsReady end 0 [] order
 ready_of h end order observed by begun = record {
-  known = λ k d lt. known_of h (get_or order k d) observed (by.effects k d lt);
+  known = λ k d lt. cut_entry h (get_or order k d) observed (by.effects k d lt);
   right = right_of h order observed by;
   over = λ k d lt. from_start (get_or order k d).entry;
   free = λ k d lt le. none_in_empty (get_or order k d).entry.thread;

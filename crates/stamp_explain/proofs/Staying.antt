@@ -23,8 +23,8 @@ use Rattle.stamp_core.specs.declared.call.Call.TheVariants.{PutIf}
 use Rattle.stamp_core.specs.declared.reply.Reply.{Reply}
 use Rattle.stamp_core.specs.declared.reply.Reply.TheVariants.{Stamp, Yes, No, Done, Mismatch, Count, Content}
 use Rattle.stamp_core.proofs.TwoLayouts.{AreUnits, either_layout}
-use Rattle.stamp_explain.specs.Observer.{changes_nothing}
-use Rattle.stamp_explain.specs.ExplainLaws.{ObserversChangeNothing}
+use Rattle.stamp_explain.specs.Unchanging.{changes_nothing}
+use Rattle.stamp_explain.specs.ExplainLaws.{UnchangingCallsChangeNothing}
 
 -- where it has this reply, the transition appends nothing
 record Stays (t : Option Transition) (reply : Reply) : Type 0 where
@@ -237,8 +237,8 @@ appended_none limits events content call reply are h replies =
         no_lock (PutIf expected words) e = refl
         no_lock _ e = absurd (not_true (sym e))
 
-pub observers_change_nothing : ObserversChangeNothing
-observers_change_nothing limits call reply s t h steps =
+pub unchanging_calls_change_nothing : UnchangingCallsChangeNothing
+unchanging_calls_change_nothing limits call reply s t h steps =
     steps.next ∙ both (s.0 ++ appended_by (transition limits s.0 call)) (content_next s.1 call reply)
     (none_more s.0 (appended_by (transition limits s.0 call))
     (appended_none limits s.0 s.1 call reply (laid_out limits.layout) h steps.replies))

@@ -14,8 +14,8 @@ use Rattle.stamp_explain.specs.declared.timeline.Timeline.{Timeline}
 use Rattle.stamp_core.specs.declared.reply.Reply.{Reply}
 use Rattle.stamp_explain.specs.Observed.{ObservedHistory, IsObserved, HasReturned, IsBefore, AllowsReply}
 use Rattle.stamp_explain.specs.Explained.{Effect}
-use Rattle.stamp_explain.specs.Observer.{changes_nothing, observes_by, observes, observes_in, observes_at}
-use Rattle.stamp_explain.specs.Observer.{asks_in, asks_at}
+use Rattle.stamp_explain.specs.Unchanging.{changes_nothing, unchanging_by, is_unchanging, unchanging_in, is_unchanging_at}
+use Rattle.stamp_explain.specs.Unchanging.{asks_in, asks_at}
 use Rattle.stamp_explain.specs.Search.{LockState, LockSteps, MayTake}
 use Rattle.stamp_explain.specs.Search.{StandsBefore}
 use Rattle.stamp_explain.specs.Ahead.{GivesWay}
@@ -26,8 +26,8 @@ use Rattle.stamp_explain.specs.Expand.{GoesOn, Expands, ComesNext, ComesNextBy, 
 use Rattle.stamp_explain.specs.Expand.{ComesAfter, IsChoiceOf, IsNoChoice, IsNotInEffect, NoneIsAtOnceAt, PassesTo}
 use Rattle.stamp_explain.specs.Expand.{Suffice}
 use Rattle.stamp_explain.proofs.Searching.{CompletesIn}
-use Rattle.stamp_explain.proofs.Staying.{observers_change_nothing}
-use Rattle.stamp_explain.proofs.Observing.{TakesAtOnce, takes_at_once}
+use Rattle.stamp_explain.proofs.Staying.{unchanging_calls_change_nothing}
+use Rattle.stamp_explain.proofs.AtOnce.{TakesAtOnce, takes_at_once}
 use Rattle.stamp_explain.proofs.Settling.{follows_of, suffices_settled}
 use Rattle.stamp_explain.proofs.Expanding.{next_open, open_may, same_read}
 use Rattle.stamp_explain.proofs.Lists.{none_in_empty, each_push, either_in}
@@ -80,11 +80,11 @@ none_by_took h asked returns node calls k before took = none_of_more h asked ret
 
 -- it does not tell that it changes nothing
 pub none_by_change : (h : ObservedHistory) (asked : Option ℕ) (returns : List ℕ) (node : Node) (calls : List ℕ)
-    (k : ℕ) → NoneOfFirst h asked returns node calls k → observes_at h.entries (get_or calls k 0) ≡ false →
+    (k : ℕ) → NoneOfFirst h asked returns node calls k → is_unchanging_at h.entries (get_or calls k 0) ≡ false →
     NoneOfFirst h asked returns node calls (k + 1)
 none_by_change h asked returns node calls k before silent = none_of_more h asked returns node calls k before
-    (λ a s taken awaited stands x t at_once is may. false_true (sym silent ∙ ap (observes_at h.entries) is ∙
-    ap observes_in may.effect.is_entry ∙ at_once.tells))
+    (λ a s taken awaited stands x t at_once is may. false_true (sym silent ∙ ap (is_unchanging_at h.entries) is ∙
+    ap unchanging_in may.effect.is_entry ∙ at_once.tells))
   where
     false_true : false ≡ true → ⊥
     false_true h = cc
@@ -202,32 +202,32 @@ choice_leads h asked timeline node a calls i w is bit none are awaited at choice
     }))
 
 -- an observation tells that it changed nothing
-observes_so : (e : Observation) (reply : Reply) → observes e ≡ true → AllowsReply e reply →
+unchanging_so : (e : Observation) (reply : Reply) → is_unchanging e ≡ true → AllowsReply e reply →
     HasReturned e × (changes_nothing e.call reply ≡ true)
-observes_so e reply is may = by e.returned refl is may
+unchanging_so e reply is may = by e.returned refl is may
   where
     false_true : false ≡ true → ⊥
     false_true h = cc
 
-    by : (o : Option Returned) → e.returned ≡ o → observes_by e.call o ≡ true →
+    by : (o : Option Returned) → e.returned ≡ o → unchanging_by e.call o ≡ true →
         MatchOption o (Unit {0}) (λ (r : Returned). r.reply ≡ reply) →
         HasReturned e × (changes_nothing e.call reply ≡ true)
     by None at is may = absurd (false_true is)
     by (Some r) at is may = ((r, at), ap (changes_nothing e.call) (sym may) ∙ is)
 
 -- a call that changes nothing takes effect at once
-observing : (h : ObservedHistory) (returns : List ℕ) (node : Node) (a : Observation) (i : ℕ) (w : Next) (s : LockState)
-    (taken : List ℕ) → observes_at h.entries i ≡ true → (to : IsTakenTo h returns node a i s taken w) →
-    observes to.effect.entry ≡ true
-observing h returns node a i w s taken observer to =
-    ap observes_in (sym to.may.effect.is_entry) ∙ ap (observes_at h.entries) to.index ∙ observer
+tells_unchanging : (h : ObservedHistory) (returns : List ℕ) (node : Node) (a : Observation) (i : ℕ) (w : Next) (s : LockState)
+    (taken : List ℕ) → is_unchanging_at h.entries i ≡ true → (to : IsTakenTo h returns node a i s taken w) →
+    is_unchanging to.effect.entry ≡ true
+tells_unchanging h returns node a i w s taken unchanging to =
+    ap unchanging_in (sym to.may.effect.is_entry) ∙ ap (is_unchanging_at h.entries) to.index ∙ unchanging
 
 pub leads_at_once : (h : ObservedHistory) (asked : Option ℕ) (timeline : Timeline) (node : Node) (a : Observation)
     (calls : List ℕ) (k : ℕ) (w : Next) → Awaits h timeline node a → bit_at node.threads a.thread ≢ 1 →
     AreOpen h timeline.returns.items node.past calls → NoneOfFirst h asked timeline.returns.items node calls k →
-    k < length calls → observes_at h.entries (get_or calls k 0) ≡ true → asked ≢ Some (get_or calls k 0) →
+    k < length calls → is_unchanging_at h.entries (get_or calls k 0) ≡ true → asked ≢ Some (get_or calls k 0) →
     Took h timeline.returns.items node (get_or calls k 0) (Some w) → ComesNext h asked timeline.returns.items node w
-leads_at_once h asked timeline node a calls k w is bit are before inside observer other took = record {
+leads_at_once h asked timeline node a calls k w is bit are before inside unchanging other took = record {
   inside = is.inside;
   leads = λ s taken stands. by s taken stands (took.takes a s taken (awaited_at h timeline node a is) stands);
 }
@@ -241,14 +241,14 @@ leads_at_once h asked timeline node a calls k w is bit are before inside observe
     by s taken stands to = leads_by_call h asked timeline node a i s taken w is bit stands to (inl
         (first_at_once h asked timeline node a s taken calls k to.effect is stands are before inside (sym to.index)
         (record {
-          tells = observing h timeline.returns.items node a i w s taken observer to;
+          tells = tells_unchanging h timeline.returns.items node a i w s taken unchanging to;
           other = λ same. other (same ∙ ap (λ (k : ℕ). Some k) to.index);
         })))
 
 pub suffices_at_once : (h : ObservedHistory) (timeline : Timeline) (node : Node) (a : Observation) (i : ℕ)
-    (w : Next) → Awaits h timeline node a → observes_at h.entries i ≡ true →
+    (w : Next) → Awaits h timeline node a → is_unchanging_at h.entries i ≡ true →
     Took h timeline.returns.items node i (Some w) → Suffice h timeline.returns.items node (w ∷ [])
-suffices_at_once h timeline node a i w is observer takes n hope =
+suffices_at_once h timeline node a i w is unchanging takes n hope =
     goes (takes.takes a hope.state hope.taken (awaited_at h timeline node a is) hope.stands)
   where
     goes : IsTakenTo h timeline.returns.items node a i hope.state hope.taken w →
@@ -256,17 +256,17 @@ suffices_at_once h timeline node a i w is observer takes n hope =
     goes took =
         let x : Effect = took.effect in
         let tells : HasReturned x.entry × (changes_nothing x.entry.call x.reply ≡ true) =
-        observes_so x.entry x.reply
-        (observing h timeline.returns.items node a i w hope.state hope.taken observer took) took.may.effect.replies in
+        unchanging_so x.entry x.reply
+        (tells_unchanging h timeline.returns.items node a i w hope.state hope.taken unchanging took) took.may.effect.replies in
         let once : TakesAtOnce (LockSteps h.limits) h.entries (drop node.past timeline.returns.items) hope.state
         (x.index ∷ hope.taken) n =
         takes_at_once (LockSteps h.limits) h.entries (drop node.past timeline.returns.items) hope.state hope.taken x n
         took.may.effect tells.0
-        (λ s t steps. observers_change_nothing h.limits x.entry.call x.reply s t tells.1 steps) took.may.fresh
+        (λ s t steps. unchanging_calls_change_nothing h.limits x.entry.call x.reply s t tells.1 steps) took.may.fresh
         (due h timeline node hope.state hope.taken x.index x.entry is.timeline_is hope.stands took.may.effect.is_entry
         tells.0 took.may.fresh)
         (record { rest = hope.rest; by = hope.by; moves = hope.moves }) in
-        let same : took.state ≡ hope.state = observers_change_nothing h.limits x.entry.call x.reply hope.state
+        let same : took.state ≡ hope.state = unchanging_calls_change_nothing h.limits x.entry.call x.reply hope.state
         took.state tells.1 took.may.steps in
         let P : List ℕ → Type 0 = λ (to_come : List ℕ). CompletesIn (LockSteps h.limits) h.entries to_come hope.state
         (x.index ∷ hope.taken) once.left in
@@ -278,18 +278,18 @@ suffices_at_once h timeline node a i w is observer takes n hope =
 pub expands_at_once : (h : ObservedHistory) (timeline : Timeline) (node : Node) (a : Observation) (calls : List ℕ)
     (k : ℕ) (w next : Next) → Awaits h timeline node a → bit_at node.threads a.thread ≢ 1 →
     AreOpen h timeline.returns.items node.past calls → NoneOfFirst h None timeline.returns.items node calls k →
-    k < length calls → observes_at h.entries (get_or calls k 0) ≡ true →
+    k < length calls → is_unchanging_at h.entries (get_or calls k 0) ≡ true →
     Took h timeline.returns.items node (get_or calls k 0) (Some w) →
     PassesTo h timeline.returns.items w.node next.node → next.took ≡ w.took →
     IsNotInEffect h timeline.returns.items next.node → Expands h timeline.returns.items node (next ∷ [])
-expands_at_once h timeline node a calls k w next is bit are before inside observer takes passes took settled =
+expands_at_once h timeline node a calls k w next is bit are before inside unchanging takes passes took settled =
     record {
       each = λ v has. subst (λ (n : Next). ComesAfter h None timeline.returns.items node n) (only_one next v has)
           (follows_of h None timeline.returns.items node w next
-          (leads_at_once h None timeline node a calls k w is bit are before inside observer
+          (leads_at_once h None timeline node a calls k w is bit are before inside unchanging
           (λ same. none-some (get_or calls k 0) same) takes) passes took settled);
       whole = suffices_settled h timeline.returns.items node w next passes
-          (suffices_at_once h timeline node a (get_or calls k 0) w is observer takes);
+          (suffices_at_once h timeline node a (get_or calls k 0) w is unchanging takes);
     }
 
 -- of the last k of these calls those that are tried lead to these nodes

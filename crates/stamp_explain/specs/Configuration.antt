@@ -11,7 +11,7 @@ use Rattle.stamp_core.specs.declared.reply.Reply.{Reply}
 use Rattle.stamp_core.specs.declared.reply.Reply.TheVariants.{Yes}
 use Rattle.stamp_explain.specs.declared.observed.Observation.{Observation}
 use Rattle.stamp_explain.specs.Observed.{ObservedHistory, AreOfOneObject, IsBefore, of_lock, of_record}
-use Rattle.stamp_explain.specs.Observer.{observes, is_open_question}
+use Rattle.stamp_explain.specs.Unchanging.{is_unchanging, is_open_question}
 use Rattle.stamp_explain.specs.Explained.{Effect, IsExplained}
 use Rattle.stamp_explain.specs.Ahead.{IsAhead}
 use Rattle.stamp_explain.specs.Search.{LockState, LockSteps, CanComplete, MayTake, AreReturns, StandsBefore}
@@ -25,7 +25,7 @@ put_after put i _ _ = put
 
 -- a call that tells that it changes nothing, and takes effect at once: all but the one that is asked, if one is
 pub record IsAtOnce (asked : Option ℕ) (x : Effect) : Type 0 where
-  pub tells : observes x.entry ≡ true
+  pub tells : is_unchanging x.entry ≡ true
   pub other : asked ≢ Some x.index
 
 -- of those that may take effect so, the one that returned first

@@ -13,17 +13,17 @@ returned_by last bound i None = false
 returned_by last bound i (Some r) = nat_lt r.last last || ((r.last == last) && nat_lt i bound)
 
 -- what returned later is still under way
-abbrev pub known_of : ℕ → ℕ → ℕ → Observation → Observation
-known_of last bound i e = if returned_by last bound i e.returned then e else record e { returned = None }
+abbrev pub cut_entry : ℕ → ℕ → ℕ → Observation → Observation
+cut_entry last bound i e = if returned_by last bound i e.returned then e else record e { returned = None }
 
-abbrev pub known_from : ℕ → ℕ → ℕ → List Observation → List Observation
-known_from last bound i [] = []
-known_from last bound i (e ∷ es) = known_of last bound i e ∷ known_from last bound (i + 1) es
+abbrev pub cut_entries : ℕ → ℕ → ℕ → List Observation → List Observation
+cut_entries last bound i [] = []
+cut_entries last bound i (e ∷ es) = cut_entry last bound i e ∷ cut_entries last bound (i + 1) es
 
 -- the history as it is known then. A call that begins later is under way here too, which explains no more:
 -- all that returned is before it
 abbrev pub cut : ℕ → ℕ → ObservedHistory → ObservedHistory
-cut last bound h = record h { entries = known_from last bound 0 h.entries }
+cut last bound h = record h { entries = cut_entries last bound 0 h.entries }
 
 -- as it is known when this entry has returned, and just before
 abbrev pub cut_after : Returned → ℕ → ObservedHistory → ObservedHistory
@@ -42,7 +42,7 @@ place_then last i es = length (begun_by last (take i es))
 
 -- what an observer has seen then: a call that begins later isn't there
 abbrev pub seen_at : ℕ → ℕ → ObservedHistory → ObservedHistory
-seen_at last bound h = record h { entries = begun_by last (known_from last bound 0 h.entries) }
+seen_at last bound h = record h { entries = begun_by last (cut_entries last bound 0 h.entries) }
 
 -- the history is explained until this entry returns, and no longer
 pub record IsStuck (h : ObservedHistory) (i : ℕ) : Type 0 where

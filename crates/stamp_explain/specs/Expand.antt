@@ -14,7 +14,7 @@ use Rattle.stamp_explain.specs.declared.found.Found.{Found}
 use Rattle.stamp_explain.specs.declared.found.Found.TheVariants.{Order, Nothing, Undecided}
 use Rattle.stamp_explain.specs.declared.timeline.Timeline.{Timeline}
 use Rattle.stamp_explain.specs.Observed.{ObservedHistory, IsObserved, AreOfOneObject}
-use Rattle.stamp_explain.specs.Observer.{asks_at}
+use Rattle.stamp_explain.specs.Unchanging.{asks_at}
 use Rattle.stamp_explain.specs.Ahead.{GivesWay}
 use Rattle.stamp_explain.specs.Explained.{Effect, IsEffectOf, IsExplained}
 use Rattle.stamp_explain.specs.Search.{LockState, LockSteps, MayTake, IsCompletedBy}

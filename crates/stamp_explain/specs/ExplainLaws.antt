@@ -18,7 +18,7 @@ use Rattle.stamp_explain.specs.Search.{LockSteps, LockAlone, RecordAlone, first_
 use Rattle.stamp_explain.specs.Search.{IsReturnAt}
 use Rattle.stamp_explain.specs.Configuration.{Configuration, IsAlive, GivesUp}
 use Rattle.stamp_core.specs.Content.{zeros}
-use Rattle.stamp_explain.specs.Observer.{changes_nothing, is_open_question}
+use Rattle.stamp_explain.specs.Unchanging.{changes_nothing, is_open_question}
 
 -- Each cut of an explained history is explained.
 abbrev pub CutsStayExplained : Type 0
@@ -45,14 +45,14 @@ JustInTime =
     IsExplained h ↔ FindsOrder (LockSteps h.limits) h.entries returns (first_state h.width) []
 
 -- A call whose reply tells that it changes nothing changes nothing.
-abbrev pub ObserversChangeNothing : Type 0
-ObserversChangeNothing =
+abbrev pub UnchangingCallsChangeNothing : Type 0
+UnchangingCallsChangeNothing =
     (limits : Bounds) (call : Call) (reply : Reply) (s t : LockState) →
     changes_nothing call reply ≡ true → LockSteps limits s (call, reply) t → t ≡ s
 
 -- So once it may take effect, nothing is lost if it does.
-abbrev pub ObserversAtOnce : Type 0
-ObserversAtOnce =
+abbrev pub UnchangingCallsAtOnce : Type 0
+UnchangingCallsAtOnce =
     (limits : Bounds) (entries : List Observation) (awaited : Observation) (to_come : List ℕ) (s t : LockState)
     (taken : List ℕ) (x : Effect) →
     MayTake (LockSteps limits) entries awaited s taken x t → HasReturned x.entry →

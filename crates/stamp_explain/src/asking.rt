@@ -16,7 +16,7 @@ ghost use Rattle.stamp_explain.specs.Asking.{Adds, AreAsked, AreLed, AreMore, Ar
 use crate::cut::seen_at;
 use crate::node::{Next, Node, Origin};
 use crate::observed::{Observation, Observed, Returned};
-use crate::observer::observes_at;
+use crate::unchanging::is_unchanging_at;
 use crate::search::{choice_of, opening, settled, take_of};
 use crate::soundness::is_before;
 use crate::stepping::step_of;
@@ -111,14 +111,14 @@ fn add(replies: &mut Vec<Reply>, reply: Reply) -> Result<(), AllocError>
 }
 
 /// The one node that comes next, where another open call takes effect that changes nothing.
-fn observed_beside(asking: &Asking, node: &Node) -> Option<Next>
+fn unchanging_beside(asking: &Asking, node: &Node) -> Option<Next>
     requires { MayGoOnBeside asking.now node.now }
     ensures leads { IfSome result (λ next. ComesNextBeside asking.now node.now next) }
     ensures one { IfSome result (λ next. SufficeBeside asking.now node.now (next ∷ [])) }
     ensures none { IfNone result (NoneIsAtOnceBeside asking.now node.now) }
 {
     for i in asking.timeline.opens[node.past].as_slice() {
-        if *i != asking.place && observes_at(&asking.seen, *i) {
+        if *i != asking.place && is_unchanging_at(&asking.seen, *i) {
             if let Some(next) = take_of(&asking.seen, node, *i) {
                 return Some(settled(&asking.seen, &asking.timeline, &next));
             }
@@ -181,7 +181,7 @@ fn go_on(
     ensures whole { IfOk result (λ _. SufficeUnless asking.now node.now nexts.new.items replies.new.items) }
 {
     nexts.clear();
-    if let Some(next) = observed_beside(asking, node) {
+    if let Some(next) = unchanging_beside(asking, node) {
         nexts.push(next)?;
         return Ok(());
     }

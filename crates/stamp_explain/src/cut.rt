@@ -1,14 +1,14 @@
 //! What is known of a history when a call has returned.
 ghost use Rattle.std.specs.Prelude.{◌≡◌, IfOk};
-ghost use Rattle.stamp_explain.specs.Cut.{known_of, seen_at};
+ghost use Rattle.stamp_explain.specs.Cut.{cut_entry, seen_at};
 ghost use Rattle.stamp_explain.specs.Observed.{IsObserved};
 
 use crate::observed::{Observation, Observed};
 use std::alloc::{AllocError, Global};
 
 /// The call as it is known then: one that returns later is under way.
-fn known_of(entry: &Observation, last: u64, bound: usize, i: usize) -> Observation
-    ensures { result ≡ known_of last bound i entry.now }
+fn cut_entry(entry: &Observation, last: u64, bound: usize, i: usize) -> Observation
+    ensures { result ≡ cut_entry last bound i entry.now }
 {
     let Some(returned) = &entry.returned else {
         return *entry;
@@ -38,7 +38,7 @@ pub(crate) fn seen_at(
     let mut seen = Vec::new(alloc);
     for (i, entry) in observed.entries().iter().enumerate() {
         if entry.first <= last {
-            seen.push(known_of(entry, last, bound, i))?;
+            seen.push(cut_entry(entry, last, bound, i))?;
         }
     }
     match Observed::of(observed.limits(), observed.width(), seen) {

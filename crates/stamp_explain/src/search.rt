@@ -13,7 +13,7 @@ use crate::ahead::gives_way;
 use crate::found::Found;
 use crate::node::{Next, Node, Origin, Waiting, has_bit, with_bit, without_bit};
 use crate::observed::{Observed, are_of_one_object};
-use crate::observer::{asks_at, observes_at};
+use crate::unchanging::{asks_at, is_unchanging_at};
 use crate::order::order_to;
 use crate::stepping::step_of;
 use crate::store::Store;
@@ -116,7 +116,7 @@ fn at_once(observed: &Observed, timeline: &Timeline, node: &Node) -> Option<Next
     ensures none { IfNone result (NoneIsAtOnceAt observed.now None timeline.now.returns.items node.now) }
 {
     for i in timeline.opens[node.past].as_slice() {
-        if observes_at(observed, *i) {
+        if is_unchanging_at(observed, *i) {
             if let Some(next) = take_of(observed, node, *i) {
                 return Some(settled(observed, timeline, &next));
             }

@@ -6,15 +6,15 @@ ghost use Rattle.timings.specs.Cycle.{cycle};
 use stamp_core::Call;
 
 /// How many calls there are before they come again.
-pub const TURNS: u64 = 20;
+pub const CYCLE: u64 = 20;
 
-/// The call whose turn it is. Those that take a stamp are given this one.
-pub fn call_at(turn: u64, stamp: u64) -> Call
-    requires { turn < TURNS }
-    ensures call { slice_get (cycle stamp) turn ≡ Some result }
+/// The call at this place of the cycle. Those that take a stamp are given this one.
+pub fn call_at(at: u64, stamp: u64) -> Call
+    requires { at < CYCLE }
+    ensures call { slice_get (cycle stamp) at ≡ Some result }
     ensures lock_call { IsTrue (is_lock_call result) }
 {
-    match turn {
+    match at {
         0 => Call::Optimistic,
         1 => Call::Validate(stamp),
         2 => Call::TryRead,

@@ -1,7 +1,7 @@
 //! A record whose entries are linearized.
 
-use crate::check::calls::{ALL_TURNS, call_at};
-use crate::cycle::TURNS;
+use crate::check::calls::{WHOLE_CYCLE, call_at};
+use crate::cycle::CYCLE;
 use crate::words::all_of;
 use stamp_core::{Call, Entry, Limits, Record, Reply, Word, step};
 use std::alloc::{AllocError, Global};
@@ -55,8 +55,8 @@ fn record_answers(width: u64, at: At, call: &Call) -> Option<(At, Reply)> {
 }
 
 /// The call, its reply, and where it leaves lock and record; nothing where it waits.
-fn answered(limits: Limits, width: u64, at: At, turn: u64) -> Option<(At, Call, Reply)> {
-    let call = call_at(turn, width, at.stamp, at.number.wrapping_add(1))?;
+fn answered(limits: Limits, width: u64, at: At, place: u64) -> Option<(At, Call, Reply)> {
+    let call = call_at(place, width, at.stamp, at.number.wrapping_add(1))?;
     let (next, reply) = if call.is_lock_call() {
         lock_answers(limits, at, &call)?
     } else {
@@ -72,7 +72,7 @@ pub fn record_of(
     width: u64,
     calls: u64,
 ) -> Result<Option<Record>, AllocError> {
-    let turns = if width == 0 { TURNS } else { ALL_TURNS };
+    let cycle = if width == 0 { CYCLE } else { WHOLE_CYCLE };
     let mut at = At {
         bits: Word::opening_in(limits.layout()).bits(),
         stamp: 0,
@@ -80,7 +80,7 @@ pub fn record_of(
     };
     let mut entries = Vec::new(alloc);
     for i in 0..calls {
-        if let Some((next, call, reply)) = answered(limits, width, at, i % turns) {
+        if let Some((next, call, reply)) = answered(limits, width, at, i % cycle) {
             let first = i.wrapping_mul(3);
             entries.push(Entry {
                 thread: i % 64,

@@ -2,7 +2,7 @@
 ghost use Rattle.std.specs.Prelude.{◌≡◌};
 ghost use Rattle.timings.specs.DecidedRun.{run_after, taken, answered, last_stamp, reply_number};
 
-use crate::cycle::{TURNS, call_at};
+use crate::cycle::{CYCLE, call_at};
 use stamp_core::{Decision, Limits, Reply, Word, decide};
 
 /// How far a run has come.
@@ -71,7 +71,7 @@ pub fn run_of(limits: Limits, calls: u64) -> Run
         sum: 0,
     };
     for i in 0..calls {
-        let call = call_at(i % TURNS, run.stamp);
+        let call = call_at(i % CYCLE, run.stamp);
         let word = limits.word(run.number);
         run = run.taken(decide(limits, word, call));
     }

@@ -2,14 +2,14 @@ use Rattle.std.proofs.Common.{◌≡◌, ℕ, List, true, false, length, sym, ap
 use Rattle.stamp_core.specs.Limits.{Bounds}
 use Rattle.stamp_explain.specs.declared.observed.Observation.{Observation}
 use Rattle.stamp_explain.specs.Observed.{IsSmall, observed_as}
-use Rattle.stamp_explain.specs.Cut.{begun_by, known_from, seen_at}
+use Rattle.stamp_explain.specs.Cut.{begun_by, cut_entries, seen_at}
 use Rattle.stamp_explain.proofs.Seeing.{seen_is_small, all_seen}
 use Rattle.stamp_explain.proofs.cut.seen_at.Goals as goal
 
 pub unreachable-requires : goal.unreachable-requires
 unreachable-requires c =
     let h = c.args.observed.now in
-    let seen : c.loop-i.seen.items ≡ begun_by c.args.last (known_from c.args.last c.args.bound 0 h.entries) =
+    let seen : c.loop-i.seen.items ≡ begun_by c.args.last (cut_entries c.args.last c.args.bound 0 h.entries) =
     all_seen c.args.last c.args.bound c.loop-i.i h.entries c.loop-i.seen.items c.loop-i.invariant
     (omega (
       arith,

@@ -3,7 +3,7 @@ use Rattle.stamp_explain.proofs.Awaiting.{AwaitsOne, awaits_one, open_read, open
 use Rattle.stamp_explain.proofs.Succeeding.{expands_at_once}
 use Rattle.stamp_explain.proofs.Succeeding.{none_at_once, none_by_change, none_by_took}
 use Rattle.stamp_explain.proofs.search.at_once.Goals as goal
-use Rattle.stamp_explain.proofs.search.at_once.Goals.{then-observes_at+in_default, else-observes_at}
+use Rattle.stamp_explain.proofs.search.at_once.Goals.{then-is_unchanging_at+in_default, else-is_unchanging_at}
 
 pub returns-in-Some-clause-one : goal.returns-in-Some-clause-one
 returns-in-Some-clause-one c =
@@ -16,7 +16,7 @@ returns-in-Some-clause-one c =
     c.in-Some.next c.settled.result there.awaits there.bit
     (opens_read h c.args.timeline.now node.past c.index.result.now c.as_slice-i-items.result.now
     c.requires.at.is_timeline c.requires.at.past c.index.ensures c.as_slice-i-items.ensures.value)
-    c.loop-i.invariant c.loop-i-test.true (sym c.observes_at.ensures ∙ c.if-observes_at.true)
+    c.loop-i.invariant c.loop-i-test.true (sym c.is_unchanging_at.ensures ∙ c.if-is_unchanging_at.true)
     (c.in-Some.ensures c.args.timeline.now.returns.items c.requires.at.is_timeline.are
     (open_read h c.args.timeline.now node.past c.index.result.now c.as_slice-i-items.result.now c.loop-i.i-index
     c.requires.at.is_timeline c.requires.at.past c.index.ensures c.as_slice-i-items.ensures.value
@@ -28,16 +28,16 @@ loop-i-preserved c =
     let returns = c.args.timeline.now.returns.items in
     let node = c.args.node.now in
     let calls = c.as_slice-i-items.result.now in
-    elim c.if-observes_at.branch [
-      | then-observes_at+in_default w ↦
+    elim c.if-is_unchanging_at.branch [
+      | then-is_unchanging_at+in_default w ↦
           none_by_took h None returns node calls c.loop-i.i-index c.loop-i.invariant
           (w.in_default.ensures returns c.requires.at.is_timeline.are
           (open_read h c.args.timeline.now node.past c.index.result.now calls c.loop-i.i-index
           c.requires.at.is_timeline c.requires.at.past c.index.ensures c.as_slice-i-items.ensures.value
           c.loop-i-test.true))
-      | else-observes_at w ↦
+      | else-is_unchanging_at w ↦
           none_by_change h None returns node calls c.loop-i.i-index c.loop-i.invariant
-          (sym c.observes_at.ensures ∙ w.if-observes_at.false)
+          (sym c.is_unchanging_at.ensures ∙ w.if-is_unchanging_at.false)
     ]
 
 pub returns-clause-none : goal.returns-clause-none

@@ -65,17 +65,17 @@ abbrev pub asks_at : List Observation → ℕ → Bool
 asks_at entries i = asks_in (slice_get entries i)
 
 -- the call has returned, and its reply tells that it changed nothing
-abbrev pub observes_by : Call → Option Returned → Bool
-observes_by call None = false
-observes_by call (Some r) = changes_nothing call r.reply
+abbrev pub unchanging_by : Call → Option Returned → Bool
+unchanging_by call None = false
+unchanging_by call (Some r) = changes_nothing call r.reply
 
-abbrev pub observes : Observation → Bool
-observes e = observes_by e.call e.returned
+abbrev pub is_unchanging : Observation → Bool
+is_unchanging e = unchanging_by e.call e.returned
 
-abbrev pub observes_in : Option Observation → Bool
-observes_in None = false
-observes_in (Some e) = observes e
+abbrev pub unchanging_in : Option Observation → Bool
+unchanging_in None = false
+unchanging_in (Some e) = is_unchanging e
 
 -- so does the call of this entry
-abbrev pub observes_at : List Observation → ℕ → Bool
-observes_at entries i = observes_in (slice_get entries i)
+abbrev pub is_unchanging_at : List Observation → ℕ → Bool
+is_unchanging_at entries i = unchanging_in (slice_get entries i)

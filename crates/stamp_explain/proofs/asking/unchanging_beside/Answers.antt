@@ -5,11 +5,11 @@ use Rattle.stamp_explain.proofs.Awaiting.{open_read, opens_read}
 use Rattle.stamp_explain.proofs.Succeeding.{none_at_once, none_by_asked, none_by_change}
 use Rattle.stamp_explain.proofs.Succeeding.{none_by_took}
 use Rattle.stamp_explain.proofs.Beside.{at_once_leads, at_once_suffices}
-use Rattle.stamp_explain.proofs.asking.observed_beside.Goals as goal
-use Rattle.stamp_explain.proofs.asking.observed_beside.Goals.{then-i-asking+then-observes_at+in_default}
-use Rattle.stamp_explain.proofs.asking.observed_beside.Goals.{else-i-asking}
-use Rattle.stamp_explain.proofs.asking.observed_beside.Goals.{else-i-asking-via-then-i-asking+else-observes_at}
-use Rattle.stamp_explain.proofs.asking.observed_beside.Goals.{else-i-asking-via-else-i-asking}
+use Rattle.stamp_explain.proofs.asking.unchanging_beside.Goals as goal
+use Rattle.stamp_explain.proofs.asking.unchanging_beside.Goals.{then-i-asking+then-is_unchanging_at+in_default}
+use Rattle.stamp_explain.proofs.asking.unchanging_beside.Goals.{else-i-asking}
+use Rattle.stamp_explain.proofs.asking.unchanging_beside.Goals.{else-i-asking-via-then-i-asking+else-is_unchanging_at}
+use Rattle.stamp_explain.proofs.asking.unchanging_beside.Goals.{else-i-asking-via-else-i-asking}
 
 pub returns-in-Some-clause-leads : goal.returns-in-Some-clause-leads
 returns-in-Some-clause-leads c =
@@ -25,7 +25,7 @@ returns-in-Some-clause-leads c =
     there.awaits c.requires.reached.reached there.bit
     (opens_read asking.seen asking.timeline node.past c.index.result.now c.as_slice-i-items.result.now
     c.requires.asks.timeline c.requires.past c.index.ensures c.as_slice-i-items.ensures.value)
-    c.loop-i.invariant c.loop-i-test.true (sym c.observes_at.ensures ∙ c.if-observes_at.true)
+    c.loop-i.invariant c.loop-i-test.true (sym c.is_unchanging_at.ensures ∙ c.if-is_unchanging_at.true)
     (c.in-Some.ensures asking.timeline.returns.items c.requires.asks.timeline.are
     (open_read asking.seen asking.timeline node.past c.index.result.now c.as_slice-i-items.result.now
     c.loop-i.i-index c.requires.asks.timeline c.requires.past c.index.ensures c.as_slice-i-items.ensures.value
@@ -53,7 +53,7 @@ returns-in-Some-clause-one c =
     at_once_suffices asking node there.entry (get_or c.as_slice-i-items.result.now c.loop-i.i-index 0) c.in-Some.next
     c.settled.result
     c.requires.asks there.awaits it.entry it.is_entry
-    (sym c.observes_at.ensures ∙ c.if-observes_at.true)
+    (sym c.is_unchanging_at.ensures ∙ c.if-is_unchanging_at.true)
     (c.in-Some.ensures asking.timeline.returns.items c.requires.asks.timeline.are it) other
     (record {
       passes = c.settled.ensures.passes;
@@ -78,16 +78,16 @@ loop-i-preserved c =
     let calls = c.as_slice-i-items.result.now in
     let k = c.loop-i.i-index in
     elim c.if-i-asking.branch [
-      | then-i-asking+then-observes_at+in_default w ↦
+      | then-i-asking+then-is_unchanging_at+in_default w ↦
           none_by_took asking.seen (Some asking.place) returns node calls k c.loop-i.invariant
           (w.in_default.ensures returns c.requires.asks.timeline.are
           (open_read asking.seen asking.timeline node.past c.index.result.now calls k c.requires.asks.timeline
           c.requires.past c.index.ensures c.as_slice-i-items.ensures.value c.loop-i-test.true))
       | else-i-asking w ↦
           elim w.else-i-asking.branch [
-            | else-i-asking-via-then-i-asking+else-observes_at v ↦
+            | else-i-asking-via-then-i-asking+else-is_unchanging_at v ↦
                 none_by_change asking.seen (Some asking.place) returns node calls k c.loop-i.invariant
-                (sym v.observes_at.ensures ∙ v.if-observes_at.false)
+                (sym v.is_unchanging_at.ensures ∙ v.if-is_unchanging_at.false)
             | else-i-asking-via-else-i-asking v ↦
                 none_by_asked asking.seen asking.place returns node calls k c.loop-i.invariant
                 (omega (arith, v.if-i-asking.false))

@@ -12,11 +12,11 @@ use Rattle.stamp_explain.specs.declared.observed.Returned.{Returned}
 use Rattle.stamp_explain.specs.Observed.{AllowsReply, HasReturned}
 use Rattle.stamp_explain.specs.Explained.{Effect, IsEffectOf, history_of, indices_of, AreApart, RespectsBefore}
 use Rattle.stamp_explain.specs.Search.{Runs, IsCompletedBy, LockSteps}
-use Rattle.stamp_explain.specs.ExplainLaws.{ObserversAtOnce}
+use Rattle.stamp_explain.specs.ExplainLaws.{UnchangingCallsAtOnce}
 use Rattle.stamp_explain.proofs.Lists.{none_in_empty, contains_cases, contains_first, contains_rest, pairs_head}
 use Rattle.stamp_explain.proofs.Lists.{pairs_tail, pairs_cons}
 use Rattle.stamp_explain.proofs.Searching.{CompletesIn}
-use Rattle.stamp_explain.proofs.Staying.{observers_change_nothing}
+use Rattle.stamp_explain.proofs.Staying.{unchanging_calls_change_nothing}
 
 -- the elements of the second list are of the first, in the same order
 data IsPart {X : Type 0} : List X → List X → Type 0 where
@@ -174,11 +174,11 @@ at_once {S} step entries to_come s taken x rest is returned nothing by = record 
         which (inl same) = inl (contains_first x.index taken j (sym same))
         which (inr other) = inr (left.whole j other has)
 
-pub observers_at_once : ObserversAtOnce
-observers_at_once limits entries awaited to_come s t taken x may returned h can =
+pub unchanging_calls_at_once : UnchangingCallsAtOnce
+unchanging_calls_at_once limits entries awaited to_come s t taken x may returned h can =
     let now : AtOnce (LockSteps limits) entries to_come s taken x.index can.rest =
     at_once (LockSteps limits) entries to_come s taken x can.rest may.effect returned
-    (λ s t steps. observers_change_nothing limits x.entry.call x.reply s t h steps) can.by in
+    (λ s t steps. unchanging_calls_change_nothing limits x.entry.call x.reply s t h steps) can.by in
     record { rest = now.others; by = now.by }
 
 -- so it is a move of a search

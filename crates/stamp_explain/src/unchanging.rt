@@ -1,7 +1,7 @@
 //! Calls whose reply tells that they changed nothing.
 ghost use Rattle.std.specs.Prelude.{◌≡◌, ◌==◌};
 ghost use Rattle.stamp_core.specs.declared.reply.Reply.TheVariants.{Stamp};
-ghost use Rattle.stamp_explain.specs.Observer.{is_this_stamp, changes_nothing, is_question, is_open_question, asks_at, observes, observes_at};
+ghost use Rattle.stamp_explain.specs.Unchanging.{is_this_stamp, changes_nothing, is_question, is_open_question, asks_at, is_unchanging, is_unchanging_at};
 
 use crate::observed::{Observation, Observed};
 use stamp_core::{Call, Reply};
@@ -90,8 +90,8 @@ pub(crate) fn asks_at(observed: &Observed, i: usize) -> bool
 }
 
 /// Whether the call has returned, and its reply tells that it changed nothing.
-fn observes(entry: &Observation) -> bool
-    ensures { result ≡ observes entry.now }
+fn is_unchanging(entry: &Observation) -> bool
+    ensures { result ≡ is_unchanging entry.now }
 {
     match &entry.returned {
         None => false,
@@ -100,11 +100,11 @@ fn observes(entry: &Observation) -> bool
 }
 
 /// Whether the call of this entry is such a one.
-pub(crate) fn observes_at(observed: &Observed, i: usize) -> bool
-    ensures { result ≡ observes_at observed.now.entries i }
+pub(crate) fn is_unchanging_at(observed: &Observed, i: usize) -> bool
+    ensures { result ≡ is_unchanging_at observed.now.entries i }
 {
     match observed.entries().get(i) {
         None => false,
-        Some(entry) => observes(entry),
+        Some(entry) => is_unchanging(entry),
     }
 }
