@@ -12,9 +12,9 @@ use Rattle.stamp_machines.proofs.state.State.step.Goals as goal
 use Rattle.stamp_machines.proofs.state.State.step.Goals.{After-index_mut-worker, After-deref_mut}
 
 -- the thread's next call was begun, if it was in none
-begun : (g : Over) (c : After-index_mut-worker g) →
+next_begun : (g : Over) (c : After-index_mut-worker g) →
     HasBegun g.gone c.args.script.now c.args.self.now c.begin.new.self c.args.thread c.args.position
-begun g c =
+next_begun g c =
     has-begun g.gone _ _ _ _ _ c.requires.1.1.1.0 c.begin.ensures.workers c.begin.ensures.entries
     c.requires.1.1.1.1.1.0 c.begin.ensures.stamps c.begin.ensures.world
 
@@ -25,45 +25,45 @@ returns-in-None-clause-step g c =
     let value : worker ≡ slice_index_or mid.workers.items c.args.thread worker =
     c.index_mut-worker.ensures.value in
     idle-made g.gone _ _ mid _ c.args.thread c.args.position worker
-    (begun g (goal.at.returns-in-None-clause-step g c).After-index_mut-worker)
+    (next_begun g (goal.at.returns-in-None-clause-step g c).After-index_mut-worker)
     (ap (λ (w : Worker). w.begun) (sym value) ∙ c.in-None.is) refl
     (ap (λ (w : Worker). slice_set mid.workers.items c.args.thread w) value
     ∙ set-get_or mid.workers.items c.args.thread worker) refl
 
 -- the call that the worker is in
-is_in : (g : Over) (c : After-deref_mut g) →
+is_in_call : (g : Over) (c : After-deref_mut g) →
     (slice_index_or c.begin.new.self.workers.items c.args.thread c.index_mut-worker.result.now).begun
     ≡ Some c.in-Some.begun
-is_in g c = rw (← c.index_mut-worker.ensures.value) c.in-Some.is
+is_in_call g c = rw (← c.index_mut-worker.ensures.value) c.in-Some.is
 
--- the words before its access
-words_are : (g : Over) (c : After-deref_mut g) → c.deref_mut.result.now ≡ c.begin.new.self.words.items
-words_are g c = grind (arith, common_steps)
+-- the words that its access finds
+words_found : (g : Over) (c : After-deref_mut g) → c.deref_mut.result.now ≡ c.begin.new.self.words.items
+words_found g c = grind (arith, common_steps)
 
 -- its access is safe
-is_safe : (g : Over) (c : After-deref_mut g) →
+access_is_safe : (g : Over) (c : After-deref_mut g) →
     HasBegun g.gone c.args.script.now c.args.self.now c.begin.new.self c.args.thread c.args.position →
     let machine = c.in-Some.begun.machine in
     IsSafeIn machine.shape machine.call machine.phase c.deref_mut.result.now
-is_safe g c begun = rw (words_are g c)
-    (worker-safe g.gone _ _ _ _ _ _ _ begun c.requires.1.0 c.requires.0 c.requires.1.1.0 (is_in g c))
+access_is_safe g c begun = rw (words_found g c)
+    (worker-safe g.gone _ _ _ _ _ _ _ begun c.requires.1.0 c.requires.0 c.requires.1.1.0 (is_in_call g c))
 
 pub access-requires-clause-memory : goal.access-requires-clause-memory
 access-requires-clause-memory g c = let at = goal.at.access-requires-clause-memory g c in
-    (is_safe g at.After-deref_mut (begun g at.After-index_mut-worker)).0
+    (access_is_safe g at.After-deref_mut (next_begun g at.After-index_mut-worker)).0
 
 pub access-requires-clause-word : goal.access-requires-clause-word
 access-requires-clause-word g c = let at = goal.at.access-requires-clause-word g c in
-    (is_safe g at.After-deref_mut (begun g at.After-index_mut-worker)).1
+    (access_is_safe g at.After-deref_mut (next_begun g at.After-index_mut-worker)).1
 
 pub returns-then-not-access-clause-step : goal.returns-then-not-access-clause-step
 returns-then-not-access-clause-step g c =
     let at = goal.at.returns-then-not-access-clause-step g c in
     let mid : State = c.begin.new.self in
-    let words = words_are g at.After-deref_mut in
+    let words = words_found g at.After-deref_mut in
     let many : length c.access.new.words ≡ mid.words.len = grind (arith, common_steps) in
     step-made g.gone _ _ mid _ c.args.thread c.args.position _ _ c.in-Some.begun (Going c.access.new.self)
-    (begun g at.After-index_mut-worker) (is_in g at.After-deref_mut) record {
+    (next_begun g at.After-index_mut-worker) (is_in_call g at.After-deref_mut) record {
       words =
           with_items_is mid.words c.access.new.words many
           ∙ rw words at c.if-not-access.ensures.words;
@@ -78,10 +78,10 @@ pub returns-else-not-access-clause-step : goal.returns-else-not-access-clause-st
 returns-else-not-access-clause-step g c =
     let at = goal.at.returns-else-not-access-clause-step g c in
     let mid : State = c.begin.new.self in
-    let words = words_are g at.After-deref_mut in
+    let words = words_found g at.After-deref_mut in
     let many : length c.access.new.words ≡ mid.words.len = grind (arith, common_steps) in
     step-made g.gone _ _ mid _ c.args.thread c.args.position _ c.end.new.self c.in-Some.begun
-    (Done c.access.new.answer) (begun g at.After-index_mut-worker) (is_in g at.After-deref_mut) record {
+    (Done c.access.new.answer) (next_begun g at.After-index_mut-worker) (is_in_call g at.After-deref_mut) record {
       words =
           with_items_is mid.words c.access.new.words many
           ∙ rw words at c.if-not-access.ensures.words;
