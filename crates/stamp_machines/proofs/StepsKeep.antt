@@ -260,14 +260,29 @@ at_most_one_more limits before lock lock' items content items' content' (inl e) 
 at_most_one_more limits before lock lock' items content items' content' (inr e) =
     elim e.2 [ inl p ↦ omega (arith, p) | inr p ↦ omega (arith, p.1) ]
 
+-- what is known of the call that a thread is in
+abbrev pub ReadyAt : Scripted → World → ℕ → Begun → Type 0
+ReadyAt script world t b =
+    let limits : Bounds = record_limits (shape_of script) in
+    let counts = counts_at limits (slice_index world.words 1) in
+    Ready limits (shape_of script) counts.write_count counts.writers (content_in script world)
+    (drop 2 world.words) (slice_index_or world.begun t None) b
+
+call-ready : (script : Scripted) (world : World) (t : ℕ) (b : Begun) → Invariant script world →
+    IsSound script → current script world t ≡ Some b → (t < length world.begun) × ReadyAt script world t b
+call-ready script world t b k sound e =
+    let limits : Bounds = record_limits (shape_of script) in
+    let fits : FitsIn limits (counts_at limits (slice_index world.words 1)).write_count
+    (counts_at limits (slice_index world.words 1)).writers (content_in script world)
+    (drop 2 world.words) (doing_in (slice_index_or world.begun t None)) =
+    rw (map-index world.begun t) at (k.record_kept.fits t) in
+    current-ready limits script world t _ _ (content_in script world) (drop 2 world.words)
+    (slice_index_or world.begun t None) b sound.suited k.width k.threads refl (k.begun t) fits e
+
 -- what a call of the record may rely on where it stands
 pub record-stands : (script : Scripted) (world : World) (t : ℕ) (b : Begun) (job : Job)
     (place : Place) → Invariant script world → world.position < 1000000 →
-    Ready (record_limits (shape_of script)) (shape_of script)
-    (counts_at (record_limits (shape_of script)) (slice_index world.words 1)).write_count
-    (counts_at (record_limits (shape_of script)) (slice_index world.words 1)).writers
-    (content_in script world) (drop 2 world.words) (slice_index_or world.begun t None) b →
-    b.machine.phase ≡ OnRecord job place →
+    ReadyAt script world t b → b.machine.phase ≡ OnRecord job place →
     Stands (record_limits (shape_of script)) job place (slice_index world.words 1)
     (drop 2 world.words) (content_in script world)
 record-stands script world t b job place k room ready e =
@@ -303,11 +318,7 @@ record-stands script world t b job place k room ready e =
 -- one access of a call
 begun-kept : (script : Scripted) (world : World) (t : ℕ) (b : Begun) (phase : Phase) →
     Invariant script world → IsSound script → world.position < 1000000 → t < length world.begun →
-    Ready (record_limits (shape_of script)) (shape_of script)
-    (counts_at (record_limits (shape_of script)) (slice_index world.words 1)).write_count
-    (counts_at (record_limits (shape_of script)) (slice_index world.words 1)).writers
-    (content_in script world) (drop 2 world.words) (slice_index_or world.begun t None) b →
-    b.machine.phase ≡ phase →
+    ReadyAt script world t b → b.machine.phase ≡ phase →
     Invariant script (world_after world t b
     (words_after (next_in (shape_of script) b.machine.call phase) world.words)
     (after_in (shape_of script) b.machine.call
@@ -389,14 +400,7 @@ stepped-kept script world t None k sound room e =
       few = (let f = k.few in omega (arith, f));
     }
 stepped-kept script world t (Some b) k sound room e =
-    let limits : Bounds = record_limits (shape_of script) in
-    let fits : FitsIn limits (counts_at limits (slice_index world.words 1)).write_count
-    (counts_at limits (slice_index world.words 1)).writers (content_in script world)
-    (drop 2 world.words) (doing_in (slice_index_or world.begun t None)) =
-    rw (map-index world.begun t) at (k.record_kept.fits t) in
-    let r = current-ready limits script world t _ _ (content_in script world) (drop 2 world.words)
-    (slice_index_or world.begun t None) b sound.suited k.width k.threads refl (k.begun t) fits e
-    in
+    let r = call-ready script world t b k sound e in
     of-shape script world t b r.1.of.0
     (begun-kept script world t b b.machine.phase k sound room r.0 r.1 refl)
 
@@ -500,14 +504,7 @@ pub current-safe : (script : Scripted) (world : World) (t : ℕ) (b : Begun) →
     IsSound script → world.position < 1000000 → current script world t ≡ Some b →
     IsSafeIn b.machine.shape b.machine.call b.machine.phase world.words
 current-safe script world t b k sound room e =
-    let limits : Bounds = record_limits (shape_of script) in
-    let fits : FitsIn limits (counts_at limits (slice_index world.words 1)).write_count
-    (counts_at limits (slice_index world.words 1)).writers (content_in script world)
-    (drop 2 world.words) (doing_in (slice_index_or world.begun t None)) =
-    rw (map-index world.begun t) at (k.record_kept.fits t) in
-    let r = current-ready limits script world t _ _ (content_in script world) (drop 2 world.words)
-    (slice_index_or world.begun t None) b sound.suited k.width k.threads refl (k.begun t) fits e
-    in
+    let r = call-ready script world t b k sound e in
     subst (λ (s : Shape). IsSafeIn s b.machine.call b.machine.phase world.words) (sym r.1.of.0)
     (phase-safe script world b.machine.call b.machine.phase k room r.1.fits)
 
@@ -518,20 +515,9 @@ releases : (script : Scripted) (world : World) (t : ℕ) (b : Begun) (job : Job)
     (next_access b.machine ≡ Cas 1 s (s + (units script.limits).writer))
     × (slice_index world.words 1 ≡ s)
 releases script world t b job s r k sound room e at =
-    let limits : Bounds = record_limits (shape_of script) in
-    let fits : FitsIn limits (counts_at limits (slice_index world.words 1)).write_count
-    (counts_at limits (slice_index world.words 1)).writers (content_in script world)
-    (drop 2 world.words) (doing_in (slice_index_or world.begun t None)) =
-    rw (map-index world.begun t) at (k.record_kept.fits t) in
-    let ready = current-ready limits script world t _ _ (content_in script world) (drop 2 world.words)
-    (slice_index_or world.begun t None) b sound.suited k.width k.threads refl (k.begun t) fits e
-    in
-    let stands =
-    record-stands script world t b job (places.Releasing s r) k room ready.1 at in (
-      rw (at, ready.1.of.0) refl,
-      releasing-wins limits job s r (slice_index world.words 1) (drop 2 world.words)
-          (content_in script world) stands,
-    )
+    let ready = (call-ready script world t b k sound e).1 in
+    let stands = record-stands script world t b job (places.Releasing s r) k room ready at in
+    (rw (at, ready.of.0) refl, releasing-wins _ job s r _ _ _ stands)
 
 position-after : (script : Scripted) (world : World) (steps : List ℕ) →
     (fold (step script) world steps).position ≡ world.position + length steps
@@ -560,11 +546,4 @@ execution_of-more script steps t = fold-append (step script) (opening script) st
 pub current-of : (script : Scripted) (world : World) (t : ℕ) (b : Begun) → Invariant script world →
     IsSound script → current script world t ≡ Some b → IsOf (shape_of script) (Some b)
 current-of script world t b k sound e =
-    let limits : Bounds = record_limits (shape_of script) in
-    let fits : FitsIn limits (counts_at limits (slice_index world.words 1)).write_count
-    (counts_at limits (slice_index world.words 1)).writers (content_in script world)
-    (drop 2 world.words) (doing_in (slice_index_or world.begun t None)) =
-    rw (map-index world.begun t) at (k.record_kept.fits t) in
-    (current-ready limits script world t _ _ (content_in script world) (drop 2 world.words)
-    (slice_index_or world.begun t None) b sound.suited k.width k.threads refl (k.begun t) fits
-    e).1.of
+    (call-ready script world t b k sound e).1.of
