@@ -34,8 +34,8 @@ def main():
     bad = f"bad {changed} reply\n".encode()
     assert_answer(output_of([stamped, "check"], json.dumps(history).encode(), status=1), bad)
     threads = [entry["thread"] for entry in entries]
-    turns = sum(a != b for a, b in zip(threads, threads[1:]))
-    print(f"recorded_run: {len(entries)} calls, {turns} turns from thread to thread")
+    changes = sum(a != b for a, b in zip(threads, threads[1:]))
+    print(f"recorded_run: {len(entries)} calls, {changes} changes from thread to thread")
 
 
 main()

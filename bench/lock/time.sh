@@ -17,7 +17,7 @@ cc -O2 -pthread -o "$room/lock_c" "$here/lock.c"
 javac -d "$room" "$here/StampedLockBench.java"
 
 told() { sed "s/^/$1 /" >> "$room/lines"; }
-for turn in 1 2 3; do
+for run in 1 2 3; do
     "$program" lock "$pairs" "$rounds" 2>&1 | told timings
     "$room/lock_c" "$pairs" "$rounds" 2>&1 | told lock_c
     java -cp "$room" StampedLockBench "$pairs" "$rounds" 2>&1 | told StampedLock

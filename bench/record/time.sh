@@ -18,7 +18,7 @@ cc -O2 -pthread -o "$room/record_c" "$here/record.c"
 javac -d "$room" "$here/StampedRecordBench.java"
 
 told() { sed "s/^/$1 /" >> "$room/lines"; }
-for turn in 1 2 3; do
+for run in 1 2 3; do
     "$program" record "$calls" "$rounds" 2>&1 | told timings
     "$room/record_c" "$calls" "$rounds" 2>&1 | told record_c
     java -cp "$room" StampedRecordBench "$calls" "$rounds" 2>&1 | told StampedLock

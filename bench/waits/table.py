@@ -4,8 +4,8 @@ import statistics
 import sys
 
 
-def turns():
-    """The wall and the processor time of each turn, in seconds, by mode and program."""
+def runs():
+    """The wall and the processor time of each run, in seconds, by mode and program."""
     times = collections.defaultdict(list)
     for line in open(sys.argv[1]):
         program, mode, threads, wanted, nanoseconds, made, busy = line.split()
@@ -16,7 +16,7 @@ def turns():
 
 
 def main():
-    times = turns()
+    times = runs()
     print(f"{'mode':8}{'lock':16}{'acquired':>10}{'wall s':>10}{'(least':>10}{'most)':>8}"
           f"{'processor s':>13}{'(least':>10}{'most)':>8}{'us each':>9}{'wall/JDK':>10}{'cpu/JDK':>10}")
     for (mode, program), rows in times.items():

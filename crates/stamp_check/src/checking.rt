@@ -48,7 +48,7 @@ impl fmt::Display for Bad {
 
 impl Error for Bad {}
 
-/// Walks once over the entries of a record, in the order of the list: how many they are, where all
+/// Walks once over the entries of a history, in the order of the list: how many they are, where all
 /// are linearized by their points, and else the first fault. It takes no memory, and does not look
 /// at the report.
 pub fn check(history: &Record) -> Result<u64, Bad>

@@ -7,13 +7,13 @@ use stamp_core::{Call, CoreError, Entry, Layout, Limits, Record, Reply, respell}
 use std::error::Error;
 use std::fmt;
 
-/// Why a record is not migrated (1): an entry was answered a number which is neither 0 nor a stamp of
+/// Why a history is not migrated (1): an entry was answered a number which is neither 0 nor a stamp of
 /// layout 1 of a version up to 2^46-2.
 #[derive(Drop)]
 pub struct BadReply {
     /// The first such entry, counted from 0.
     pub entry: u64,
-    /// The record as it was.
+    /// The history as it was.
     pub unchanged: Record,
 }
 
@@ -125,12 +125,12 @@ fn in_layout_two(history: Record) -> Record
     }
 }
 
-/// The record spelled in layout 2: stamps that calls take and replies keep their kind, version and
+/// The history spelled in layout 2: stamps that calls take and replies keep their kind, version and
 /// place there, and a number that is no stamp, or is of a version that layout 2 has not, becomes 0.
 /// The limits become those of layout 2 with the same readers and the smaller of the two numbers of
-/// versions. A record of layout 2 comes back as it is. One of layout 1 is refused exactly where some
+/// versions. A history of layout 2 comes back as it is. One of layout 1 is refused exactly where some
 /// call was answered a number other than 0 that is no stamp with a place in layout 2; the refusal
-/// returns the record.
+/// returns the history.
 pub fn migrate(history: Record) -> Result<Record, BadReply>
     ensures ok { IsOk result ↔ CanMigrate history }
     ensures migrated { IfOk result (λ r. r ≡ migrated history) }

@@ -8,17 +8,17 @@ pub fn respelling_is_of_stamps()
     ensures { RespellingIsOfStamps }
 {}
 
-/// A migrated record is linearized exactly where the old one is.
+/// A migrated history is linearized exactly where the old one is.
 pub fn migration_keeps_linearized()
     ensures { MigrationKeepsLinearized }
 {}
 
-/// A migrated record has the first fault of the old one, at the same entry.
+/// A migrated history has the first fault of the old one, at the same entry.
 pub fn migration_keeps_faults()
     ensures { MigrationKeepsFaults }
 {}
 
-/// A check says the same of a record and of the migrated one.
+/// A check says the same of a history and of the migrated one.
 pub fn migration_keeps_verdicts()
     ensures { MigrationKeepsVerdicts }
 {}

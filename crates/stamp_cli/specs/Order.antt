@@ -21,8 +21,8 @@ number_in text = if list_all is_ascii_digit text && nat_lt 0 (length text) &&
 abbrev pub layout_in : List ℕ → Option Layout
 layout_in text = if bytes_eq text (codes "1") then Some One else if bytes_eq text (codes "2") then Some Two else None
 
-abbrev pub one_word : List ℕ → Option Order
-one_word word =
+abbrev pub one_arg : List ℕ → Option Order
+one_arg arg =
     if bytes_eq word (codes "replay") then Some Replay
     else if bytes_eq word (codes "run") then Some Run
     else if bytes_eq word (codes "check") then Some Check
@@ -43,7 +43,7 @@ four_args command option layout number =
 
 -- the forms of the command line: replay, run, run --report, check, migrate, stamp N, stamp --layout L N
 abbrev pub form_of : List (List ℕ) → Option Order
-form_of (word ∷ []) = one_word word
+form_of (arg ∷ []) = one_arg arg
 form_of (command ∷ second ∷ []) = two_args command second
 form_of (command ∷ option ∷ layout ∷ number ∷ []) = four_args command option layout number
 form_of _ = None

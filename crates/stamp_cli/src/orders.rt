@@ -18,7 +18,7 @@ pub enum Order {
     Run,
     /// As `Run`, and tells of each finished call the steps it took and what others changed meanwhile.
     RunReported,
-    /// Reads a history and says whether the sequential lock explains it, or its first fault.
+    /// Reads a history and says whether it is linearized by its points, or its first fault.
     Check,
     /// Reads a history and answers it as one of layout 2.
     Migrate,
@@ -73,10 +73,10 @@ fn layout_in(text: &str) -> Option<Layout>
     }
 }
 
-fn one_word(word: &str) -> Option<Order>
-    ensures { result ≡ order.one_word word.now }
+fn one_arg(arg: &str) -> Option<Order>
+    ensures { result ≡ order.one_arg arg.now }
 {
-    match word {
+    match arg {
         "replay" => Some(Order::Replay),
         "run" => Some(Order::Run),
         "check" => Some(Order::Check),
@@ -110,7 +110,7 @@ fn form_of(args: &[&str]) -> Option<Order>
     ensures { result ≡ order.form_of (map (λ arg. arg.now) args.now) }
 {
     match args {
-        [word] => one_word(word),
+        [arg] => one_arg(arg),
         [command, second] => two_args(command, second),
         [command, option, layout, number] => four_args(command, option, layout, number),
         _ => None,

@@ -9,10 +9,10 @@ use crate::reply::Reply;
 use crate::words::MOST_WORDS;
 use std::marker::Model;
 
-/// The most entries of a record.
+/// The most entries of a recorded history.
 pub const MOST_ENTRIES: usize = 640_000;
 
-/// The most threads of a record.
+/// The most threads of a recorded history.
 pub const MOST_THREADS: u64 = 64;
 
 /// A recorded history: the calls of a lock, and of the record of `width` words that it guards, if
@@ -46,7 +46,7 @@ fn known_reply(reply: &Reply)
     }
 }
 
-/// The entry can stand in a record of this width.
+/// The entry can stand in a recorded history of this width.
 fn entry_suits(width: u64, entry: &Entry) -> bool
     ensures suits { IsTrue result ↔ SuitsRecord width entry.now }
     ensures reply { ReplyFits entry.now.reply }
@@ -68,7 +68,7 @@ fn all_suit(width: u64, entries: &[Entry]) -> bool
 }
 
 impl Record {
-    /// A record with no report. There is none exactly where the entries are over 640,000, the width
+    /// A recorded history with no report. There is none exactly where the entries are over 640,000, the width
     /// is over 16, a thread is 64 or more, or a call does not suit the width; the entries are dropped
     /// then.
     pub fn of(limits: Limits, width: u64, entries: Vec<Entry>) -> Option<Record>
@@ -79,7 +79,7 @@ impl Record {
         Record::of_reported(limits, width, entries, report)
     }
 
-    /// A record with a report, which is empty or has a pair for each entry: where it isn't, and where
+    /// A recorded history with a report, which is empty or has a pair for each entry: where it isn't, and where
     /// `of` gives none, there is none, and both lists are dropped.
     pub fn of_reported(
         limits: Limits,
@@ -109,7 +109,7 @@ impl Record {
         }
     }
 
-    /// The parts of a record, which make it again.
+    /// The parts of a recorded history, which make it again.
     pub fn into_parts(self) -> (Limits, u64, Vec<Entry>, Vec<(u64, u64)>)
         ensures parts { self ≡ recorded result.0 result.1 result.2.items result.3.items }
         ensures known { IsRecorded self }

@@ -9,7 +9,7 @@ use std::alloc::{AllocError, Global};
 /// A column, in pixels.
 const UNIT: u64 = 40;
 
-/// The border with the names of the lanes.
+/// The border with the threads of the lanes.
 pub(crate) const BORDER: u64 = 96;
 
 /// Where the first column begins.

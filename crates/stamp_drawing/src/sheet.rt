@@ -1,4 +1,4 @@
-//! The boxes of a picture, with their words.
+//! The boxes of a picture, with their labels.
 ghost use Rattle.std.specs.Prelude.{◌≡◌, ◌≤◌, ◌<◌, ◌∷◌, [], map, length, IfOk, All, string_bytes, codes, decimal, Some};
 ghost use Rattle.std.specs.List.{range_with_len};
 ghost use Rattle.stamp_picture.specs.Picture.{most_bars};
@@ -19,7 +19,7 @@ use stamp_core::Words;
 use stamp_picture::{Bar, Fault, Mode, Moment, Picture, State};
 use std::alloc::{AllocError, Global};
 
-/// A box with words.
+/// A box with its labels.
 #[derive(Drop)]
 pub struct Shape {
     /// Where it stands.

@@ -167,10 +167,10 @@ pub at_once_leads : (asking : Asking) (node : Node) (a : Observation) (calls : L
     is_unchanging_at asking.seen.entries (get_or calls k 0) ≡ true →
     Took asking.seen asking.timeline.returns.items node (get_or calls k 0) (Some w) →
     get_or calls k 0 ≢ asking.place → Settles asking w next → ComesNextBeside asking node next
-at_once_leads asking node a calls k w next awaits reached bit are before inside is_unchanging took other settles = record {
+at_once_leads asking node a calls k w next awaits reached bit are before inside still took other settles = record {
   leads = follows_of asking.seen (Some asking.place) asking.timeline.returns.items node w next
       (leads_at_once asking.seen (Some asking.place) asking.timeline node a calls k w awaits bit are before inside
-      is_unchanging (λ same. other (sym (same_Some asking.place (get_or calls k 0) same))) took) settles.passes
+      still (λ same. other (sym (same_Some asking.place (get_or calls k 0) same))) took) settles.passes
       settles.took settles.settled;
   other = λ same. took_other asking node (get_or calls k 0) w a awaits reached took other (sym settles.took ∙ same);
 }
@@ -179,13 +179,13 @@ pub at_once_suffices : (asking : Asking) (node : Node) (a : Observation) (i : �
     Awaits asking.seen asking.timeline node a → (e : Observation) → slice_get asking.seen.entries i ≡ Some e →
     is_unchanging_at asking.seen.entries i ≡ true → Took asking.seen asking.timeline.returns.items node i (Some w) →
     i ≢ asking.place → Settles asking w next → SufficeBeside asking node (next ∷ [])
-at_once_suffices asking node a i w next asks awaits e at is_unchanging took other settles reply h is =
+at_once_suffices asking node a i w next asks awaits e at still took other settles reply h is =
     let alike : AreAlike asking.seen h asking.place = alike_of asking reply h is in
     let too : AwaitsToo asking h node a = awaits_too asking reply h node a asks is awaits in
     suffices_settled h asking.timeline.returns.items node w next
     (passes_alike asking.seen h asking.place asking.timeline.returns.items w.node next.node alike settles.passes)
     (suffices_at_once h asking.timeline node too.entry i w too.awaits
-    (ap unchanging_in (other_there asking.seen h asking.place i e alike other at) ∙ sym (ap unchanging_in at) ∙ is_unchanging)
+    (ap unchanging_in (other_there asking.seen h asking.place i e alike other at) ∙ sym (ap unchanging_in at) ∙ still)
     (took_alike asking.seen h asking.place asking.timeline.returns.items node i (Some w) alike other took))
 
 pub awaited_inside : (asking : Asking) (node : Node) (i : ℕ) → IsAsking asking →

@@ -14,8 +14,8 @@ use Rattle.stamp_explain.specs.declared.timeline.Timeline.{Timeline}
 use Rattle.stamp_core.specs.declared.reply.Reply.{Reply}
 use Rattle.stamp_explain.specs.Observed.{ObservedHistory, IsObserved, HasReturned, IsBefore, AllowsReply}
 use Rattle.stamp_explain.specs.Explained.{Effect}
-use Rattle.stamp_explain.specs.Unchanging.{changes_nothing, unchanging_by, is_unchanging, unchanging_in, is_unchanging_at}
-use Rattle.stamp_explain.specs.Unchanging.{asks_in, asks_at}
+use Rattle.stamp_explain.specs.Unchanging.{changes_nothing, unchanging_by, is_unchanging, unchanging_in}
+use Rattle.stamp_explain.specs.Unchanging.{is_unchanging_at, asks_in, asks_at}
 use Rattle.stamp_explain.specs.Search.{LockState, LockSteps, MayTake}
 use Rattle.stamp_explain.specs.Search.{StandsBefore}
 use Rattle.stamp_explain.specs.Ahead.{GivesWay}
@@ -216,8 +216,8 @@ unchanging_so e reply is may = by e.returned refl is may
     by (Some r) at is may = ((r, at), ap (changes_nothing e.call) (sym may) ∙ is)
 
 -- a call that changes nothing takes effect at once
-tells_unchanging : (h : ObservedHistory) (returns : List ℕ) (node : Node) (a : Observation) (i : ℕ) (w : Next) (s : LockState)
-    (taken : List ℕ) → is_unchanging_at h.entries i ≡ true → (to : IsTakenTo h returns node a i s taken w) →
+tells_unchanging : (h : ObservedHistory) (returns : List ℕ) (node : Node) (a : Observation) (i : ℕ) (w : Next)
+    (s : LockState) (taken : List ℕ) → is_unchanging_at h.entries i ≡ true → (to : IsTakenTo h returns node a i s taken w) →
     is_unchanging to.effect.entry ≡ true
 tells_unchanging h returns node a i w s taken unchanging to =
     ap unchanging_in (sym to.may.effect.is_entry) ∙ ap (is_unchanging_at h.entries) to.index ∙ unchanging
@@ -257,7 +257,8 @@ suffices_at_once h timeline node a i w is unchanging takes n hope =
         let x : Effect = took.effect in
         let tells : HasReturned x.entry × (changes_nothing x.entry.call x.reply ≡ true) =
         unchanging_so x.entry x.reply
-        (tells_unchanging h timeline.returns.items node a i w hope.state hope.taken unchanging took) took.may.effect.replies in
+        (tells_unchanging h timeline.returns.items node a i w hope.state hope.taken unchanging took)
+        took.may.effect.replies in
         let once : TakesAtOnce (LockSteps h.limits) h.entries (drop node.past timeline.returns.items) hope.state
         (x.index ∷ hope.taken) n =
         takes_at_once (LockSteps h.limits) h.entries (drop node.past timeline.returns.items) hope.state hope.taken x n

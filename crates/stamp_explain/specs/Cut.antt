@@ -1,4 +1,4 @@
--- What is known of a history at one of its returns, and the first return at which it is no longer explained.
+-- A history up to one of its returns, and the first return at which it is no longer explained.
 use Rattle.std.specs.Prelude.{ℕ, ◌≡◌, ◌+◌, ◌==◌, ◌&&◌, ◌||◌, nat_lt, Bool, false, List, [], ◌∷◌, length, take}
 use Rattle.std.specs.Prelude.{slice_get}
 use Rattle.std.specs.Prelude.{Option, Some, None, if◌then◌else◌, filter, not}
@@ -20,12 +20,12 @@ abbrev pub cut_entries : ℕ → ℕ → ℕ → List Observation → List Obser
 cut_entries last bound i [] = []
 cut_entries last bound i (e ∷ es) = cut_entry last bound i e ∷ cut_entries last bound (i + 1) es
 
--- the history as it is known then. A call that begins later is under way here too, which explains no more:
+-- the history up to there. A call that begins later is under way here too, which explains no more:
 -- all that returned is before it
 abbrev pub cut : ℕ → ℕ → ObservedHistory → ObservedHistory
 cut last bound h = record h { entries = cut_entries last bound 0 h.entries }
 
--- as it is known when this entry has returned, and just before
+-- up to the return of this entry, with it and without it
 abbrev pub cut_after : Returned → ℕ → ObservedHistory → ObservedHistory
 cut_after r i h = cut r.last (i + 1) h
 

@@ -1,6 +1,5 @@
--- Which records, with a point for each call, are of an observed history. A position p becomes the moments 64
--- p to 64 p + 63:
--- a call begins at the first moment of its position and ends at the last of its, and points stand between
+-- Which recorded histories are of an observed one. A position p becomes the positions 64 p to 64 p + 63: a call
+-- begins at the first and ends at the last that became of its own, and points stand between
 use Rattle.std.specs.Prelude.{ℕ, ◌≡◌, ◌≢◌, ◌≤◌, ◌⊎◌, ◌+◌, ◌*◌, max, List, [], map, slice_get, Option, None, Some}
 use Rattle.std.specs.Prelude.{MatchOption, nat_lt, if◌then◌else◌}
 use Rattle.std.specs.List.{All, AllPairs, AllZip, Contains}
@@ -12,7 +11,7 @@ use Rattle.stamp_explain.specs.declared.observed.Observation.{Observation}
 use Rattle.stamp_explain.specs.declared.observed.Returned.{Returned}
 use Rattle.stamp_explain.specs.Observed.{ObservedHistory, HasReturned}
 
--- an entry of a record, and the observed call of this index; one that is under way may end at any moment,
+-- an entry of it, and the observed call of this index; one that is under way may end at any position,
 -- with any reply
 pub record IsEntryOf (entries : List Observation) (i : ℕ) (e : Entry) : Type 0 where
   pub observed : Observation
@@ -41,7 +40,7 @@ position_at q first = if nat_lt q first then first else q
 abbrev pub there_at : ℕ → ℕ → ℕ → ℕ
 there_at q n first = if nat_lt q first then 0 else n
 
--- the last moment of a call; one that is under way has that of the end of the history
+-- the last position of a call; one that is under way has that of the end of the history
 abbrev pub ends_at : Option Returned → ℕ → ℕ
 ends_at None end = 64 * end + 63
 ends_at (Some r) end = 64 * r.last + 63

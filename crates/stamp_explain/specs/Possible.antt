@@ -24,7 +24,7 @@ with_reply i e r reply h = record h { entries = slice_set h.entries i (returned_
 abbrev pub without_return : ℕ → Observation → ObservedHistory → ObservedHistory
 without_return i e h = record h { entries = slice_set h.entries i (record e { returned = None }) }
 
--- with this reply in place of its own, what is known when the call at this place has returned is explained
+-- with this reply in place of its own, the cut with the return of the call at this place is explained
 pub record IsPossible (h : ObservedHistory) (i : ℕ) (reply : Reply) : Type 0 where
   pub entry : Observation
   pub return : Returned
@@ -93,7 +93,7 @@ pub record IsUndecidedAtGotten (h : ObservedHistory) (i most : ℕ) : Type 0 whe
 abbrev pub IsUndecidedAtAny : ObservedHistory → ℕ → ℕ → Type 0
 IsUndecidedAtAny h i most = IsUndecidedWithout h i most ⊎ IsUndecidedAtGotten h i most
 
--- why the possible replies are not known, in words
+-- why it is not told which replies are possible
 abbrev pub possible_error_text : PossibleError → List ℕ
 possible_error_text Undecided = codes "the possible replies are undecided"
 possible_error_text Memory = codes "out of memory"

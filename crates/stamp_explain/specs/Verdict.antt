@@ -12,7 +12,7 @@ use Rattle.stamp_explain.specs.Cut.{IsStuck, cut, cut_before, seen_at}
 use Rattle.stamp_explain.specs.Points.{HasPoints}
 use Rattle.stamp_explain.specs.Configuration.{IsGivenUp}
 
--- all returns are known then, or a search of what is seen then gives up
+-- the cut there is the whole history, or a search of what is seen then gives up
 abbrev pub IsLastOrGivesUp : ObservedHistory → ℕ → ℕ → ℕ → Type 0
 IsLastOrGivesUp h most last bound = (cut last bound h ≡ h) ⊎ IsGivenUp (seen_at last bound h) most
 
@@ -57,7 +57,7 @@ IsAnswer h most (Err (Unexplained i)) = IsUnexplained h most i
 IsAnswer h most (Err (Undecided i)) = IsUndecided h most i
 IsAnswer h most (Err Memory) = Unit {0}
 
--- why there is no record, in words
+-- why there is no recorded history
 abbrev pub explain_error_text : ExplainError → List ℕ
 explain_error_text (Stuck i) = codes "no order explains the return of entry " ++ decimal i
 explain_error_text (Unexplained i) =

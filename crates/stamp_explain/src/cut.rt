@@ -1,4 +1,4 @@
-//! What is known of a history when a call has returned.
+//! A history up to the return of a call.
 ghost use Rattle.std.specs.Prelude.{◌≡◌, IfOk};
 ghost use Rattle.stamp_explain.specs.Cut.{cut_entry, seen_at};
 ghost use Rattle.stamp_explain.specs.Observed.{IsObserved};
@@ -6,7 +6,7 @@ ghost use Rattle.stamp_explain.specs.Observed.{IsObserved};
 use crate::observed::{Observation, Observed};
 use std::alloc::{AllocError, Global};
 
-/// The call as it is known then: one that returns later is under way.
+/// The call as it stands there: one that returns later is under way.
 fn cut_entry(entry: &Observation, last: u64, bound: usize, i: usize) -> Observation
     ensures { result ≡ cut_entry last bound i entry.now }
 {

@@ -1,4 +1,4 @@
-//! The record of an order that explains an observed history, or the return at which none does.
+//! The recorded history of an order that explains an observed history, or the return at which none does.
 ghost use Rattle.std.specs.Prelude.{◌≡◌};
 ghost use Rattle.stamp_explain.specs.Observed.{IsObserved};
 ghost use Rattle.stamp_explain.specs.Verdict.{IsAnswer, IsNotFound};
@@ -85,8 +85,8 @@ fn without_order(
     Err(first_fault(alloc, observed, ends.as_slice(), most, unexplained)?)
 }
 
-/// A record of an order that explains the history, with a point for each call. Position p becomes the
-/// moments 64 p to 64 p + 63; a call under way that took effect ends with the history, and one that
+/// A recorded history of an order that explains this one, with a point for each call. Position p becomes the
+/// positions 64 p to 64 p + 63; a call under way that took effect ends with the history, and one that
 /// didn't is left out. A search gives up once it has looked at more than `most` configurations. Refuses as
 /// 1 `Stuck` or 2 `Unexplained`, where no order explains the history, 3 `Undecided` or 4 `Memory`. Where no
 /// search gives up it is no 2 and no 3.

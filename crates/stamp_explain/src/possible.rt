@@ -13,7 +13,7 @@ use std::alloc::{AllocError, Global};
 use std::error::Error;
 use std::fmt;
 
-/// Why it isn't known which replies are possible.
+/// Why it isn't told which replies are possible.
 #[derive(Clone, Copy, Debug, PartialEq, Eq)]
 pub enum PossibleError {
     /// 1: a search gives up, with a reply that is tried; or that for the replies which the call gets, which
@@ -126,7 +126,7 @@ fn push(replies: &mut Vec<Reply>, reply: Reply) -> Result<(), AllocError>
 }
 
 /// Which of these replies the call at this place could have had: with such a one in place of its own,
-/// what is known when the call has returned is explained. Replies that are all different are answered
+/// the cut with its return is explained. Replies that are all different are answered
 /// once each, in no promised order. For each there is a search of the lock's calls, and one of the record's.
 /// Refuses as 1 `Undecided`, where one gives up once it has looked at more than `most` configurations, or 2
 /// `Memory`.
@@ -153,8 +153,8 @@ pub fn possible_among(
 }
 
 /// All replies that the call at this place could have had, each once: with such a one in place of its
-/// own, and with no other, what is known when the call has returned is explained. None, where it would
-/// have waited, or where what was known before it is not explained. There is a search for what the other
+/// own, and with no other, the cut with its return is explained. None, where it would
+/// have waited, or where the cut before its return is not explained. There is a search for what the other
 /// calls may do before it, and one for each reply that it gets then. Refuses as 1 `Undecided`, where the
 /// first reaches more than `most` configurations, or another gives up once it has looked at more, or 2
 /// `Memory`.

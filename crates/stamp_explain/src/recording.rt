@@ -1,4 +1,4 @@
-//! The record of an order, with points.
+//! The recorded history of an order, with points.
 ghost use Rattle.std.specs.Prelude.{◌≡◌, ◌≤◌, ◌<◌, [], IfOk};
 ghost use Rattle.std.specs.List.{All};
 ghost use Rattle.stamp_core.specs.Record.{recorded, IsRecorded};
@@ -106,7 +106,7 @@ fn entries_of(alloc: Global, observed: &Observed, order: &[Taken]) -> Result<Vec
     Ok(placed)
 }
 
-/// The record of an order: each call takes effect at the position where it began, or at that of the
+/// The recorded history of an order: each call takes effect at the position where it began, or at that of the
 /// call before it, if that is later.
 pub(crate) fn record_of(
     alloc: Global,

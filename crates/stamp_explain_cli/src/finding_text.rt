@@ -1,4 +1,4 @@
-//! What is found, in words.
+//! What is found, as a line.
 
 ghost use Rattle.std.specs.Prelude.{◌≡◌, Some, IfOk, IfErr, string_bytes};
 ghost use Rattle.stamp_explain_cli.specs.FindingText.{cause_text, fault_text, finding_text, finding_verdict};

@@ -14,7 +14,7 @@ use stamp_explain::{Observation, Observed, PossibleError, possible_at};
 use std::alloc::{AllocError, Global};
 use std::fmt;
 
-/// The replies in words, each behind a comma.
+/// The replies as texts, each behind a comma.
 fn others_text(alloc: Global, replies: &[Reply]) -> Result<String, AllocError>
     ensures { IfOk result (λ text. string_bytes text ≡ others_text replies.now) }
 {
@@ -27,7 +27,7 @@ fn others_text(alloc: Global, replies: &[Reply]) -> Result<String, AllocError>
     Ok(text)
 }
 
-/// The possible replies in words.
+/// The possible replies as a text.
 fn possible_text(alloc: Global, replies: &[Reply]) -> Result<String, AllocError>
     ensures { IfOk result (λ text. string_bytes text ≡ possible_text replies.now) }
 {
@@ -38,7 +38,7 @@ fn possible_text(alloc: Global, replies: &[Reply]) -> Result<String, AllocError>
     format!(in alloc; "; possible: {}{others}", ReplyLabel(*first))
 }
 
-/// What was possible, in words: these replies, or that it is undecided.
+/// What was possible, as a text: these replies, or that it is undecided.
 fn told_text(alloc: Global, replies: &Option<Vec<Reply>>) -> Result<String, AllocError>
     ensures { IfOk result (λ text. string_bytes text ≡ possibilities_text (replies_in replies.now)) }
 {

@@ -1,4 +1,4 @@
-//! A record out of its text.
+//! A recorded history out of its text.
 
 ghost use Rattle.std.specs.Prelude.{◌≡◌, ◌<◌, IfErr, length};
 ghost use Rattle.serde_json.specs.View.{view};
@@ -15,7 +15,7 @@ use serde_json::Value;
 use stamp_core::{Entry, Limits, Record};
 use std::alloc::Global;
 
-/// A record whose parts were found to suit one another.
+/// A recorded history whose parts were found to suit one another.
 fn record_of(limits: Limits, width: u64, entries: Vec<Entry>, report: Vec<(u64, u64)>) -> Record
     requires { IsRecorded (recorded limits width entries.items report.items) }
     ensures { result ≡ recorded limits width entries.items report.items }
@@ -39,7 +39,7 @@ fn history_from(alloc: Global, value: &Value) -> Result<Record, ReadError>
     Ok(record_of(limits, width, entries, report))
 }
 
-/// The record that the text gives, or its first fault in the order of the fields: top, format,
+/// The recorded history that the text gives, or its first fault in the order of the fields: top, format,
 /// layout, readers, versions, width, entries, each entry, and report. Of a field the kind is tested
 /// before the range. With the key `layout` the format is 2, without it 1; the key `report` may be
 /// there in both. Errors: 1 `NotJson`; 2 `NotHistory`, with the field of another kind, which is an

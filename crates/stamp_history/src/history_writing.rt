@@ -229,7 +229,7 @@ fn push_history(text: &mut Vec<u8>, history: &Record) -> Result<(), AllocError>
     Ok(())
 }
 
-/// The compact text of a record, its keys in the order of their bytes: of format 1 where the layout
+/// The compact text of a recorded history, its keys in the order of their bytes: of format 1 where the layout
 /// is 1, else of format 2 with the key `layout`; with the key `report` where the report is not
 /// empty. The one error is 4 `Memory`, after which nothing is kept.
 #[tactic(auto, unfolding(crate::specs::HistoryText::history_text))]

@@ -52,7 +52,7 @@ fn push_run(text: &mut Vec<u8>, alloc: Global, script: &Script) -> Result<(), Al
     Ok(())
 }
 
-/// The text that `write_history` writes of the record that `run` gives, without that record: each
+/// The text that `write_history` writes of what `run` gives, without making that: each
 /// entry is written when its call ends, and not kept. The one error is 4 `Memory`, after which
 /// nothing is kept.
 #[tactic(auto, unfolding(crate::specs::HistoryText::history_text))]

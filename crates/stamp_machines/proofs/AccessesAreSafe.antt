@@ -13,7 +13,7 @@ use Rattle.stamp_machines.specs.LockNumber.{IsAdmittedAt}
 use Rattle.stamp_core.specs.CountedDecision.{decision}
 use Rattle.stamp_machines.specs.Job.{Job}
 use Rattle.stamp_machines.specs.Place as places
-use Rattle.stamp_machines.specs.Place.{Place, LockStep, call_for}
+use Rattle.stamp_machines.specs.Place.{Place, GuardCall, call_for}
 use Rattle.stamp_machines.specs.LocalAccess.{LoadLock, LoadItem, with_lock}
 use Rattle.stamp_machines.specs.LockPhase.{phase_next, next_on}
 use Rattle.stamp_machines.specs.declared.shape.Shape.{Shape}

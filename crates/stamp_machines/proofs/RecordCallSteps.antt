@@ -28,10 +28,10 @@ use Rattle.stamp_machines.specs.LockNumber.{IsAdmittedAt, RepresentsAt, counts_a
 use Rattle.stamp_core.specs.CountedDecision.{decision}
 use Rattle.stamp_machines.specs.Job.{Job, Getting, Putting, PuttingIf, content_with, reply_to}
 use Rattle.stamp_machines.specs.Job.{new_words, expects, is_get, stored_reply}
-use Rattle.stamp_machines.specs.Place.{Going, Done, Place, LockStep, LoadingLock, Copying, Locking}
+use Rattle.stamp_machines.specs.Place.{Going, Done, Place, GuardCall, LoadingLock, Copying, Locking}
 use Rattle.stamp_machines.specs.Place.{Reading, Checking, Storing, Releasing, ToShare}
 use Rattle.stamp_machines.specs.Place.{ToLeave, ToRefuse, ToUpgrade, ToReleaseFirst, ToClaim, next}
-use Rattle.stamp_machines.specs.Place.{after, call_for, passed, lock_step_done, all_read}
+use Rattle.stamp_machines.specs.Place.{after, call_for, passed, guard_call_done, all_read}
 use Rattle.stamp_machines.specs.Place.{unchanged}
 use Rattle.stamp_machines.specs.LockPhase.{Still, Ended, next_on, phase_next, phase_after}
 use Rattle.stamp_machines.specs.LockPhase.{PhaseTurn}
@@ -437,7 +437,7 @@ items_same limits call (Some word) items = go (decision limits word call)
     go Wait = refl
 
 -- a lock step goes on with another word seen
-still : (limits : Bounds) (job : Job) (e : LockStep) (seen now : Option ℕ) (lock : ℕ)
+still : (limits : Bounds) (job : Job) (e : GuardCall) (seen now : Option ℕ) (lock : ℕ)
     (items content : List ℕ) → Stands limits job (Locking e seen) lock items content →
     MovedRightly limits job (Locking e seen) lock items content lock items (Going (Locking e now))
 still limits job ToShare seen now lock items content s =
@@ -618,7 +618,7 @@ upgraded : (limits : Bounds) (job : Job) (u : ℕ) (seen : Option ℕ) (lock loc
     Stands limits job (Locking (ToUpgrade u) seen) lock items content →
     CallLeaves limits (ToWrite u) lock lock' r →
     MovedRightly limits job (Locking (ToUpgrade u) seen) lock items content lock' items
-    (lock_step_done job (ToUpgrade u) (stamp_in r))
+    (guard_call_done job (ToUpgrade u) (stamp_in r))
 upgraded limits job u seen lock lock' items content r s t =
     go (upgraded_at limits (counts_at limits lock) u t.taken t.transition free
     (omega (arith, s.reads)))
@@ -632,7 +632,7 @@ upgraded limits job u seen lock lock' items content r s t =
         ≡ reply.Stamp (write_stamp (units limits) ((counts_at limits lock).write_count + 1))))
         ⊎ ((t.taken.appended ≡ []) × (t.taken.reply ≡ reply.Stamp 0)) →
         MovedRightly limits job (Locking (ToUpgrade u) seen) lock items content lock' items
-        (lock_step_done job (ToUpgrade u) (stamp_in r))
+        (guard_call_done job (ToUpgrade u) (stamp_in r))
     go (inl h) =
         let st : stamp_in r ≡ write_stamp (units limits) ((counts_at limits lock).write_count + 1) =
         ap stamp_in (sym t.reply ∙ h.2) in
@@ -661,7 +661,7 @@ claimed : (limits : Bounds) (job : Job) (seen : Option ℕ) (lock lock' : ℕ) (
     (r : Reply) → Stands limits job (Locking ToClaim seen) lock items content →
     CallLeaves limits WriteLock lock lock' r →
     MovedRightly limits job (Locking ToClaim seen) lock items content lock' items
-    (lock_step_done job ToClaim (stamp_in r))
+    (guard_call_done job ToClaim (stamp_in r))
 claimed limits Getting seen lock lock' items content r s t = absurd (true_false s.fits)
   where
     true_false : true ≡ false → ⊥
@@ -681,11 +681,11 @@ claimed limits (PuttingIf a b) seen lock lock' items content r s t =
     ∙ claim_counts (counts_at limits lock) h.0 h.1) refl refl
     (refl, ap stamp_in (sym t.reply ∙ h.3), s.free h.0, (omega arith, refl), s.some)
 
-ended : (limits : Bounds) (job : Job) (e : LockStep) (seen : Option ℕ) (lock lock' : ℕ)
+ended : (limits : Bounds) (job : Job) (e : GuardCall) (seen : Option ℕ) (lock lock' : ℕ)
     (items content : List ℕ) (r : Reply) → Stands limits job (Locking e seen) lock items content →
     CallLeaves limits (call_for e) lock lock' r →
     MovedRightly limits job (Locking e seen) lock items content lock' items
-    (lock_step_done job e (stamp_in r))
+    (guard_call_done job e (stamp_in r))
 ended limits job ToShare seen lock lock' items content r s t =
     shared limits job seen lock lock' items content r s t
 ended limits job (ToLeave u loaded) seen lock lock' items content r s t =
@@ -706,7 +706,7 @@ ended limits job (ToUpgrade u) seen lock lock' items content r s t =
 ended limits job ToClaim seen lock lock' items content r s t =
     claimed limits job seen lock lock' items content r s t
 
-locking : (limits : Bounds) (job : Job) (e : LockStep) (seen : Option ℕ) (lock : ℕ)
+locking : (limits : Bounds) (job : Job) (e : GuardCall) (seen : Option ℕ) (lock : ℕ)
     (items content : List ℕ) → Stands limits job (Locking e seen) lock items content →
     MovedRightly limits job (Locking e seen) lock items content
     (lock_after (phase_next limits (call_for e) seen) lock)
@@ -732,8 +732,8 @@ pub own-step : (limits : Bounds) (n : ℕ) (job : Job) (place : Place) (lock : �
 own-step limits n job LoadingLock lock items content s e = loading-lock limits n job lock items content s e
 own-step limits n job (Copying first loaded) lock items content s e =
     copying limits n job first loaded lock items content s e
-own-step limits n job (Locking lock_step seen) lock items content s e =
-    locking limits job lock_step seen lock items content s
+own-step limits n job (Locking guard_call seen) lock items content s e =
+    locking limits job guard_call seen lock items content s
 own-step limits n job (Reading t loaded) lock items content s e =
     reading limits n job t loaded lock items content s e
 own-step limits n job (Checking t loaded) lock items content s e =

@@ -16,9 +16,9 @@ use Rattle.stamp_machines.specs.declared.stage.Stage.{Stage}
 use Rattle.stamp_machines.specs.declared.stage.Stage.TheVariants.{Public, LoadingLock, Copying}
 use Rattle.stamp_machines.specs.declared.stage.Stage.TheVariants.{Locking, Reading, Checking}
 use Rattle.stamp_machines.specs.declared.stage.Stage.TheVariants.{Storing, Releasing}
-use Rattle.stamp_machines.specs.declared.stage.LockStep.{LockStep}
-use Rattle.stamp_machines.specs.declared.stage.LockStep.TheVariants.{Share, Leave, Refuse, Upgrade}
-use Rattle.stamp_machines.specs.declared.stage.LockStep.TheVariants.{ReleaseFirst, Claim}
+use Rattle.stamp_machines.specs.declared.stage.GuardCall.{GuardCall}
+use Rattle.stamp_machines.specs.declared.stage.GuardCall.TheVariants.{Share, Leave, Refuse, Upgrade}
+use Rattle.stamp_machines.specs.declared.stage.GuardCall.TheVariants.{ReleaseFirst, Claim}
 use Rattle.stamp_machines.specs.declared.stage.StageNext.{StageNext}
 use Rattle.stamp_machines.specs.declared.stage.StageNext.TheVariants as next
 use Rattle.stamp_machines.specs.declared.machine.Turn.{Turn}
@@ -34,13 +34,13 @@ abbrev pub job_of : Call → Job
 job_of call = job_or (job_in call)
 
 -- with these words loaded
-abbrev pub lock_step_in : List ℕ → LockStep → places.LockStep
-lock_step_in loaded Share = places.ToShare
-lock_step_in loaded (Leave stamp) = places.ToLeave stamp loaded
-lock_step_in loaded (Refuse stamp) = places.ToRefuse stamp
-lock_step_in loaded (Upgrade stamp) = places.ToUpgrade stamp
-lock_step_in loaded (ReleaseFirst stamp) = places.ToReleaseFirst stamp
-lock_step_in loaded Claim = places.ToClaim
+abbrev pub guard_call_in : List ℕ → GuardCall → places.GuardCall
+guard_call_in loaded Share = places.ToShare
+guard_call_in loaded (Leave stamp) = places.ToLeave stamp loaded
+guard_call_in loaded (Refuse stamp) = places.ToRefuse stamp
+guard_call_in loaded (Upgrade stamp) = places.ToUpgrade stamp
+guard_call_in loaded (ReleaseFirst stamp) = places.ToReleaseFirst stamp
+guard_call_in loaded Claim = places.ToClaim
 
 -- its reply once its write lock is released
 abbrev pub released_reply : Job → Bool → Reply
@@ -50,8 +50,8 @@ abbrev pub phase_at : Call → List ℕ → Stage → Phase
 phase_at call loaded (Public seen) = OnLock seen
 phase_at call loaded LoadingLock = OnRecord (job_of call) places.LoadingLock
 phase_at call loaded (Copying first) = OnRecord (job_of call) (places.Copying first loaded)
-phase_at call loaded (Locking lock_step seen) =
-    OnRecord (job_of call) (places.Locking (lock_step_in loaded lock_step) seen)
+phase_at call loaded (Locking guard_call seen) =
+    OnRecord (job_of call) (places.Locking (guard_call_in loaded guard_call) seen)
 phase_at call loaded (Reading stamp) = OnRecord (job_of call) (places.Reading stamp loaded)
 phase_at call loaded (Checking stamp) = OnRecord (job_of call) (places.Checking stamp loaded)
 phase_at call loaded (Storing stamp stored) = OnRecord (job_of call) (places.Storing stamp stored)
@@ -83,13 +83,13 @@ IsWriter shape call =
     (is_lock_call call ≡ false) × (0 < shape.width) × (shape.width ≤ 16)
     × (is_get (job_of call) ≡ false) × (length (new_words (job_of call)) ≡ shape.width)
 
-abbrev pub IsLockStep : Shape → Call → List ℕ → LockStep → Type 0
-IsLockStep shape call loaded Share = IsRecordCall shape call
-IsLockStep shape call loaded (Leave stamp) = IsRecordCall shape call × (1 ≤ length loaded)
-IsLockStep shape call loaded (Refuse stamp) = IsRecordCall shape call
-IsLockStep shape call loaded (Upgrade stamp) = IsWriter shape call
-IsLockStep shape call loaded (ReleaseFirst stamp) = IsWriter shape call
-IsLockStep shape call loaded Claim = IsWriter shape call
+abbrev pub IsGuardCall : Shape → Call → List ℕ → GuardCall → Type 0
+IsGuardCall shape call loaded Share = IsRecordCall shape call
+IsGuardCall shape call loaded (Leave stamp) = IsRecordCall shape call × (1 ≤ length loaded)
+IsGuardCall shape call loaded (Refuse stamp) = IsRecordCall shape call
+IsGuardCall shape call loaded (Upgrade stamp) = IsWriter shape call
+IsGuardCall shape call loaded (ReleaseFirst stamp) = IsWriter shape call
+IsGuardCall shape call loaded Claim = IsWriter shape call
 
 abbrev pub IsStage : Shape → Call → List ℕ → Stage → Type 0
 IsStage shape call loaded (Public seen) = IsLockPhase shape.limits call seen
@@ -97,9 +97,9 @@ IsStage shape call loaded LoadingLock = IsRecordCall shape call
 IsStage shape call loaded (Copying first) =
     IsRecordCall shape call × IsAdmittedAt (record_limits shape) first
     × (length loaded ≤ shape.width)
-IsStage shape call loaded (Locking lock_step seen) =
-    IsLockStep shape call loaded lock_step
-    × IsChanging (record_limits shape) (call_for (lock_step_in loaded lock_step)) seen
+IsStage shape call loaded (Locking guard_call seen) =
+    IsGuardCall shape call loaded guard_call
+    × IsChanging (record_limits shape) (call_for (guard_call_in loaded guard_call)) seen
 IsStage shape call loaded (Reading stamp) = IsRecordCall shape call × (length loaded < shape.width)
 IsStage shape call loaded (Checking stamp) =
     IsWriter shape call × (length loaded < shape.width) × (stamp < 2 ^ 63)

@@ -6,7 +6,7 @@ use Rattle.stamp_machines.specs.LockPhase.{PhaseTurn}
 use Rattle.stamp_machines.specs.Machine.{lock_turn, record_turn}
 use Rattle.stamp_machines.specs.MachineState.{MachineState, Phase, OnLock, OnRecord, record_limits}
 use Rattle.stamp_machines.specs.PhaseState.{PhaseState}
-use Rattle.stamp_machines.specs.Place.{LockStep, Locking, call_for, passed}
+use Rattle.stamp_machines.specs.Place.{GuardCall, Locking, call_for, passed}
 use Rattle.stamp_machines.specs.declared.machine.Turn.{Turn}
 use Rattle.stamp_machines.specs.declared.shape.Shape.{Shape}
 
@@ -16,17 +16,17 @@ pub record MachinePhase : Type 0 where
   pub turn : PhaseTurn → Turn
 
 -- where a lock step of a call of the record is, whose lock has word 1
-abbrev pub on_record_lock : Shape → LockStep → Option ℕ → PhaseState
-on_record_lock shape lock_step seen =
-    record { at = 1; limits = record_limits shape; call = call_for lock_step; seen = seen }
+abbrev pub on_record_lock : Shape → GuardCall → Option ℕ → PhaseState
+on_record_lock shape guard_call seen =
+    record { at = 1; limits = record_limits shape; call = call_for guard_call; seen = seen }
 
 abbrev pub phase_in : Shape → Call → Phase → Option MachinePhase
 phase_in shape call (OnLock seen) =
     Some (record { state = on_lock shape.limits call seen; turn = lock_turn shape call })
-phase_in shape call (OnRecord job (Locking lock_step seen)) =
+phase_in shape call (OnRecord job (Locking guard_call seen)) =
     Some (record {
-      state = on_record_lock shape lock_step seen;
-      turn = λ t. record_turn shape call job (passed job lock_step t);
+      state = on_record_lock shape guard_call seen;
+      turn = λ t. record_turn shape call job (passed job guard_call t);
     })
 phase_in shape call (OnRecord job place) = None
 

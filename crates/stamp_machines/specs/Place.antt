@@ -15,18 +15,18 @@ use Rattle.stamp_machines.specs.LocalAccess.{LocalAccess, LoadLock, CasLock, Loa
 use Rattle.stamp_machines.specs.LockPhase.{PhaseTurn, Still, Ended, phase_next, phase_after}
 
 -- a lock call on the record's lock, and what its end leads to
-pub data LockStep : Type 0 where
-  ToShare : LockStep  -- read lock of a get or a put_if
-  ToLeave : ℕ → List ℕ → LockStep  -- unlock after a get has read these words
-  ToRefuse : ℕ → LockStep  -- unlock of a put_if that read other words
-  ToUpgrade : ℕ → LockStep  -- conversion of a put_if that read its words
-  ToReleaseFirst : ℕ → LockStep  -- unlock of a put_if whose conversion gave nothing
-  ToClaim : LockStep  -- write lock of a put or a put_if
+pub data GuardCall : Type 0 where
+  ToShare : GuardCall  -- read lock of a get or a put_if
+  ToLeave : ℕ → List ℕ → GuardCall  -- unlock after a get has read these words
+  ToRefuse : ℕ → GuardCall  -- unlock of a put_if that read other words
+  ToUpgrade : ℕ → GuardCall  -- conversion of a put_if that read its words
+  ToReleaseFirst : ℕ → GuardCall  -- unlock of a put_if whose conversion gave nothing
+  ToClaim : GuardCall  -- write lock of a put or a put_if
 
 pub data Place : Type 0 where
   LoadingLock : Place
   Copying : ℕ → List ℕ → Place  -- the lock word first seen, the words loaded
-  Locking : LockStep → Option ℕ → Place  -- a lock phase, with the word that it decided on
+  Locking : GuardCall → Option ℕ → Place  -- a lock phase, with the word that it decided on
   Reading : ℕ → List ℕ → Place  -- under a read stamp
   Checking : ℕ → List ℕ → Place  -- under a write stamp, of a put_if
   Storing : ℕ → ℕ → Place  -- under a write stamp, this many words stored
@@ -36,7 +36,7 @@ pub data PlaceTurn : Type 0 where
   Going : Place → PlaceTurn
   Done : Reply → PlaceTurn
 
-abbrev pub call_for : LockStep → Call
+abbrev pub call_for : GuardCall → Call
 call_for ToShare = ReadLock
 call_for (ToLeave s loaded) = UnlockRead s
 call_for (ToRefuse s) = UnlockRead s
@@ -65,18 +65,18 @@ claimed Getting s = Going (Storing s 0)
 claimed (Putting a) s = Going (Storing s 0)
 claimed (PuttingIf a b) s = Going (Checking s [])
 
-abbrev pub lock_step_done : Job → LockStep → ℕ → PlaceTurn
-lock_step_done job ToShare s = Going (Reading s [])
-lock_step_done job (ToLeave t loaded) s = Done (reply.Content loaded)
-lock_step_done job (ToRefuse t) s = Done reply.No
-lock_step_done job (ToUpgrade t) s =
+abbrev pub guard_call_done : Job → GuardCall → ℕ → PlaceTurn
+guard_call_done job ToShare s = Going (Reading s [])
+guard_call_done job (ToLeave t loaded) s = Done (reply.Content loaded)
+guard_call_done job (ToRefuse t) s = Done reply.No
+guard_call_done job (ToUpgrade t) s =
     if s == 0 then Going (Locking (ToReleaseFirst t) None) else Going (Storing s 0)
-lock_step_done job (ToReleaseFirst t) s = Going (Locking ToClaim None)
-lock_step_done job ToClaim s = claimed job s
+guard_call_done job (ToReleaseFirst t) s = Going (Locking ToClaim None)
+guard_call_done job ToClaim s = claimed job s
 
-abbrev pub passed : Job → LockStep → PhaseTurn → PlaceTurn
+abbrev pub passed : Job → GuardCall → PhaseTurn → PlaceTurn
 passed job e (Still seen) = Going (Locking e seen)
-passed job e (Ended r) = lock_step_done job e (stamp_in r)
+passed job e (Ended r) = guard_call_done job e (stamp_in r)
 
 abbrev pub unchanged : Bounds → ℕ → ℕ → Bool
 unchanged limits first found =

@@ -10,8 +10,8 @@ ghost use Rattle.stamp_machines.specs.Machine.{after_in, IsFoundIn};
 ghost use Rattle.stamp_machines.specs.MachineState.{MachineState, OnLock, record_limits};
 ghost use Rattle.stamp_machines.specs.Access.{place_of, words_after, seen_by};
 ghost use Rattle.stamp_machines.specs.MachineTurn.{turn_of};
-ghost use Rattle.stamp_machines.specs.MachineFields.{phase_at, turn_in, lock_step_in, IsStage};
-ghost use Rattle.stamp_machines.specs.MachineFields.{IsLockStep, IsStageNext};
+ghost use Rattle.stamp_machines.specs.MachineFields.{phase_at, turn_in, guard_call_in, IsStage};
+ghost use Rattle.stamp_machines.specs.MachineFields.{IsGuardCall, IsStageNext};
 ghost use Rattle.stamp_machines.specs.Place.{call_for};
 
 use crate::access::{Access, make};
@@ -19,7 +19,7 @@ use crate::loaded_words::LoadedWords;
 use crate::lock_phase::{PhaseNext, decide_on, lock_access};
 use crate::shape::Shape;
 use crate::stage::{
-    LockStep, Stage, StageNext, call_for, checked, copied, ended, first_stage, lock_loaded,
+    GuardCall, Stage, StageNext, call_for, checked, copied, ended, first_stage, lock_loaded,
     new_word, read, released_reply, stored,
 };
 use stamp_core::{Call, Reply};
@@ -93,28 +93,28 @@ fn after_public(
 fn after_locking(
     shape: &Shape,
     call: &Call,
-    lock_step: LockStep,
+    guard_call: GuardCall,
     seen: Option<u64>,
     loaded: &mut LoadedWords,
     found: u64,
     answer: &mut Reply,
 ) -> StageNext
-    requires stage { IsStage shape.now call.now loaded.old (Stage.Locking lock_step seen) }
-    requires found { IsFoundIn shape.now (phase_at call.now loaded.old (Stage.Locking lock_step seen))
+    requires stage { IsStage shape.now call.now loaded.old (Stage.Locking guard_call seen) }
+    requires found { IsFoundIn shape.now (phase_at call.now loaded.old (Stage.Locking guard_call seen))
         found }
     ensures next { turn_in shape.now call.now loaded.new answer.new result
         ≡ after_in shape.now call.now found
-        (phase_at call.now loaded.old (Stage.Locking lock_step seen)) }
+        (phase_at call.now loaded.old (Stage.Locking guard_call seen)) }
     ensures sound { IsStageNext shape.now call.now loaded.old loaded.new result }
     ensures phase { IfSome
-        (phase_in shape.now call.now (phase_at call.now loaded.old (Stage.Locking lock_step seen)))
+        (phase_in shape.now call.now (phase_at call.now loaded.old (Stage.Locking guard_call seen)))
         (λ p. LeadsIn p found (turn_in shape.now call.now loaded.new answer.new result)) }
 {
     let limits = shape.record_limits();
-    let (_, next) = decide_on(limits, &call_for(lock_step), seen, found, answer);
+    let (_, next) = decide_on(limits, &call_for(guard_call), seen, found, answer);
     match next {
-        PhaseNext::Going(seen) => StageNext::Going(Stage::Locking { lock_step, seen }),
-        PhaseNext::Done => ended(shape, call, lock_step, loaded, answer),
+        PhaseNext::Going(seen) => StageNext::Going(Stage::Locking { guard_call, seen }),
+        PhaseNext::Done => ended(shape, call, guard_call, loaded, answer),
     }
 }
 
@@ -148,8 +148,8 @@ fn next(
         Stage::Public { seen } => after_public(shape, call, loaded, seen, found, answer),
         Stage::LoadingLock => StageNext::Going(lock_loaded(shape, call, loaded, found)),
         Stage::Copying { first } => copied(shape, call, first, loaded, found, answer),
-        Stage::Locking { lock_step, seen } => {
-            after_locking(shape, call, lock_step, seen, loaded, found, answer)
+        Stage::Locking { guard_call, seen } => {
+            after_locking(shape, call, guard_call, seen, loaded, found, answer)
         }
         Stage::Reading { stamp } => StageNext::Going(read(shape, call, stamp, loaded, found)),
         Stage::Checking { stamp } => StageNext::Going(checked(shape, call, stamp, loaded, found)),
@@ -204,8 +204,8 @@ impl Machine {
                     Access::Load(1)
                 }
             }
-            Stage::Locking { lock_step, seen } => {
-                lock_access(1, self.shape.record_limits(), &call_for(lock_step), seen)
+            Stage::Locking { guard_call, seen } => {
+                lock_access(1, self.shape.record_limits(), &call_for(guard_call), seen)
             }
             Stage::Reading { .. } | Stage::Checking { .. } => Access::Load(2 + self.loaded.len()),
             Stage::Storing { stored, .. } => Access::Store(

@@ -6,14 +6,14 @@ ghost use Rattle.stamp_core.specs.Decision.{stamp_in};
 ghost use Rattle.stamp_core.specs.Word.{IsAdmitted, word_at};
 ghost use Rattle.stamp_machines.specs.LockNumber.{counts_at};
 ghost use Rattle.stamp_machines.specs.Job.{job_in, new_words, is_get, expects, stored_reply};
-ghost use Rattle.stamp_machines.specs.Place.{after, unchanged, all_read, lock_step_done};
+ghost use Rattle.stamp_machines.specs.Place.{after, unchanged, all_read, guard_call_done};
 ghost use Rattle.stamp_machines.specs.Place.{claimed, call_for};
 ghost use Rattle.stamp_machines.specs.Place as places;
 ghost use Rattle.stamp_machines.specs.MachineState.{first_phase, record_limits};
 ghost use Rattle.stamp_machines.specs.Machine.{record_turn};
-ghost use Rattle.stamp_machines.specs.MachineFields.{phase_at, going_at, turn_in, lock_step_in};
+ghost use Rattle.stamp_machines.specs.MachineFields.{phase_at, going_at, turn_in, guard_call_in};
 ghost use Rattle.stamp_machines.specs.MachineFields.{job_of, released_reply, IsStage, IsStageNext};
-ghost use Rattle.stamp_machines.specs.MachineFields.{IsRecordCall, IsWriter, IsLockStep};
+ghost use Rattle.stamp_machines.specs.MachineFields.{IsRecordCall, IsWriter, IsGuardCall};
 
 use crate::loaded_words::LoadedWords;
 use crate::shape::Shape;
@@ -21,7 +21,7 @@ use stamp_core::{Call, Limits, Reply, Words};
 
 /// A lock call on the record's lock, and what its end leads to.
 #[derive(Clone, Copy)]
-pub(crate) enum LockStep {
+pub(crate) enum GuardCall {
     /// A read lock to read under.
     Share,
     /// The words are read, and are the answer.
@@ -51,7 +51,7 @@ pub(crate) enum Stage {
     },
     /// A lock call on the record's lock.
     Locking {
-        lock_step: LockStep,
+        guard_call: GuardCall,
         seen: Option<u64>,
     },
     /// Words are being loaded under a read lock.
@@ -125,18 +125,18 @@ pub(crate) fn new_word(call: &Call, i: usize) -> u64
     }
 }
 
-/// The lock call of a step.
+/// The call that this is.
 #[inline(always)]
-pub(crate) fn call_for(lock_step: LockStep) -> Call
-    ensures call { (loaded : List ℕ) → result ≡ call_for (lock_step_in loaded lock_step) }
+pub(crate) fn call_for(guard_call: GuardCall) -> Call
+    ensures call { (loaded : List ℕ) → result ≡ call_for (guard_call_in loaded guard_call) }
     ensures lock_call { IsTrue (is_lock_call result) }
 {
-    match lock_step {
-        LockStep::Share => Call::ReadLock,
-        LockStep::Leave { stamp } | LockStep::Refuse { stamp } | LockStep::ReleaseFirst { stamp } =>
+    match guard_call {
+        GuardCall::Share => Call::ReadLock,
+        GuardCall::Leave { stamp } | GuardCall::Refuse { stamp } | GuardCall::ReleaseFirst { stamp } =>
             { Call::UnlockRead(stamp) }
-        LockStep::Upgrade { stamp } => Call::ToWrite(stamp),
-        LockStep::Claim => Call::WriteLock,
+        GuardCall::Upgrade { stamp } => Call::ToWrite(stamp),
+        GuardCall::Claim => Call::WriteLock,
     }
 }
 
@@ -161,15 +161,15 @@ fn is_unchanged(limits: Limits, first: u64, found: u64) -> bool
 }
 
 /// A lock call on the record's lock, before its first access.
-fn locking(shape: &Shape, call: &Call, loaded: &LoadedWords, lock_step: LockStep) -> Stage
-    requires { IsLockStep shape.now call.now loaded.now lock_step }
+fn locking(shape: &Shape, call: &Call, loaded: &LoadedWords, guard_call: GuardCall) -> Stage
+    requires { IsGuardCall shape.now call.now loaded.now guard_call }
     ensures next { going_at shape.now call.now loaded.now result
         ≡ record_turn shape.now call.now (job_of call.now)
-        (places.Going (places.Locking (lock_step_in loaded.now lock_step) None)) }
+        (places.Going (places.Locking (guard_call_in loaded.now guard_call) None)) }
     ensures sound { IsStage shape.now call.now loaded.now result }
 {
     Stage::Locking {
-        lock_step,
+        guard_call,
         seen: None,
     }
 }
@@ -188,7 +188,7 @@ pub(crate) fn lock_loaded(shape: &Shape, call: &Call, loaded: &mut LoadedWords, 
     if is_free(shape.record_limits(), found) {
         Stage::Copying { first: found }
     } else {
-        locking(shape, call, loaded, LockStep::Share)
+        locking(shape, call, loaded, GuardCall::Share)
     }
 }
 
@@ -220,7 +220,7 @@ pub(crate) fn copied(
         *answer = Reply::Content(loaded.words());
         StageNext::Done
     } else {
-        StageNext::Going(locking(shape, call, loaded, LockStep::Share))
+        StageNext::Going(locking(shape, call, loaded, GuardCall::Share))
     }
 }
 
@@ -257,11 +257,11 @@ fn all_read(shape: &Shape, call: &Call, stamp: u64, loaded: &LoadedWords) -> Sta
     ensures sound { IsStage shape.now call.now loaded.now result }
 {
     if is_get(call) {
-        locking(shape, call, loaded, LockStep::Leave { stamp })
+        locking(shape, call, loaded, GuardCall::Leave { stamp })
     } else if expects(call, &loaded.words()) {
-        locking(shape, call, loaded, LockStep::Upgrade { stamp })
+        locking(shape, call, loaded, GuardCall::Upgrade { stamp })
     } else {
-        locking(shape, call, loaded, LockStep::Refuse { stamp })
+        locking(shape, call, loaded, GuardCall::Refuse { stamp })
     }
 }
 
@@ -367,11 +367,11 @@ fn upgraded(shape: &Shape, call: &Call, stamp: u64, loaded: &LoadedWords, got: u
     requires fits { got < 2 ^ 63 }
     ensures next { going_at shape.now call.now loaded.now result
         ≡ record_turn shape.now call.now (job_of call.now)
-        (lock_step_done (job_of call.now) (places.ToUpgrade stamp) got) }
+        (guard_call_done (job_of call.now) (places.ToUpgrade stamp) got) }
     ensures sound { IsStage shape.now call.now loaded.now result }
 {
     if got == 0 {
-        locking(shape, call, loaded, LockStep::ReleaseFirst { stamp })
+        locking(shape, call, loaded, GuardCall::ReleaseFirst { stamp })
     } else {
         Stage::Storing {
             stamp: got,
@@ -396,36 +396,36 @@ fn shared(shape: &Shape, call: &Call, stamp: u64, loaded: &mut LoadedWords) -> S
 pub(crate) fn ended(
     shape: &Shape,
     call: &Call,
-    lock_step: LockStep,
+    guard_call: GuardCall,
     loaded: &mut LoadedWords,
     answer: &mut Reply,
 ) -> StageNext
-    requires lock_step { IsLockStep shape.now call.now loaded.old lock_step }
+    requires guard_call { IsGuardCall shape.now call.now loaded.old guard_call }
     requires fits { stamp_in answer.old < 2 ^ 63 }
     ensures next { turn_in shape.now call.now loaded.new answer.new result
         ≡ record_turn shape.now call.now (job_of call.now)
-        (lock_step_done (job_of call.now) (lock_step_in loaded.old lock_step) (stamp_in answer.old)) }
+        (guard_call_done (job_of call.now) (guard_call_in loaded.old guard_call) (stamp_in answer.old)) }
     ensures sound { IsStageNext shape.now call.now loaded.old loaded.new result }
 {
     let got = stamp_in(answer);
-    match lock_step {
-        LockStep::Share => StageNext::Going(shared(shape, call, got, loaded)),
-        LockStep::Leave { .. } => {
+    match guard_call {
+        GuardCall::Share => StageNext::Going(shared(shape, call, got, loaded)),
+        GuardCall::Leave { .. } => {
             *answer = Reply::Content(loaded.words());
             StageNext::Done
         }
-        LockStep::Refuse { .. } => {
+        GuardCall::Refuse { .. } => {
             *answer = Reply::No;
             StageNext::Done
         }
-        LockStep::Upgrade { stamp } => StageNext::Going(upgraded(shape, call, stamp, loaded, got)),
-        LockStep::ReleaseFirst { .. } => StageNext::Going(locking(
+        GuardCall::Upgrade { stamp } => StageNext::Going(upgraded(shape, call, stamp, loaded, got)),
+        GuardCall::ReleaseFirst { .. } => StageNext::Going(locking(
             shape,
             call,
             loaded,
-            LockStep::Claim,
+            GuardCall::Claim,
         )),
-        LockStep::Claim => StageNext::Going(claimed(shape, call, got, loaded)),
+        GuardCall::Claim => StageNext::Going(claimed(shape, call, got, loaded)),
     }
 }
 
@@ -441,11 +441,11 @@ pub(crate) fn first_stage(shape: &Shape, call: &Call) -> Stage
     match call {
         Call::Get => Stage::LoadingLock,
         Call::Put(_) => Stage::Locking {
-            lock_step: LockStep::Claim,
+            guard_call: GuardCall::Claim,
             seen: None,
         },
         Call::PutIf(_, _) => Stage::Locking {
-            lock_step: LockStep::Share,
+            guard_call: GuardCall::Share,
             seen: None,
         },
         _ => Stage::Public { seen: None },

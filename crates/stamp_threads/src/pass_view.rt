@@ -21,7 +21,7 @@ pub struct PassView<E, P> {
     pub known: LinkedList<LogEntry<E>>,
     /// What it made itself.
     pub own: LinkedList<E>,
-    /// Where it stands in what it is making; nothing for a lock, whose calls are made by one step.
+    /// Where it stands in what it is making; nothing for a lock, whose calls take effect by one step.
     pub phase: P,
     /// What the accesses of its calls found at the lock word, the oldest first.
     pub found: LinkedList<u64>,

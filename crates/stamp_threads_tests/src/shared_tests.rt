@@ -171,7 +171,7 @@ fn mixed_rounds<R: Wait>(rt: &R, shared: &Shared, mut caller: Caller) -> Option<
     Some(caller)
 }
 
-/// Two threads of 50,000 calls each, from this name on.
+/// Two threads of 50,000 calls each, with numbers from this one on.
 fn two_mixed<R: Threads + Wait + Sync>(
     rt: &R,
     alloc: Global,

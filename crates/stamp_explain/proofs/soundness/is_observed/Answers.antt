@@ -3,7 +3,7 @@ use Rattle.std.specs.Prelude.{take}
 use Rattle.std.specs.List.{All}
 use Rattle.stamp_explain.specs.declared.observed.Observation.{Observation}
 use Rattle.stamp_explain.specs.Observed.{MayBeTold, DoNotOverlap}
-use Rattle.stamp_explain.proofs.Soundness.{one_below, not_alone, not_apart}
+use Rattle.stamp_explain.proofs.Telling.{one_below, not_alone, not_apart}
 use Rattle.stamp_explain.proofs.soundness.is_observed.Goals as goal
 
 differ : false ≡ true → ⊥

@@ -1,4 +1,4 @@
-use Rattle.stamp_explain.proofs.Soundness.{AreSoundBelow}
+use Rattle.stamp_explain.proofs.Telling.{AreSoundBelow}
 use Rattle.stamp_explain.proofs.soundness.is_observed.Given as goal
 
 abbrev pub invariant-loop-i : goal.invariant-loop-i
