@@ -1,7 +1,7 @@
 -- Splits and joins of seats, and the load of two passes, keep the rule of a record's words. All are
 -- made between calls.
 use Rattle.std.proofs.Common.{◌≡◌, ◌≢◌, ℕ, ◌+◌, true, List, [], ◌∷◌, ◌++◌, map, take, drop, length}
-use Rattle.std.proofs.Common.{Bool, false, true≢false, get_or, set, refl, ap, sym, ◌∙◌, subst, arith}
+use Rattle.std.proofs.Common.{Bool, true≢false, get_or, set, refl, ap, sym, ◌∙◌, subst, arith}
 use mathlib.Core.Option.{none, some, some-injective}
 use lib.ListN.{get_elem?}
 use lib.Seq.{set-get_or}
@@ -12,8 +12,8 @@ use Rattle.stamp_threads.specs.declared.record_view.RecordPhase.{RecordPhase}
 use Rattle.stamp_threads.specs.declared.record_view.RecordPhase.TheVariants.{Idle}
 use Rattle.stamp_threads.specs.PassName.{HasGivenAll}
 use Rattle.stamp_threads.specs.PassView.{knowing, after_split, split_off, entering}
-use Rattle.stamp_threads.specs.Seats.{StandsAt, AreSeated, alone, both}
-use Rattle.stamp_threads.specs.RecordLog.{RecordLog, is_locked, is_own, is_mark, marks_of}
+use Rattle.stamp_threads.specs.Seats.{StandsAt, alone, both}
+use Rattle.stamp_threads.specs.RecordLog.{RecordLog, is_own, is_mark, marks_of}
 use Rattle.stamp_threads.specs.RecordPass.{RecordPassView, Seated, IsConsistentWith, IsConsistentIn}
 use Rattle.stamp_threads.specs.RecordPass.{marks_ahead, HasEntered, first_of, second_of}
 use Rattle.stamp_threads.specs.RecordRule.{Knows, KnowsPart, IsWriting, HasWriter, IsKept}
@@ -27,7 +27,7 @@ use Rattle.stamp_threads.proofs.NewComers.{comes, new_part, new_none}
 use Rattle.stamp_threads.proofs.SeatSteps.{same_two}
 use Rattle.stamp_threads.proofs.SeatMoves.{gives, together, parted, stands_else, stands_before}
 use Rattle.stamp_threads.proofs.RecordSteps.{Brings, with_views, passes_after, consistent_after}
-use Rattle.stamp_threads.proofs.RecordSteps.{idle_quiet}
+use Rattle.stamp_threads.proofs.RecordSteps.{writer_in, idle_quiet}
 
 idle_knows : (P : List ℕ → Type 0) (width : ℕ) (cells : List ℕ) (log : RecordLog) (name : List ℕ)
     (phase : RecordPhase) → phase ≡ Idle → Knows P width cells log name phase
@@ -76,33 +76,24 @@ two_idle : (v w : RecordPassView) → v.phase ≡ Idle → w.phase ≡ Idle → 
     (u : RecordPassView) → get_elem? (v ∷ w ∷ []) k ≡ some u → u.phase ≡ Idle
 two_idle v w e f = two_of (λ _ u. u.phase ≡ Idle) v w e f
 
+-- the writer stands where it stood when one more seat is there
+writer_before : (log : RecordLog) (views : List (List RecordPassView)) (us : List RecordPassView) →
+    HasWriter log views → HasWriter log (views ++ us ∷ [])
+writer_before log views us t = writer_in log views (views ++ us ∷ []) t
+    (stands_before views us t.seat t.place t.writer t.stands)
+
 -- a seat of idle passes gets others, and maybe one more seat is there
 module _ (log : RecordLog) (views : List (List RecordPassView)) (id : ℕ)
     (vs : List RecordPassView) (at : get_elem? views id ≡ some vs)
     (idle : (k : ℕ) (u : RecordPassView) → get_elem? vs k ≡ some u → u.phase ≡ Idle)
     (t : HasWriter log views) where
   writer_stays : (ws : List RecordPassView) → HasWriter log (set views id ws)
-  writer_stays ws = record {
-    seat = t.seat;
-    place = t.place;
-    writer = t.writer;
-    stands = stands_else views id ws t.seat t.place t.writer
-        (not_on views id vs at idle t.seat t.place t.writer t.stands t.writes) t.stands;
-    writes = t.writes;
-    marker = t.marker;
-  }
+  writer_stays ws = writer_in log views (set views id ws) t
+      (stands_else views id ws t.seat t.place t.writer
+      (not_on views id vs at idle t.seat t.place t.writer t.stands t.writes) t.stands)
 
   writer_beside : (ws us : List RecordPassView) → HasWriter log (set views id ws ++ us ∷ [])
-  writer_beside ws us =
-      let h = writer_stays ws in
-      record {
-        seat = h.seat;
-        place = h.place;
-        writer = h.writer;
-        stands = stands_before (set views id ws) us h.seat h.place h.writer h.stands;
-        writes = h.writes;
-        marker = h.marker;
-      }
+  writer_beside ws us = writer_before log (set views id ws) us (writer_stays ws)
 
 split_kept : {enterable : Bool} (P : List ℕ → Type 0) (shape : RecordShape) (s : State (Unit {0}) (List RecordPassView))
     (r : IsKept enterable P shape s) (id : ℕ) (v : RecordPassView) →
@@ -252,18 +243,6 @@ allows_meet enterable P shape slots id me is idle still s r _ at _ =
         second_consistent = so 1 u' refl refl;
       },
     )
-
--- the writer stands where it stood when one more seat is there
-writer_before : (log : RecordLog) (views : List (List RecordPassView)) (us : List RecordPassView) →
-    HasWriter log views → HasWriter log (views ++ us ∷ [])
-writer_before log views us t = record {
-  seat = t.seat;
-  place = t.place;
-  writer = t.writer;
-  stands = stands_before views us t.seat t.place t.writer t.stands;
-  writes = t.writes;
-  marker = t.marker;
-}
 
 -- a load that makes a seat of its own
 pub allows_enter : {enterable : Bool} (P : List ℕ → Type 0) (shape : RecordShape) (slots : ℕ) →

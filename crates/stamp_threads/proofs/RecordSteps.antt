@@ -41,6 +41,18 @@ OthersKnow P shape s log id cells' log' = (i k : ℕ) (u : RecordPassView) → i
     StandsAt s.views i k u → Knows P shape.width s.words log u.name u.phase →
     Knows P shape.width cells' log' u.name u.phase
 
+-- the writer stands at its place in other views, too
+pub writer_in : (log : RecordLog) (views views' : List (List RecordPassView)) (t : HasWriter log views) →
+    StandsAt views' t.seat t.place t.writer → HasWriter log views'
+writer_in log views views' t stands = record {
+  seat = t.seat;
+  place = t.place;
+  writer = t.writer;
+  stands = stands;
+  writes = t.writes;
+  marker = t.marker;
+}
+
 -- the views alone change, and maybe the number of roots that were taken
 pub with_views : {enterable : Bool} (P : List ℕ → Type 0) (shape : RecordShape)
     (s : State (Unit {0}) (List RecordPassView)) (r : IsKept enterable P shape s) (roots : ℕ)
@@ -164,15 +176,9 @@ module _ {enterable : Bool} (P : List ℕ → Type 0) (shape : RecordShape) (s :
         HasWriter r.log (set s.views id ws)
     writer_else ws l =
         let t = r.writer l in
-        record {
-          seat = t.seat;
-          place = t.place;
-          writer = t.writer;
-          stands = stands_else s.views id ws t.seat t.place t.writer
-              (away_from t.seat t.place t.writer t.stands t.writes) t.stands;
-          writes = t.writes;
-          marker = t.marker;
-        }
+        writer_in r.log s.views (set s.views id ws) t
+        (stands_else s.views id ws t.seat t.place t.writer
+        (away_from t.seat t.place t.writer t.stands t.writes) t.stands)
 
   module _ (w : RecordPassView) (name : w.name ≡ v.name) (splits : w.splits ≡ v.splits)
       (cells' : List ℕ) (log' : RecordLog) (grows : Grows (v ∷ []) r.log log')
