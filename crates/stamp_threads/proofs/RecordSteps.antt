@@ -279,14 +279,14 @@ abbrev pub KeptBy : Bool → (List ℕ → Type 0) → RecordShape → State (Un
 KeptBy enterable P shape s id w words =
     IsKept enterable P shape record { words = words; homes = s.homes; views = set s.views id (w ∷ []) }
 
--- a step of the seat makes this word of that index, leaves passes there, and tells this of the seat
+-- a step of this seat leaves this word at the index, and tells this of the seat
 abbrev pub Leaves : Bool → (List ℕ → Type 0) → RecordShape → State (Unit {0}) (List RecordPassView) → ℕ →
     Seated → ℕ → ℕ → (Seated → Type 0) → Type 0
 Leaves enterable P shape s id me index word Told = (w : List RecordPassView) × (a : Act (Unit {0})) ×
     Valid s.homes me.1 a × IsKept enterable P shape (stepped s index word id me.1 w a) ×
     Told (w, carried_after me.1 a)
 
--- a step that loads a word leaves the pass w, which it tells of
+-- a step that loads a word, and leaves the pass w there
 pub load_leaves : {enterable : Bool} (P : List ℕ → Type 0) (shape : RecordShape)
     (s : State (Unit {0}) (List RecordPassView)) (id : ℕ) (me : Seated) (index : ℕ) (w : RecordPassView)
     (Told : Seated → Type 0) → KeptBy enterable P shape s id w s.words → Told (w ∷ [], me.1) →

@@ -85,7 +85,7 @@ Steps enterable limits s id word w = IsKept enterable limits
     record { words = set s.words 0 word; homes = s.homes; views = set s.views id (w ∷ []) } ×
     IsConsistentWith limits w
 
--- a step of the seat leaves this word and one pass there, of which it tells this
+-- a step of this seat leaves this word, and one pass there, of which it tells this
 abbrev Leaves : Bool → Bounds → State (Unit {0}) (List LockPassView) → ℕ → Seated → ℕ →
     (LockPassView → Type 0) → Type 0
 Leaves enterable limits s id me word Told = (w : List LockPassView) × (a : Act (Unit {0})) ×
@@ -174,7 +174,7 @@ module _ {enterable : Bool} (limits : Bounds) (s : State (Unit {0}) (List LockPa
         m.transition_is)) made
 
     module _ (me : Seated) (is : me ≡ alone v) where
-      -- this step leaves the pass w, which it tells of
+      -- where the step leaves the pass w
       leaves : (word : ℕ) (w : LockPassView) (Told : LockPassView → Type 0) →
           Steps enterable limits s id word w → Told w → Leaves enterable limits s id me word Told
       leaves word w Told t told = (w ∷ [], keeps, tt, t.0, (λ i. (w ∷ [], (is i).1), told))
