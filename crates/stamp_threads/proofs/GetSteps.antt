@@ -8,8 +8,7 @@ use mathlib.Core.Logic.{dite}
 use native.Mathlib.Decide.{ℕ_discrete}
 use mathlib.Core.Option.{none, some}
 use lib.ListN.{get_elem?}
-use lib.Seq.{set-get_or}
-use Rattle.atomic_table.specs.Table.{State, Act, keeps, step, stepped, Valid, carried_after, Allows}
+use Rattle.atomic_table.specs.Table.{State, step, carried_after, Allows}
 use Rattle.stamp_core.specs.declared.call.Call.TheVariants.{Get}
 use Rattle.stamp_core.specs.declared.reply.Reply.TheVariants.{Content}
 use Rattle.stamp_threads.specs.declared.record_view.RecordShape.{RecordShape}
@@ -23,7 +22,7 @@ use Rattle.stamp_threads.specs.RecordLog.{puts, puts_in, content_in, is_locked, 
 use Rattle.stamp_threads.specs.RecordPass.{RecordPassView, Seated, IsConsistentWith, marks_ahead, first_of}
 use Rattle.stamp_threads.specs.RecordRule.{KnowsReading, Knows, IsWriting, IsKept, calling}
 use Rattle.stamp_threads.specs.RecordRule.{starting_to_read, stopping, get_of, loading_one, loaded_one}
-use Rattle.stamp_threads.specs.RecordRule.{Confirmed, Overtaken, word_to_confirm, OpenTells}
+use Rattle.stamp_threads.specs.RecordRule.{Confirmed, Overtaken, Opened, word_to_confirm, OpenTells}
 use Rattle.stamp_threads.specs.RecordRule.{LoadTells, ConfirmTells}
 use Rattle.stamp_threads.proofs.Beginnings.{begins_all}
 use Rattle.stamp_threads.proofs.MadeBy.{grows_one, made_by-same}
@@ -33,7 +32,7 @@ use Rattle.stamp_threads.proofs.RecordLogs.{legal_longer, marks_called, puts_get
 use Rattle.stamp_threads.proofs.RecordSteps.{Brings, OthersKnow, fits_here, leaves_now}
 use Rattle.stamp_threads.proofs.RecordSteps.{others_mark, one_after, one_consistent, only_views}
 use Rattle.stamp_threads.proofs.RecordSteps.{only_consistent, knowing_brings, same_knows}
-use Rattle.stamp_threads.proofs.RecordSteps.{idle_quiet, KeptBy}
+use Rattle.stamp_threads.proofs.RecordSteps.{idle_quiet, KeptBy, Leaves, load_leaves}
 
 module _ {enterable : Bool} (P : List ℕ → Type 0) (shape : RecordShape) (s : State (Unit {0}) (List RecordPassView))
     (r : IsKept enterable P shape s)
@@ -181,22 +180,16 @@ allows_open P shape slots id me is idle s r _ at _ =
     let word : ℕ = get_or s.words 0 0 in
     let w : RecordPassView = if is_locked r.log then knowing (finding v word) r.log
     else starting_to_read (finding v word) r.log in
-    let quiet = idle_quiet v.phase idle in (
-      w ∷ [],
-      keeps,
-      tt,
-      subst (KeptBy _ P shape s id w) (sym (set-get_or s.words 0 0))
-          (open_at P shape s r id v here idle (is_locked r.log) refl word),
-      record {
-        log = r.log;
-        left = leaves_now P shape s r id v here;
-        after = λ i. (w ∷ [], (is i).1);
-        others = others_mark P shape s r id v here quiet;
-        consistent = only_consistent P shape s r id v here quiet
-            (knowing (finding v word) r.log) refl refl
-            (knowing_brings P shape s r id v here word) refl;
-      },
-    )
+    let quiet = idle_quiet v.phase idle in
+    load_leaves P shape s id me 0 w (Opened shape v word)
+    (open_at P shape s r id v here idle (is_locked r.log) refl word) (record {
+      log = r.log;
+      left = leaves_now P shape s r id v here;
+      after = λ i. (w ∷ [], (is i).1);
+      others = others_mark P shape s r id v here quiet;
+      consistent = only_consistent P shape s r id v here quiet (knowing (finding v word) r.log)
+          refl refl (knowing_brings P shape s r id v here word) refl;
+    })
 
 -- a load of a word of the record
 pub allows_load_word : {enterable : Bool} (P : List ℕ → Type 0) (shape : RecordShape) (slots id : ℕ) (me : Seated)
@@ -209,14 +202,9 @@ allows_load_word P shape slots id me version k xs is reading long inside s r _ t
     let v : RecordPassView = first_of me.0 in
     let here : get_elem? s.views id ≡ some (v ∷ []) =
     there ∙ ap (λ (m : Seated). some m.0) is in
-    let w = loaded_one v (get_or s.words (k + 1) 0) in (
-      w ∷ [],
-      keeps,
-      tt,
-      subst (KeptBy _ P shape s id w) (sym (set-get_or s.words (k + 1) 0))
-          (loads P shape s r id v here version xs reading k long inside),
-      λ i. (w ∷ [], (is i).1),
-    )
+    let w = loaded_one v (get_or s.words (k + 1) 0) in
+    load_leaves P shape s id me (k + 1) w (λ m. m ≡ alone w)
+    (loads P shape s r id v here version xs reading k long inside) (λ i. (w ∷ [], (is i).1))
 
 -- the second load of the lock word, by whether it is the word of the first
 confirm_at : {enterable : Bool} (P : List ℕ → Type 0) (shape : RecordShape) (s : State (Unit {0}) (List RecordPassView))
@@ -224,46 +212,34 @@ confirm_at : {enterable : Bool} (P : List ℕ → Type 0) (shape : RecordShape) 
     me ≡ alone (first_of me.0) → get_elem? s.views id ≡ some (first_of me.0 ∷ []) →
     (first_of me.0).phase ≡ Reading version xs → length xs ≡ shape.width → (b : Bool) →
     eqb (get_or s.words 0 0) (word_with shape.limits.layout version false) ≡ b →
-    (w : List RecordPassView) × (a : Act (Unit {0})) × Valid s.homes me.1 a ×
-    IsKept enterable P shape (stepped s 0 (get_or s.words 0 0) id me.1 w a) ×
-    MatchBool b
-    (Confirmed shape (first_of me.0) (get_or s.words 0 0) (w, carried_after me.1 a) P xs)
-    (Overtaken shape (first_of me.0) (get_or s.words 0 0) (w, carried_after me.1 a))
+    Leaves enterable P shape s id me 0 (get_or s.words 0 0) (λ m. MatchBool b
+    (Confirmed shape (first_of me.0) (get_or s.words 0 0) m P xs)
+    (Overtaken shape (first_of me.0) (get_or s.words 0 0) m))
 confirm_at P shape s r id me version xs is here reading long true e =
     let v : RecordPassView = first_of me.0 in
     let w = calling (finding v (get_or s.words 0 0)) r.log (get_of xs) in
-    let t = confirms P shape s r id v here version xs reading long (eqb-true _ _ e) in (
-      w ∷ [],
-      keeps,
-      tt,
-      subst (KeptBy _ P shape s id w) (sym (set-get_or s.words 0 0)) t.0,
-      record {
-        log = r.log;
-        content = t.2;
-        obeys = t.3;
-        left = leaves_now P shape s r id v here;
-        after = λ i. (w ∷ [], (is i).1);
-        consistent = t.1;
-      },
-    )
+    let t = confirms P shape s r id v here version xs reading long (eqb-true _ _ e) in
+    load_leaves P shape s id me 0 w (λ m. Confirmed shape v (get_or s.words 0 0) m P xs) t.0 (record {
+      log = r.log;
+      content = t.2;
+      obeys = t.3;
+      left = leaves_now P shape s r id v here;
+      after = λ i. (w ∷ [], (is i).1);
+      consistent = t.1;
+    })
 confirm_at P shape s r id me version xs is here reading long false e =
     let v : RecordPassView = first_of me.0 in
     let w = stopping (finding v (get_or s.words 0 0)) r.log in
     let quiet = reading_quiet P shape s r id v here version xs reading in
-    let brings = stopping_brings P shape s r id v here version xs reading (get_or s.words 0 0) in (
-      w ∷ [],
-      keeps,
-      tt,
-      subst (KeptBy _ P shape s id w) (sym (set-get_or s.words 0 0))
-          (only_views P shape s r id v here quiet w refl refl brings),
-      record {
-        log = r.log;
-        left = leaves_now P shape s r id v here;
-        after = λ i. (w ∷ [], (is i).1);
-        others = others_mark P shape s r id v here quiet;
-        consistent = only_consistent P shape s r id v here quiet w refl refl brings refl;
-      },
-    )
+    let brings = stopping_brings P shape s r id v here version xs reading (get_or s.words 0 0) in
+    load_leaves P shape s id me 0 w (Overtaken shape v (get_or s.words 0 0))
+    (only_views P shape s r id v here quiet w refl refl brings) (record {
+      log = r.log;
+      left = leaves_now P shape s r id v here;
+      after = λ i. (w ∷ [], (is i).1);
+      others = others_mark P shape s r id v here quiet;
+      consistent = only_consistent P shape s r id v here quiet w refl refl brings refl;
+    })
 
 pub allows_confirm : {enterable : Bool} (P : List ℕ → Type 0) (shape : RecordShape) (slots id : ℕ) (me : Seated)
     (version : ℕ)

@@ -8,9 +8,8 @@ use mathlib.Core.Logic.{dite}
 use native.Mathlib.Decide.{ℕ_discrete}
 use mathlib.Core.Option.{none, some}
 use lib.ListN.{get_elem?}
-use lib.Seq.{set-get_or}
 use prog.Atomic.{either}
-use Rattle.atomic_table.specs.Table.{State, Act, keeps, step, stepped, Valid, carried_after, Allows}
+use Rattle.atomic_table.specs.Table.{State, keeps, step, Allows}
 use Rattle.stamp_core.specs.declared.call.Call.TheVariants.{Put}
 use Rattle.stamp_core.specs.declared.reply.Reply.TheVariants.{Done}
 use Rattle.stamp_threads.specs.declared.record_view.RecordShape.{RecordShape}
@@ -38,6 +37,7 @@ use Rattle.stamp_threads.proofs.RecordSteps.{Brings, OthersKnow, fits_here, leav
 use Rattle.stamp_threads.proofs.RecordSteps.{others_mark, one_after, one_consistent, one_stands}
 use Rattle.stamp_threads.proofs.RecordSteps.{only_views, only_consistent, knowing_brings}
 use Rattle.stamp_threads.proofs.RecordSteps.{locked_by, reader_knows, idle_quiet, KeptBy}
+use Rattle.stamp_threads.proofs.RecordSteps.{Leaves, load_leaves}
 
 module _ {enterable : Bool} (P : List ℕ → Type 0) (shape : RecordShape) (s : State (Unit {0}) (List RecordPassView))
     (r : IsKept enterable P shape s)
@@ -238,35 +238,28 @@ look_at : {enterable : Bool} (P : List ℕ → Type 0) (shape : RecordShape)
     (s : State (Unit {0}) (List RecordPassView)) (r : IsKept enterable P shape s)
     (id : ℕ) (me : Seated) → me ≡ alone (first_of me.0) → (first_of me.0).phase ≡ Idle →
     get_elem? s.views id ≡ some (first_of me.0 ∷ []) →
-    KeptBy enterable P shape s id (knowing (finding (first_of me.0) (get_or s.words 0 0)) r.log) s.words ×
-    Looked shape (first_of me.0) (get_or s.words 0 0)
-    (knowing (finding (first_of me.0) (get_or s.words 0 0)) r.log ∷ [], me.1)
+    Leaves enterable P shape s id me 0 (get_or s.words 0 0)
+    (Looked shape (first_of me.0) (get_or s.words 0 0))
 look_at P shape s r id me is idle here =
     let v : RecordPassView = first_of me.0 in
     let word : ℕ = get_or s.words 0 0 in
     let w = knowing (finding v word) r.log in
     let quiet = idle_quiet v.phase idle in
-    let brings = knowing_brings P shape s r id v here word in (
-      only_views P shape s r id v here quiet w refl refl brings,
-      record {
-        log = r.log;
-        left = leaves_now P shape s r id v here;
-        after = λ i. (w ∷ [], (is i).1);
-        others = others_mark P shape s r id v here quiet;
-        consistent = only_consistent P shape s r id v here quiet w refl refl brings refl;
-      },
-    )
+    let brings = knowing_brings P shape s r id v here word in
+    load_leaves P shape s id me 0 w (Looked shape v word)
+    (only_views P shape s r id v here quiet w refl refl brings) (record {
+      log = r.log;
+      left = leaves_now P shape s r id v here;
+      after = λ i. (w ∷ [], (is i).1);
+      others = others_mark P shape s r id v here quiet;
+      consistent = only_consistent P shape s r id v here quiet w refl refl brings refl;
+    })
 
 pub allows_look : {enterable : Bool} (P : List ℕ → Type 0) (shape : RecordShape) (slots id : ℕ) (me : Seated) →
     me ≡ alone (first_of me.0) → (first_of me.0).phase ≡ Idle →
     Allows (IsKept enterable P shape) slots id me 0 (λ n. n) (LookTells shape (step slots 0 0 0 none) me)
 allows_look P shape slots id me is idle s r _ at _ =
-    let v : RecordPassView = first_of me.0 in
-    let here : get_elem? s.views id ≡ some (v ∷ []) =
-    at ∙ ap (λ (m : Seated). some m.0) is in
-    let w = knowing (finding v (get_or s.words 0 0)) r.log in
-    let t = look_at P shape s r id me is idle here in
-    (w ∷ [], keeps, tt, subst (KeptBy _ P shape s id w) (sym (set-get_or s.words 0 0)) t.0, t.1)
+    look_at P shape s r id me is idle (at ∙ ap (λ (m : Seated). some m.0) is)
 
 -- the exchange that gets write mode, by whether the word found is the old one
 acquire_at : {enterable : Bool} (P : List ℕ → Type 0) (shape : RecordShape) (s : State (Unit {0}) (List RecordPassView))
@@ -276,11 +269,9 @@ acquire_at : {enterable : Bool} (P : List ℕ → Type 0) (shape : RecordShape) 
     old ≡ word_with shape.limits.layout n false →
     held ≡ old + writer_unit shape.limits.layout → n < shape.limits.versions →
     length xs ≡ shape.width → P xs → (b : Bool) → eqb (get_or s.words 0 0) old ≡ b →
-    (w : List RecordPassView) × (a : Act (Unit {0})) × Valid s.homes me.1 a ×
-    IsKept enterable P shape (stepped s 0 (either b held (get_or s.words 0 0)) id me.1 w a) ×
-    MatchBool b
-    (Acquired shape (first_of me.0) (get_or s.words 0 0) (w, carried_after me.1 a) xs)
-    (Looked shape (first_of me.0) (get_or s.words 0 0) (w, carried_after me.1 a))
+    Leaves enterable P shape s id me 0 (either b held (get_or s.words 0 0)) (λ m. MatchBool b
+    (Acquired shape (first_of me.0) (get_or s.words 0 0) m xs)
+    (Looked shape (first_of me.0) (get_or s.words 0 0) m))
 acquire_at P shape s r id me n old held xs is idle here free up room long good true e =
     let v : RecordPassView = first_of me.0 in
     let w = acquiring (finding v (get_or s.words 0 0)) r.log xs in
@@ -299,10 +290,7 @@ acquire_at P shape s r id me n old held xs is idle here free up room long good t
       },
     )
 acquire_at P shape s r id me n old held xs is idle here free up room long good false e =
-    let v : RecordPassView = first_of me.0 in
-    let w = knowing (finding v (get_or s.words 0 0)) r.log in
-    let t = look_at P shape s r id me is idle here in
-    (w ∷ [], keeps, tt, subst (KeptBy _ P shape s id w) (sym (set-get_or s.words 0 0)) t.0, t.1)
+    look_at P shape s r id me is idle here
 
 pub allows_acquire : {enterable : Bool} (P : List ℕ → Type 0) (shape : RecordShape) (slots id : ℕ) (me : Seated)
     (n old held : ℕ)

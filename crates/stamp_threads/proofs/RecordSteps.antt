@@ -5,7 +5,8 @@ use Rattle.std.proofs.Common.{⊎_elim, arith, Bool, false}
 use mathlib.Core.Option.{some, some-injective}
 use mathlib.Core.List.{IsPrefix}
 use lib.ListN.{get_elem?}
-use Rattle.atomic_table.specs.Table.{State}
+use lib.Seq.{set-get_or}
+use Rattle.atomic_table.specs.Table.{State, Act, keeps, stepped, Valid, carried_after}
 use Rattle.atomic_table.proofs.Lists.{set_here}
 use Rattle.stamp_threads.specs.declared.record_view.RecordShape.{RecordShape}
 use Rattle.stamp_threads.specs.declared.record_view.RecordPhase.{RecordPhase}
@@ -15,8 +16,8 @@ use Rattle.stamp_threads.specs.PassView.{made_by, knowing, finding}
 use Rattle.stamp_threads.specs.Seats.{StandsAt, AreSeated}
 use Rattle.stamp_threads.specs.RecordLog.{RecordLog, IsLegalRecord, puts, puts_in, is_locked}
 use Rattle.stamp_threads.specs.RecordLog.{marker_in, content_in, is_own, is_mark, marks_of}
-use Rattle.stamp_threads.specs.RecordPass.{RecordPassView, IsConsistentWith, LeavesLockWord}
-use Rattle.stamp_threads.specs.RecordPass.{marks_ahead}
+use Rattle.stamp_threads.specs.RecordPass.{RecordPassView, Seated, IsConsistentWith}
+use Rattle.stamp_threads.specs.RecordPass.{LeavesLockWord, marks_ahead}
 use Rattle.stamp_threads.specs.RecordRule.{Knows, KnowsPart, IsWriting}
 use Rattle.stamp_threads.specs.RecordRule.{HasWriter, IsKept}
 use Rattle.stamp_threads.proofs.Beginnings.{begins_all}
@@ -283,3 +284,18 @@ abbrev pub KeptBy : Bool → (List ℕ → Type 0) → RecordShape → State (Un
     List ℕ → Type 0
 KeptBy enterable P shape s id w words =
     IsKept enterable P shape record { words = words; homes = s.homes; views = set s.views id (w ∷ []) }
+
+-- a step of this seat leaves this word at the index, and tells this of the seat
+abbrev pub Leaves : Bool → (List ℕ → Type 0) → RecordShape → State (Unit {0}) (List RecordPassView) → ℕ →
+    Seated → ℕ → ℕ → (Seated → Type 0) → Type 0
+Leaves enterable P shape s id me index word Told = (w : List RecordPassView) × (a : Act (Unit {0})) ×
+    Valid s.homes me.1 a × IsKept enterable P shape (stepped s index word id me.1 w a) ×
+    Told (w, carried_after me.1 a)
+
+-- a step that loads a word, and leaves the pass w there
+pub load_leaves : {enterable : Bool} (P : List ℕ → Type 0) (shape : RecordShape)
+    (s : State (Unit {0}) (List RecordPassView)) (id : ℕ) (me : Seated) (index : ℕ) (w : RecordPassView)
+    (Told : Seated → Type 0) → KeptBy enterable P shape s id w s.words → Told (w ∷ [], me.1) →
+    Leaves enterable P shape s id me index (get_or s.words index 0) Told
+load_leaves P shape s id me index w Told kept told =
+    (w ∷ [], keeps, tt, subst (KeptBy _ P shape s id w) (sym (set-get_or s.words index 0)) kept, told)

@@ -80,175 +80,141 @@ module _ {enterable : Bool} (limits : Bounds) (s : State (Unit {0}) (List LockPa
 
 -- the rule, and what the pass knows, after a step of a seat that holds one
 abbrev Steps : Bool → (limits : Bounds) (s : State (Unit {0}) (List LockPassView)) → ℕ → ℕ →
-    List (Option (Unit {0})) → LockPassView → Type 0
-Steps enterable limits s id word homes w = IsKept enterable limits
-    record { words = set s.words 0 word; homes = homes; views = set s.views id (w ∷ []) } ×
+    LockPassView → Type 0
+Steps enterable limits s id word w = IsKept enterable limits
+    record { words = set s.words 0 word; homes = s.homes; views = set s.views id (w ∷ []) } ×
     IsConsistentWith limits w
+
+-- a step of this seat leaves this word, and one pass there, of which it tells this
+abbrev Leaves : Bool → Bounds → State (Unit {0}) (List LockPassView) → ℕ → Seated → ℕ →
+    (LockPassView → Type 0) → Type 0
+Leaves enterable limits s id me word Told = (w : List LockPassView) × (a : Act (Unit {0})) ×
+    Valid s.homes me.1 a × IsKept enterable limits (stepped s 0 word id me.1 w a) ×
+    (((w, carried_after me.1 a) ≡ alone (first_of w)) × Told (first_of w))
 
 module _ {enterable : Bool} (limits : Bounds) (s : State (Unit {0}) (List LockPassView)) (r : IsKept enterable limits s)
     (id : ℕ)
-    (v : LockPassView) (homes : List (Option (Unit {0}))) (at : get_elem? s.views id ≡ some (v ∷ []))
-  where
-    part_now : IsPart every r.log v
-    part_now = r.passes.fits id 0 v (v ∷ [], at, refl)
+    (v : LockPassView) (at : get_elem? s.views id ≡ some (v ∷ [])) where
+  part_now : IsPart every r.log v
+  part_now = r.passes.fits id 0 v (v ∷ [], at, refl)
 
-    pub leaves_now : LeavesWord limits v (get_or s.words 0 0) r.log
-    leaves_now = record { begins = part_now.known; legal = r.legal; represents = r.represents }
+  pub leaves_now : LeavesWord limits v (get_or s.words 0 0) r.log
+  leaves_now = record { begins = part_now.known; legal = r.legal; represents = r.represents }
 
-    -- the pass once it has found the word that stands there
-    abbrev looked : LockPassView
-    looked = finding v (get_or s.words 0 0)
+  -- the pass once it has found the word that stands there
+  abbrev looked : LockPassView
+  looked = finding v (get_or s.words 0 0)
 
-    pub knows_all : Steps enterable limits s id (get_or s.words 0 0) homes (knowing looked r.log)
-    knows_all =
-        let w : LockPassView = knowing looked r.log in
+  pub knows_all : Steps enterable limits s id (get_or s.words 0 0) (knowing looked r.log)
+  knows_all =
+      let w : LockPassView = knowing looked r.log in
+      let same = same_one v w refl refl in
+      let grows = grows_none (v ∷ []) r.log in
+      let all = only_one (λ k u. (u.known ≡ r.log) × (made_by every u.name r.log ≡ u.own)) w
+      (refl, part_now.own) in (
+        kept_after limits s r id (v ∷ []) (w ∷ []) r.log at same grows all (get_or s.words 0 0)
+            s.homes r.legal r.represents,
+        consistent_after limits s r id (v ∷ []) (w ∷ []) r.log at same grows
+            all r.legal 0 w refl,
+      )
+
+  module _ (call : Call) (lock : IsTrue (is_lock_call call)) where
+    pub makes_call : (t : Transition) (word : ℕ) → transition_after limits r.log call ≡ Some t
+        →
+        RepresentsAt limits word (events_after limits
+        (r.log ++ entry v.name (call, t.reply) ∷ []))
+        → Steps enterable limits s id word (adding looked r.log (call, t.reply))
+    makes_call t word is represents =
+        let m : Call × Reply = (call, t.reply) in
+        let log' : LockLog = r.log ++ entry v.name m ∷ [] in
+        let w : LockPassView = adding looked r.log m in
         let same = same_one v w refl refl in
-        let grows = grows_none (v ∷ []) r.log in
-        let all = only_one (λ k u. (u.known ≡ r.log) × (made_by every u.name r.log ≡ u.own)) w
-        (refl, part_now.own) in (
-          kept_after limits s r id (v ∷ []) (w ∷ []) r.log at same grows all (get_or s.words 0 0)
-              homes
-              r.legal r.represents,
-          consistent_after limits s r id (v ∷ []) (w ∷ []) r.log at same grows
-              all r.legal 0 w refl,
+        let grows = grows_one v r.log m in
+        let own = made_by-same every v.name r.log m ∙
+        ap (λ (l : List (Call × Reply)). l ++ m ∷ []) part_now.own in
+        let all = only_one (λ k u. (u.known ≡ log') × (made_by every u.name log' ≡ u.own)) w
+        (refl, own) in
+        let legal = legal_longer limits r.log call v.name t is lock r.legal in (
+          kept_after limits s r id (v ∷ []) (w ∷ []) log' at same grows all word s.homes legal
+              represents,
+          consistent_after limits s r id (v ∷ []) (w ∷ []) log' at same grows all
+              legal 0 w refl,
         )
 
-    module _ (call : Call) (lock : IsTrue (is_lock_call call)) where
-      pub makes_call : (t : Transition) (word : ℕ) → transition_after limits r.log call ≡ Some t
-          →
-          RepresentsAt limits word (events_after limits
-          (r.log ++ entry v.name (call, t.reply) ∷ []))
-          → Steps enterable limits s id word homes (adding looked r.log (call, t.reply))
-      makes_call t word is represents =
-          let m : Call × Reply = (call, t.reply) in
-          let log' : LockLog = r.log ++ entry v.name m ∷ [] in
-          let w : LockPassView = adding looked r.log m in
-          let same = same_one v w refl refl in
-          let grows = grows_one v r.log m in
-          let own = made_by-same every v.name r.log m ∙
-          ap (λ (l : List (Call × Reply)). l ++ m ∷ []) part_now.own in
-          let all = only_one (λ k u. (u.known ≡ log') × (made_by every u.name log' ≡ u.own)) w
-          (refl, own) in
-          let legal = legal_longer limits r.log call v.name t is lock r.legal in (
-            kept_after limits s r id (v ∷ []) (w ∷ []) log' at same grows all word homes legal
-                represents,
-            consistent_after limits s r id (v ∷ []) (w ∷ []) log' at same grows all
-                legal 0 w refl,
-          )
+    by_appended : (appended : List LockEvent) (reply : Reply) →
+        transition_after limits r.log call ≡
+        Some (record { appended = appended; reply = reply }) →
+        Steps enterable limits s id (get_or s.words 0 0) (answering appended reply call looked r.log)
+    by_appended [] reply is = makes_call (record { appended = []; reply = reply })
+        (get_or s.words 0 0) is (represents_unchanged limits r.log call v.name
+        (record { appended = []; reply = reply }) is _ refl r.represents)
+    by_appended (event ∷ appended) reply is = knows_all
 
-      by_appended : (appended : List LockEvent) (reply : Reply) →
-          transition_after limits r.log call ≡
-          Some (record { appended = appended; reply = reply }) →
-          Steps enterable limits s id (get_or s.words 0 0) homes (answering appended reply call looked r.log)
-      by_appended [] reply is = makes_call (record { appended = []; reply = reply })
-          (get_or s.words 0 0) is (represents_unchanged limits r.log call v.name
-          (record { appended = []; reply = reply }) is _ refl r.represents)
-      by_appended (event ∷ appended) reply is = knows_all
+    by_transition : (o : Rattle.std.proofs.Common.Option Transition) →
+        transition_after limits r.log call ≡ o →
+        Steps enterable limits s id (get_or s.words 0 0) (reading o call looked r.log)
+    by_transition None is = knows_all
+    by_transition (Some t) is = by_appended t.appended t.reply is
 
-      by_transition : (o : Rattle.std.proofs.Common.Option Transition) →
-          transition_after limits r.log call ≡ o →
-          Steps enterable limits s id (get_or s.words 0 0) homes (reading o call looked r.log)
-      by_transition None is = knows_all
-      by_transition (Some t) is = by_appended t.appended t.reply is
+    pub loads : Steps enterable limits s id (get_or s.words 0 0) (after_load limits call looked r.log)
+    loads = by_transition (transition_after limits r.log call) refl
 
-      pub loads : Steps enterable limits s id (get_or s.words 0 0) homes (after_load limits call looked r.log)
-      loads = by_transition (transition_after limits r.log call) refl
+    pub wins : (old new : ℕ) (reply : Reply) → get_or s.words 0 0 ≡ old →
+        Changes limits (word_at limits old) call (word_at limits new) reply →
+        Steps enterable limits s id new (after_win limits call looked r.log)
+    wins old new reply hit changes =
+        let m : Moves limits (events_after limits r.log) call (word_at limits old)
+        (word_at limits new) reply = changes (events_after limits r.log)
+        (subst (λ (n : ℕ). RepresentsAt limits n (events_after limits r.log)) hit r.represents) in
+        let t : Transition = record { appended = m.appended; reply = reply } in
+        let made = makes_call t new m.transition_is
+        (represents_changed limits r.log call v.name t m.transition_is new m.represented) in
+        subst (λ (w : LockPassView). Steps enterable limits s id new w)
+        (sym (ap (λ (o : Rattle.std.proofs.Common.Option Transition). making o call looked r.log)
+        m.transition_is)) made
 
-      pub wins : (old new : ℕ) (reply : Reply) → get_or s.words 0 0 ≡ old →
+    module _ (me : Seated) (is : me ≡ alone v) where
+      -- where the step leaves the pass w
+      leaves : (word : ℕ) (w : LockPassView) (Told : LockPassView → Type 0) →
+          Steps enterable limits s id word w → Told w → Leaves enterable limits s id me word Told
+      leaves word w Told t told = (w ∷ [], keeps, tt, t.0, (λ i. (w ∷ [], (is i).1), told))
+
+      pub load_leaves : Leaves enterable limits s id me (get_or s.words 0 0)
+          (Loaded limits call v (get_or s.words 0 0))
+      load_leaves = leaves (get_or s.words 0 0) (after_load limits call looked r.log)
+          (Loaded limits call v (get_or s.words 0 0)) loads
+          (record { log = r.log; left = leaves_now; after = refl; consistent = loads.1 })
+
+      pub win_leaves : (old new : ℕ) (reply : Reply) → get_or s.words 0 0 ≡ old →
           Changes limits (word_at limits old) call (word_at limits new) reply →
-          Steps enterable limits s id new homes (after_win limits call looked r.log)
-      wins old new reply hit changes =
-          let m : Moves limits (events_after limits r.log) call (word_at limits old)
-          (word_at limits new) reply = changes (events_after limits r.log)
-          (subst (λ (n : ℕ). RepresentsAt limits n (events_after limits r.log)) hit r.represents) in
-          let t : Transition = record { appended = m.appended; reply = reply } in
-          let made = makes_call t new m.transition_is
-          (represents_changed limits r.log call v.name t m.transition_is new m.represented) in
-          subst (λ (w : LockPassView). Steps enterable limits s id new homes w)
-          (sym (ap (λ (o : Rattle.std.proofs.Common.Option Transition). making o call looked r.log)
-          m.transition_is)) made
+          Leaves enterable limits s id me new (Won limits call v (get_or s.words 0 0))
+      win_leaves old new reply hit changes =
+          let t = wins old new reply hit changes in
+          leaves new (after_win limits call looked r.log) (Won limits call v (get_or s.words 0 0)) t
+          (record { log = r.log; left = leaves_now; after = refl; consistent = t.1 })
 
 -- a load
 pub allows_load : {enterable : Bool} (limits : Bounds) (call : Call) (slots id : ℕ)
     (me : Seated) → IsTrue (is_lock_call call) → me ≡ alone (first_of me.0) →
     Allows (IsKept enterable limits) slots id me 0 (λ n. n) (LoadTells limits call (step slots 0 0 0 none) me)
 allows_load limits call slots id me lock is s r _ at _ =
-    let v : LockPassView = first_of me.0 in
-    let here : get_elem? s.views id ≡ some (v ∷ []) =
-    at ∙ ap (λ (m : Seated). some m.0) is in
-    let w : LockPassView = after_load limits call (finding v (get_or s.words 0 0)) r.log in
-    let t = loads limits s r id v s.homes here call lock in (
-      w ∷ [],
-      keeps,
-      tt,
-      t.0,
-      (
-        λ i. (w ∷ [], (is i).1),
-        record {
-          log = r.log;
-          left =
-              leaves_now limits s r id v s.homes here;
-          after = refl;
-          consistent = t.1;
-        },
-      ),
-    )
+    load_leaves limits s r id (first_of me.0) (at ∙ ap (λ (m : Seated). some m.0) is) call lock me is
 
--- by whether the word found is the old one
-abbrev TellsBy : Bool → Bounds → Call → LockPassView → ℕ → Seated → Type 0
-TellsBy b limits call v found n = (n ≡ alone (first_of n.0)) ×
-    MatchBool b (Won limits call v found (first_of n.0)) (Loaded limits call v found (first_of n.0))
-
+-- an exchange, by whether the word found is the old one
 exchange_at : {enterable : Bool} (limits : Bounds) (s : State (Unit {0}) (List LockPassView))
-    (r : IsKept enterable limits s)
-    (id : ℕ) (me : Seated) (call : Call) (old new : ℕ) (reply : Reply) →
+    (r : IsKept enterable limits s) (id : ℕ) (me : Seated) (call : Call) (old new : ℕ) (reply : Reply) →
     IsTrue (is_lock_call call) → me ≡ alone (first_of me.0) →
-    get_elem? s.views id ≡ some (first_of me.0 ∷ [])
-    → Changes limits (word_at limits old) call (word_at limits new) reply → (b : Bool) →
-    eqb (get_or s.words 0 0) old ≡ b
-    → (w : List LockPassView) × (a : Act (Unit {0})) × Valid s.homes me.1 a ×
-    IsKept enterable limits (stepped s 0 (either b new (get_or s.words 0 0)) id me.1 w a)
-    × TellsBy b limits call (first_of me.0) (get_or s.words 0 0) (w, carried_after me.1 a)
+    get_elem? s.views id ≡ some (first_of me.0 ∷ []) →
+    Changes limits (word_at limits old) call (word_at limits new) reply → (b : Bool) →
+    eqb (get_or s.words 0 0) old ≡ b →
+    Leaves enterable limits s id me (either b new (get_or s.words 0 0)) (λ w. MatchBool b
+    (Won limits call (first_of me.0) (get_or s.words 0 0) w)
+    (Loaded limits call (first_of me.0) (get_or s.words 0 0) w))
 exchange_at limits s r id me call old new reply lock is here changes true e =
-    let v : LockPassView = first_of me.0 in
-    let w : LockPassView = after_win limits call (finding v (get_or s.words 0 0)) r.log in
-    let t = wins limits s r id v s.homes here call lock old new reply (eqb-true _ _ e) changes in (
-      w ∷ [],
-      keeps,
-      tt,
-      t.0,
-      (
-        λ i. (w ∷ [], (is i).1),
-        record {
-          log = r.log;
-          left = leaves_now limits s r id v s.homes here;
-          after =
-              refl;
-          consistent = t.1;
-        },
-      ),
-    )
+    win_leaves limits s r id (first_of me.0) here call lock me is old new reply (eqb-true _ _ e) changes
 exchange_at limits s r id me call old new reply lock is here changes false e =
-    let v : LockPassView = first_of me.0 in
-    let w : LockPassView = after_load limits call (finding v (get_or s.words 0 0)) r.log in
-    let t = loads limits s r id v s.homes here call lock in (
-      w ∷ [],
-      keeps,
-      tt,
-      t.0,
-      (
-        λ i. (w ∷ [], (is i).1),
-        record {
-          log = r.log;
-          left = leaves_now limits s r id v s.homes here;
-          after =
-              refl;
-          consistent = t.1;
-        },
-      ),
-    )
+    load_leaves limits s r id (first_of me.0) here call lock me is
 
--- an exchange
 pub allows_exchange : {enterable : Bool} (limits : Bounds) (call : Call) (slots id : ℕ)
     (me : Seated) (old new : ℕ) (reply : Reply) →
     IsTrue (is_lock_call call) → me ≡ alone (first_of me.0)

@@ -1,7 +1,9 @@
-use Rattle.std.proofs.Common.{◌∙◌, ap, sym, inr}
+use Rattle.std.proofs.Common.{◌≡◌, ◌==◌, false, ◌∙◌, ap, sym, inr}
 use Rattle.stamp_core.specs.LockDecision.{reply_as}
 use Rattle.stamp_machines.proofs.LockCallSteps.{by_number}
-use Rattle.stamp_threads.specs.LockPass.{LockView, LockToken}
+use Rattle.stamp_threads.specs.LockPass.{LockView, LockToken, first_of}
+use Rattle.stamp_threads.specs.LockRule.{Loaded}
+use Rattle.stamp_threads.specs.Underway.{Underway}
 use Rattle.stamp_threads.proofs.CallSteps.{exchange_won, exchange_lost, never_waits}
 use Rattle.stamp_threads.proofs.Underway.{begins, is_answered, ends_by_answer, is_made}
 use Rattle.stamp_threads.proofs.Underway.{ends_by_change, loses_exchange, goes_to_change}
@@ -71,63 +73,56 @@ unreachable-requires-in-Wait c =
     never_waits _ _ _ _ _ (c.try_form-call.ensures.lock_call c.requires.lock_call)
     c.try_form-call.ensures.never told c.in-Wait.ensures.decides
 
+-- the exchange found another word, so it is as a load, and the call is still under way
+module _ (c : goal.Joined-decide-2) where
+  told : Loaded c.args.self.now.limits c.try_form-call.result c.args.pass.now.view
+      c.load-loaded.result (first_of c.load-loaded.new.seat.me.0)
+  told =
+      let limits = c.self.invariant.0 ∙ ap (λ (l : LockView). l.limits) c.self.view_is in
+      let view = ap (λ (p : LockToken). p.view) c.pass.view_is in
+      rw (limits, view) at c.load-loaded.ensures.told
+
+  lost : ((c.exchange-found.result == c.load-loaded.result) ≡ false) × Loaded c.args.self.now.limits
+      c.try_form-call.result (first_of c.load-loaded.new.seat.me.0) c.exchange-found.result
+      (first_of c.exchange-found.new.seat.me.0)
+  lost =
+      let limits = c.self.invariant.0 ∙ ap (λ (l : LockView). l.limits) c.self.view_is in
+      exchange_lost _ _ _ _ _ _ c.if-found-loaded.false (rw limits at c.exchange-found.ensures.told)
+
+  underway : Underway c.args.self.now.limits c.try_form-call.result c.args.pass.now.view
+      c.exchange-found.result (first_of c.exchange-found.new.seat.me.0)
+  underway =
+      let begun = begins _ _ _ _ _ (c.try_form-call.ensures.lock_call c.requires.lock_call) told in
+      loses_exchange _ _ _ _ _ begun _ _ c.in-Change.ensures.decides c.in-Change.ensures.number _ _
+      lost.0 lost.1
+
 pub returns-after-decide-2-clause-ok : goal.returns-after-decide-2-clause-ok
-returns-after-decide-2-clause-ok c =
-    let limits = c.self.invariant.0 ∙ ap (λ (l : LockView). l.limits) c.self.view_is in
-    let view = ap (λ (p : LockToken). p.view) c.pass.view_is in
-    let told = rw (limits, view) at c.load-loaded.ensures.told in
-    let found = rw limits at c.exchange-found.ensures.told in
-    let lost = exchange_lost _ _ _ _ _ _ c.if-found-loaded.false found in
-    let begun = begins _ _ _ _ _ (c.try_form-call.ensures.lock_call c.requires.lock_call) told in
-    let on = loses_exchange _ _ _ _ _ begun _ _ c.in-Change.ensures.decides c.in-Change.ensures.number _ _
-    lost.0 lost.1 in
-    elim c.match-decide-2.branch [
-      | in-Answer-decide w ↦ rw (w.result-is, ← c.try_form-call.ensures.form, w.as_reply-in-Answer-decide.ensures)
-          (is_answered _ _ _ _ _ on _ w.in-Answer-decide.ensures.decides)
-      | in-Change-decide w ↦ rw w.result-is tt
-    ]
+returns-after-decide-2-clause-ok c = elim c.match-decide-2.branch [
+  | in-Answer-decide w ↦ rw (w.result-is, ← c.try_form-call.ensures.form, w.as_reply-in-Answer-decide.ensures)
+      (is_answered _ _ _ _ _ (underway c) _ w.in-Answer-decide.ensures.decides)
+  | in-Change-decide w ↦ rw w.result-is tt
+]
 
 pub returns-after-decide-2-clause-looks : goal.returns-after-decide-2-clause-looks
-returns-after-decide-2-clause-looks c =
-    let limits = c.self.invariant.0 ∙ ap (λ (l : LockView). l.limits) c.self.view_is in
-    let view = ap (λ (p : LockToken). p.view) c.pass.view_is in
-    let told = rw (limits, view) at c.load-loaded.ensures.told in
-    let found = rw limits at c.exchange-found.ensures.told in
-    let lost = exchange_lost _ _ _ _ _ _ c.if-found-loaded.false found in
-    elim c.match-decide-2.branch [
-      | in-Answer-decide w ↦ rw w.result-is
-          (inr (twice_by_answer _ _ _ _ _ _ _ told c.in-Change.ensures.decides _ _ _ lost.1
-          w.in-Answer-decide.ensures.decides))
-      | in-Change-decide w ↦ rw w.result-is tt
-    ]
+returns-after-decide-2-clause-looks c = elim c.match-decide-2.branch [
+  | in-Answer-decide w ↦ rw w.result-is
+      (inr (twice_by_answer _ _ _ _ _ _ _ (told c) c.in-Change.ensures.decides _ _ _ (lost c).1
+      w.in-Answer-decide.ensures.decides))
+  | in-Change-decide w ↦ rw w.result-is tt
+]
 
 pub returns-after-decide-2-clause-lost : goal.returns-after-decide-2-clause-lost
-returns-after-decide-2-clause-lost c =
-    let limits = c.self.invariant.0 ∙ ap (λ (l : LockView). l.limits) c.self.view_is in
-    let view = ap (λ (p : LockToken). p.view) c.pass.view_is in
-    let told = rw (limits, view) at c.load-loaded.ensures.told in
-    let found = rw limits at c.exchange-found.ensures.told in
-    let lost = exchange_lost _ _ _ _ _ _ c.if-found-loaded.false found in
-    elim c.match-decide-2.branch [
-      | in-Answer-decide w ↦ rw w.result-is tt
-      | in-Change-decide w ↦ rw (w.result-is, ← c.try_form-call.ensures.form)
-          (loses _ _ _ _ _ _ _ told c.in-Change.ensures.decides _ _ _ _
-          (λ e. c.if-found-loaded.false (sym e)) lost.1 w.in-Change-decide.ensures.decides)
-    ]
+returns-after-decide-2-clause-lost c = elim c.match-decide-2.branch [
+  | in-Answer-decide w ↦ rw w.result-is tt
+  | in-Change-decide w ↦ rw (w.result-is, ← c.try_form-call.ensures.form)
+      (loses _ _ _ _ _ _ _ (told c) c.in-Change.ensures.decides _ _ _ _
+      (λ e. c.if-found-loaded.false (sym e)) (lost c).1 w.in-Change-decide.ensures.decides)
+]
 
 pub returns-after-decide-2-clause-machine : goal.returns-after-decide-2-clause-machine
-returns-after-decide-2-clause-machine c =
-    let limits = c.self.invariant.0 ∙ ap (λ (l : LockView). l.limits) c.self.view_is in
-    let view = ap (λ (p : LockToken). p.view) c.pass.view_is in
-    let told = rw (limits, view) at c.load-loaded.ensures.told in
-    let found = rw limits at c.exchange-found.ensures.told in
-    let lost = exchange_lost _ _ _ _ _ _ c.if-found-loaded.false found in
-    let begun = begins _ _ _ _ _ (c.try_form-call.ensures.lock_call c.requires.lock_call) told in
-    let on = loses_exchange _ _ _ _ _ begun _ _ c.in-Change.ensures.decides c.in-Change.ensures.number _ _
-    lost.0 lost.1 in
-    elim c.match-decide-2.branch [
-      | in-Answer-decide w ↦ rw (w.result-is, ← c.try_form-call.ensures.form, w.as_reply-in-Answer-decide.ensures)
-          (ends_by_answer _ _ _ _ _ on _ w.in-Answer-decide.ensures.number)
-      | in-Change-decide w ↦ rw (w.result-is, ← c.try_form-call.ensures.form)
-          (goes_to_change _ _ _ _ _ _ _ on w.in-Change-decide.ensures.number)
-    ]
+returns-after-decide-2-clause-machine c = elim c.match-decide-2.branch [
+  | in-Answer-decide w ↦ rw (w.result-is, ← c.try_form-call.ensures.form, w.as_reply-in-Answer-decide.ensures)
+      (ends_by_answer _ _ _ _ _ (underway c) _ w.in-Answer-decide.ensures.number)
+  | in-Change-decide w ↦ rw (w.result-is, ← c.try_form-call.ensures.form)
+      (goes_to_change _ _ _ _ _ _ _ (underway c) w.in-Change-decide.ensures.number)
+]
