@@ -217,7 +217,8 @@ unchanging_so e reply is may = by e.returned refl is may
 
 -- a call that changes nothing takes effect at once
 tells_unchanging : (h : ObservedHistory) (returns : List ℕ) (node : Node) (a : Observation) (i : ℕ) (w : Next)
-    (s : LockState) (taken : List ℕ) → is_unchanging_at h.entries i ≡ true → (to : IsTakenTo h returns node a i s taken w) →
+    (s : LockState) (taken : List ℕ) → is_unchanging_at h.entries i ≡ true →
+    (to : IsTakenTo h returns node a i s taken w) →
     is_unchanging to.effect.entry ≡ true
 tells_unchanging h returns node a i w s taken unchanging to =
     ap unchanging_in (sym to.may.effect.is_entry) ∙ ap (is_unchanging_at h.entries) to.index ∙ unchanging
