@@ -33,7 +33,7 @@ FOLDER = os.path.dirname(os.path.abspath(__file__))
 TOP = os.path.dirname(os.path.dirname(FOLDER))
 PARTS = ("src", "specs", "proofs")
 FUNCTION = re.compile(r'^( *)(?:pub(?:\([a-z]+\))? )?(?:extern "C" )?fn (\w+)', re.M)
-IMPL = re.compile(r"^impl(?:<[^>{]*>)? (?:([\w:]+)(?:<(\w*)[^{]*>)? for )?(\w+)", re.M)
+IMPL = re.compile(r"^impl(?:<([^>{]*)>)? (?:([\w:]+)(?:<(\w*)[^{]*>)? for )?([^{]+?) *(?:where [^{]*)?\{", re.M)
 STATED = re.compile(r"^fn (\S+): (.*)$", re.M)
 # What is said of an edit that shows little of the contract: it changes the form, and not a value alone.
 LACKS_NAMES = "only since the proof lacks names that the edit took away"
@@ -153,9 +153,17 @@ def function_at(file, before):
         raise Failed(f"{file}: no function stands before an edit")
     name = found[-1][2]
     if found[-1][1] and impl:
-        trait, of_trait, type_name = impl[-1].groups(default="")
-        return f"{type_name}{trait.split('::')[-1]}{of_trait}::{name}"
+        parameters, trait, of_trait, of = impl[-1].groups(default="")
+        return f"{type_name(of, parameters)}{trait.split('::')[-1]}{of_trait}::{name}"
     return name if module in ("lib", "main") else f"{module}::{name}"
+
+
+def type_name(of, parameters):
+    """A type as the prover prints it in a path: `Option<Stamp>` as OptionStamp, without the impl's parameters."""
+    dropped = re.findall(r"(?:const )?(\w+)", parameters.split(":")[0]) + re.findall(r", *(?:const )?(\w+)", parameters)
+    words = re.findall(r"\(\)|'\w+|\w+", of)
+    kept = [word for word in words if word[0] != "'" and word not in dropped]
+    return "".join("Unit" if word == "()" else word[0].upper() + word[1:] for word in kept)
 
 
 def place_of(file, function):
