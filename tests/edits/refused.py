@@ -199,8 +199,9 @@ def why_of(function, crate, said):
         return stated.partition("; ")[2] or stated
     # a proof by hand: what is wrong in its own files
     folder = "proofs/" + function.removeprefix(f"{crate.name}::").replace("::", "/") + "/"
-    wrong = [line for line in said.split("\n") if re.match(rf"(?:\./)?{re.escape(folder)}\S+: error", line)]
-    wrong = [line for line in wrong if not NAMES.search(line)]
+    # a message that has a long name goes on in an indented line
+    wrong = re.findall(rf"^(?:\./)?{re.escape(folder)}\S+: error.*(?:\n  .*)?", said, re.M)
+    wrong = [it.split("\n")[0] for it in wrong if not NAMES.search(it)]
     return wrong[0] if wrong else None
 
 
