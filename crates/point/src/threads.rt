@@ -31,7 +31,11 @@ fn watch<R: Wait>(rt: &R, mut point: PointHandle<'_>) -> Result<()> {
 
 /// Two threads that move the point; how many of them moved it from the origin.
 pub fn move_by_two<R: Threads + Wait + Sync>(rt: &R, point: &Point) -> Result<u64> {
-    let (first, second) = join(rt, || move_around(rt, point.enter()), || move_around(rt, point.enter()));
+    let (first, second) = join(
+        rt,
+        || move_around(rt, point.enter()),
+        || move_around(rt, point.enter()),
+    );
     Ok(u64::from(first?) + u64::from(second?))
 }
 

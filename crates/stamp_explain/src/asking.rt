@@ -16,12 +16,12 @@ ghost use Rattle.stamp_explain.specs.Asking.{Adds, AreAsked, AreLed, AreMore, Ar
 use crate::cut::seen_at;
 use crate::node::{Next, Node, Origin};
 use crate::observed::{Observation, Observed, Returned};
-use crate::unchanging::is_unchanging_at;
 use crate::search::{choice_of, opening, settled, take_of};
 use crate::soundness::is_before;
 use crate::stepping::step_of;
 use crate::store::Store;
 use crate::timeline::{Timeline, timeline_of};
+use crate::unchanging::is_unchanging_at;
 use stamp_core::Reply;
 use std::alloc::{AllocError, Global};
 

@@ -13,11 +13,11 @@ use crate::ahead::gives_way;
 use crate::found::Found;
 use crate::node::{Next, Node, Origin, Waiting, has_bit, with_bit, without_bit};
 use crate::observed::{Observed, are_of_one_object};
-use crate::unchanging::{asks_at, is_unchanging_at};
 use crate::order::order_to;
 use crate::stepping::step_of;
 use crate::store::Store;
 use crate::timeline::Timeline;
+use crate::unchanging::{asks_at, is_unchanging_at};
 use stamp_core::Word;
 use std::alloc::{AllocError, Global};
 

@@ -133,8 +133,9 @@ pub(crate) fn call_for(guard_call: GuardCall) -> Call
 {
     match guard_call {
         GuardCall::Share => Call::ReadLock,
-        GuardCall::Leave { stamp } | GuardCall::Refuse { stamp } | GuardCall::ReleaseFirst { stamp } =>
-            { Call::UnlockRead(stamp) }
+        GuardCall::Leave { stamp }
+        | GuardCall::Refuse { stamp }
+        | GuardCall::ReleaseFirst { stamp } => { Call::UnlockRead(stamp) }
         GuardCall::Upgrade { stamp } => Call::ToWrite(stamp),
         GuardCall::Claim => Call::WriteLock,
     }
