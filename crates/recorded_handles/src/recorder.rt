@@ -110,6 +110,7 @@ impl<'a> Recorder<'a> {
         thread: u64,
     ) -> Recorder<'a>
         ensures handle { result.handle ≡ handle.entry }
+        ensures tickets { result.tickets ≡ tickets.entry }
         ensures thread { result.thread ≡ thread }
         ensures tape { result.tape.items ≡ [] }
     {
@@ -134,6 +135,7 @@ impl<'a> Recorder<'a> {
             WasKept self.old.thread first call (T.replied answer) self.old.tape.items self.new.tape.items) }
         ensures refused { OnErr result (self.new.tape.items ≡ self.old.tape.items) }
         ensures thread { self.new.thread ≡ self.old.thread }
+        ensures tickets { self.new.tickets ≡ self.old.tickets }
         ensures handle { self.new.handle ≡ self.old.handle }
     {
         let last = self.begin();

@@ -23,10 +23,10 @@ layout_in text = if bytes_eq text (codes "1") then Some One else if bytes_eq tex
 
 abbrev pub one_arg : List ℕ → Option Order
 one_arg arg =
-    if bytes_eq word (codes "replay") then Some Replay
-    else if bytes_eq word (codes "run") then Some Run
-    else if bytes_eq word (codes "check") then Some Check
-    else if bytes_eq word (codes "migrate") then Some Migrate
+    if bytes_eq arg (codes "replay") then Some Replay
+    else if bytes_eq arg (codes "run") then Some Run
+    else if bytes_eq arg (codes "check") then Some Check
+    else if bytes_eq arg (codes "migrate") then Some Migrate
     else None
 
 abbrev pub two_args : List ℕ → List ℕ → Option Order

@@ -15,7 +15,7 @@ pub record MachinePhase : Type 0 where
   pub state : PhaseState
   pub turn : PhaseTurn → Turn
 
--- where a lock step of a call of the record is, whose lock has word 1
+-- where a guard call of a call of the record is, whose lock has word 1
 abbrev pub on_record_lock : Shape → GuardCall → Option ℕ → PhaseState
 on_record_lock shape guard_call seen =
     record { at = 1; limits = record_limits shape; call = call_for guard_call; seen = seen }

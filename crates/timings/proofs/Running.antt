@@ -10,7 +10,7 @@ use Rattle.stamp_core.specs.declared.call.Call.{Call}
 use Rattle.stamp_core.specs.declared.decision.Decision.{Decision}
 use Rattle.stamp_core.specs.declared.decision.Decision.TheVariants.{Answer, Change, Wait}
 use Rattle.timings.specs.declared.decide.run.Run.{Run}
-use Rattle.timings.specs.declared.cycle.TheConstants.{TURNS}
+use Rattle.timings.specs.declared.cycle.TheConstants.{CYCLE}
 use Rattle.timings.specs.Cycle.{cycle}
 use Rattle.timings.specs.DecidedRun.{run_after, run_start, next_run, taken}
 
@@ -24,7 +24,7 @@ unfolding run_after
 run_after-zero limits = refl
 
 run_after-suc : (limits : Bounds) (i : ℕ) → run_after limits (suc i) ≡
-    next_run limits (run_after limits i) (slice_get (cycle (run_after limits i).stamp) (i % TURNS))
+    next_run limits (run_after limits i) (slice_get (cycle (run_after limits i).stamp) (i % CYCLE))
 unfolding run_after
 run_after-suc limits i = refl
 
@@ -54,10 +54,10 @@ admitted_after limits run call (Change word reply) admitted decides =
 admitted_after limits run call Wait admitted decides = admitted
 
 pub more : (limits : Bounds) (i : ℕ) (run : Run) (word : LockWord) (call : Call) (made : Decision) →
-    Running limits i run → slice_get (cycle run.stamp) (i % TURNS) ≡ Some call → word ≡ word_at limits run.number →
+    Running limits i run → slice_get (cycle run.stamp) (i % CYCLE) ≡ Some call → word ≡ word_at limits run.number →
     made ≡ decision limits word.bits call → Decides limits word call made → Running limits (i + 1) (taken run made)
 more limits i run word call made so_far turn at by_number decides =
-    let next : Run → Run = λ r. next_run limits r (slice_get (cycle r.stamp) (i % TURNS)) in
+    let next : Run → Run = λ r. next_run limits r (slice_get (cycle r.stamp) (i % CYCLE)) in
     let decided : made ≡ decision limits run.number call = by_number ∙
     ap (λ (w : LockWord). decision limits w.bits call) at in
     let made_next : taken run made ≡ next run = ap (λ (d : Decision). taken run d) decided ∙

@@ -10,7 +10,7 @@ use Rattle.stamp_core.specs.declared.reply.Reply.TheVariants.{Stamp, Yes, No, Do
 use Rattle.stamp_core.specs.declared.decision.Decision.{Decision}
 use Rattle.stamp_core.specs.declared.decision.Decision.TheVariants.{Answer, Change, Wait}
 use Rattle.timings.specs.declared.decide.run.Run.{Run}
-use Rattle.timings.specs.declared.cycle.TheConstants.{TURNS}
+use Rattle.timings.specs.declared.cycle.TheConstants.{CYCLE}
 use Rattle.timings.specs.Cycle.{cycle}
 
 -- a reply as one number
@@ -54,4 +54,4 @@ next_run limits run None = run
 -- after this many calls
 unfoldable pub run_after : Bounds → ℕ → Run
 run_after limits zero = run_start limits
-run_after limits (suc n) = let run = run_after limits n in next_run limits run (slice_get (cycle run.stamp) (n % TURNS))
+run_after limits (suc n) = let run = run_after limits n in next_run limits run (slice_get (cycle run.stamp) (n % CYCLE))
