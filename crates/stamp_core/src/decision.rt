@@ -2,7 +2,7 @@
 ghost use Rattle.std.specs.Prelude.{◌≡◌, IsTrue};
 ghost use Rattle.stamp_core.specs.Call.{is_lock_call};
 ghost use Rattle.stamp_core.specs.Word.{IsAdmitted};
-ghost use Rattle.stamp_core.specs.Decision.{Decides, Steps, FitsInStamp};
+ghost use Rattle.stamp_core.specs.Decision.{Decides, IsTransition, FitsInStamp};
 ghost use Rattle.stamp_core.specs.CountedDecision.{decision};
 
 use crate::call::Call;
@@ -37,10 +37,10 @@ pub fn decide(limits: Limits, word: Word, call: Call) -> Decision
 }
 
 /// The word after a call of the lock and its reply; nothing where the call waits.
-pub fn step(limits: Limits, word: Word, call: Call) -> Option<(Word, Reply)>
+pub fn transition(limits: Limits, word: Word, call: Call) -> Option<(Word, Reply)>
     requires admitted { IsAdmitted limits word }
     requires lock_call { IsTrue (is_lock_call call) }
-    ensures { Steps limits word call result }
+    ensures { IsTransition limits word call result }
 {
     match decide(limits, word, call) {
         Decision::Answer(reply) => Some((word, reply)),

@@ -20,7 +20,7 @@ mod word;
 mod words;
 
 pub use call::Call;
-pub use decision::{Decision, decide, step};
+pub use decision::{Decision, decide, transition};
 pub use entry::Entry;
 pub use layout::Layout;
 pub use limits::{CoreError, Limits};

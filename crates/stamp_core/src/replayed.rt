@@ -5,7 +5,7 @@ ghost use Rattle.stamp_core.specs.Call.{is_lock_call};
 ghost use Rattle.stamp_core.specs.Replayed.{Replays};
 
 use crate::call::Call;
-use crate::decision::step;
+use crate::decision::transition;
 use crate::limits::Limits;
 use crate::reply::Reply;
 use crate::word::Word;
@@ -72,7 +72,7 @@ pub fn replay(alloc: Global, limits: Limits, calls: &[Call]) -> Result<Replayed,
     let mut word = Word::opening_in(limits.layout());
     let mut replies = Vec::new(alloc);
     for (i, call) in calls.iter().enumerate() {
-        let Some((next, reply)) = step(limits, word, *call) else {
+        let Some((next, reply)) = transition(limits, word, *call) else {
             return Err(ReplayError::Waits(i as u64));
         };
         replies.push(reply)?;

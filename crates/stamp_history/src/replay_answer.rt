@@ -10,7 +10,7 @@ use crate::read_error::ReadError;
 use crate::replay_reading::read_small_calls;
 use crate::replay_writing::push_word;
 use crate::small_call::SmallCall;
-use stamp_core::{Limits, Word, step};
+use stamp_core::{Limits, Word, transition};
 use std::alloc::Global;
 
 /// Takes the calls one after the other, and appends the list of their replies.
@@ -24,7 +24,7 @@ fn push_replies_to(
     push_text(text, "[")?;
     let mut word = Word::opening_in(limits.layout());
     for (index, small) in calls.iter().enumerate() {
-        let Some((next, reply)) = step(limits, word, small.call()) else {
+        let Some((next, reply)) = transition(limits, word, small.call()) else {
             return Err(AnswerError::Waits(index as u64));
         };
         push_comma(text, index)?;
