@@ -8,7 +8,7 @@ use Rattle.stamp_core.specs.declared.reply.Reply.{Reply}
 use Rattle.stamp_core.specs.Record.{Recorded}
 use Rattle.stamp_check.proofs.OneFault.{one_verdict}
 use Rattle.stamp_check.proofs.OneForeign.{one_bad_reply, migrates_or_not}
-use Rattle.stamp_history.specs.History.{history_of}
+use Rattle.stamp_history.specs.History.{recorded_of}
 use Rattle.stamp_history.specs.ReplayText.{replayed_text}
 use Rattle.stamp_history.specs.declared.read_error.ReadError.{ReadError}
 use Rattle.stamp_history.specs.Replay.{Replay, replay_of}
@@ -127,7 +127,7 @@ one_check (Ok h) (Err e) b x y = absurd x
 one_check (Err e) a b x y = x ∙ sym y
 
 one_to_check : IsOnce AnswersCheck
-one_to_check input a b x y = one_check (history_of input) a b x y
+one_to_check input a b x y = one_check (recorded_of input) a b x y
 
 one_migration : (r : Result Recorded ReadError) (a b : Result (List ℕ) ServeFault) → IsMigrateAnswer r a →
     IsMigrateAnswer r b → a ≡ b
@@ -139,7 +139,7 @@ one_migration (Ok h) (Err d) (Err e) x y = ap Err
 one_migration (Err e) a b x y = x ∙ sym y
 
 one_to_migrate : IsOnce AnswersMigrate
-one_to_migrate input a b x y = one_migration (history_of input) a b x y
+one_to_migrate input a b x y = one_migration (recorded_of input) a b x y
 
 -- of an input's accepted text
 one_text : (IsSo : List ℕ → Result (List ℕ) ServeFault → Type 0) → IsOnce IsSo →

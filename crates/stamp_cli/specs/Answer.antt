@@ -10,7 +10,7 @@ use Rattle.stamp_machines.specs.RunRecord.{run_record, reported_record}
 use Rattle.stamp_check.specs.Verdict.{IsVerdict}
 use Rattle.stamp_check.specs.Migration.{CanMigrate, IsBadReply, migrated}
 use Rattle.stamp_check.specs.declared.checking.Bad.{Bad}
-use Rattle.stamp_history.specs.History.{history_of}
+use Rattle.stamp_history.specs.History.{recorded_of}
 use Rattle.stamp_history.specs.HistoryText.{history_text}
 use Rattle.stamp_history.specs.Replay.{Replay, replay_of}
 use Rattle.stamp_history.specs.ReplayAnswer.{IsReplayedText}
@@ -95,10 +95,10 @@ abbrev pub AnswersReportedRun : List ℕ → Result (List ℕ) ServeFault → Ty
 AnswersReportedRun input answer = answer ≡ script_answer reported_record (script_of input)
 
 abbrev pub AnswersCheck : List ℕ → Result LineView ServeFault → Type 0
-AnswersCheck input answer = IsCheckAnswer (history_of input) answer
+AnswersCheck input answer = IsCheckAnswer (recorded_of input) answer
 
 abbrev pub AnswersMigrate : List ℕ → Result (List ℕ) ServeFault → Type 0
-AnswersMigrate input answer = IsMigrateAnswer (history_of input) answer
+AnswersMigrate input answer = IsMigrateAnswer (recorded_of input) answer
 
 -- the answer to a number
 pub record IsStampAnswer (layout : Layout) (n : ℕ) (answer : Result (List ℕ) ServeFault) : Type 0 where
