@@ -21,14 +21,14 @@ pub word_more : (limits : Bounds) (entries : List Entry) (i : ℕ) (e : Entry) (
     ((events : List LockEvent) → Represents limits word events →
     Represents limits next (events ++ appended_by (transition limits events e.call))) →
     Represents limits next (events_of limits (history_of (take (i + 1) entries)))
-word_more limits entries i e word next lt at before step =
+word_more limits entries i e word next lt at before made =
     let before_it = take i entries in
     let events : events_of limits (history_of (take (i + 1) entries)) ≡ events_of limits (history_of before_it) ++
     appended_by (transition limits (events_of limits (history_of before_it)) e.call) =
     ap (λ (xs : List Entry). events_of limits (history_of xs)) (one_more entries i e lt at) ∙
     events_push limits before_it e in
     subst (λ (xs : List LockEvent). Represents limits next xs) (sym events)
-    (step (events_of limits (history_of before_it)) before)
+    (made (events_of limits (history_of before_it)) before)
 
 pub content_more : (width : ℕ) (entries : List Entry) (i : ℕ) (e : Entry) (content : List ℕ) → i < length entries →
     e ≡ get_or entries i e →

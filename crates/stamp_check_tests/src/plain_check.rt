@@ -14,7 +14,7 @@ ghost use Rattle.stamp_check.specs.FirstFault.{Breaks};
 ghost use Rattle.stamp_check.specs.Verdict.{IsVerdict};
 
 use stamp_check::{Bad, Why};
-use stamp_core::{Call, Entry, Limits, Record, Reply, Word, Words, step};
+use stamp_core::{Call, Entry, Limits, Record, Reply, Word, Words, transition};
 
 /// The point lies in the interval.
 fn is_within(entry: &Entry) -> bool
@@ -66,7 +66,7 @@ fn next_word(limits: Limits, word: Word, call: &Call) -> Word
     if !call.is_lock_call() {
         return word;
     }
-    match step(limits, word, *call) {
+    match transition(limits, word, *call) {
         Some((next, _reply)) => next,
         None => word,
     }
@@ -105,7 +105,7 @@ fn lock_answers(limits: Limits, before: &[Entry], entry: &Entry) -> bool
     requires { IsTrue (is_lock_call entry.now.call) }
     ensures { IsTrue result ↔ LockReplies limits before.now entry.now }
 {
-    match step(limits, word_after(limits, before), entry.call) {
+    match transition(limits, word_after(limits, before), entry.call) {
         Some((_next, reply)) => reply.is_same(&entry.reply),
         None => false,
     }

@@ -10,7 +10,7 @@ use Rattle.stamp_machines.specs.RunRecord.{run_record, reported_record}
 use Rattle.stamp_check.specs.Verdict.{IsVerdict}
 use Rattle.stamp_check.specs.Migration.{CanMigrate, IsBadReply, migrated}
 use Rattle.stamp_check.specs.declared.checking.Bad.{Bad}
-use Rattle.stamp_history.specs.History.{history_of}
+use Rattle.stamp_history.specs.History.{recorded_of}
 use Rattle.stamp_history.specs.HistoryText.{history_text}
 use Rattle.stamp_history.specs.Replay.{Replay, replay_of}
 use Rattle.stamp_history.specs.ReplayAnswer.{IsReplayedText}
@@ -48,7 +48,7 @@ IsReplayAnswer (Ok replay) (Ok line) = IsReplayedText replay line
 IsReplayAnswer (Ok replay) (Err fault) = IsWaitFault replay fault
 IsReplayAnswer (Err e) answer = answer ≡ Err (refusal e)
 
--- and if that is a script: the text of the record that it is run to
+-- and if that is a script: the text of the recorded history that it is run to
 abbrev pub script_answer : (Scripted → Recorded) → Result Scripted ReadError → Result (List ℕ) ServeFault
 script_answer record_of (Ok script) = Ok (history_text (record_of script))
 script_answer record_of (Err e) = Err (refusal e)
@@ -95,10 +95,10 @@ abbrev pub AnswersReportedRun : List ℕ → Result (List ℕ) ServeFault → Ty
 AnswersReportedRun input answer = answer ≡ script_answer reported_record (script_of input)
 
 abbrev pub AnswersCheck : List ℕ → Result LineView ServeFault → Type 0
-AnswersCheck input answer = IsCheckAnswer (history_of input) answer
+AnswersCheck input answer = IsCheckAnswer (recorded_of input) answer
 
 abbrev pub AnswersMigrate : List ℕ → Result (List ℕ) ServeFault → Type 0
-AnswersMigrate input answer = IsMigrateAnswer (history_of input) answer
+AnswersMigrate input answer = IsMigrateAnswer (recorded_of input) answer
 
 -- the answer to a number
 pub record IsStampAnswer (layout : Layout) (n : ℕ) (answer : Result (List ℕ) ServeFault) : Type 0 where
@@ -111,15 +111,19 @@ abbrev pub IsAccepted : (Result (List ℕ) ServeFault → Type 0) → Result Lin
 IsAccepted IsSo (Ok line) = IsSo (Ok line.text) × (line.verdict ≡ Accepted)
 IsAccepted IsSo (Err fault) = IsSo (Err fault)
 
--- the answer to an order, without the line feed
+-- the answer to an order by an input that is not too long, without the line feed
+abbrev pub AnswersOrder : Order → List ℕ → Result LineView ServeFault → Type 0
+AnswersOrder order.Replay input answer = IsAccepted (AnswersReplay input) answer
+AnswersOrder order.Run input answer = IsAccepted (AnswersRun input) answer
+AnswersOrder order.RunReported input answer = IsAccepted (AnswersReportedRun input) answer
+AnswersOrder order.Check input answer = AnswersCheck input answer
+AnswersOrder order.Migrate input answer = IsAccepted (AnswersMigrate input) answer
+AnswersOrder (order.Stamp n) input answer = IsAccepted (IsStampAnswer One n) answer
+AnswersOrder (order.StampIn layout n) input answer = IsAccepted (IsStampAnswer layout n) answer
+
+-- the answer to an order by any input; that of a stamp is empty, and so never too long
 abbrev pub IsOrderAnswer : Order → List ℕ → Result LineView ServeFault → Type 0
-IsOrderAnswer order.Replay input answer = IsAccepted (IsInputAnswer AnswersReplay input) answer
-IsOrderAnswer order.Run input answer = IsAccepted (IsInputAnswer AnswersRun input) answer
-IsOrderAnswer order.RunReported input answer = IsAccepted (IsInputAnswer AnswersReportedRun input) answer
-IsOrderAnswer order.Check input answer = IsInputAnswer AnswersCheck input answer
-IsOrderAnswer order.Migrate input answer = IsAccepted (IsInputAnswer AnswersMigrate input) answer
-IsOrderAnswer (order.Stamp n) input answer = IsAccepted (IsStampAnswer One n) answer
-IsOrderAnswer (order.StampIn layout n) input answer = IsAccepted (IsStampAnswer layout n) answer
+IsOrderAnswer order input answer = IsInputAnswer (AnswersOrder order) input answer
 
 -- input is what an order reads of a source
 abbrev pub OrderReads : Order → Option (List ℕ) → Option (List ℕ) → List ℕ → Type 0
@@ -151,9 +155,10 @@ most_taken_of order.Migrate = most_taken
 most_taken_of (order.Stamp n) = 0
 most_taken_of (order.StampIn layout n) = 0
 
--- a source was read as far as the order asks, by reads that took this many bytes, and this is the answer to all of them
-pub record AnswersSource (order : Order) (old new : Option (List ℕ)) (taken : ℕ) (answer : Result LineView ServeFault) :
-    Type 0 where
+-- a source was read as far as the order asks, by reads that took this many bytes, and this is the answer to all
+-- of them
+pub record AnswersSource (order : Order) (old new : Option (List ℕ)) (taken : ℕ)
+    (answer : Result LineView ServeFault) : Type 0 where
   pub input : List ℕ
   pub reads : OrderReads order old new input
   pub whole : length input ≡ taken

@@ -7,7 +7,7 @@ ghost use Rattle.stamp_cli.specs.Results.{Makes, MakesAtMost, taken_since};
 ghost use Rattle.stamp_cli.specs.Serving.{HasRead, HasWritten};
 ghost use Rattle.stamp_cli.specs.Answer.{LineView, AnswersSource, most_reads_of, most_taken_of};
 
-use crate::answer::line_of;
+use crate::answer::line_of_order;
 use crate::faults::ServeFault;
 use crate::line::{Line, Verdict};
 use crate::orders::Order;
@@ -16,8 +16,10 @@ use crate::sinks::Sink;
 use crate::sources::Source;
 use std::alloc::Global;
 
-/// Answers the order: reads what it needs of the source and writes one line, or says why not. What
-/// was read of the source is gone also after a refusal. An input has at most 16,777,216 bytes (one
+/// Answers the order: reads what it needs of the source and writes one line, or says why not. What it
+/// returns is `Verdict::Bad` where the line says that a history is bad, and else `Verdict::Accepted`. Where
+/// a write fails, 6 `WriteFault`, a beginning of the line may be out; any other refusal writes nothing.
+/// What was read of the source is gone also after a refusal. An input has at most 16,777,216 bytes (one
 /// more may be taken, which shows that it is too long); the readings of `stamp_history` by themselves
 /// have no such limit.
 pub fn serve<S: Source, K: Sink>(
@@ -51,7 +53,7 @@ pub fn serve<S: Source, K: Sink>(
         × AppendsFront (K.sent sink.old) (K.sent sink.new) (line.text ++ 10 ∷ [])
         × MakesAtMost (K.writes sink.old) (K.writes sink.new) (length line.text + 1) (length line.text + 1)) }
 {
-    let Line { mut text, verdict } = line_of(alloc, order, source)?;
+    let Line { mut text, verdict } = line_of_order(alloc, order, source)?;
     text.push(b'\n')?;
     write_line(sink, &text)?;
     Ok(verdict)

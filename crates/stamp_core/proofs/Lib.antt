@@ -8,7 +8,7 @@ pub mod WordCounts
 pub mod WordNumbers
 pub mod StampValidity
 pub mod Deciding
-pub mod Stepping
+pub mod WordTransition
 pub mod Linearizing
 pub mod Replaying
 pub mod TwoLayouts

@@ -13,7 +13,7 @@ use Rattle.stamp_core.specs.Word.{LockWord, Represents}
 use Rattle.stamp_core.specs.Call.{is_lock_call}
 use Rattle.stamp_core.specs.Content.{zeros}
 use Rattle.stamp_core.specs.Transition.{transition}
-use Rattle.stamp_core.specs.Decision.{Steps}
+use Rattle.stamp_core.specs.Decision.{IsTransition}
 use Rattle.stamp_core.specs.History.{History, IsReply, IsLegal, appended_by, events_of, content_from}
 use Rattle.stamp_core.specs.Replayed.{IsReplayed, WaitsAt}
 use Rattle.stamp_core.specs.declared.call.Call.{Call}
@@ -50,12 +50,12 @@ take_length calls i within = length-take-le i calls (omega arith)
 
 pub more : (limits : Bounds) (calls : List Call) (i : ℕ) (word next : LockWord) (replies : List Reply) (call : Call)
     (reply : Reply) → Replaying limits calls i word replies → i < length calls → call ≡ get_or calls i call →
-    IsTrue (is_lock_call call) → Steps limits word call (Some (next, reply)) →
+    IsTrue (is_lock_call call) → IsTransition limits word call (Some (next, reply)) →
     Replaying limits calls (i + 1) next (replies ++ reply ∷ [])
-more limits calls i word next replies call reply so_far within at lock steps =
+more limits calls i word next replies call reply so_far within at lock made =
     let before = zip (take i calls) replies in
     let same : length (take i calls) ≡ length replies = take_length calls i within ∙ sym so_far.each in
-    let s = steps.after (events_of limits before) so_far.represented in
+    let s = made.after (events_of limits before) so_far.represented in
     let calls_more : take (i + 1) calls ≡ take i calls ++ call ∷ [] = take_more calls i call within ∙
     ap (λ (c : Call). take i calls ++ c ∷ []) (sym at) in
     let zipped : zip (take (i + 1) calls) (replies ++ reply ∷ []) ≡ before ++ (call, reply) ∷ [] =
@@ -76,14 +76,14 @@ more limits calls i word next replies call reply so_far within at lock steps =
 
 pub waits : (limits : Bounds) (calls : List Call) (i : ℕ) (word : LockWord) (replies : List Reply) (call : Call) →
     Replaying limits calls i word replies → i < length calls → call ≡ get_or calls i call →
-    Steps limits word call None → WaitsAt limits calls i
-waits limits calls i word replies call so_far within at steps = record {
+    IsTransition limits word call None → WaitsAt limits calls i
+waits limits calls i word replies call so_far within at made = record {
   call = call;
   is_call = slice_get-get_or calls i call within ∙ ap Some (sym at);
   replies = replies;
   each = so_far.each;
   legal = so_far.legal;
-  waits = steps.after (events_of limits (zip (take i calls) replies)) so_far.represented;
+  waits = made.after (events_of limits (zip (take i calls) replies)) so_far.represented;
 }
 
 pub all : (limits : Bounds) (calls : List Call) (i : ℕ) (word : LockWord) (replies : List Reply) →

@@ -48,7 +48,8 @@ Decides limits word call Wait = HasNone limits word call
 
 -- the word that a call leaves, which represents the events with those appended, and its reply; none
 -- where the call has no transition
-pub record Steps (limits : Bounds) (word : LockWord) (call : Call) (found : Option (LockWord × Reply)) : Type 0 where
+pub record IsTransition (limits : Bounds) (word : LockWord) (call : Call) (found : Option (LockWord × Reply)) :
+    Type 0 where
   pub after : (events : List LockEvent) → Represents limits word events →
       MatchOption found (transition limits events call ≡ None)
       (λ x. Represents limits x.0 (events ++ appended_by (transition limits events call)) ×

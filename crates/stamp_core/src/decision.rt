@@ -2,7 +2,7 @@
 ghost use Rattle.std.specs.Prelude.{◌≡◌, IsTrue};
 ghost use Rattle.stamp_core.specs.Call.{is_lock_call};
 ghost use Rattle.stamp_core.specs.Word.{IsAdmitted};
-ghost use Rattle.stamp_core.specs.Decision.{Decides, Steps, FitsInStamp};
+ghost use Rattle.stamp_core.specs.Decision.{Decides, IsTransition, FitsInStamp};
 ghost use Rattle.stamp_core.specs.CountedDecision.{decision};
 
 use crate::call::Call;
@@ -22,7 +22,7 @@ pub enum Decision {
     Wait,
 }
 
-/// Decides a call of the lock by the word found.
+/// Decides a call of the lock by the word found, which is one that the limits admit.
 #[inline(always)]
 pub fn decide(limits: Limits, word: Word, call: Call) -> Decision
     requires admitted { IsAdmitted limits word }
@@ -36,11 +36,12 @@ pub fn decide(limits: Limits, word: Word, call: Call) -> Decision
     decide_lock(limits, word, &call).as_decision()
 }
 
-/// The word after a call of the lock and its reply; nothing where the call waits.
-pub fn step(limits: Limits, word: Word, call: Call) -> Option<(Word, Reply)>
+/// The word after a call of the lock on a word that the limits admit, and the reply; `None` where the call
+/// waits.
+pub fn transition(limits: Limits, word: Word, call: Call) -> Option<(Word, Reply)>
     requires admitted { IsAdmitted limits word }
     requires lock_call { IsTrue (is_lock_call call) }
-    ensures { Steps limits word call result }
+    ensures { IsTransition limits word call result }
 {
     match decide(limits, word, call) {
         Decision::Answer(reply) => Some((word, reply)),

@@ -1,5 +1,5 @@
-//! The sequential lock on one packed word: its words and stamps, what each call does, and the
-//! records of what was called.
+//! The sequential lock on one packed word: its words and stamps, what each call does, and recorded
+//! histories.
 #![tactic(auto)]
 
 mod call;
@@ -20,7 +20,7 @@ mod word;
 mod words;
 
 pub use call::Call;
-pub use decision::{Decision, decide, step};
+pub use decision::{Decision, decide, transition};
 pub use entry::Entry;
 pub use layout::Layout;
 pub use limits::{CoreError, Limits};

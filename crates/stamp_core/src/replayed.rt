@@ -5,7 +5,7 @@ ghost use Rattle.stamp_core.specs.Call.{is_lock_call};
 ghost use Rattle.stamp_core.specs.Replayed.{Replays};
 
 use crate::call::Call;
-use crate::decision::step;
+use crate::decision::transition;
 use crate::limits::Limits;
 use crate::reply::Reply;
 use crate::word::Word;
@@ -27,7 +27,7 @@ pub struct Replayed {
 pub enum ReplayError {
     /// 1: this call, counted from 0, would wait.
     Waits(u64),
-    /// 2: a growth was refused.
+    /// 2: an allocation was refused.
     Memory,
 }
 
@@ -63,7 +63,7 @@ impl<T: Drop> From<AllocFailed<T>> for ReplayError {
 }
 
 /// Takes calls of the lock one after the other, from the opening word. It refuses as 1 `Waits` or
-/// 2 `Memory`, the second perhaps before the first, and keeps nothing then. No calls take no memory.
+/// 2 `Memory`, the second perhaps before the first, and keeps nothing then. An empty list takes no memory.
 pub fn replay(alloc: Global, limits: Limits, calls: &[Call]) -> Result<Replayed, ReplayError>
     requires { All (λ call. IsTrue (is_lock_call call)) calls.now }
     ensures replays { Replays limits calls.now result }
@@ -72,7 +72,7 @@ pub fn replay(alloc: Global, limits: Limits, calls: &[Call]) -> Result<Replayed,
     let mut word = Word::opening_in(limits.layout());
     let mut replies = Vec::new(alloc);
     for (i, call) in calls.iter().enumerate() {
-        let Some((next, reply)) = step(limits, word, *call) else {
+        let Some((next, reply)) = transition(limits, word, *call) else {
             return Err(ReplayError::Waits(i as u64));
         };
         replies.push(reply)?;

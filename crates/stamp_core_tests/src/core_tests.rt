@@ -2,7 +2,7 @@ use stamp_core::{
     Call, CoreError, Decision, Entry, Layout, Limits, LockDecision, LockReply, Record, ReplayError,
     Reply, StampKind, Word, Words, decide, decide_lock, is_lock_stamp, is_lock_stamp_in,
     is_optimistic_stamp, is_optimistic_stamp_in, is_read_stamp, is_read_stamp_in, is_write_stamp,
-    is_write_stamp_in, replay, respell, stamp_kind, stamp_kind_in, step,
+    is_write_stamp_in, replay, respell, stamp_kind, stamp_kind_in, transition,
 };
 use std::alloc::{AllocError, Global};
 use std::test::Fail;
@@ -182,11 +182,11 @@ fn the_lock_decides_alike_without_room_for_words(rt: HostRuntime) -> Result<(), 
 }
 
 #[test]
-fn a_step_gives_the_next_word_and_the_reply(rt: HostRuntime) -> Result<(), Fail> {
+fn a_transition_gives_the_next_word_and_the_reply(rt: HostRuntime) -> Result<(), Fail> {
     let limits = limits(127, 1000)?;
     let opening = Word::opening();
     assert!(rt; limits.admits(opening));
-    let (held, reply) = step(limits, opening, Call::WriteLock).ok_or("it waits")?;
+    let (held, reply) = transition(limits, opening, Call::WriteLock).ok_or("it waits")?;
     assert!(rt; held.bits() == 384);
     assert!(rt; reply == Reply::Stamp(384));
     Ok(())
@@ -205,7 +205,7 @@ fn the_widest_limits_end_where_the_numbers_do(rt: HostRuntime) -> Result<(), Fai
     for (bits, call, after, stamp) in table {
         let word = Word::from_bits(bits).ok_or("no word")?;
         assert!(rt; widest.admits(word));
-        let (next, reply) = step(widest, word, call).ok_or("it waits")?;
+        let (next, reply) = transition(widest, word, call).ok_or("it waits")?;
         assert!(rt; next.bits() == after);
         assert!(rt; reply == Reply::Stamp(stamp));
     }

@@ -2,7 +2,7 @@
 ghost use Rattle.std.specs.Prelude.{◌≡◌, ◌<◌, ◌≤◌, ◌↔◌, IsTrue, MatchOption, Some, false, slice_get, length};
 ghost use Rattle.stamp_core.specs.Word.{IsAdmitted, word_at};
 ghost use Rattle.stamp_core.specs.Call.{is_lock_call, call_suits};
-ghost use Rattle.stamp_core.specs.Decision.{Steps};
+ghost use Rattle.stamp_core.specs.Decision.{IsTransition};
 ghost use Rattle.stamp_explain.specs.Observed.{AllowsReply};
 ghost use Rattle.stamp_explain.specs.Stepping.{LockGoes, RecordGoes, step_as};
 ghost use Rattle.stamp_explain.specs.Node.{content_by, HasGone, IsStateBy};
@@ -28,7 +28,7 @@ fn may_reply(entry: &Observation, reply: &Reply) -> bool
 fn lock_after(limits: Limits, word: Word, call: &Call) -> Option<(Word, LockReply)>
     requires admitted { IsAdmitted limits word }
     requires lock_call { IsTrue (is_lock_call call.now) }
-    ensures { Steps limits word call.now (step_as result) }
+    ensures { IsTransition limits word call.now (step_as result) }
 {
     match decide_lock(limits, word, call) {
         LockDecision::Answer(reply) => Some((word, reply)),

@@ -21,7 +21,7 @@ use Rattle.stamp_core.specs.declared.reply.Reply.{Reply}
 use Rattle.stamp_core.specs.declared.reply.Reply.TheVariants.{Content}
 use Rattle.stamp_history.specs.declared.text_kind.TextKind.TheVariants as text
 use Rattle.stamp_history.specs.EntryValue as value
-use Rattle.stamp_history.specs.History.{history_in}
+use Rattle.stamp_history.specs.History.{recorded_in}
 use Rattle.stamp_history.specs.HistoryCall.{history_call}
 use Rattle.stamp_history.specs.HistoryFields.{top, format, width, entry_at, entries, report}
 use Rattle.stamp_history.specs.HistoryText.{call_data, entry_data, entries_data, with_entries, history_data}
@@ -39,7 +39,8 @@ numbers_found (w ∷ ws) = rw (numbers_found ws) refl
 words_found : (ws : List ℕ) → 1 ≤ length ws → length ws ≤ 16 → words (words_data ws) ≡ Some ws
 words_found ws some few = rw (numbers_found ws, le-leb 1 (length ws) some, le-leb (length ws) 16 few) refl
 
-of_width : (w : ℕ) (ws : List ℕ) → w ≤ 16 → (nat_lt 0 w && (length ws == w)) ≡ true → (1 ≤ length ws) × (length ws ≤ 16)
+of_width : (w : ℕ) (ws : List ℕ) → w ≤ 16 → (nat_lt 0 w && (length ws == w)) ≡ true →
+    (1 ≤ length ws) × (length ws ≤ 16)
 of_width w ws most t = (grind (arith, nat_tests), grind (arith, nat_tests))
 
 of_width_both : (w : ℕ) (es ws : List ℕ) → w ≤ 16 → (nat_lt 0 w && (length es == w) && (length ws == w)) ≡ true →
@@ -87,8 +88,8 @@ top_found Two readers versions w d [] = refl
 top_found Two readers versions w d (p ∷ ps) = refl
 
 pub history_found : (r : Recorded) → AreInRange r.limits → IsRecorded r → RepliesFit r.entries →
-    history_in (history_data r) ≡ Ok r
-unfolding history_in entries
+    recorded_in (history_data r) ≡ Ok r
+unfolding recorded_in entries
 history_found r range known fits =
     let l = r.limits.layout in
     let readers = r.limits.readers in

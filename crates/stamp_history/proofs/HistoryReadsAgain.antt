@@ -5,7 +5,7 @@ use Rattle.std.proofs.lemmas.List.Elements.{All-head, All-tail}
 use Rattle.serde_json.specs.View.{items_of}
 use Rattle.stamp_core.specs.Record.{SuitsRecord}
 use Rattle.stamp_core.specs.declared.entry.Entry.{Entry}
-use Rattle.stamp_history.specs.History.{history_in, history_of}
+use Rattle.stamp_history.specs.History.{recorded_in, recorded_of}
 use Rattle.stamp_history.specs.HistoryLaws.{EntryIsU64, HistoriesReadAgain}
 use Rattle.stamp_history.specs.HistoryText.{entry_data, entries_data, history_text}
 use Rattle.stamp_history.specs.Reading.{◌>>=◌}
@@ -27,10 +27,10 @@ entries_again : (w : ℕ) (es : List Entry) → All (SuitsRecord w) es → All E
 entries_again w es suit fit = array_again 3 (items_of (map entry_data es)) (items_again w es suit fit)
 
 pub reads_again : HistoriesReadAgain
-unfolding history_of history_text
+unfolding recorded_of history_text
 reads_again r range known fits numbers =
     let entries = entries_again r.width r.entries known.suit numbers.entries in
-    ap (λ found. found >>= λ d. history_in d)
+    ap (λ found. found >>= λ d. recorded_in d)
     (fields_again r.limits.layout r.limits.readers r.limits.versions r.width (entries_data r.entries) r.report range
     known.width entries numbers.report)
     ∙ history_found r range known fits

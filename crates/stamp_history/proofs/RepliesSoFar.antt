@@ -9,7 +9,7 @@ use Rattle.serde_json.specs.Written.{comma_if, compact_text, items_text}
 use Rattle.stamp_core.specs.Limits.{Bounds}
 use Rattle.stamp_core.specs.Word.{LockWord, Represents}
 use Rattle.stamp_core.specs.Call.{is_lock_call}
-use Rattle.stamp_core.specs.Decision.{Steps}
+use Rattle.stamp_core.specs.Decision.{IsTransition}
 use Rattle.stamp_core.specs.Replayed.{IsReplayed, WaitsAt}
 use Rattle.stamp_core.specs.declared.call.Call.{Call}
 use Rattle.stamp_core.specs.declared.reply.Reply.{Reply}
@@ -39,19 +39,19 @@ begins limits calls word old text represented opened = record {
 
 pub waits_at : (limits : Bounds) (xs : List SmallCall) (i : ℕ) (call : Call) (word : LockWord)
     (old text : List ℕ) → CallAt xs i call → RepliesSoFar limits (map call_of xs) i word old text →
-    Steps limits word call None → WaitsAt limits (map call_of xs) i
-waits_at limits xs i call word old text there so_far steps =
-    waits limits (map call_of xs) i word so_far.replies call so_far.replaying there.within there.at steps
+    IsTransition limits word call None → WaitsAt limits (map call_of xs) i
+waits_at limits xs i call word old text there so_far made =
+    waits limits (map call_of xs) i word so_far.replies call so_far.replaying there.within there.at made
 
 pub goes_on : (limits : Bounds) (xs : List SmallCall) (i : ℕ) (call : Call) (word next : LockWord) (reply : Reply)
     (old text mid grown : List ℕ) → CallAt xs i call → IsTrue (is_lock_call call) →
     mid ≡ text ++ comma_if (nat_lt 0 i) → grown ≡ mid ++ compact_text (reply_data reply) →
-    RepliesSoFar limits (map call_of xs) i word old text → Steps limits word call (Some (next, reply)) →
+    RepliesSoFar limits (map call_of xs) i word old text → IsTransition limits word call (Some (next, reply)) →
     RepliesSoFar limits (map call_of xs) (i + 1) next old grown
-goes_on limits xs i call word next reply old text mid grown there lock comma piece so_far steps = record {
+goes_on limits xs i call word next reply old text mid grown there lock comma piece so_far made = record {
   replies = so_far.replies ++ reply ∷ [];
   replaying = more limits (map call_of xs) i word next so_far.replies call reply so_far.replaying there.within
-      there.at lock steps;
+      there.at lock made;
   begun = λ later. next_written reply_data reply later i text mid grown _ comma piece (so_far.begun (reply ∷ later)) ∙
       ap (λ (rs : List Reply). old ++ compact_text (replies_data rs))
       (sym (append_assoc so_far.replies (reply ∷ []) later));

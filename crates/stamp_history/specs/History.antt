@@ -8,8 +8,8 @@ use Rattle.stamp_history.specs.HistoryFields.{top, format, width, entries, repor
 use Rattle.stamp_history.specs.LimitFields.{limits}
 use Rattle.stamp_history.specs.Reading.{◌>>=◌, json_of}
 
-unfoldable pub history_in : Data → Result Recorded ReadError
-history_in d = do
+unfoldable pub recorded_in : Data → Result Recorded ReadError
+recorded_in d = do
   _ ← top d
   _ ← format d
   found_limits ← limits text.History d
@@ -18,7 +18,7 @@ history_in d = do
   found_report ← report (length found_entries) d
   Ok (recorded found_limits found_width found_entries found_report)
 
-unfoldable pub history_of : List ℕ → Result Recorded ReadError
-history_of bytes = do
+unfoldable pub recorded_of : List ℕ → Result Recorded ReadError
+recorded_of bytes = do
   d ← json_of bytes
-  history_in d
+  recorded_in d

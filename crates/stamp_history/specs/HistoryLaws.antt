@@ -11,7 +11,7 @@ use Rattle.stamp_core.specs.declared.entry.Entry.{Entry}
 use Rattle.stamp_core.specs.declared.reply.Reply.{Reply}
 use Rattle.stamp_core.specs.declared.reply.Reply.TheVariants.{Stamp, Count, Content}
 use Rattle.stamp_history.specs.HistoryText.{history_text}
-use Rattle.stamp_history.specs.History.{history_of}
+use Rattle.stamp_history.specs.History.{recorded_of}
 
 -- a number of 64 bits
 abbrev pub IsU64 : ℕ → Type 0
@@ -52,4 +52,4 @@ pub record AreU64 (r : Recorded) : Type 0 where
 
 abbrev pub HistoriesReadAgain : Type 0
 HistoriesReadAgain = (r : Recorded) → AreInRange r.limits → IsRecorded r → RepliesFit r.entries → AreU64 r →
-    history_of (history_text r) ≡ Ok r
+    recorded_of (history_text r) ≡ Ok r

@@ -4,7 +4,7 @@ ghost use Rattle.std.specs.Prelude.{◌≡◌, ◌<◌, IfErr, length};
 ghost use Rattle.serde_json.specs.View.{view};
 ghost use Rattle.stamp_core.specs.Record.{recorded, IsRecorded};
 ghost use Rattle.stamp_history.specs.Gives.{Gives};
-ghost use Rattle.stamp_history.specs.History.{history_in, history_of};
+ghost use Rattle.stamp_history.specs.History.{recorded_in, recorded_of};
 
 use crate::history_fields::{check_format, check_top, read_entries, read_report, read_width};
 use crate::json_values::json;
@@ -26,9 +26,9 @@ fn record_of(limits: Limits, width: u64, entries: Vec<Entry>, report: Vec<(u64, 
     }
 }
 
-#[tactic(auto, unfolding(crate::specs::History::history_in))]
+#[tactic(auto, unfolding(crate::specs::History::recorded_in))]
 fn history_from(alloc: Global, value: &Value) -> Result<Record, ReadError>
-    ensures { Gives ReadError.Memory (λ found. found) result (history_in (view value.now)) }
+    ensures { Gives ReadError.Memory (λ found. found) result (recorded_in (view value.now)) }
 {
     check_top(value)?;
     check_format(value)?;
@@ -45,9 +45,9 @@ fn history_from(alloc: Global, value: &Value) -> Result<Record, ReadError>
 /// there in both. Errors: 1 `NotJson`; 2 `NotHistory`, with the field of another kind, which is an
 /// entry's too where its call does not suit the width; 3 `Limit`, with the field out of range; 4
 /// `Memory`, which may come before these. Nothing is kept after any.
-#[tactic(auto, unfolding(crate::specs::History::history_of))]
+#[tactic(auto, unfolding(crate::specs::History::recorded_of))]
 pub fn read_history(alloc: Global, bytes: &[u8]) -> Result<Record, ReadError>
-    ensures read { Gives ReadError.Memory (λ found. found) result (history_of bytes.now) }
+    ensures read { Gives ReadError.Memory (λ found. found) result (recorded_of bytes.now) }
     ensures memory { IfErr result (λ e. e ≡ ReadError.Memory → 0 < length bytes.now) }
 {
     let value = json(alloc, bytes)?;

@@ -6,7 +6,7 @@ ghost use Rattle.serde_json.specs.Written.{compact_text, items_text, members_tex
 ghost use Rattle.stamp_history.specs.ReplayText.{number_data, words_data};
 ghost use Rattle.std.specs.List.{All};
 ghost use Rattle.stamp_core.specs.Limits.{AreInRange};
-ghost use Rattle.stamp_history.specs.History.{history_of};
+ghost use Rattle.stamp_history.specs.History.{recorded_of};
 ghost use Rattle.stamp_history.specs.HistoryLaws.{IsU64, CallIsU64, EntryIsU64, PairIsU64, AreU64};
 ghost use Rattle.stamp_history.specs.HistoryText as spec;
 ghost use Rattle.stamp_history.specs.HistoryText.{arguments, call_data, entry_data, entries_data};
@@ -98,7 +98,7 @@ fn push_arguments(text: &mut Vec<u8>, call: &Call) -> Result<(), AllocError>
     }
 }
 
-/// Appends a call.
+/// Appends a call as JSON. Only want of memory refuses.
 pub fn push_call(text: &mut Vec<u8>, call: &Call) -> Result<(), AllocError>
     ensures text { OnOk result (text.new.items
         ≡ text.old.items ++ compact_text (call_data call.now)) }
@@ -196,7 +196,8 @@ fn push_report(text: &mut Vec<u8>, report: &[(u64, u64)]) -> Result<(), AllocErr
     Ok(())
 }
 
-/// Appends what comes after the entries in the text of a history, and the end of the object.
+/// Appends what comes after the entries in the text of a history, and the end of the object. Only want of
+/// memory refuses.
 pub fn push_after_entries(
     text: &mut Vec<u8>,
     limits: &Limits,
@@ -235,7 +236,7 @@ fn push_history(text: &mut Vec<u8>, history: &Record) -> Result<(), AllocError>
 #[tactic(auto, unfolding(crate::specs::HistoryText::history_text))]
 pub fn write_history(alloc: Global, history: &Record) -> Result<Vec<u8>, ReadError>
     ensures text { IfOk result (λ text. text.items ≡ history_text history.now) }
-    ensures again { IfOk result (λ text. history_of text.items ≡ Ok history.now) }
+    ensures again { IfOk result (λ text. recorded_of text.items ≡ Ok history.now) }
     ensures refused { IsOkUnless result ReadError.Memory }
 {
     let bytes = ENTRY_BYTES.saturating_mul(history.entries().len() + 1);

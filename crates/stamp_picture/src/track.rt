@@ -10,7 +10,7 @@ ghost use Rattle.stamp_picture.specs.Track.{IsTrack, TracksOneMore, Shows, Tells
 
 use crate::state::{Mode, State};
 use stamp_check::first_content;
-use stamp_core::{Call, Entry, Limits, Reply, Word, Words, step};
+use stamp_core::{Call, Entry, Limits, Reply, Word, Words, transition};
 
 /// The lock and the record after some entries.
 #[derive(Clone, Copy)]
@@ -87,7 +87,7 @@ impl Track {
     {
         self.content = next_content(&self.content, entry);
         if entry.call.is_lock_call() {
-            if let Some((next, _)) = step(limits, self.word, entry.call) {
+            if let Some((next, _)) = transition(limits, self.word, entry.call) {
                 self.word = next;
             }
         }
@@ -113,7 +113,7 @@ impl Track {
         if !call.is_lock_call() {
             return content_answer(&self.content, call);
         }
-        let (_, reply) = step(limits, self.word, *call)?;
+        let (_, reply) = transition(limits, self.word, *call)?;
         Some(reply)
     }
 }

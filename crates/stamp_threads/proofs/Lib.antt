@@ -22,5 +22,5 @@ pub mod GetSteps
 pub mod RecordMoves
 pub mod NewRecord
 pub mod RecordPromises
-pub mod BookSteps
+pub mod OneCallMore
 pub mod OneHistory

@@ -7,7 +7,7 @@ ghost use Rattle.stamp_threads.specs.Book.{booked, entry_made_at, past_of};
 ghost use Rattle.stamp_threads.specs.Book.{Acted, IsBook, IsOfBook};
 
 use crate::book_error::BookError;
-use stamp_core::{Call, Entry, Limits, Record, Reply, Word, step};
+use stamp_core::{Call, Entry, Limits, Record, Reply, Word, transition};
 use std::alloc::Global;
 use std::marker::Model;
 
@@ -67,7 +67,7 @@ impl Book {
         requires thread { thread < 64 }
         ensures { Acted self.old thread call result self.new }
     {
-        let Some((word, reply)) = step(self.limits, self.word, call) else {
+        let Some((word, reply)) = transition(self.limits, self.word, call) else {
             return Err(BookError::Waits);
         };
         let at = self.entries.len() as u64;

@@ -1,7 +1,7 @@
 -- The picture that answers an order, or why there is none.
 use Rattle.std.specs.Prelude.{ℕ, ◌≡◌, ◌≤◌, Bool, false, length, List, Option, Result, Ok, Err}
 use Rattle.stamp_core.specs.Record.{Recorded}
-use Rattle.stamp_history.specs.History.{history_of}
+use Rattle.stamp_history.specs.History.{recorded_of}
 use Rattle.stamp_cli.specs.Answer.{IsInputAnswer, AnswersCheck}
 use Rattle.stamp_cli.specs.Refusal as refusal
 use Rattle.stamp_cli.specs.Source.{Reads, most_bytes}
@@ -64,14 +64,14 @@ pub record IsPictureAnswer (style : List ℕ) (order : PictureOrder) (input : Li
     Type 0 where
   pub within : length input ≤ most_bytes
   pub history : Recorded
-  pub read : history_of input ≡ Ok history
+  pub read : recorded_of input ≡ Ok history
   pub drawn : IsDrawnText style order history drawing
 
 -- the input is a history of which there are too many bars to draw
 pub record IsTooMany (window : Window) (input : List ℕ) (n : ℕ) : Type 0 where
   pub within : length input ≤ most_bytes
   pub history : Recorded
-  pub read : history_of input ≡ Ok history
+  pub read : recorded_of input ≡ Ok history
   pub crowded : IsCrowded history window n
 
 -- the fault is the one that a check of the input is refused by, or there are too many bars

@@ -3,7 +3,7 @@
 use crate::check::calls::{WHOLE_CYCLE, call_at};
 use crate::cycle::CYCLE;
 use crate::words::all_of;
-use stamp_core::{Call, Entry, Limits, Record, Reply, Word, step};
+use stamp_core::{Call, Entry, Limits, Record, Reply, Word, transition};
 use std::alloc::{AllocError, Global};
 
 /// Where lock and record are: the word's number, the stamp answered last, and the number in each
@@ -20,7 +20,7 @@ fn lock_answers(limits: Limits, at: At, call: &Call) -> Option<(At, Reply)> {
     if !call.is_lock_call() {
         return None;
     }
-    let (next, reply) = step(limits, word, *call)?;
+    let (next, reply) = transition(limits, word, *call)?;
     let stamp = match reply {
         Reply::Stamp(stamp) => stamp,
         _ => at.stamp,

@@ -1,5 +1,5 @@
 use Rattle.stamp_core.specs.LockDecision.{reply_as}
-use Rattle.stamp_core.proofs.Stepping.{answered, changed, waits}
+use Rattle.stamp_core.proofs.WordTransition.{answered, changed, waits}
 use Rattle.stamp_explain.proofs.stepping.lock_after.Goals as goal
 
 pub returns-in-Answer : goal.returns-in-Answer

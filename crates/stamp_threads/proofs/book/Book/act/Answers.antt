@@ -1,10 +1,10 @@
 use Rattle.std.proofs.Common.{◌≡◌, ◌<◌, length, arith}
 use Rattle.std.proofs.lemmas.Grind.{common_steps}
-use Rattle.stamp_threads.proofs.BookSteps.{admitted, kept_more}
+use Rattle.stamp_threads.proofs.OneCallMore.{admitted, kept_more}
 use Rattle.stamp_threads.proofs.book.Book.act.Goals as goal
 
-pub step-requires-clause-admitted : goal.step-requires-clause-admitted
-step-requires-clause-admitted c = admitted _ _ c.self.invariant
+pub transition-requires-clause-admitted : goal.transition-requires-clause-admitted
+transition-requires-clause-admitted c = admitted _ _ c.self.invariant
 
 pub invariant_of-self-2 : goal.invariant_of-self-2
 invariant_of-self-2 c =

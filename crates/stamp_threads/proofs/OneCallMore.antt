@@ -8,7 +8,7 @@ use Rattle.std.proofs.Math.Seq.{get_or-append_seam}
 use Rattle.stamp_core.specs.LockEvent.{LockEvent}
 use Rattle.stamp_core.specs.Word.{LockWord, Represents, IsAdmitted}
 use Rattle.stamp_core.specs.Call.{is_lock_call, call_suits}
-use Rattle.stamp_core.specs.Decision.{Steps}
+use Rattle.stamp_core.specs.Decision.{IsTransition}
 use Rattle.stamp_core.specs.History.{Replies}
 use Rattle.stamp_core.specs.Record.{SuitsRecord}
 use Rattle.stamp_core.specs.Linearized.{IsAnswered, Fits}
@@ -85,10 +85,10 @@ module _ (b : Booked) (thread : ℕ) (call : Call) (is_book : IsBook b) (lock : 
   }
 
   pub kept_more : (word : LockWord) (found : LockWord × Reply) → thread < 64 → length b.entries < b.most →
-      Represents b.limits word (past_of b) → Steps b.limits word call (Some found) →
+      Represents b.limits word (past_of b) → IsTransition b.limits word call (Some found) →
       HasWord (with_call b thread call found.1) found.0
-  kept_more word found small room represented steps =
-      let s = steps.after (past_of b) represented in
+  kept_more word found small room represented made =
+      let s = made.after (past_of b) represented in
       let e : Entry = entry_made_at (length b.entries) thread call found.1 in
       record {
         book = record {

@@ -1,5 +1,5 @@
-use Rattle.stamp_core.proofs.Stepping.{answered, changed, waits}
-use Rattle.stamp_core.proofs.decision.step.Goals as goal
+use Rattle.stamp_core.proofs.WordTransition.{answered, changed, waits}
+use Rattle.stamp_core.proofs.decision.transition.Goals as goal
 
 pub returns-in-Answer : goal.returns-in-Answer
 returns-in-Answer c = answered c.args.limits c.args.word c.args.call c.in-Answer.reply c.in-Answer.ensures.decides
