@@ -14,7 +14,7 @@ use Rattle.stamp_core.specs.declared.decision.Decision.TheVariants.{Answer, Chan
 use Rattle.stamp_core.proofs.Deciding.{decisions_are_transitions, only_locking_waits}
 use Rattle.stamp_machines.specs.LockPhase.{judged}
 use Rattle.stamp_machines.specs.PhaseState.{PhaseState}
-use Rattle.stamp_machines.specs.PhaseNext.{Changing, IsChanging}
+use Rattle.stamp_machines.specs.IsLockPhase.{Changing, IsChanging}
 use Rattle.stamp_machines.specs.declared.access.Access.TheVariants.{Cas}
 use Rattle.stamp_machines.specs.LockCallSteps.{Plans, Ends, LeadsBy}
 

@@ -1,12 +1,14 @@
 -- How a machine's fields are read as a call on its way.
 use Rattle.std.specs.Prelude.{◌≡◌, ◌⊎◌, ◌<◌, ◌≤◌, ◌^◌, ℕ, Bool, true, false, List, length, Option}
 use Rattle.std.specs.Prelude.{Some, None, if◌then◌else◌}
+use Rattle.std.specs.declared.ops.ControlFlow.{ControlFlow}
+use Rattle.std.specs.declared.ops.ControlFlow.TheVariants.{Continue, Break}
 use Rattle.stamp_core.specs.Call.{is_lock_call}
 use Rattle.stamp_core.specs.declared.call.Call.{Call}
 use Rattle.stamp_core.specs.declared.reply.Reply.{Reply}
 use Rattle.stamp_core.specs.declared.reply.Reply.TheVariants.{No}
 use Rattle.stamp_machines.specs.LockNumber.{IsAdmittedAt}
-use Rattle.stamp_machines.specs.PhaseNext.{IsChanging, IsLockPhase}
+use Rattle.stamp_machines.specs.IsLockPhase.{IsChanging, IsLockPhase}
 use Rattle.stamp_machines.specs.Job.{Job, Getting, job_in, is_get, new_words, stored_reply}
 use Rattle.stamp_machines.specs.Place as places
 use Rattle.stamp_machines.specs.Place.{call_for}
@@ -19,8 +21,6 @@ use Rattle.stamp_machines.specs.declared.stage.Stage.TheVariants.{Storing, Relea
 use Rattle.stamp_machines.specs.declared.stage.GuardCall.{GuardCall}
 use Rattle.stamp_machines.specs.declared.stage.GuardCall.TheVariants.{Share, Leave, Refuse, Upgrade}
 use Rattle.stamp_machines.specs.declared.stage.GuardCall.TheVariants.{ReleaseFirst, Claim}
-use Rattle.stamp_machines.specs.declared.stage.StageNext.{StageNext}
-use Rattle.stamp_machines.specs.declared.stage.StageNext.TheVariants as next
 use Rattle.stamp_machines.specs.declared.machine.Turn.{Turn}
 use Rattle.stamp_machines.specs.declared.machine.Turn.TheVariants.{Going}
 use Rattle.stamp_machines.specs.declared.machine.Turn.TheVariants as turned
@@ -67,9 +67,9 @@ going_at shape call loaded stage =
     Going (record { shape = shape; call = call; phase = phase_at call loaded stage })
 
 -- the turn of a call that has these words loaded, with this reply
-abbrev pub turn_in : Shape → Call → List ℕ → Reply → StageNext → Turn
-turn_in shape call loaded reply (next.Going stage) = going_at shape call loaded stage
-turn_in shape call loaded reply next.Done = turned.Done reply
+abbrev pub turn_in : Shape → Call → List ℕ → Reply → ControlFlow (Unit {0}) Stage → Turn
+turn_in shape call loaded reply (Continue stage) = going_at shape call loaded stage
+turn_in shape call loaded reply (Break _) = turned.Done reply
 
 -- a call of the record has the record's width
 abbrev pub IsRecordCall : Shape → Call → Type 0
@@ -109,9 +109,9 @@ IsStage shape call loaded (Releasing stamp is_stored) =
     (is_lock_call call ≡ false) × (stamp < 2 ^ 63)
 
 -- where it goes on with the words now loaded; the end of a call leaves them as they were
-abbrev pub IsStageNext : Shape → Call → List ℕ → List ℕ → StageNext → Type 0
-IsStageNext shape call before loaded (next.Going stage) = IsStage shape call loaded stage
-IsStageNext shape call before loaded next.Done = loaded ≡ before
+abbrev pub IsNextStage : Shape → Call → List ℕ → List ℕ → ControlFlow (Unit {0}) Stage → Type 0
+IsNextStage shape call before loaded (Continue stage) = IsStage shape call loaded stage
+IsNextStage shape call before loaded (Break _) = loaded ≡ before
 
 abbrev pub IsAtStage : Inside → Type 0
 IsAtStage m = IsStage m.shape m.call m.loaded m.stage

@@ -11,19 +11,20 @@ ghost use Rattle.stamp_machines.specs.MachineState.{MachineState, OnLock, record
 ghost use Rattle.stamp_machines.specs.Access.{place_of, words_after, seen_by};
 ghost use Rattle.stamp_machines.specs.MachineTurn.{turn_of};
 ghost use Rattle.stamp_machines.specs.MachineFields.{phase_at, turn_in, guard_call_in, IsStage};
-ghost use Rattle.stamp_machines.specs.MachineFields.{IsGuardCall, IsStageNext};
+ghost use Rattle.stamp_machines.specs.MachineFields.{IsGuardCall, IsNextStage};
 ghost use Rattle.stamp_machines.specs.Place.{call_for};
 
 use crate::access::{Access, make};
 use crate::loaded_words::LoadedWords;
-use crate::lock_phase::{PhaseNext, decide_on, lock_access};
+use crate::lock_phase::{decide_on, lock_access};
 use crate::shape::Shape;
 use crate::stage::{
-    GuardCall, Stage, StageNext, call_for, checked, copied, ended, first_stage, lock_loaded,
-    new_word, read, released_reply, stored,
+    GuardCall, Stage, call_for, checked, copied, ended, first_stage, lock_loaded, new_word, read,
+    released_reply, stored,
 };
 use stamp_core::{Call, Reply};
 use std::marker::Model;
+use std::ops::ControlFlow;
 
 /// A call that is being made.
 #[derive(Drop)]
@@ -64,12 +65,12 @@ fn after_public(
     seen: Option<u64>,
     found: u64,
     answer: &mut Reply,
-) -> StageNext
+) -> ControlFlow<(), Stage>
     requires stage { IsStage shape.now call.now loaded.now (Stage.Public seen) }
     requires found { IsFoundIn shape.now (phase_at call.now loaded.now (Stage.Public seen)) found }
     ensures next { turn_in shape.now call.now loaded.now answer.new result
         ≡ after_in shape.now call.now found (phase_at call.now loaded.now (Stage.Public seen)) }
-    ensures sound { IsStageNext shape.now call.now loaded.now loaded.now result }
+    ensures sound { IsNextStage shape.now call.now loaded.now loaded.now result }
     ensures leads { Leads (lock_phase
         (record {
           shape = shape.now;
@@ -83,8 +84,8 @@ fn after_public(
 {
     let (_, next) = decide_on(shape.limits, call, seen, found, answer);
     match next {
-        PhaseNext::Going(seen) => StageNext::Going(Stage::Public { seen }),
-        PhaseNext::Done => StageNext::Done,
+        ControlFlow::Continue(seen) => ControlFlow::Continue(Stage::Public { seen }),
+        ControlFlow::Break(()) => ControlFlow::Break(()),
     }
 }
 
@@ -98,14 +99,14 @@ fn after_locking(
     loaded: &mut LoadedWords,
     found: u64,
     answer: &mut Reply,
-) -> StageNext
+) -> ControlFlow<(), Stage>
     requires stage { IsStage shape.now call.now loaded.old (Stage.Locking guard_call seen) }
     requires found { IsFoundIn shape.now (phase_at call.now loaded.old (Stage.Locking guard_call seen))
         found }
     ensures next { turn_in shape.now call.now loaded.new answer.new result
         ≡ after_in shape.now call.now found
         (phase_at call.now loaded.old (Stage.Locking guard_call seen)) }
-    ensures sound { IsStageNext shape.now call.now loaded.old loaded.new result }
+    ensures sound { IsNextStage shape.now call.now loaded.old loaded.new result }
     ensures phase { IfSome
         (phase_in shape.now call.now (phase_at call.now loaded.old (Stage.Locking guard_call seen)))
         (λ p. LeadsIn p found (turn_in shape.now call.now loaded.new answer.new result)) }
@@ -113,12 +114,13 @@ fn after_locking(
     let limits = shape.record_limits();
     let (_, next) = decide_on(limits, &call_for(guard_call), seen, found, answer);
     match next {
-        PhaseNext::Going(seen) => StageNext::Going(Stage::Locking { guard_call, seen }),
-        PhaseNext::Done => ended(shape, call, guard_call, loaded, answer),
+        ControlFlow::Continue(seen) => ControlFlow::Continue(Stage::Locking { guard_call, seen }),
+        ControlFlow::Break(()) => ended(shape, call, guard_call, loaded, answer),
     }
 }
 
-/// Where a call goes on from a stage after its access has found this.
+/// Where a call goes on from a stage after its access has found this. Where it has ended, its reply is
+/// written to `answer`.
 #[inline(always)]
 fn next(
     shape: &Shape,
@@ -127,12 +129,12 @@ fn next(
     stage: Stage,
     found: u64,
     answer: &mut Reply,
-) -> StageNext
+) -> ControlFlow<(), Stage>
     requires stage { IsStage shape.now call.now loaded.old stage }
     requires found { IsFoundIn shape.now (phase_at call.now loaded.old stage) found }
     ensures next { turn_in shape.now call.now loaded.new answer.new result
         ≡ after_in shape.now call.now found (phase_at call.now loaded.old stage) }
-    ensures sound { IsStageNext shape.now call.now loaded.old loaded.new result }
+    ensures sound { IsNextStage shape.now call.now loaded.old loaded.new result }
     ensures leads { IsTrue (is_lock_call call.now) →
         Leads (lock_phase
         (record {
@@ -146,19 +148,21 @@ fn next(
 {
     match stage {
         Stage::Public { seen } => after_public(shape, call, loaded, seen, found, answer),
-        Stage::LoadingLock => StageNext::Going(lock_loaded(shape, call, loaded, found)),
+        Stage::LoadingLock => ControlFlow::Continue(lock_loaded(shape, call, loaded, found)),
         Stage::Copying { first } => copied(shape, call, first, loaded, found, answer),
         Stage::Locking { guard_call, seen } => {
             after_locking(shape, call, guard_call, seen, loaded, found, answer)
         }
-        Stage::Reading { stamp } => StageNext::Going(read(shape, call, stamp, loaded, found)),
-        Stage::Checking { stamp } => StageNext::Going(checked(shape, call, stamp, loaded, found)),
+        Stage::Reading { stamp } => ControlFlow::Continue(read(shape, call, stamp, loaded, found)),
+        Stage::Checking { stamp } => {
+            ControlFlow::Continue(checked(shape, call, stamp, loaded, found))
+        }
         Stage::Storing { stamp, stored: i } => {
-            StageNext::Going(stored(shape, call, stamp, i, loaded, found))
+            ControlFlow::Continue(stored(shape, call, stamp, i, loaded, found))
         }
         Stage::Releasing { is_stored, .. } => {
             *answer = released_reply(call, is_stored);
-            StageNext::Done
+            ControlFlow::Break(())
         }
     }
 }
@@ -257,11 +261,11 @@ impl Machine {
         let (word, next) = decide_on(self.shape.limits, &self.call, seen, words[0], answer);
         words[0] = word;
         match next {
-            PhaseNext::Going(seen) => {
+            ControlFlow::Continue(seen) => {
                 self.stage = Stage::Public { seen };
                 false
             }
-            PhaseNext::Done => true,
+            ControlFlow::Break(()) => true,
         }
     }
 
@@ -285,11 +289,11 @@ impl Machine {
             found,
             answer,
         ) {
-            StageNext::Going(stage) => {
+            ControlFlow::Continue(stage) => {
                 self.stage = stage;
                 false
             }
-            StageNext::Done => true,
+            ControlFlow::Break(()) => true,
         }
     }
 }

@@ -12,12 +12,13 @@ ghost use Rattle.stamp_machines.specs.Place as places;
 ghost use Rattle.stamp_machines.specs.MachineState.{first_phase, record_limits};
 ghost use Rattle.stamp_machines.specs.Machine.{record_turn};
 ghost use Rattle.stamp_machines.specs.MachineFields.{phase_at, going_at, turn_in, guard_call_in};
-ghost use Rattle.stamp_machines.specs.MachineFields.{job_of, released_reply, IsStage, IsStageNext};
+ghost use Rattle.stamp_machines.specs.MachineFields.{job_of, released_reply, IsStage, IsNextStage};
 ghost use Rattle.stamp_machines.specs.MachineFields.{IsRecordCall, IsWriter, IsGuardCall};
 
 use crate::loaded_words::LoadedWords;
 use crate::shape::Shape;
 use stamp_core::{Call, Limits, Reply, Words};
+use std::ops::ControlFlow;
 
 /// A lock call on the record's lock, and what its end leads to.
 #[derive(Clone, Copy)]
@@ -72,15 +73,6 @@ pub(crate) enum Stage {
         stamp: u64,
         is_stored: bool,
     },
-}
-
-/// What an access of a call leads to, in a stage.
-#[derive(Clone, Copy)]
-pub(crate) enum StageNext {
-    /// It goes on, at this stage.
-    Going(Stage),
-    /// Its reply was written where the caller asked.
-    Done,
 }
 
 /// The stamp in a reply, 0 where it has none.
@@ -201,7 +193,7 @@ pub(crate) fn copied(
     loaded: &mut LoadedWords,
     found: u64,
     answer: &mut Reply,
-) -> StageNext
+) -> ControlFlow<(), Stage>
     requires call { IsRecordCall shape.now call.now }
     requires first { IsAdmitted (record_limits shape.now)
         (word_at (record_limits shape.now) first) }
@@ -212,16 +204,16 @@ pub(crate) fn copied(
         ≡ record_turn shape.now call.now (job_of call.now)
         (after (record_limits shape.now) shape.now.width (job_of call.now)
         (places.Copying first loaded.old) found) }
-    ensures sound { IsStageNext shape.now call.now loaded.old loaded.new result }
+    ensures sound { IsNextStage shape.now call.now loaded.old loaded.new result }
 {
     if loaded.len() < shape.words() {
         loaded.push(found);
-        StageNext::Going(Stage::Copying { first })
+        ControlFlow::Continue(Stage::Copying { first })
     } else if is_unchanged(shape.record_limits(), first, found) {
         *answer = Reply::Content(loaded.words());
-        StageNext::Done
+        ControlFlow::Break(())
     } else {
-        StageNext::Going(locking(shape, call, loaded, GuardCall::Share))
+        ControlFlow::Continue(locking(shape, call, loaded, GuardCall::Share))
     }
 }
 
@@ -393,40 +385,43 @@ fn shared(shape: &Shape, call: &Call, stamp: u64, loaded: &mut LoadedWords) -> S
     Stage::Reading { stamp }
 }
 
-/// A lock call on the record's lock has ended with the reply that stands in `answer`.
+/// Where a call goes on after a lock call on the record's lock has ended with the reply that stands in
+/// `answer`. Where it has ended itself, its reply is written there.
 pub(crate) fn ended(
     shape: &Shape,
     call: &Call,
     guard_call: GuardCall,
     loaded: &mut LoadedWords,
     answer: &mut Reply,
-) -> StageNext
+) -> ControlFlow<(), Stage>
     requires guard_call { IsGuardCall shape.now call.now loaded.old guard_call }
     requires fits { stamp_in answer.old < 2 ^ 63 }
     ensures next { turn_in shape.now call.now loaded.new answer.new result
         ≡ record_turn shape.now call.now (job_of call.now)
         (guard_call_done (job_of call.now) (guard_call_in loaded.old guard_call) (stamp_in answer.old)) }
-    ensures sound { IsStageNext shape.now call.now loaded.old loaded.new result }
+    ensures sound { IsNextStage shape.now call.now loaded.old loaded.new result }
 {
     let got = stamp_in(answer);
     match guard_call {
-        GuardCall::Share => StageNext::Going(shared(shape, call, got, loaded)),
+        GuardCall::Share => ControlFlow::Continue(shared(shape, call, got, loaded)),
         GuardCall::Leave { .. } => {
             *answer = Reply::Content(loaded.words());
-            StageNext::Done
+            ControlFlow::Break(())
         }
         GuardCall::Refuse { .. } => {
             *answer = Reply::No;
-            StageNext::Done
+            ControlFlow::Break(())
         }
-        GuardCall::Upgrade { stamp } => StageNext::Going(upgraded(shape, call, stamp, loaded, got)),
-        GuardCall::ReleaseFirst { .. } => StageNext::Going(locking(
+        GuardCall::Upgrade { stamp } => {
+            ControlFlow::Continue(upgraded(shape, call, stamp, loaded, got))
+        }
+        GuardCall::ReleaseFirst { .. } => ControlFlow::Continue(locking(
             shape,
             call,
             loaded,
             GuardCall::Claim,
         )),
-        GuardCall::Claim => StageNext::Going(claimed(shape, call, got, loaded)),
+        GuardCall::Claim => ControlFlow::Continue(claimed(shape, call, got, loaded)),
     }
 }
 

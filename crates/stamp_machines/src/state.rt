@@ -36,7 +36,7 @@ pub(crate) struct State {
     answer: Reply,
 }
 
-/// The kind of a step: what `Stepped` says, without the entry.
+/// The kind of a step: what `Stepped` says, without the entry, which is expensive to move.
 #[derive(Clone, Copy)]
 pub(crate) enum StepKind {
     Idle,
