@@ -32,7 +32,7 @@ use Rattle.stamp_machines.specs.Job.{Job}
 use Rattle.stamp_machines.specs.LockPhase.{PhaseTurn, Still, Ended}
 use Rattle.stamp_machines.specs.Place as places
 use Rattle.stamp_machines.specs.Place.{PlaceTurn}
-use Rattle.stamp_machines.specs.MachineState.{MachineState, Phase, OnLock, OnRecord, start}
+use Rattle.stamp_machines.specs.MachineState.{MachineState, Stage, OnLock, OnRecord, start}
 use Rattle.stamp_machines.specs.Machine.{after_access, after_in, lock_turn, record_turn}
 use Rattle.stamp_machines.specs.Script.{Scripted, IsSound, Suits, calls_of}
 use Rattle.stamp_machines.specs.World.{World, opening, current, current_of, begin, shape_of}
@@ -227,9 +227,9 @@ record_same shape call job (places.Going place) = refl
 record_same shape call job (places.Done r) = tt
 
 pub after_same : (s : MachineState) (seen : ℕ) → IsStillOf s.call (after_access s seen)
-after_same s seen = by s.phase
+after_same s seen = by s.stage
   where
-    by : (phase : Phase) → IsStillOf s.call (after_in s.shape s.call seen phase)
+    by : (stage : Stage) → IsStillOf s.call (after_in s.shape s.call seen stage)
     by (OnLock last) = lock_same s.shape s.call _
     by (OnRecord job place) = record_same s.shape s.call job _
 

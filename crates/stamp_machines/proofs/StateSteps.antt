@@ -139,7 +139,7 @@ pub worker-safe : (gone : List Entry) (script : Scripted) (old mid : State) (t p
     (d : Worker) (b : Begun) → HasBegun gone script old mid t position →
     Invariant script (world_at gone old position) → IsSound script → position < 1000000 →
     (slice_index_or mid.workers.items t d).begun ≡ Some b →
-    IsSafeIn b.machine.shape b.machine.call b.machine.phase mid.words.items
+    IsSafeIn b.machine.shape b.machine.call b.machine.stage mid.words.items
 worker-safe gone script old mid t position d b h kept sound few is =
     let e : current script (world_at gone old position) t ≡ Some b =
     sym (worker-current gone script old mid t position d h) ∙ is in

@@ -67,6 +67,6 @@ ReleasesWinAlways =
     (script : Scripted) (steps : List ℕ) (thread : ℕ) (b : Begun) (job : Job) (stamp : ℕ)
     (r : Reply) → IsSound script → length steps < 1000000 →
     current script (execution_of script steps) thread ≡ Some b →
-    b.machine.phase ≡ OnRecord job (Releasing stamp r) →
+    b.machine.stage ≡ OnRecord job (Releasing stamp r) →
     (next_access b.machine ≡ Cas 1 stamp (stamp + (units script.limits).writer))
     × (slice_index (execution_of script steps).words 1 ≡ stamp)

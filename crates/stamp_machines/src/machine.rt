@@ -10,7 +10,7 @@ ghost use Rattle.stamp_machines.specs.Machine.{after_in, IsFoundIn};
 ghost use Rattle.stamp_machines.specs.MachineState.{MachineState, OnLock, record_limits};
 ghost use Rattle.stamp_machines.specs.Access.{place_of, words_after, seen_by};
 ghost use Rattle.stamp_machines.specs.MachineTurn.{turn_of};
-ghost use Rattle.stamp_machines.specs.MachineFields.{phase_at, turn_in, guard_call_in, IsStage};
+ghost use Rattle.stamp_machines.specs.MachineFields.{stage_at, turn_in, guard_call_in, IsStage};
 ghost use Rattle.stamp_machines.specs.MachineFields.{IsGuardCall, IsNextStage};
 ghost use Rattle.stamp_machines.specs.Place.{call_for};
 
@@ -67,19 +67,19 @@ fn after_public(
     answer: &mut Reply,
 ) -> ControlFlow<(), Stage>
     requires stage { IsStage shape.now call.now loaded.now (Stage.Public seen) }
-    requires found { IsFoundIn shape.now (phase_at call.now loaded.now (Stage.Public seen)) found }
+    requires found { IsFoundIn shape.now (stage_at call.now loaded.now (Stage.Public seen)) found }
     ensures next { turn_in shape.now call.now loaded.now answer.new result
-        ≡ after_in shape.now call.now found (phase_at call.now loaded.now (Stage.Public seen)) }
+        ≡ after_in shape.now call.now found (stage_at call.now loaded.now (Stage.Public seen)) }
     ensures sound { IsNextStage shape.now call.now loaded.now loaded.now result }
     ensures leads { Leads (lock_phase
         (record {
           shape = shape.now;
           call = call.now;
-          phase = phase_at call.now loaded.now (Stage.Public seen);
+          stage = stage_at call.now loaded.now (Stage.Public seen);
         })) found
         (turn_in shape.now call.now loaded.now answer.new result) }
     ensures phase { IfSome
-        (phase_in shape.now call.now (phase_at call.now loaded.now (Stage.Public seen)))
+        (phase_in shape.now call.now (stage_at call.now loaded.now (Stage.Public seen)))
         (λ p. LeadsIn p found (turn_in shape.now call.now loaded.now answer.new result)) }
 {
     let (_, next) = decide_on(shape.limits, call, seen, found, answer);
@@ -101,14 +101,14 @@ fn after_locking(
     answer: &mut Reply,
 ) -> ControlFlow<(), Stage>
     requires stage { IsStage shape.now call.now loaded.old (Stage.Locking guard_call seen) }
-    requires found { IsFoundIn shape.now (phase_at call.now loaded.old (Stage.Locking guard_call seen))
+    requires found { IsFoundIn shape.now (stage_at call.now loaded.old (Stage.Locking guard_call seen))
         found }
     ensures next { turn_in shape.now call.now loaded.new answer.new result
         ≡ after_in shape.now call.now found
-        (phase_at call.now loaded.old (Stage.Locking guard_call seen)) }
+        (stage_at call.now loaded.old (Stage.Locking guard_call seen)) }
     ensures sound { IsNextStage shape.now call.now loaded.old loaded.new result }
     ensures phase { IfSome
-        (phase_in shape.now call.now (phase_at call.now loaded.old (Stage.Locking guard_call seen)))
+        (phase_in shape.now call.now (stage_at call.now loaded.old (Stage.Locking guard_call seen)))
         (λ p. LeadsIn p found (turn_in shape.now call.now loaded.new answer.new result)) }
 {
     let limits = shape.record_limits();
@@ -131,19 +131,19 @@ fn next(
     answer: &mut Reply,
 ) -> ControlFlow<(), Stage>
     requires stage { IsStage shape.now call.now loaded.old stage }
-    requires found { IsFoundIn shape.now (phase_at call.now loaded.old stage) found }
+    requires found { IsFoundIn shape.now (stage_at call.now loaded.old stage) found }
     ensures next { turn_in shape.now call.now loaded.new answer.new result
-        ≡ after_in shape.now call.now found (phase_at call.now loaded.old stage) }
+        ≡ after_in shape.now call.now found (stage_at call.now loaded.old stage) }
     ensures sound { IsNextStage shape.now call.now loaded.old loaded.new result }
     ensures leads { IsTrue (is_lock_call call.now) →
         Leads (lock_phase
         (record {
           shape = shape.now;
           call = call.now;
-          phase = phase_at call.now loaded.old stage;
+          stage = stage_at call.now loaded.old stage;
         })) found
         (turn_in shape.now call.now loaded.new answer.new result) }
-    ensures phase { IfSome (phase_in shape.now call.now (phase_at call.now loaded.old stage))
+    ensures phase { IfSome (phase_in shape.now call.now (stage_at call.now loaded.old stage))
         (λ p. LeadsIn p found (turn_in shape.now call.now loaded.new answer.new result)) }
 {
     match stage {

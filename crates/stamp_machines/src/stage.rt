@@ -9,9 +9,9 @@ ghost use Rattle.stamp_machines.specs.Job.{job_in, new_words, is_get, expects, s
 ghost use Rattle.stamp_machines.specs.Place.{after, unchanged, all_read, guard_call_done};
 ghost use Rattle.stamp_machines.specs.Place.{claimed, call_for};
 ghost use Rattle.stamp_machines.specs.Place as places;
-ghost use Rattle.stamp_machines.specs.MachineState.{first_phase, record_limits};
+ghost use Rattle.stamp_machines.specs.MachineState.{first_stage, record_limits};
 ghost use Rattle.stamp_machines.specs.Machine.{record_turn};
-ghost use Rattle.stamp_machines.specs.MachineFields.{phase_at, going_at, turn_in, guard_call_in};
+ghost use Rattle.stamp_machines.specs.MachineFields.{stage_at, going_at, turn_in, guard_call_in};
 ghost use Rattle.stamp_machines.specs.MachineFields.{job_of, released_reply, IsStage, IsNextStage};
 ghost use Rattle.stamp_machines.specs.MachineFields.{IsRecordCall, IsWriter, IsGuardCall};
 
@@ -430,9 +430,9 @@ pub(crate) fn ended(
 pub(crate) fn first_stage(shape: &Shape, call: &Call) -> Stage
     requires suits { IsTrue (call_suits shape.now.width call.now) }
     requires width { shape.now.width ≤ 16 }
-    ensures stage { (loaded : List ℕ) → IsStage shape.now call.now loaded result }
-    ensures phase { (loaded : List ℕ) →
-        phase_at call.now loaded result ≡ first_phase (job_in call.now) }
+    ensures sound { (loaded : List ℕ) → IsStage shape.now call.now loaded result }
+    ensures stage { (loaded : List ℕ) →
+        stage_at call.now loaded result ≡ first_stage (job_in call.now) }
 {
     match call {
         Call::Get => Stage::LoadingLock,

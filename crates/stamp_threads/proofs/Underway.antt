@@ -17,7 +17,7 @@ use Rattle.stamp_machines.specs.Job.{Job}
 use Rattle.stamp_machines.specs.LockPhase as phases
 use Rattle.stamp_machines.specs.LockPhase.{judged}
 use Rattle.stamp_machines.specs.Machine.{Finds, after_access, lock_turn}
-use Rattle.stamp_machines.specs.MachineState.{MachineState, start, first_phase}
+use Rattle.stamp_machines.specs.MachineState.{MachineState, start, first_stage}
 use Rattle.stamp_machines.specs.MachineState.{lock_alone, on_lock_alone}
 use Rattle.stamp_machines.specs.declared.machine.Turn.{Turn}
 use Rattle.stamp_machines.specs.declared.machine.Turn.TheVariants.{Going, Done}
@@ -93,7 +93,7 @@ begins limits call v found w lock loaded = record {
   machine = ap (λ (j : Option Job). after_access (record {
     shape = lock_alone limits;
     call = call;
-    phase = first_phase j;
+    stage = first_stage j;
   }) found) (lock_none call lock);
 }
 
