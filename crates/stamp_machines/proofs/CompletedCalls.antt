@@ -148,7 +148,7 @@ after-reserved script old mid made same after =
       stamps = λ t. same.stamps t ∙ after.stamps t;
     }
 
--- what is reported of a step, and what it left
+-- what kind a step is of, and what it left
 going : (script : Scripted) (old new : State) (made t : ℕ) → old.entries.items ≡ [] →
     calls_until script (made + 1) ≡ calls_until script made ++ new.entries.items →
     calls_until script made ++ new.entries.items ≡ calls_until script made ++ old.entries.items →

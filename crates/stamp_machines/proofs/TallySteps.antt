@@ -24,7 +24,7 @@ use Rattle.stamp_machines.specs.World.{World, current, current_of, begin, shape_
 use Rattle.stamp_machines.specs.World.{call_of, world_after, stepped, entry_of, execution_of}
 use Rattle.stamp_machines.specs.World.{completed_calls}
 use Rattle.stamp_machines.specs.MachineState.{start}
-use Rattle.stamp_machines.specs.Stepped.{Reports}
+use Rattle.stamp_machines.specs.Stepped.{AnswersStep}
 use Rattle.stamp_machines.specs.Interference.{lock_word, own_since, changes_since, cost}
 use Rattle.stamp_machines.specs.Tally.{TallyState, IsMetered, IsTallied, idle_meter, meter_at}
 use Rattle.stamp_machines.specs.Tally.{meter_after, before_in, tally_after}
@@ -343,7 +343,7 @@ tallied-idle script steps n s sound few all idle now =
 
 pub tallied-more : (script : Scripted) (steps : List ℕ) (n : ℕ) (s : TallyState) (told : Stepped) →
     IsSound script → length steps ≤ 1000000 → n < length script.threads → IsTallied script steps s →
-    Reports script (execution_of script steps) n told →
+    AnswersStep script (execution_of script steps) n told →
     IsTallied script (steps ++ n ∷ []) (tally_after s n (change_by script steps n) told)
 tallied-more script steps n s told sound few within all says =
     by (current script (execution_of script steps) n) refl told says
@@ -352,7 +352,7 @@ tallied-more script steps n s told sound few within all says =
     world = execution_of script steps
 
     by : (c : Option Begun) → current script world n ≡ c → (told : Stepped) →
-        Reports script world n told →
+        AnswersStep script world n told →
         IsTallied script (steps ++ n ∷ []) (tally_after s n (change_by script steps n) told)
     by None e Idle says =
         tallied-idle script steps n s sound few all e

@@ -39,7 +39,7 @@ pub record IsAfter (script : Scripted) (s : State) (made : ℕ) : Type 0 where
   pub workers : vec_len s.workers ≡ length script.threads
   pub stamps : (t : ℕ) → stamps_at s.workers.items t ≡ stamps_of t (calls_until script made)
 
--- what is to come after a step that is reported so
+-- what is to come after a step of this kind
 abbrev pub HandsOn : Scripted → State → ℕ → StepKind → Type 0
 HandsOn script s made Ended =
     completing_at script s (made + 1) ≡ after_next (completing_at script s made)

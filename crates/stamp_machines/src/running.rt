@@ -84,7 +84,7 @@ impl<'a> Run<'a> {
     ghost use Rattle.stamp_core.specs.Linearized.{history_of, AreLinearized};
     ghost use Rattle.stamp_machines.specs.Script.{IsSound};
     ghost use Rattle.stamp_machines.specs.RunView.{with_step, HasNoStepLeft};
-    ghost use Rattle.stamp_machines.specs.Stepped.{Reports};
+    ghost use Rattle.stamp_machines.specs.Stepped.{AnswersStep};
     ghost use Rattle.stamp_machines.specs.StepKind.{IsOfKind, told_by};
     ghost use Rattle.stamp_machines.specs.Tally.{tally_of, IsTallied};
 
@@ -107,8 +107,8 @@ impl<'a> Run<'a> {
     pub fn step(&mut self, thread: u64) -> Result<Stepped, RunError>
         requires { thread < length self.old.script.threads }
         ensures ok { OnOk result (self.new ≡ with_step self.old thread) }
-        ensures report { IfOk result
-            (Reports self.old.script (execution_of self.old.script self.old.steps) thread) }
+        ensures stepped { IfOk result
+            (AnswersStep self.old.script (execution_of self.old.script self.old.steps) thread) }
         ensures err { OnErr result (self.new ≡ self.old) }
         ensures full { (result ≡ Err RunError.TooManySteps) ↔ HasNoStepLeft self.old }
     {
@@ -116,13 +116,13 @@ impl<'a> Run<'a> {
         Ok(self.state.told(kind))
     }
 
-    /// One access, of which the kind alone is reported: the entry of a call that has ended by it is the
-    /// last one.
+    /// One access, of which the kind alone is told: the entry of a call that has ended by it is the last
+    /// one.
     #[inline(always)]
     pub(crate) fn make_step(&mut self, thread: u64) -> Result<StepKind, RunError>
         requires { thread < length self.old.script.threads }
         ensures ok { OnOk result (self.new ≡ with_step self.old thread) }
-        ensures report { IfOk result
+        ensures kind { IfOk result
             (IsOfKind self.old.script (execution_of self.old.script self.old.steps) thread) }
         ensures err { OnErr result (self.new ≡ self.old) }
         ensures full { (result ≡ Err RunError.TooManySteps) ↔ HasNoStepLeft self.old }

@@ -52,4 +52,4 @@ returns-clause-ok c =
     step-made script old c.step.new.self made (get_or c.steps.result.now made 0) c.step.result
     (after-reserved script c.args.state.now old made same c.requires.after) c.requires.few
     (same.entries ∙ c.requires.none) taken c.step.ensures.step.world c.step.ensures.workers
-    c.step.ensures.step.stamps c.step.ensures.step.report
+    c.step.ensures.step.stamps c.step.ensures.step.of_kind
