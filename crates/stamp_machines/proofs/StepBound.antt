@@ -27,7 +27,7 @@ use Rattle.stamp_machines.specs.MachineState.{Stage, OnLock, OnRecord, start, fi
 use Rattle.stamp_machines.specs.Script.{Scripted, IsSound, calls_of}
 use Rattle.stamp_machines.specs.World.{World, current, current_of, begin, shape_of, stamps_of}
 use Rattle.stamp_machines.specs.World.{call_of, world_after, stepped, step, entry_of, execution_of}
-use Rattle.stamp_machines.specs.World.{completed_calls}
+use Rattle.stamp_machines.specs.World.{finished_calls}
 use Rattle.stamp_machines.specs.Interference.{lock_word, interferes, changes_by_others, own_since}
 use Rattle.stamp_machines.specs.Interference.{changes_since, own_steps, interference, NeverWaits}
 use Rattle.stamp_machines.specs.Interference.{StepsBoundedAlways, UnderWayBoundedAlways}
@@ -184,7 +184,7 @@ BoundedEntry script steps e =
 pub record AreBounded (script : Scripted) (steps : List ℕ) : Type 0 where
   pub slots : (t : ℕ) →
       BoundedSlot script steps t (slice_index_or (execution_of script steps).begun t None)
-  pub entries : All (BoundedEntry script steps) (completed_calls script steps)
+  pub entries : All (BoundedEntry script steps) (finished_calls script steps)
 
 pub one_more : (steps : List ℕ) (n : ℕ) → length (steps ++ n ∷ []) ≡ length steps + 1
 one_more steps n = length-append steps (n ∷ [])
@@ -385,22 +385,22 @@ lands-bounded script steps n b words (Going m) all bounded now same turn =
           (Some (record { machine = m; first = b.first }))
           (λ k apart. other-slot script steps n k _ (flip n k apart) (all.slots k)) slot tt t);
       entries = rw (ap (λ (w : World). w.entries) now)
-          (all-older script steps n (completed_calls script steps) all.entries);
+          (all-older script steps n (finished_calls script steps) all.entries);
     }
 lands-bounded script steps n b words (Done r) all bounded now same turn =
     let steps' : List ℕ = steps ++ n ∷ [] in
     let begun : (execution_of script steps').begun
     ≡ slice_set (execution_of script steps).begun n None = ap (λ (w : World). w.begun) now in
     let e : Entry = entry_of (execution_of script steps) n b r in
-    let entries : (execution_of script steps').entries ≡ completed_calls script steps ++ e ∷ [] =
+    let entries : (execution_of script steps').entries ≡ finished_calls script steps ++ e ∷ [] =
     ap (λ (w : World). w.entries) now in
     record {
       slots = λ t. rw begun
           (each_slot (BoundedSlot script steps') (execution_of script steps).begun n None
           (λ k apart. other-slot script steps n k _ (flip n k apart) (all.slots k)) tt tt t);
       entries = rw entries
-          (All-push (BoundedEntry script steps') (completed_calls script steps) e
-          (all-older script steps n (completed_calls script steps) all.entries)
+          (All-push (BoundedEntry script steps') (finished_calls script steps) e
+          (all-older script steps n (finished_calls script steps) all.entries)
           (entry-bounded script steps n b r bounded.0 turn));
     }
 
@@ -431,7 +431,7 @@ step-bounded script steps n sound few all = by (current script world n) refl
         record {
           slots = λ t. rw (ap (λ (w : World). w.begun) now) (idle t e);
           entries = rw (ap (λ (w : World). w.entries) now)
-              (all-older script steps n (completed_calls script steps) all.entries);
+              (all-older script steps n (finished_calls script steps) all.entries);
         }
       where
         idle : (t : ℕ) → current script world n ≡ None →

@@ -78,7 +78,7 @@ impl<'a> Model for Run<'a> {
 }
 
 impl<'a> Run<'a> {
-    ghost use Rattle.stamp_machines.specs.World.{execution_of, completed_calls};
+    ghost use Rattle.stamp_machines.specs.World.{execution_of, finished_calls};
     ghost use Rattle.stamp_core.specs.Word.{Represents, word_at};
     ghost use Rattle.stamp_core.specs.History.{events_of};
     ghost use Rattle.stamp_core.specs.Linearized.{history_of, AreLinearized};
@@ -180,7 +180,7 @@ impl<'a> Run<'a> {
 
     /// The finished calls, in the order of their last steps.
     pub fn finished(&self) -> &[Entry]
-        ensures entries { result.now ≡ completed_calls self.now.script self.now.steps }
+        ensures entries { result.now ≡ finished_calls self.now.script self.now.steps }
         ensures linearized { AreLinearized self.now.script.limits self.now.script.width result.now }
     {
         &self.state.entries
@@ -192,7 +192,7 @@ impl<'a> Run<'a> {
             (slice_index (execution_of self.now.script self.now.steps).words 0) }
         ensures represented { Represents self.now.script.limits result
             (events_of self.now.script.limits
-            (history_of (completed_calls self.now.script self.now.steps))) }
+            (history_of (finished_calls self.now.script self.now.steps))) }
     {
         self.script.limits().word(self.state.words[0])
     }
@@ -200,7 +200,7 @@ impl<'a> Run<'a> {
 
 impl<'a> Run<'a> {
     ghost use Rattle.stamp_machines.specs.RunRecord.{IsRecordOf};
-    ghost use Rattle.stamp_machines.specs.World.{completed_calls};
+    ghost use Rattle.stamp_machines.specs.World.{finished_calls};
 
     /// The finished calls as a record, with no report.
     pub(crate) fn into_record(self) -> Record
@@ -216,7 +216,7 @@ impl<'a> Run<'a> {
 
     /// The finished calls as a record, with a report that has a pair for each.
     pub(crate) fn into_reported(self, report: Vec<(u64, u64)>) -> Record
-        requires { length report.items ≡ length (completed_calls self.script self.steps) }
+        requires { length report.items ≡ length (finished_calls self.script self.steps) }
         ensures { IsRecordOf self.entry report.items result }
     {
         Record::of_reported(

@@ -9,7 +9,7 @@ use Rattle.stamp_machines.specs.World.{stamps_of}
 use Rattle.stamp_machines.specs.StateFields.{stamps_at}
 use Rattle.stamp_machines.specs.CompletionsFields.{IsAfter, calls_until}
 use Rattle.stamp_machines.specs.declared.state.State.{State}
-use Rattle.stamp_machines.proofs.CompletedCalls.{step-made, after-reserved, kept-after}
+use Rattle.stamp_machines.proofs.FinishedCalls.{step-made, after-reserved, kept-after}
 use Rattle.stamp_machines.proofs.completions.make_step.Goals as goal
 
 pub step-requires : goal.step-requires
