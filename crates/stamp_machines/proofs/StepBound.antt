@@ -21,7 +21,7 @@ use Rattle.stamp_core.specs.declared.decision.Decision.{Decision}
 use Rattle.stamp_core.specs.declared.decision.Decision.TheVariants.{Answer, Change, Wait}
 use Rattle.stamp_core.proofs.Deciding.{only_locking_waits}
 use Rattle.stamp_machines.specs.LockNumber.{IsAdmittedAt}
-use Rattle.stamp_machines.specs.LockPhase.{PhaseTurn, Still, Ended, judged, tried, phase_after}
+use Rattle.stamp_machines.specs.LockPhase.{PhaseTurn, Still, Ended, turn_on, tried, phase_after}
 use Rattle.stamp_machines.specs.LockPhase.{phase_next}
 use Rattle.stamp_machines.specs.MachineState.{Stage, OnLock, OnRecord, start, first_stage}
 use Rattle.stamp_machines.specs.Script.{Scripted, IsSound, calls_of}
@@ -79,12 +79,12 @@ never_waits limits call word range a never waits =
     ⊎_elim never.no_write_lock never.no_read_lock
     (only_locking_waits limits a.events call never.lock (none a.events a.represented))
 
-judged-bound : (limits : Bounds) (call : Call) (word own changes : ℕ) (d : Decision) →
+turn_on-bound : (limits : Bounds) (call : Call) (word own changes : ℕ) (d : Decision) →
     decision limits word call ≡ d → (d ≡ Wait → ⊥) → own ≤ changes + 1 →
-    BoundedTurn limits call word own changes (judged word d)
-judged-bound limits call word own changes (Answer r) e n h = omega (arith, h)
-judged-bound limits call word own changes (Change new r) e n h = (h, λ q. absurd (q refl), rw e tt)
-judged-bound limits call word own changes Wait e n h = absurd (n refl)
+    BoundedTurn limits call word own changes (turn_on word d)
+turn_on-bound limits call word own changes (Answer r) e n h = omega (arith, h)
+turn_on-bound limits call word own changes (Change new r) e n h = (h, λ q. absurd (q refl), rw e tt)
+turn_on-bound limits call word own changes Wait e n h = absurd (n refl)
 
 -- a step of one's own
 pub own-bound : (limits : Bounds) (call : Call) (word own changes : ℕ) (seen : Option ℕ) →
@@ -92,7 +92,7 @@ pub own-bound : (limits : Bounds) (call : Call) (word own changes : ℕ) (seen :
     BoundedStage limits call word own changes (OnLock seen) →
     BoundedTurn limits call word (own + 1) changes (phase_after limits call seen word)
 own-bound limits call word own changes None n b =
-    judged-bound limits call word (own + 1) changes (decision limits word call) refl n
+    turn_on-bound limits call word (own + 1) changes (decision limits word call) refl n
     (omega (arith, b))
 own-bound limits call word own changes (Some old) n b =
     on (decision limits old call) b.2 (word == old) refl
@@ -105,7 +105,7 @@ own-bound limits call word own changes (Some old) n b =
     on (Answer r) change x q = absurd change
     on (Change new r) change true q = rw q (let h = b.0 in omega (arith, h))
     on (Change new r) change false q =
-        rw q (judged-bound limits call word (own + 1) changes (decision limits word call) refl n
+        rw q (turn_on-bound limits call word (own + 1) changes (decision limits word call) refl n
         (let h = lost q in omega (arith, h)))
     on Wait change x q = absurd change
 

@@ -11,7 +11,7 @@ use Rattle.stamp_core.specs.declared.decision.Decision.{Decision}
 use Rattle.stamp_core.specs.declared.decision.Decision.TheVariants.{Answer, Change, Wait}
 use Rattle.stamp_machines.specs.declared.shape.Shape.{Shape}
 use Rattle.stamp_machines.specs.declared.machine.Turn.TheVariants.{Going}
-use Rattle.stamp_machines.specs.LockPhase.{judged}
+use Rattle.stamp_machines.specs.LockPhase.{turn_on}
 use Rattle.stamp_machines.specs.MachineState.{MachineState, OnLock}
 use Rattle.stamp_machines.specs.Machine.{lock_turn}
 use Rattle.stamp_machines.specs.Undisturbed.{left_alone, HasEnded, EndsWithinTwo}
@@ -46,7 +46,7 @@ by_decision : (shape : Shape) (call : Call) (w : ℕ) (rest : List ℕ) (events 
     Decides shape.limits (word_at shape.limits w) call d →
     Represents shape.limits (word_at shape.limits w) events →
     transition shape.limits events call ≢ None →
-    HasEnded shape.limits events call (left_alone 1 (w ∷ rest) (lock_turn shape call (judged w d)))
+    HasEnded shape.limits events call (left_alone 1 (w ∷ rest) (lock_turn shape call (turn_on w d)))
 by_decision shape call w rest events (Answer r) is says represented some = record {
   taken = record { appended = []; reply = r };
   taken_is = says events represented;
