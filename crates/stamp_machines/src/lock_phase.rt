@@ -23,6 +23,7 @@ pub(crate) fn lock_access(at: usize, limits: Limits, call: &Call, seen: Option<u
     let Some(old) = seen else {
         return Access::Load(at);
     };
+    // By this call the prover knows that the limits are in range.
     let _ = limits.layout();
     match decide_lock(limits, limits.word(old), call) {
         LockDecision::Change(new, _) => Access::Cas(at, old, new.bits()),
@@ -31,8 +32,8 @@ pub(crate) fn lock_access(at: usize, limits: Limits, call: &Call, seen: Option<u
 }
 
 /// Decides a lock call on the word that its access has found. Gives the word after the access, and
-/// where the call goes on: to an exchange from this word, which was seen, or to a load. Where it has
-/// ended, its reply is written to `answer`.
+/// where the call goes on: to an exchange from this word, which was seen, or to a load. Where it
+/// has ended, its reply is written to `answer`.
 #[inline(always)]
 pub(crate) fn decide_on(
     limits: Limits,
@@ -50,6 +51,7 @@ pub(crate) fn decide_on(
         LeadsBy (record { at = at; limits = limits; call = call.now; seen = seen }) found
         (phase_turn result.1 answer.new) }
 {
+    // By this call the prover knows that the limits are in range.
     let _ = limits.layout();
     match decide_lock(limits, limits.word(found), call) {
         LockDecision::Answer(reply) => {

@@ -56,7 +56,7 @@ impl Model for Machine {
     ghost invariant = { IsAtStage };
 }
 
-/// A lock call on the public lock goes on.
+/// Where a lock call goes on after its access has found this at word 0, which is the public lock.
 #[inline(always)]
 fn after_public(
     shape: &Shape,
@@ -89,7 +89,8 @@ fn after_public(
     }
 }
 
-/// A lock call on the record's lock goes on.
+/// Where a call of the record goes on from a lock call on the record's own lock, after an access
+/// has found this at its word, word 1.
 #[inline(always)]
 fn after_locking(
     shape: &Shape,
@@ -119,8 +120,8 @@ fn after_locking(
     }
 }
 
-/// Where a call goes on from a stage after its access has found this. Where it has ended, its reply is
-/// written to `answer`.
+/// Where a call goes on from a stage after its access has found this. Where it has ended, its reply
+/// is written to `answer`.
 #[inline(always)]
 fn next(
     shape: &Shape,
@@ -168,7 +169,8 @@ fn next(
 }
 
 impl Machine {
-    /// The machine of a call, before its first access.
+    /// The machine of a call, before its first access. The call suits the shape's width, which is
+    /// 16 at most.
     #[inline(always)]
     pub fn start(call: Call, shape: Shape) -> Machine
         requires suits { IsTrue (call_suits shape.width call) }
@@ -217,16 +219,19 @@ impl Machine {
                 new_word(&self.call, stored),
             ),
             Stage::Releasing { stamp, .. } => {
+                // A write stamp is the number of the word while it is held: the exchange is from it.
                 Access::Cas(1, stamp, self.shape.limits.layout().released(stamp))
             }
         }
     }
 
-    /// Goes on after the planned access has found this: the value that stood there before it. What
-    /// is found at a lock's word has to be a word that the lock's limits admit, at the record's own
-    /// lock those are the widest of the layout; what a store or a releasing exchange finds is of no
-    /// account. A call of the record that is about its lock has to find a version left there, so who
-    /// drives machines by hand has to stop before the last one (no run ever comes to it).
+    /// Goes on after the planned access. `found` is the value that stood at its place before it.
+    ///
+    /// A value found at a lock's word has to be a word that the lock's limits admit. The limits of
+    /// the record's own lock are the widest of the layout. Where a call of the record is in a lock
+    /// call on that lock, the word found there must have a version left. So whoever drives machines
+    /// by hand has to stop before the versions are spent; a run never comes to their end. What a
+    /// store or a releasing exchange finds may be any number.
     pub fn resume(self, found: u64) -> Turn
         requires { IsFound self found }
         ensures after { result ≡ after_access self found }
@@ -243,8 +248,9 @@ impl Machine {
     }
 
     /// Makes the planned access and goes on after it, in place. Tells whether the call has ended:
-    /// then its reply stands in `answer`, and where the machine stands is of no account. An access of
-    /// a lock call on the public lock decides once, on the word found.
+    /// then its reply stands in `answer`, and where the machine stands is of no account. For speed
+    /// an access of word 0 has a way of its own: `plan` would decide the lock call on the word
+    /// seen, and `go_on` on the word found; here it is decided once, on the word found.
     #[inline(always)]
     pub(crate) fn access(&mut self, words: &mut [u64], answer: &mut Reply) -> bool
         requires memory { place_of (next_access self.old) < length words.old }

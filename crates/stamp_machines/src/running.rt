@@ -57,7 +57,7 @@ impl From<AllocError> for RunError {
 
 /// A run of a script's threads. `step` is given which of them makes the next step; the steps that
 /// the script itself lists are for `run` alone. `finished` has the entries so far, of which
-/// `Record::of` makes a record.
+/// `Record::of` makes a recorded history.
 #[derive(Drop)]
 pub struct Run<'a> {
     script: &'a Script,
@@ -101,9 +101,9 @@ impl<'a> Run<'a> {
         })
     }
 
-    /// One access of the thread's current call. It refuses as 3 `TooManySteps` exactly where 1,000,000
-    /// steps were made, and as 6 `Memory`; a refused step leaves the run as it was, and can be made
-    /// again.
+    /// One access of the thread's current call. The thread is below the number of the script's
+    /// threads. It refuses as 3 `TooManySteps` exactly where 1,000,000 steps were made, and as 6
+    /// `Memory`; a refused step leaves the run as it was, and can be made again.
     pub fn step(&mut self, thread: u64) -> Result<Stepped, RunError>
         requires { thread < length self.old.script.threads }
         ensures ok { OnOk result (self.new ≡ with_step self.old thread) }
@@ -116,8 +116,8 @@ impl<'a> Run<'a> {
         Ok(self.state.told(kind))
     }
 
-    /// One access, of which the kind alone is told: the entry of a call that has ended by it is the last
-    /// one.
+    /// One access, of which the kind alone is told: the entry of a call that has ended by it is the
+    /// last one.
     #[inline(always)]
     pub(crate) fn make_step(&mut self, thread: u64) -> Result<StepKind, RunError>
         requires { thread < length self.old.script.threads }
@@ -138,7 +138,7 @@ impl<'a> Run<'a> {
         Ok(self.state.step(self.script, at, position))
     }
 
-    /// What each run keeps to.
+    /// Touches a field, by which the prover knows what each run keeps to.
     fn known(&self)
         ensures sound { IsSound self.now.script }
         ensures few { length self.now.steps ≤ 1000000 }
@@ -202,7 +202,7 @@ impl<'a> Run<'a> {
     ghost use Rattle.stamp_machines.specs.RunRecord.{IsRecordOf};
     ghost use Rattle.stamp_machines.specs.World.{finished_calls};
 
-    /// The finished calls as a record, with no report.
+    /// The finished calls as a recorded history, with no report.
     pub(crate) fn into_record(self) -> Record
         ensures { IsRecordOf self.entry [] result }
     {
@@ -214,7 +214,7 @@ impl<'a> Run<'a> {
         .unwrap()
     }
 
-    /// The finished calls as a record, with a report that has a pair for each.
+    /// The finished calls as a recorded history, with a report that has a pair for each.
     pub(crate) fn into_reported(self, report: Vec<(u64, u64)>) -> Record
         requires { length report.items ≡ length (finished_calls self.script self.steps) }
         ensures { IsRecordOf self.entry report.items result }

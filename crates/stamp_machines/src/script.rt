@@ -175,7 +175,7 @@ impl Script {
         })
     }
 
-    /// What each script keeps to.
+    /// Touches a field, by which the prover knows what each script keeps to.
     fn known(&self)
         ensures sound { IsSound self.now }
         ensures few { length self.now.steps ≤ 1000000 }
@@ -235,6 +235,7 @@ impl Script {
         &self.steps
     }
 
+    /// How many threads it has.
     pub(crate) fn thread_count(&self) -> usize
         ensures count { result ≡ length self.now.threads }
         ensures few { result ≤ 64 }

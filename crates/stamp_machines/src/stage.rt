@@ -31,13 +31,14 @@ pub(crate) enum GuardCall {
     Refuse { stamp: u64 },
     /// The words are those expected: the read lock is to become a write lock.
     Upgrade { stamp: u64 },
-    /// It could not.
+    /// The read lock could not become a write lock: it is released, and a write lock comes next.
     ReleaseFirst { stamp: u64 },
     /// A write lock.
     Claim,
 }
 
-/// A word that was seen is one that a lock call is to change.
+/// Where a call stands between two of its accesses. A word that was seen is one that a lock call is
+/// to change.
 #[derive(Clone, Copy)]
 pub(crate) enum Stage {
     /// A lock call, on the public lock.
@@ -138,6 +139,7 @@ fn is_free(limits: Limits, found: u64) -> bool
     requires { IsAdmitted limits (word_at limits found) }
     ensures { result ≡ ((counts_at limits found).writers == 0) }
 {
+    // By this call the prover knows that the limits are in range.
     let _ = limits.layout();
     !limits.word(found).is_writing()
 }
@@ -148,6 +150,7 @@ fn is_unchanged(limits: Limits, first: u64, found: u64) -> bool
     requires first { IsAdmitted limits (word_at limits first) }
     ensures { result ≡ unchanged limits first found }
 {
+    // By this call the prover knows that the limits are in range.
     let _ = limits.layout();
     let now = limits.word(found);
     !now.is_writing() && now.writes() == limits.word(first).writes()
@@ -167,6 +170,7 @@ fn locking(shape: &Shape, call: &Call, loaded: &LoadedWords, guard_call: GuardCa
     }
 }
 
+/// Where a get goes on after its first load of the record's lock has found this.
 #[inline(always)]
 pub(crate) fn lock_loaded(shape: &Shape, call: &Call, loaded: &mut LoadedWords, found: u64) -> Stage
     requires call { IsRecordCall shape.now call.now }
@@ -185,6 +189,8 @@ pub(crate) fn lock_loaded(shape: &Shape, call: &Call, loaded: &mut LoadedWords, 
     }
 }
 
+/// Where a get that copies without a lock goes on after a load has found this: one of a word, or,
+/// after the last word, the second one of the lock.
 #[inline(always)]
 pub(crate) fn copied(
     shape: &Shape,
@@ -217,6 +223,7 @@ pub(crate) fn copied(
     }
 }
 
+/// Where a call that reads under a read lock goes on after its load of a word has found this.
 #[inline(always)]
 pub(crate) fn read(
     shape: &Shape,
@@ -258,6 +265,8 @@ fn all_read(shape: &Shape, call: &Call, stamp: u64, loaded: &LoadedWords) -> Sta
     }
 }
 
+/// Where a `PutIf` that compares under a write lock goes on after its load of a word has found
+/// this.
 #[inline(always)]
 pub(crate) fn checked(
     shape: &Shape,
@@ -309,6 +318,7 @@ pub(crate) fn released_reply(call: &Call, is_stored: bool) -> Reply
     }
 }
 
+/// Where a call goes on after it has stored the word at this place.
 #[inline(always)]
 pub(crate) fn stored(
     shape: &Shape,
@@ -385,8 +395,8 @@ fn shared(shape: &Shape, call: &Call, stamp: u64, loaded: &mut LoadedWords) -> S
     Stage::Reading { stamp }
 }
 
-/// Where a call goes on after a lock call on the record's lock has ended with the reply that stands in
-/// `answer`. Where it has ended itself, its reply is written there.
+/// Where a call goes on after a lock call on the record's lock has ended with the reply that stands
+/// in `answer`. Where the call itself has ended by that, its own reply is written there.
 pub(crate) fn ended(
     shape: &Shape,
     call: &Call,

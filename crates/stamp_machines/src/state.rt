@@ -23,6 +23,8 @@ pub(crate) struct Begun {
 #[derive(Drop)]
 pub(crate) struct Worker {
     pub(crate) begun: Option<Begun>,
+    /// The stamp that each finished call answered, 0 where it answered none. There is one for each,
+    /// so their number is also that of the finished calls, and the index of the thread's next call.
     pub(crate) stamps: Vec<u64>,
 }
 
