@@ -204,7 +204,7 @@ impl Machine {
             Stage::Public { seen } => lock_access(0, self.shape.limits, &self.call, seen),
             Stage::LoadingLock => Access::Load(1),
             Stage::Copying { .. } => {
-                if self.loaded.len() < self.shape.words() {
+                if self.loaded.len() < self.shape.word_count() {
                     Access::Load(2 + self.loaded.len())
                 } else {
                     Access::Load(1)

@@ -212,7 +212,7 @@ pub(crate) fn copied(
         (places.Copying first loaded.old) found) }
     ensures sound { IsNextStage shape.now call.now loaded.old loaded.new result }
 {
-    if loaded.len() < shape.words() {
+    if loaded.len() < shape.word_count() {
         loaded.push(found);
         ControlFlow::Continue(Stage::Copying { first })
     } else if is_unchanged(shape.record_limits(), first, found) {
@@ -241,7 +241,7 @@ pub(crate) fn read(
     ensures sound { IsStage shape.now call.now loaded.new result }
 {
     loaded.push(found);
-    if loaded.len() < shape.words() {
+    if loaded.len() < shape.word_count() {
         Stage::Reading { stamp }
     } else {
         all_read(shape, call, stamp, loaded)
@@ -285,7 +285,7 @@ pub(crate) fn checked(
     ensures sound { IsStage shape.now call.now loaded.new result }
 {
     loaded.push(found);
-    if loaded.len() < shape.words() {
+    if loaded.len() < shape.word_count() {
         Stage::Checking { stamp }
     } else if expects(call, &loaded.words()) {
         Stage::Storing { stamp, stored: 0 }
@@ -337,7 +337,7 @@ pub(crate) fn stored(
         (places.Storing stamp stored) found) }
     ensures sound { IsStage shape.now call.now loaded.now result }
 {
-    if stored + 1 < shape.words() {
+    if stored + 1 < shape.word_count() {
         Stage::Storing {
             stamp,
             stored: stored + 1,

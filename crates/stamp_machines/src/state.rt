@@ -174,10 +174,10 @@ fn opening_words(alloc: Global, shape: &Shape) -> Result<Vec<u64>, AllocError>
         shape.now.width 0) }
 {
     let opening = Word::opening_in(shape.limits.layout()).bits();
-    let mut words = Vec::with_capacity(alloc, 2 + shape.words())?;
+    let mut words = Vec::with_capacity(alloc, 2 + shape.word_count())?;
     words.push(opening)?;
     words.push(opening)?;
-    for _ in 0..shape.words() {
+    for _ in 0..shape.word_count() {
         words.push(0)?;
     }
     Ok(words)
