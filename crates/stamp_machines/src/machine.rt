@@ -14,7 +14,7 @@ ghost use Rattle.stamp_machines.specs.MachineFields.{stage_at, turn_in, guard_ca
 ghost use Rattle.stamp_machines.specs.MachineFields.{IsGuardCall, IsNextStage};
 ghost use Rattle.stamp_machines.specs.Place.{call_for};
 
-use crate::access::{Access, make};
+use crate::access::{Access, FIRST_WORD, LOCK, RECORD_LOCK, make};
 use crate::loaded_words::LoadedWords;
 use crate::lock_phase::{decide_on, lock_access};
 use crate::shape::Shape;
@@ -201,26 +201,30 @@ impl Machine {
         ensures phase { IfSome (phase_of self.now) (λ p. Plans p.state result) }
     {
         match self.stage {
-            Stage::Public { seen } => lock_access(0, self.shape.limits, &self.call, seen),
-            Stage::LoadingLock => Access::Load(1),
+            Stage::Public { seen } => lock_access(LOCK, self.shape.limits, &self.call, seen),
+            Stage::LoadingLock => Access::Load(RECORD_LOCK),
             Stage::Copying { .. } => {
                 if self.loaded.len() < self.shape.word_count() {
-                    Access::Load(2 + self.loaded.len())
+                    Access::Load(FIRST_WORD + self.loaded.len())
                 } else {
-                    Access::Load(1)
+                    Access::Load(RECORD_LOCK)
                 }
             }
             Stage::Locking { guard_call, seen } => {
-                lock_access(1, self.shape.record_limits(), &call_for(guard_call), seen)
+                let limits = self.shape.record_limits();
+                lock_access(RECORD_LOCK, limits, &call_for(guard_call), seen)
             }
-            Stage::Reading { .. } | Stage::Checking { .. } => Access::Load(2 + self.loaded.len()),
+            Stage::Reading { .. } | Stage::Checking { .. } => {
+                Access::Load(FIRST_WORD + self.loaded.len())
+            }
             Stage::Storing { stored, .. } => Access::Store(
-                2 + stored,
+                FIRST_WORD + stored,
                 new_word(&self.call, stored),
             ),
             Stage::Releasing { stamp, .. } => {
                 // A write stamp is the number of the word while it is held: the exchange is from it.
-                Access::Cas(1, stamp, self.shape.limits.layout().released(stamp))
+                let released = self.shape.limits.layout().released(stamp);
+                Access::Cas(RECORD_LOCK, stamp, released)
             }
         }
     }
@@ -264,8 +268,8 @@ impl Machine {
             let found = make(words, self.plan());
             return self.go_on(found, answer);
         };
-        let (word, next) = decide_on(self.shape.limits, &self.call, seen, words[0], answer);
-        words[0] = word;
+        let (word, next) = decide_on(self.shape.limits, &self.call, seen, words[LOCK], answer);
+        words[LOCK] = word;
         match next {
             ControlFlow::Continue(seen) => {
                 self.stage = Stage::Public { seen };

@@ -2,6 +2,7 @@
 ghost use Rattle.std.specs.Prelude.{◌≡◌, ◌<◌, ◌≤◌, ◌↔◌, [], length, IfOk, OnOk, OnErr};
 ghost use Rattle.std.specs.Prelude.{slice_index, All};
 
+use crate::access::LOCK;
 use crate::script::Script;
 use crate::state::{State, StepKind};
 use crate::tally::Tally;
@@ -194,7 +195,7 @@ impl<'a> Run<'a> {
             (events_of self.now.script.limits
             (history_of (finished_calls self.now.script self.now.steps))) }
     {
-        self.script.limits().word(self.state.words[0])
+        self.script.limits().word(self.state.words[LOCK])
     }
 }
 

@@ -4,6 +4,7 @@ ghost use Rattle.std.specs.Prelude.{vec_capacity, IfOk, OnOk, None, Some, slice_
 ghost use Rattle.std.specs.Prelude.{slice_index_or, slice_get, slice_set, ◌==◌, ◌++◌, ◌∷◌, []};
 ghost use Rattle.std.specs.Prelude.{if◌then◌else◌, is_some, IfSome, false, List};
 
+use crate::access::FIRST_WORD;
 use crate::machine::Machine;
 use crate::running::Stepped;
 use crate::script::{Arg, Script, ScriptCall};
@@ -174,7 +175,7 @@ fn opening_words(alloc: Global, shape: &Shape) -> Result<Vec<u64>, AllocError>
         shape.now.width 0) }
 {
     let opening = Word::opening_in(shape.limits.layout()).bits();
-    let mut words = Vec::with_capacity(alloc, 2 + shape.word_count())?;
+    let mut words = Vec::with_capacity(alloc, FIRST_WORD + shape.word_count())?;
     words.push(opening)?;
     words.push(opening)?;
     for _ in 0..shape.word_count() {
