@@ -27,4 +27,5 @@ one_bad_reply r i j x y = by (order i j)
     by (inr (inr e)) = e
 
 pub migrates_or_not : (r : Recorded) (i : ℕ) → CanMigrate r → IsBadReply r i → ⊥
-migrates_or_not r i can bad = bad.first.foreign (can_at r.entries i bad.first.entry (can bad.layout) bad.first.is_entry)
+migrates_or_not r i can bad =
+    bad.first.foreign (can_at r.entries i bad.first.entry (can bad.layout) bad.first.is_entry)

@@ -104,7 +104,8 @@ answered_alike limits width before e one range can room =
     After : List LockEvent → List ℕ → Type 0
     After past content = IsReply (widened limits) past content (respelled_call e.call) (respelled_reply e.reply)
 
-    events : events_of (widened limits) (history_of (map respelled_entry before)) ≡ events_of limits (history_of before)
+    events : events_of (widened limits) (history_of (map respelled_entry before)) ≡
+        events_of limits (history_of before)
     events = events_alike limits [] before one range (omega arith)
 
     contents : content_after width (history_of (map respelled_entry before)) ≡ content_after width (history_of before)

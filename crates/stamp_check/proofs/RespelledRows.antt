@@ -23,7 +23,8 @@ use Rattle.stamp_core.specs.declared.call.Call.TheVariants.{PutIf}
 use Rattle.stamp_core.specs.declared.reply.Reply.{Reply}
 use Rattle.stamp_core.specs.declared.reply.Reply.TheVariants.{Stamp, Yes, No, Done, Mismatch, Count}
 use Rattle.stamp_check.specs.Migration.{respelling, respelled_call, respelled_reply, widened, CanRespell}
-use Rattle.stamp_check.proofs.RespelledStamps.{TestsAgree, tests_agree, respelled_write, respelled_read, respelled_zero}
+use Rattle.stamp_check.proofs.RespelledStamps.{TestsAgree, tests_agree, respelled_write, respelled_read}
+use Rattle.stamp_check.proofs.RespelledStamps.{respelled_zero}
 
 -- with the reply respelled
 abbrev pub respelled_transition : Option Transition → Option Transition
@@ -52,7 +53,8 @@ none = record { same = refl; reply = tt; few = omega arith }
 
 plain : (appended : List LockEvent) (reply : Reply) → respelled_reply reply ≡ reply → CanRespell reply →
     write_count appended ≤ 1 → AreAlike (change appended reply) (change appended reply)
-plain appended reply e can few = record { same = ap (λ (r : Reply). change appended r) (sym e); reply = can; few = few }
+plain appended reply e can few =
+    record { same = ap (λ (r : Reply). change appended r) (sym e); reply = can; few = few }
 
 stamped : (appended : List LockEvent) (s t : ℕ) → respelling s ≡ t → CanRespell (Stamp s) →
     write_count appended ≤ 1 → AreAlike (change appended (Stamp s)) (change appended (Stamp t))

@@ -4,7 +4,7 @@ use Rattle.stamp_core.specs.Record.{Recorded}
 use Rattle.stamp_core.specs.Linearized.{IsLinearized}
 use Rattle.stamp_machines.specs.Script.{Scripted, IsSound}
 use Rattle.stamp_machines.specs.RunRecord.{run_record, reported_record}
-use Rattle.stamp_machines.specs.World.{completed_calls}
+use Rattle.stamp_machines.specs.World.{finished_calls}
 use Rattle.stamp_check.specs.declared.checking.Bad.{Bad}
 use Rattle.stamp_check.specs.declared.checking.Why.{Why}
 use Rattle.stamp_check.specs.FirstFault.{IsFirstFault}
@@ -22,6 +22,6 @@ OneVerdict = (r : Recorded) (a b : Result ℕ Bad) → IsVerdict r a → IsVerdi
 abbrev pub RunsAreAccepted : Type 0
 RunsAreAccepted =
     (script : Scripted) → IsSound script → length script.steps ≤ 1000000 →
-    let accepted = Ok (length (completed_calls script script.steps)) in
+    let accepted = Ok (length (finished_calls script script.steps)) in
     ((a : Result ℕ Bad) → IsVerdict (run_record script) a → a ≡ accepted) ×
     ((a : Result ℕ Bad) → IsVerdict (reported_record script) a → a ≡ accepted)

@@ -1,4 +1,4 @@
-//! Records of layout 1, spelled anew in layout 2.
+//! Recorded histories of layout 1, spelled anew in layout 2.
 ghost use Rattle.std.specs.Prelude.{◌≡◌, ◌↔◌, map, IsOk, IfOk, IfErr, IsTrue, MatchOption};
 ghost use Rattle.stamp_check.specs.SameVerdict.{HaveSameVerdict};
 ghost use Rattle.stamp_check.specs.Migration.{respelling, respelled_call, respelled_reply, respelled_entry, respelled_record, widened, migrated, CanRespell, AllCanRespell, CanMigrate, IsFirstForeign, IsBadReply};

@@ -17,7 +17,7 @@ use Rattle.stamp_core.specs.declared.script_error.ScriptError.TheVariants.{TooMa
 use Rattle.stamp_core.specs.declared.script_error.ScriptError.TheVariants.{NoSuchThread}
 use Rattle.stamp_core.specs.declared.script_error.ScriptError.TheVariants.{RecordWidth}
 use Rattle.stamp_machines.specs.Script.{Scripted, Suits}
-use Rattle.stamp_machines.specs.ScriptFault.{calls_in, AreShort, AreSuited, AreOfThreads}
+use Rattle.stamp_machines.specs.ScriptFault.{thread_calls, AreShort, AreOfWidth, AreOfThreads}
 use Rattle.stamp_machines.specs.ScriptFault.{IsFirstUnknown, IsFirstFault, IsGood}
 use Rattle.stamp_machines.specs.declared.script.ScriptCall.{ScriptCall}
 use Rattle.stamp_machines.specs.declared.script.ScriptCall.TheVariants.{Get, Put, PutIf}
@@ -31,9 +31,9 @@ fails false d n = refl
 at_most : (n most : ℕ) → Decides (nat_le n most) (n ≤ most)
 at_most n most = (λ e. grind (arith, nat_tests), λ le. grind (arith, nat_tests))
 
-short : (threads : List (Vec ScriptCall Global)) → Decides (are_short (map calls_in threads)) (AreShort threads)
+short : (threads : List (Vec ScriptCall Global)) → Decides (are_short (map thread_calls threads)) (AreShort threads)
 short = Decides-by_and (λ (calls : Vec ScriptCall Global). nat_le (length calls.items) 10000)
-    (λ (calls : Vec ScriptCall Global). length calls.items ≤ 10000) (λ threads. are_short (map calls_in threads))
+    (λ (calls : Vec ScriptCall Global). length calls.items ≤ 10000) (λ threads. are_short (map thread_calls threads))
     (λ calls. at_most (length calls.items) 10000) refl (λ _ _. refl)
 
 one_suits : (width : ℕ) (call : ScriptCall) → Decides (suits width call) (Suits width call)
@@ -45,10 +45,10 @@ one_suits width (PutIf a b) = Decides-like _ (λ h. (h.0.0, h.0.1, h.1)) (λ h. 
 one_suits width _ = (λ _. tt, λ _. refl)
 
 suited : (width : ℕ) (threads : List (Vec ScriptCall Global)) →
-    Decides (are_suited width (map calls_in threads)) (AreSuited width threads)
+    Decides (are_suited width (map thread_calls threads)) (AreOfWidth width threads)
 suited width = Decides-by_and (λ (calls : Vec ScriptCall Global). list_all (suits width) calls.items)
     (λ (calls : Vec ScriptCall Global). All (Suits width) calls.items)
-    (λ threads. are_suited width (map calls_in threads))
+    (λ threads. are_suited width (map thread_calls threads))
     (λ calls. Decides-by_and (suits width) (Suits width) (list_all (suits width)) (one_suits width) refl
     (λ _ _. refl) calls.items) refl (λ _ _. refl)
 
@@ -81,10 +81,10 @@ unknown_at threads steps i first =
     let inside : nat_lt (position_or_len (nat_le threads) steps) (length steps) ≡ true = grind (arith, nat_tests) in
     rw inside (ap Some at)
 
-unsuited : (width : ℕ) (threads : List (Vec ScriptCall Global)) → (16 < width) ⊎ (AreSuited width threads → ⊥) →
-    (nat_le width 16 && are_suited width (map calls_in threads)) ≡ false
+unsuited : (width : ℕ) (threads : List (Vec ScriptCall Global)) → (16 < width) ⊎ (AreOfWidth width threads → ⊥) →
+    (nat_le width 16 && are_suited width (map thread_calls threads)) ≡ false
 unsuited width threads (inl wide) = let test : nat_le width 16 ≡ false = grind (arith, nat_tests) in rw test refl
-unsuited width threads (inr not_all) = rw (fails (are_suited width (map calls_in threads))
+unsuited width threads (inr not_all) = rw (fails (are_suited width (map thread_calls threads))
     (suited width threads) not_all) (and-false (nat_le width 16))
 
 -- the script that these parts make
@@ -92,7 +92,7 @@ abbrev pub given_script : Bounds → ℕ → List (Vec ScriptCall Global) → Li
 given_script limits width threads steps = record {
   limits = limits;
   width = width;
-  threads = map calls_in threads;
+  threads = map thread_calls threads;
   steps = steps;
 }
 
@@ -106,7 +106,7 @@ pub no_fault : (limits : Bounds) (width : ℕ) (threads : List (Vec ScriptCall G
     IsGood width threads steps → first_fault (given_script limits width threads steps) ≡ None
 unfolding first_fault
 no_fault limits width threads steps good = rw (
-  length-map threads calls_in,
+  length-map threads thread_calls,
   below_most (length threads) 64 good.0,
   (short threads).1 good.1,
   below_most (length steps) 1000000 good.2,
@@ -120,23 +120,23 @@ pub is_first_fault : (limits : Bounds) (width : ℕ) (threads : List (Vec Script
     first_fault (given_script limits width threads steps) ≡ Some fault
 unfolding first_fault
 is_first_fault limits width threads steps TooManyThreads first =
-    rw (length-map threads calls_in, above_most (length threads) 64 first) refl
+    rw (length-map threads thread_calls, above_most (length threads) 64 first) refl
 is_first_fault limits width threads steps TooManyCalls first =
     rw (
-      length-map threads calls_in,
+      length-map threads thread_calls,
       below_most (length threads) 64 first.0,
-      fails (are_short (map calls_in threads)) (short threads) first.1,
+      fails (are_short (map thread_calls threads)) (short threads) first.1,
     ) refl
 is_first_fault limits width threads steps TooManySteps first =
     rw (
-      length-map threads calls_in,
+      length-map threads thread_calls,
       below_most (length threads) 64 first.0,
       (short threads).1 first.1,
       above_most (length steps) 1000000 first.2,
     ) refl
 is_first_fault limits width threads steps (NoSuchThread i) first =
     rw (
-      length-map threads calls_in,
+      length-map threads thread_calls,
       below_most (length threads) 64 first.0,
       (short threads).1 first.1,
       below_most (length steps) 1000000 first.2,
@@ -144,7 +144,7 @@ is_first_fault limits width threads steps (NoSuchThread i) first =
     ) refl
 is_first_fault limits width threads steps RecordWidth first =
     rw (
-      length-map threads calls_in,
+      length-map threads thread_calls,
       below_most (length threads) 64 first.0,
       (short threads).1 first.1,
       below_most (length steps) 1000000 first.2,

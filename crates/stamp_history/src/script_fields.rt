@@ -2,7 +2,7 @@
 
 ghost use Rattle.std.specs.Prelude.{◌≡◌, map};
 ghost use Rattle.serde_json.specs.View.{view, items_view};
-ghost use Rattle.stamp_machines.specs.ScriptFault.{calls_in};
+ghost use Rattle.stamp_machines.specs.ScriptFault.{thread_calls};
 ghost use Rattle.stamp_history.specs.Gives.{Gives};
 ghost use Rattle.stamp_history.specs.Reading.{each};
 ghost use Rattle.stamp_history.specs.ScriptValue as field;
@@ -71,7 +71,7 @@ fn calls_of_thread(
     thread: u64,
     list: Vec<Value>,
 ) -> Result<Vec<ScriptCall>, ReadError>
-    ensures { Gives ReadError.Memory calls_in result
+    ensures { Gives ReadError.Memory thread_calls result
         (each (field.call_at thread) 0 (items_view list.items)) }
 {
     let mut calls = Vec::with_capacity(alloc, list.len().min(MOST_CALLS))?;
@@ -82,7 +82,7 @@ fn calls_of_thread(
 }
 
 fn thread_at(alloc: Global, thread: u64, value: Value) -> Result<Vec<ScriptCall>, ReadError>
-    ensures { Gives ReadError.Memory calls_in result (field.thread_at thread (view value)) }
+    ensures { Gives ReadError.Memory thread_calls result (field.thread_at thread (view value)) }
 {
     match as_list(value) {
         Some(list) => calls_of_thread(alloc, thread, list),
@@ -93,7 +93,7 @@ fn thread_at(alloc: Global, thread: u64, value: Value) -> Result<Vec<ScriptCall>
 /// The calls of each thread. Each value is dropped once it is read, so that its memory can serve the
 /// next thread's calls.
 fn threads_in(alloc: Global, list: Vec<Value>) -> Result<Vec<Vec<ScriptCall>>, ReadError>
-    ensures { Gives ReadError.Memory (λ threads. map calls_in threads.items) result
+    ensures { Gives ReadError.Memory (λ threads. map thread_calls threads.items) result
         (each field.thread_at 0 (items_view list.items)) }
 {
     let mut threads = Vec::with_capacity(alloc, list.len())?;
@@ -106,7 +106,7 @@ fn threads_in(alloc: Global, list: Vec<Value>) -> Result<Vec<Vec<ScriptCall>>, R
 /// The calls of each thread. Every thread is found to be a list before any call is read.
 #[tactic(auto, unfolding(crate::specs::ScriptValue::threads))]
 pub(crate) fn read_threads(alloc: Global, value: Value) -> Result<Vec<Vec<ScriptCall>>, ReadError>
-    ensures { Gives ReadError.Memory (λ threads. map calls_in threads.items) result
+    ensures { Gives ReadError.Memory (λ threads. map thread_calls threads.items) result
         (field.threads (view value)) }
 {
     threads_in(alloc, listed_threads(value)?)

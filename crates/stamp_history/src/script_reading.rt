@@ -1,7 +1,7 @@
 //! A script out of its text.
 
 ghost use Rattle.std.specs.Prelude.{◌≡◌, ◌<◌, IfErr, length, map};
-ghost use Rattle.stamp_machines.specs.ScriptFault.{calls_in};
+ghost use Rattle.stamp_machines.specs.ScriptFault.{thread_calls};
 ghost use Rattle.stamp_history.specs.Gives.{Gives};
 ghost use Rattle.stamp_history.specs.ScriptReading.{faultless, script_of};
 
@@ -24,7 +24,7 @@ fn script_from(
     ensures { Gives ReadError.Memory (λ script. script) result (faultless (record {
       limits = limits;
       width = width;
-      threads = map calls_in threads.items;
+      threads = map thread_calls threads.items;
       steps = steps.items;
     })) }
 {

@@ -17,7 +17,7 @@ use Rattle.stamp_machines.specs.Place.{Place, GuardCall, call_for}
 use Rattle.stamp_machines.specs.LocalAccess.{LoadLock, LoadItem, with_lock}
 use Rattle.stamp_machines.specs.LockPhase.{phase_next, next_on}
 use Rattle.stamp_machines.specs.declared.shape.Shape.{Shape}
-use Rattle.stamp_machines.specs.MachineState.{Phase, OnLock, OnRecord, record_limits}
+use Rattle.stamp_machines.specs.MachineState.{Stage, OnLock, OnRecord, record_limits}
 use Rattle.stamp_machines.specs.Machine.{next_in, IsFoundIn, HasVersionLeft}
 use Rattle.stamp_machines.specs.RecordKept.{FitsPlace}
 
@@ -33,10 +33,10 @@ phase-place i limits call (Some word) = go (decision limits word call)
     go Wait = refl
 
 -- the access is within the memory, and what it sees may be resumed with
-abbrev pub IsSafeIn : Shape → Call → Phase → List ℕ → Type 0
-IsSafeIn shape call phase words =
-    (place_of (next_in shape call phase) < length words)
-    × IsFoundIn shape phase (seen_by (next_in shape call phase) words)
+abbrev pub IsSafeIn : Shape → Call → Stage → List ℕ → Type 0
+IsSafeIn shape call stage words =
+    (place_of (next_in shape call stage) < length words)
+    × IsFoundIn shape stage (seen_by (next_in shape call stage) words)
 
 copying-safe : (shape : Shape) (call : Call) (job : Job) (first : ℕ) (loaded : List ℕ)
     (words : List ℕ) → length words ≡ 2 + shape.width →

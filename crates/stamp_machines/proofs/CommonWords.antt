@@ -1,4 +1,4 @@
--- What an access of a phase does to the common words.
+-- What an access does to the common words.
 use Rattle.std.proofs.Common.{◌≡◌, ℕ, ◌+◌, ◌==◌, Bool, true, false, List, [], ◌∷◌, length, drop}
 use Rattle.std.proofs.Common.{Option, Some, None, if◌then◌else◌, refl, sym, arith, suc}
 use Rattle.std.proofs.lemmas.Bool.Decides.{nat_tests}

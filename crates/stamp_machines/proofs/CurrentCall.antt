@@ -19,7 +19,7 @@ use Rattle.stamp_machines.specs.declared.script.ScriptCall.TheVariants.{ReadCoun
 use Rattle.stamp_machines.specs.Job.{Job, Getting, Putting, PuttingIf, job_in, new_words, is_get}
 use Rattle.stamp_machines.specs.Place.{first_place}
 use Rattle.stamp_machines.specs.declared.shape.Shape.{Shape}
-use Rattle.stamp_machines.specs.MachineState.{first_phase, start}
+use Rattle.stamp_machines.specs.MachineState.{first_stage, start}
 use Rattle.stamp_machines.specs.Script.{Scripted, Suits, calls_of}
 use Rattle.stamp_machines.specs.declared.state.Begun.{Begun}
 use Rattle.stamp_machines.specs.World.{World, current_of, begin, call_of, shape_of, stamps_of}
@@ -73,16 +73,16 @@ suits-job stamps width (PutIf a b) s = (s.0, inr s.2)
 pub record Ready (limits : Bounds) (shape : Shape) (k w : ℕ) (content items : List ℕ)
     (slot : Option Begun) (b : Begun) : Type 0 where
   pub of : IsOf shape (Some b)
-  pub reads : read_in (doing_in slot) ≡ read_in (doing_at b.machine.phase)
-  pub writes : written_in (doing_in slot) ≡ written_in (doing_at b.machine.phase)
-  pub fits : FitsIn limits k w content items (doing_at b.machine.phase)
-  pub lock : doing_at b.machine.phase ≡ None → doing_in slot ≡ None
+  pub reads : read_in (doing_in slot) ≡ read_in (doing_at b.machine.stage)
+  pub writes : written_in (doing_in slot) ≡ written_in (doing_at b.machine.stage)
+  pub fits : FitsIn limits k w content items (doing_at b.machine.stage)
+  pub lock : doing_at b.machine.stage ≡ None → doing_in slot ≡ None
 
 first-ready : (limits : Bounds) (shape : Shape) (k w : ℕ) (content items : List ℕ) (call : Call)
     (first : ℕ) (j : Option Job) → job_in call ≡ j → SuitsJob (length content) j →
     Ready limits shape k w content items None
     (record {
-      machine = record { shape = shape; call = call; phase = first_phase j };
+      machine = record { shape = shape; call = call; stage = first_stage j };
       first = first;
     })
 first-ready limits shape k w content items call first None e s =

@@ -32,12 +32,12 @@ use Rattle.stamp_machines.specs.Job.{Job}
 use Rattle.stamp_machines.specs.LockPhase.{PhaseTurn, Still, Ended}
 use Rattle.stamp_machines.specs.Place as places
 use Rattle.stamp_machines.specs.Place.{PlaceTurn}
-use Rattle.stamp_machines.specs.MachineState.{MachineState, Phase, OnLock, OnRecord, start}
+use Rattle.stamp_machines.specs.MachineState.{MachineState, Stage, OnLock, OnRecord, start}
 use Rattle.stamp_machines.specs.Machine.{after_access, after_in, lock_turn, record_turn}
 use Rattle.stamp_machines.specs.Script.{Scripted, IsSound, Suits, calls_of}
 use Rattle.stamp_machines.specs.World.{World, opening, current, current_of, begin, shape_of}
 use Rattle.stamp_machines.specs.World.{stamps_of, is_of, call_of, world_after, stepped, step, entry_of}
-use Rattle.stamp_machines.specs.World.{execution_of, completed_calls}
+use Rattle.stamp_machines.specs.World.{execution_of, finished_calls}
 use Rattle.stamp_machines.proofs.CurrentCall.{thread-within, call-suits}
 use Rattle.stamp_machines.proofs.EntryOrder.{each_slot, slot_none}
 use Rattle.stamp_machines.proofs.StateSteps.{stamps_of-append}
@@ -227,9 +227,9 @@ record_same shape call job (places.Going place) = refl
 record_same shape call job (places.Done r) = tt
 
 pub after_same : (s : MachineState) (seen : ℕ) → IsStillOf s.call (after_access s seen)
-after_same s seen = by s.phase
+after_same s seen = by s.stage
   where
-    by : (phase : Phase) → IsStillOf s.call (after_in s.shape s.call seen phase)
+    by : (stage : Stage) → IsStillOf s.call (after_in s.shape s.call seen stage)
     by (OnLock last) = lock_same s.shape s.call _
     by (OnRecord job place) = record_same s.shape s.call job _
 
@@ -300,14 +300,14 @@ calls_few (x ∷ threads) (suc t) short =
     (All-tail (λ (calls : List ScriptCall). length calls ≤ 10000) x threads short)
 
 -- what a schedule finishes can stand in a record
-pub completed-recorded : (script : Scripted) (steps : List ℕ) → IsSound script →
+pub finished-recorded : (script : Scripted) (steps : List ℕ) → IsSound script →
     IsRecorded (record {
       limits = script.limits;
       width = script.width;
-      entries = completed_calls script steps;
+      entries = finished_calls script steps;
       report = [];
     })
-completed-recorded script steps sound =
+finished-recorded script steps sound =
     let world : World = execution_of script steps in
     let counts : IsCounted script world = always-counted script steps sound in
     let all : total (length script.threads) (count_of world.entries) ≡ length world.entries =

@@ -18,4 +18,4 @@ pub mod StateSteps
 pub mod WorkerStamps
 pub mod RunFacts
 pub mod ScriptsAreSound
-pub mod CompletedCalls
+pub mod FinishedCalls

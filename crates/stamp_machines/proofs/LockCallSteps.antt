@@ -12,9 +12,9 @@ use Rattle.stamp_core.specs.declared.layout.Layout.{Layout}
 use Rattle.stamp_core.specs.declared.decision.Decision.{Decision}
 use Rattle.stamp_core.specs.declared.decision.Decision.TheVariants.{Answer, Change, Wait}
 use Rattle.stamp_core.proofs.Deciding.{decisions_are_transitions, only_locking_waits}
-use Rattle.stamp_machines.specs.LockPhase.{judged}
+use Rattle.stamp_machines.specs.LockPhase.{turn_on}
 use Rattle.stamp_machines.specs.PhaseState.{PhaseState}
-use Rattle.stamp_machines.specs.PhaseNext.{Changing, IsChanging}
+use Rattle.stamp_machines.specs.IsLockPhase.{Changing, IsChanging}
 use Rattle.stamp_machines.specs.declared.access.Access.TheVariants.{Cas}
 use Rattle.stamp_machines.specs.LockCallSteps.{Plans, Ends, LeadsBy}
 
@@ -34,13 +34,13 @@ decided limits call number d range is =
     subst (Decides limits (word_at limits number) call) is
     (decisions_are_transitions limits number call range)
 
-judged_on : (p : PhaseState) (found : ℕ) (d : Decision) → AreInRange p.limits →
+turn_on-leads : (p : PhaseState) (found : ℕ) (d : Decision) → AreInRange p.limits →
     IsTrue (is_lock_call p.call) → IsAdmitted p.limits (word_at p.limits found) →
     p.seen ≢ Some found → Decides p.limits (word_at p.limits found) p.call d →
-    LeadsBy p found (judged found d)
-judged_on p found (Answer reply) range lock a lost says =
+    LeadsBy p found (turn_on found d)
+turn_on-leads p found (Answer reply) range lock a lost says =
     record { won = λ won. absurd (lost won); answered = λ n. says }
-judged_on p found (Change new reply) range lock a lost says =
+turn_on-leads p found (Change new reply) range lock a lost says =
     record {
       not_won = lost;
       same = (refl, refl, refl);
@@ -51,7 +51,7 @@ judged_on p found (Change new reply) range lock a lost says =
         by_number p.limits (word_at p.limits found) p.call new reply says,
       );
     }
-judged_on p found Wait range lock a lost says =
+turn_on-leads p found Wait range lock a lost says =
     record {
       not_won = lost;
       same = (refl, refl, refl);
@@ -86,8 +86,8 @@ won p found new reply seen says =
 pub lost : (p : PhaseState) (found : ℕ) (d : Decision) → AreInRange p.limits →
     IsTrue (is_lock_call p.call) → IsAdmitted p.limits (word_at p.limits found) →
     p.seen ≢ Some found → Decides p.limits (word_at p.limits found) p.call d →
-    LeadsBy p found (judged found d)
-lost p found d range lock a other says = judged_on p found d range lock a other says
+    LeadsBy p found (turn_on found d)
+lost p found d range lock a other says = turn_on-leads p found d range lock a other says
 
 -- a word that was seen is one on which the call does not wait
 pub not_seen : (limits : Bounds) (call : Call) (seen : Option ℕ) (found : ℕ) →

@@ -23,7 +23,7 @@ use Rattle.stamp_core.proofs.WellFormedPush.{AllowsAll, push_all, obeys_now}
 use Rattle.stamp_core.proofs.TransitionsKeep.{IsAllowed, Keeps, row_keeps}
 use Rattle.stamp_core.proofs.WordCounts.{counts_in-represented}
 use Rattle.stamp_machines.specs.LockNumber.{RepresentsAt, IsAdmittedAt, counts_at}
-use Rattle.stamp_machines.specs.LockPhase.{Still, Ended, phase_next, phase_after, next_on, judged}
+use Rattle.stamp_machines.specs.LockPhase.{Still, Ended, phase_next, phase_after, next_on, turn_on}
 use Rattle.stamp_machines.specs.LockPhase.{tried, PhaseTurn}
 use Rattle.stamp_machines.specs.LocalAccess.{lock_after, local_seen}
 use Rattle.stamp_machines.specs.RecordKept.{IsRead}
@@ -131,12 +131,12 @@ decision-meets_at limits lock call range w =
 
 loaded-leaves : (limits : Bounds) (call : Call) (lock : ℕ) → AreInRange limits →
     IsAdmittedAt limits lock →
-    PhaseLeaves limits call lock lock (judged lock (decision limits lock call))
+    PhaseLeaves limits call lock lock (turn_on lock (decision limits lock call))
 loaded-leaves limits call lock range a =
     go (decision limits lock call) (decision-meets_at limits lock call range a)
   where
     go : (d : Decision) → MeetsAt limits call lock d →
-        PhaseLeaves limits call lock lock (judged lock d)
+        PhaseLeaves limits call lock lock (turn_on lock d)
     go (Answer r) m = m
     go (Change new r) m = refl
     go Wait m = refl
@@ -151,7 +151,7 @@ tried-leaves limits call lock old (Change new r) range a e = go (lock == old) re
   where
     go : (b : Bool) → (lock == old) ≡ b →
         PhaseLeaves limits call lock (if b then new.bits else lock) (if b then Ended r
-        else judged lock (decision limits lock call))
+        else turn_on lock (decision limits lock call))
     go false q = loaded-leaves limits call lock range a
     go true q =
         let same : lock ≡ old = grind (arith, q) in

@@ -8,7 +8,7 @@ use Rattle.stamp_core.specs.declared.entry.Entry.{Entry}
 use Rattle.stamp_machines.specs.declared.state.State.{State}
 use Rattle.stamp_machines.specs.declared.running.Run.TheInside.{Inside}
 use Rattle.stamp_machines.specs.Script.{Scripted}
-use Rattle.stamp_machines.specs.World.{World, step, execution_of, completed_calls}
+use Rattle.stamp_machines.specs.World.{World, step, execution_of, finished_calls}
 use Rattle.stamp_machines.specs.StateFields.{world_at, SameState}
 use Rattle.stamp_core.specs.Word.{Represents, IsAdmitted, word_at}
 use Rattle.stamp_core.specs.History.{events_of}
@@ -19,7 +19,7 @@ use Rattle.stamp_machines.specs.RunRecord.{IsRecordOf}
 use Rattle.stamp_core.specs.Record.{Recorded, recorded, IsRecorded}
 use Rattle.stamp_machines.proofs.StepsKeep.{always-kept, execution_of-more}
 use Rattle.stamp_machines.proofs.EntryOrder.{InOrder, always-in-order}
-use Rattle.stamp_machines.proofs.EntryCount.{completed-recorded}
+use Rattle.stamp_machines.proofs.EntryCount.{finished-recorded}
 
 pub run-kept : (r : Inside) → IsAt r →
     Invariant r.script.now (world_at [] r.state (length r.steps.items))
@@ -58,10 +58,10 @@ pub run-recorded : (r : Inside) → IsAt r →
 run-recorded r h =
     let same : (execution_of r.script.now r.steps.items).entries ≡ r.state.entries.items =
     ap (λ (w : World). w.entries) (sym h.world) in
-    rw (← same) (completed-recorded r.script.now r.steps.items h.sound)
+    rw (← same) (finished-recorded r.script.now r.steps.items h.sound)
 
 pub run-reported : (r : Inside) → IsAt r → (report : List (ℕ × ℕ)) →
-    length report ≡ length (completed_calls r.script.now r.steps.items) →
+    length report ≡ length (finished_calls r.script.now r.steps.items) →
     IsRecorded (record {
       limits = r.script.now.limits;
       width = r.script.now.width;
@@ -69,7 +69,7 @@ pub run-reported : (r : Inside) → IsAt r → (report : List (ℕ × ℕ)) →
       report = report;
     })
 run-reported r h report each =
-    let same : completed_calls r.script.now r.steps.items ≡ r.state.entries.items =
+    let same : finished_calls r.script.now r.steps.items ≡ r.state.entries.items =
     ap (λ (w : World). w.entries) (sym h.world) in
     let known = run-recorded r h in
     record {
@@ -96,7 +96,7 @@ record-of r h report made is =
 -- the word as it stands represents what the steps so far have finished
 pub run-represented : (r : Inside) → IsAt r →
     Represents r.script.now.limits (word_at r.script.now.limits (slice_index r.state.words.items 0))
-    (events_of r.script.now.limits (history_of (completed_calls r.script.now r.steps.items)))
+    (events_of r.script.now.limits (history_of (finished_calls r.script.now r.steps.items)))
 run-represented r h =
     subst (λ (w : World). Represents r.script.now.limits
     (word_at r.script.now.limits (slice_index r.state.words.items 0))

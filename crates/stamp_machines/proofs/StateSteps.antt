@@ -16,7 +16,7 @@ use Rattle.stamp_machines.specs.declared.state.Worker.{Worker}
 use Rattle.stamp_machines.specs.Access.{words_after, seen_by}
 use Rattle.stamp_machines.specs.Machine.{next_access, after_access}
 use Rattle.stamp_machines.specs.Script.{Scripted}
-use Rattle.stamp_machines.specs.Stepped.{Reports}
+use Rattle.stamp_machines.specs.Stepped.{AnswersStep}
 use Rattle.stamp_machines.specs.declared.running.Stepped.TheVariants.{Ended}
 use Rattle.stamp_machines.specs.declared.state.StepKind.{StepKind}
 use Rattle.stamp_machines.specs.declared.state.StepKind.TheVariants as kind
@@ -139,7 +139,7 @@ pub worker-safe : (gone : List Entry) (script : Scripted) (old mid : State) (t p
     (d : Worker) (b : Begun) → HasBegun gone script old mid t position →
     Invariant script (world_at gone old position) → IsSound script → position < 1000000 →
     (slice_index_or mid.workers.items t d).begun ≡ Some b →
-    IsSafeIn b.machine.shape b.machine.call b.machine.phase mid.words.items
+    IsSafeIn b.machine.shape b.machine.call b.machine.stage mid.words.items
 worker-safe gone script old mid t position d b h kept sound few is =
     let e : current script (world_at gone old position) t ≡ Some b =
     sym (worker-current gone script old mid t position d h) ∙ is in
@@ -248,7 +248,7 @@ step-made gone script old mid new t position d w b turned h is made =
           λ u. ap (λ (ws : List Worker). stamps_at ws u) made.workers
           ∙ stamps-turned gone mid new t position u b w turned h.worker (h.stamps u)
           (rw (stamps_at-index mid.workers.items t d h.worker) made.stamps) made.entries;
-      report = turned-kind script (world_at gone old position) t b turned e (rw words at made.turn);
+      of_kind = turned-kind script (world_at gone old position) t b turned e (rw words at made.turn);
     }
 
 -- a step of a thread that has no call left
@@ -266,7 +266,7 @@ idle-made gone script old mid new t position d h is words workers entries =
     record {
       world = rw e (ap (λ (w : World). record w { position = position + 1 }) (same ∙ m));
       stamps = λ u. rw (workers, entries) (h.stamps u);
-      report = e;
+      of_kind = e;
     }
 
 last-one : (es : List Entry) (e : Entry) →
@@ -279,12 +279,12 @@ last-one es e = let here : length (es ++ e ∷ []) - 1 ≡ length es = rw length
     go (x ∷ xs) = go xs
 
 -- with the last entry again
-pub told-reports : (script : Scripted) (world : World) (t : ℕ) (p : StepKind) (entries : List Entry) →
+pub told-answers : (script : Scripted) (world : World) (t : ℕ) (p : StepKind) (entries : List Entry) →
     entries ≡ (step script world t).entries → IsOfKind script world t p →
-    Reports script world t (told_by entries p)
-told-reports script world t kind.Idle entries is r = r
-told-reports script world t kind.Going entries is r = r
-told-reports script world t kind.Ended entries is r =
+    AnswersStep script world t (told_by entries p)
+told-answers script world t kind.Idle entries is r = r
+told-answers script world t kind.Going entries is r = r
+told-answers script world t kind.Ended entries is r =
     let here : slice_get entries (length entries - 1) ≡ Some r.0 =
     rw (is, r.1) (last-one world.entries r.0) in
     let told_it : told_by entries kind.Ended ≡ Ended r.0 = rw here refl in

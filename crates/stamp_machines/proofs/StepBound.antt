@@ -21,13 +21,13 @@ use Rattle.stamp_core.specs.declared.decision.Decision.{Decision}
 use Rattle.stamp_core.specs.declared.decision.Decision.TheVariants.{Answer, Change, Wait}
 use Rattle.stamp_core.proofs.Deciding.{only_locking_waits}
 use Rattle.stamp_machines.specs.LockNumber.{IsAdmittedAt}
-use Rattle.stamp_machines.specs.LockPhase.{PhaseTurn, Still, Ended, judged, tried, phase_after}
+use Rattle.stamp_machines.specs.LockPhase.{PhaseTurn, Still, Ended, turn_on, tried, phase_after}
 use Rattle.stamp_machines.specs.LockPhase.{phase_next}
-use Rattle.stamp_machines.specs.MachineState.{Phase, OnLock, OnRecord, start, first_phase}
+use Rattle.stamp_machines.specs.MachineState.{Stage, OnLock, OnRecord, start, first_stage}
 use Rattle.stamp_machines.specs.Script.{Scripted, IsSound, calls_of}
 use Rattle.stamp_machines.specs.World.{World, current, current_of, begin, shape_of, stamps_of}
 use Rattle.stamp_machines.specs.World.{call_of, world_after, stepped, step, entry_of, execution_of}
-use Rattle.stamp_machines.specs.World.{completed_calls}
+use Rattle.stamp_machines.specs.World.{finished_calls}
 use Rattle.stamp_machines.specs.Interference.{lock_word, interferes, changes_by_others, own_since}
 use Rattle.stamp_machines.specs.Interference.{changes_since, own_steps, interference, NeverWaits}
 use Rattle.stamp_machines.specs.Interference.{StepsBoundedAlways, UnderWayBoundedAlways}
@@ -59,16 +59,16 @@ IsChange Wait = ⊥
 
 -- own steps and others' changes since the call began: one step more than changes, and no more than
 -- those where the word is not the one seen last
-abbrev pub BoundedPhase : Bounds → Call → ℕ → ℕ → ℕ → Phase → Type 0
-BoundedPhase limits call word own changes (OnLock None) = own ≡ 0
-BoundedPhase limits call word own changes (OnLock (Some w)) =
+abbrev pub BoundedStage : Bounds → Call → ℕ → ℕ → ℕ → Stage → Type 0
+BoundedStage limits call word own changes (OnLock None) = own ≡ 0
+BoundedStage limits call word own changes (OnLock (Some w)) =
     (own ≤ changes + 1) × (word ≢ w → own ≤ changes) × IsChange (decision limits w call)
-BoundedPhase limits call word own changes (OnRecord job place) = Unit {0}
+BoundedStage limits call word own changes (OnRecord job place) = Unit {0}
 
 -- the same once the access is made
 abbrev pub BoundedTurn : Bounds → Call → ℕ → ℕ → ℕ → PhaseTurn → Type 0
 BoundedTurn limits call word own changes (Still seen) =
-    BoundedPhase limits call word own changes (OnLock seen)
+    BoundedStage limits call word own changes (OnLock seen)
 BoundedTurn limits call word own changes (Ended r) = own ≤ changes + 2
 
 never_waits : (limits : Bounds) (call : Call) (word : ℕ) → AreInRange limits →
@@ -79,20 +79,20 @@ never_waits limits call word range a never waits =
     ⊎_elim never.no_write_lock never.no_read_lock
     (only_locking_waits limits a.events call never.lock (none a.events a.represented))
 
-judged-bound : (limits : Bounds) (call : Call) (word own changes : ℕ) (d : Decision) →
+turn_on-bound : (limits : Bounds) (call : Call) (word own changes : ℕ) (d : Decision) →
     decision limits word call ≡ d → (d ≡ Wait → ⊥) → own ≤ changes + 1 →
-    BoundedTurn limits call word own changes (judged word d)
-judged-bound limits call word own changes (Answer r) e n h = omega (arith, h)
-judged-bound limits call word own changes (Change new r) e n h = (h, λ q. absurd (q refl), rw e tt)
-judged-bound limits call word own changes Wait e n h = absurd (n refl)
+    BoundedTurn limits call word own changes (turn_on word d)
+turn_on-bound limits call word own changes (Answer r) e n h = omega (arith, h)
+turn_on-bound limits call word own changes (Change new r) e n h = (h, λ q. absurd (q refl), rw e tt)
+turn_on-bound limits call word own changes Wait e n h = absurd (n refl)
 
 -- a step of one's own
 pub own-bound : (limits : Bounds) (call : Call) (word own changes : ℕ) (seen : Option ℕ) →
     (decision limits word call ≡ Wait → ⊥) →
-    BoundedPhase limits call word own changes (OnLock seen) →
+    BoundedStage limits call word own changes (OnLock seen) →
     BoundedTurn limits call word (own + 1) changes (phase_after limits call seen word)
 own-bound limits call word own changes None n b =
-    judged-bound limits call word (own + 1) changes (decision limits word call) refl n
+    turn_on-bound limits call word (own + 1) changes (decision limits word call) refl n
     (omega (arith, b))
 own-bound limits call word own changes (Some old) n b =
     on (decision limits old call) b.2 (word == old) refl
@@ -105,20 +105,20 @@ own-bound limits call word own changes (Some old) n b =
     on (Answer r) change x q = absurd change
     on (Change new r) change true q = rw q (let h = b.0 in omega (arith, h))
     on (Change new r) change false q =
-        rw q (judged-bound limits call word (own + 1) changes (decision limits word call) refl n
+        rw q (turn_on-bound limits call word (own + 1) changes (decision limits word call) refl n
         (let h = lost q in omega (arith, h)))
     on Wait change x q = absurd change
 
 -- a step of another
-pub other-bound : (limits : Bounds) (call : Call) (word now own changes : ℕ) (phase : Phase) →
-    BoundedPhase limits call word own changes phase →
-    BoundedPhase limits call now own (changes + (if not (now == word) then 1 else 0)) phase
+pub other-bound : (limits : Bounds) (call : Call) (word now own changes : ℕ) (stage : Stage) →
+    BoundedStage limits call word own changes stage →
+    BoundedStage limits call now own (changes + (if not (now == word) then 1 else 0)) stage
 other-bound limits call word now own changes (OnLock None) b = b
 other-bound limits call word now own changes (OnRecord job place) b = tt
 other-bound limits call word now own changes (OnLock (Some w)) b = on (now == word) refl
   where
     on : (x : Bool) → (now == word) ≡ x →
-        BoundedPhase limits call now own (changes + (if not x then 1 else 0)) (OnLock (Some w))
+        BoundedStage limits call now own (changes + (if not x then 1 else 0)) (OnLock (Some w))
     on true q =
         let same : now ≡ word = grind (arith, q) in
         let h = b.0 in
@@ -173,8 +173,8 @@ BoundedSlot script steps t None = Unit {0}
 BoundedSlot script steps t (Some b) =
     (b.first ≤ length steps)
     × (NeverWaits b.machine.call →
-    BoundedPhase script.limits b.machine.call (lock_word (execution_of script steps))
-    (own_since steps t b.first) (changes_since script steps t b.first) b.machine.phase)
+    BoundedStage script.limits b.machine.call (lock_word (execution_of script steps))
+    (own_since steps t b.first) (changes_since script steps t b.first) b.machine.stage)
 
 abbrev pub BoundedEntry : Scripted → List ℕ → Entry → Type 0
 BoundedEntry script steps e =
@@ -184,7 +184,7 @@ BoundedEntry script steps e =
 pub record AreBounded (script : Scripted) (steps : List ℕ) : Type 0 where
   pub slots : (t : ℕ) →
       BoundedSlot script steps t (slice_index_or (execution_of script steps).begun t None)
-  pub entries : All (BoundedEntry script steps) (completed_calls script steps)
+  pub entries : All (BoundedEntry script steps) (finished_calls script steps)
 
 pub one_more : (steps : List ℕ) (n : ℕ) → length (steps ++ n ∷ []) ≡ length steps + 1
 one_more steps n = length-append steps (n ∷ [])
@@ -208,7 +208,7 @@ other-slot script steps n t (Some b) e bounded =
     changes_since-more script steps n t b.first within ∙ rw e refl in (
       omega (arith, longer, within),
       λ never. rw (own, changes, execution_of-more script steps n)
-          (other-bound script.limits b.machine.call _ _ _ _ b.machine.phase (bounded.1 never)),
+          (other-bound script.limits b.machine.call _ _ _ _ b.machine.stage (bounded.1 never)),
     )
 
 older : (script : Scripted) (steps : List ℕ) (n : ℕ) (e : Entry) → BoundedEntry script steps e →
@@ -237,9 +237,9 @@ current-bounded script steps n b all = by (slice_index_or (execution_of script s
     here = execution-position script steps
 
     fresh : (call : Call) → NeverWaits call →
-        BoundedPhase script.limits call (lock_word (execution_of script steps))
+        BoundedStage script.limits call (lock_word (execution_of script steps))
         (own_since steps n (length steps)) (changes_since script steps n (length steps))
-        (first_phase (job_in call))
+        (first_stage (job_in call))
     fresh call never =
         let lock : job_in call ≡ None = lock_none call never.lock in
         let none : drop (length steps) steps ≡ [] = drop_all (length steps) steps (omega arith) in
@@ -271,7 +271,7 @@ current-bounded script steps n b all = by (slice_index_or (execution_of script s
 -- what its step leads to
 abbrev pub BoundedMachine : Bounds → Call → ℕ → ℕ → ℕ → Turn → Type 0
 BoundedMachine limits call word own changes (Going m) =
-    BoundedPhase limits call word own changes m.phase
+    BoundedStage limits call word own changes m.stage
 BoundedMachine limits call word own changes (Done r) = own ≤ changes + 2
 
 lock-bounded : (limits : Bounds) (shape : Shape) (call : Call) (word now own changes : ℕ)
@@ -279,7 +279,7 @@ lock-bounded : (limits : Bounds) (shape : Shape) (call : Call) (word now own cha
     BoundedTurn limits call word own changes x →
     BoundedMachine limits call now own changes (lock_turn shape call x)
 lock-bounded limits shape call word now own changes (Still seen) same bounded =
-    subst (λ (w : ℕ). BoundedPhase limits call w own changes (OnLock seen)) (sym same) bounded
+    subst (λ (w : ℕ). BoundedStage limits call w own changes (OnLock seen)) (sym same) bounded
 lock-bounded limits shape call word now own changes (Ended r) same bounded = bounded
 
 seen-is : (a : LocalAccess) (word : ℕ) → IsToLock a → local_seen a word [] ≡ word
@@ -288,11 +288,11 @@ seen-is (CasLock old new) word h = refl
 seen-is (LoadItem i) word h = absurd h
 seen-is (StoreItem i v) word h = absurd h
 
-turn-bounded : (script : Scripted) (world : World) (b : Begun) (phase : Phase) (own changes : ℕ) →
+turn-bounded : (script : Scripted) (world : World) (b : Begun) (stage : Stage) (own changes : ℕ) →
     Invariant script world → IsSound script → b.machine.shape ≡ shape_of script →
-    job_in b.machine.call ≡ job_at b.machine.phase → NeverWaits b.machine.call →
-    b.machine.phase ≡ phase →
-    BoundedPhase script.limits b.machine.call (lock_word world) own changes phase →
+    job_in b.machine.call ≡ job_at b.machine.stage → NeverWaits b.machine.call →
+    b.machine.stage ≡ stage →
+    BoundedStage script.limits b.machine.call (lock_word world) own changes stage →
     BoundedMachine script.limits b.machine.call
     (slice_index (words_after (next_access b.machine) world.words) 0) (own + 1) changes
     (after_access b.machine (seen_by (next_access b.machine) world.words))
@@ -385,22 +385,22 @@ lands-bounded script steps n b words (Going m) all bounded now same turn =
           (Some (record { machine = m; first = b.first }))
           (λ k apart. other-slot script steps n k _ (flip n k apart) (all.slots k)) slot tt t);
       entries = rw (ap (λ (w : World). w.entries) now)
-          (all-older script steps n (completed_calls script steps) all.entries);
+          (all-older script steps n (finished_calls script steps) all.entries);
     }
 lands-bounded script steps n b words (Done r) all bounded now same turn =
     let steps' : List ℕ = steps ++ n ∷ [] in
     let begun : (execution_of script steps').begun
     ≡ slice_set (execution_of script steps).begun n None = ap (λ (w : World). w.begun) now in
     let e : Entry = entry_of (execution_of script steps) n b r in
-    let entries : (execution_of script steps').entries ≡ completed_calls script steps ++ e ∷ [] =
+    let entries : (execution_of script steps').entries ≡ finished_calls script steps ++ e ∷ [] =
     ap (λ (w : World). w.entries) now in
     record {
       slots = λ t. rw begun
           (each_slot (BoundedSlot script steps') (execution_of script steps).begun n None
           (λ k apart. other-slot script steps n k _ (flip n k apart) (all.slots k)) tt tt t);
       entries = rw entries
-          (All-push (BoundedEntry script steps') (completed_calls script steps) e
-          (all-older script steps n (completed_calls script steps) all.entries)
+          (All-push (BoundedEntry script steps') (finished_calls script steps) e
+          (all-older script steps n (finished_calls script steps) all.entries)
           (entry-bounded script steps n b r bounded.0 turn));
     }
 
@@ -431,7 +431,7 @@ step-bounded script steps n sound few all = by (current script world n) refl
         record {
           slots = λ t. rw (ap (λ (w : World). w.begun) now) (idle t e);
           entries = rw (ap (λ (w : World). w.entries) now)
-              (all-older script steps n (completed_calls script steps) all.entries);
+              (all-older script steps n (finished_calls script steps) all.entries);
         }
       where
         idle : (t : ℕ) → current script world n ≡ None →
@@ -454,7 +454,7 @@ step-bounded script steps n sound few all = by (current script world n) refl
         lands-bounded script steps n b (words_after (next_access b.machine) world.words)
         (after_access b.machine (seen_by (next_access b.machine) world.words)) all bounded now
         (after_same b.machine _)
-        (λ never. turn-bounded script world b b.machine.phase _ _ k sound of.0 of.1 never refl
+        (λ never. turn-bounded script world b b.machine.stage _ _ k sound of.0 of.1 never refl
         (bounded.1 never))
 
 steps-bounded : (script : Scripted) (steps rest : List ℕ) → IsSound script →
@@ -481,9 +481,9 @@ steps_are_bounded script steps sound few =
     never
 
 -- a call that has begun and not ended
-under-way : (limits : Bounds) (call : Call) (word own changes : ℕ) (phase : Phase) →
-    job_in call ≡ job_at phase → NeverWaits call →
-    BoundedPhase limits call word own changes phase → own < changes + 2
+under-way : (limits : Bounds) (call : Call) (word own changes : ℕ) (stage : Stage) →
+    job_in call ≡ job_at stage → NeverWaits call →
+    BoundedStage limits call word own changes stage → own < changes + 2
 under-way limits call word own changes (OnLock None) kind never bounded = omega (arith, bounded)
 under-way limits call word own changes (OnLock (Some w)) kind never bounded = let h = bounded.0 in
     omega (arith, h)
@@ -499,4 +499,4 @@ under_way_bounded script steps t b sound few at never =
     subst (BoundedSlot script steps t) at (all.slots t) in
     let k : Invariant script (execution_of script steps) = always-kept script steps sound few in
     let of : IsOf (shape_of script) (Some b) = subst (IsOf (shape_of script)) at (k.begun t) in
-    under-way script.limits b.machine.call _ _ _ b.machine.phase of.1 never (slot.1 never)
+    under-way script.limits b.machine.call _ _ _ b.machine.stage of.1 never (slot.1 never)

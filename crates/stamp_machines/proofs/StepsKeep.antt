@@ -30,7 +30,7 @@ use Rattle.stamp_machines.specs.LocalAccess.{LocalAccess, lock_after, with_lock,
 use Rattle.stamp_machines.specs.declared.machine.Turn.{Turn as MachineTurn}
 use Rattle.stamp_machines.specs.declared.machine.Turn.TheVariants as machines
 use Rattle.stamp_machines.specs.declared.shape.Shape.{Shape}
-use Rattle.stamp_machines.specs.MachineState.{MachineState, Phase, OnLock, OnRecord, record_limits}
+use Rattle.stamp_machines.specs.MachineState.{MachineState, Stage, OnLock, OnRecord, record_limits}
 use Rattle.stamp_machines.specs.Machine.{next_in, after_in, next_access, after_access, lock_turn}
 use Rattle.stamp_machines.specs.Machine.{record_turn}
 use Rattle.stamp_machines.specs.Script.{Scripted, IsSound}
@@ -182,11 +182,11 @@ lock-step : (script : Scripted) (world : World) (t : ℕ) (b : Begun) (now : ℕ
     PhaseLeaves script.limits b.machine.call (slice_index world.words 0) now p →
     Invariant script (world_after world t b words (lock_turn b.machine.shape b.machine.call p))
 lock-step script world t b now words (Still seen) k sound o j z w n l =
-    going-kept script world t b words (record b.machine { phase = OnLock seen }) k (o, j) n (rw w l)
+    going-kept script world t b words (record b.machine { stage = OnLock seen }) k (o, j) n (rw w l)
     (rw (
       w,
       map-set doing_in world.begun t
-          (Some (record { machine = record b.machine { phase = OnLock seen }; first = b.first })),
+          (Some (record { machine = record b.machine { stage = OnLock seen }; first = b.first })),
       set-none (map doing_in world.begun) t (map-index world.begun t ∙ z),
     ) k.record_kept)
     (rw w (let f = k.few in omega (arith, f)))
@@ -219,13 +219,13 @@ record-step : (script : Scripted) (world : World) (t : ℕ) (b : Begun) (job : J
     Invariant script (world_after world t b words (record_turn b.machine.shape b.machine.call job turned))
 record-step script world t b job place lock items words (places.Going to) k h o j rd wr w n f
     s =
-    going-kept script world t b words (record b.machine { phase = OnRecord job to }) k (o, j) n
+    going-kept script world t b words (record b.machine { stage = OnRecord job to }) k (o, j) n
     (rw w refl)
     (rw (
       w,
       map-set doing_in world.begun t
           (Some (record {
-            machine = record b.machine { phase = OnRecord job to };
+            machine = record b.machine { stage = OnRecord job to };
             first = b.first;
           })),
     )
@@ -282,12 +282,12 @@ call-ready script world t b k sound e =
 -- what a call of the record may rely on where it stands
 pub record-stands : (script : Scripted) (world : World) (t : ℕ) (b : Begun) (job : Job)
     (place : Place) → Invariant script world → world.position < 1000000 →
-    ReadyAt script world t b → b.machine.phase ≡ OnRecord job place →
+    ReadyAt script world t b → b.machine.stage ≡ OnRecord job place →
     Stands (record_limits (shape_of script)) job place (slice_index world.words 1)
     (drop 2 world.words) (content_in script world)
 record-stands script world t b job place k room ready e =
     let limits : Bounds = record_limits (shape_of script) in
-    let d : doing_at b.machine.phase ≡ Some (record { job = job; place = place }) = ap doing_at e in
+    let d : doing_at b.machine.stage ≡ Some (record { job = job; place = place }) = ap doing_at e in
     let rd : read_in (doing_in (slice_index_or world.begun t None)) ≡ read_by place =
     ready.reads ∙ ap read_in d in
     let wr : written_in (doing_in (slice_index_or world.begun t None)) ≡ written_by place =
@@ -316,13 +316,13 @@ record-stands script world t b job place k room ready e =
     }
 
 -- one access of a call
-begun-kept : (script : Scripted) (world : World) (t : ℕ) (b : Begun) (phase : Phase) →
+begun-kept : (script : Scripted) (world : World) (t : ℕ) (b : Begun) (stage : Stage) →
     Invariant script world → IsSound script → world.position < 1000000 → t < length world.begun →
-    ReadyAt script world t b → b.machine.phase ≡ phase →
+    ReadyAt script world t b → b.machine.stage ≡ stage →
     Invariant script (world_after world t b
-    (words_after (next_in (shape_of script) b.machine.call phase) world.words)
+    (words_after (next_in (shape_of script) b.machine.call stage) world.words)
     (after_in (shape_of script) b.machine.call
-    (seen_by (next_in (shape_of script) b.machine.call phase) world.words) phase))
+    (seen_by (next_in (shape_of script) b.machine.call stage) world.words) stage))
 begun-kept script world t b (OnLock seen) k sound room h ready e =
     let a : LocalAccess = phase_next script.limits b.machine.call seen in
     let m = lock-moves world.words script.width a k.memory
@@ -346,7 +346,7 @@ begun-kept script world t b (OnRecord job place) k sound room h ready e =
     let limits : Bounds = record_limits (shape_of script) in
     let a : LocalAccess = places.next limits script.width job place in
     let m = record-moves world.words script.width a k.memory in
-    let d : doing_at b.machine.phase ≡ Some (record { job = job; place = place }) = ap doing_at e in
+    let d : doing_at b.machine.stage ≡ Some (record { job = job; place = place }) = ap doing_at e in
     let j : job_in b.machine.call ≡ Some job = ready.of.1 ∙ ap job_at e in
     let rd : read_in (doing_in (slice_index_or world.begun t None)) ≡ read_by place =
     ready.reads ∙ ap read_in d in
@@ -372,17 +372,17 @@ begun-kept script world t b (OnRecord job place) k sound room h ready e =
 -- a machine of another shape is none of the script's
 of-shape : (script : Scripted) (world : World) (t : ℕ) (b : Begun) → b.machine.shape ≡ shape_of script →
     Invariant script (world_after world t b
-    (words_after (next_in (shape_of script) b.machine.call b.machine.phase) world.words)
+    (words_after (next_in (shape_of script) b.machine.call b.machine.stage) world.words)
     (after_in (shape_of script) b.machine.call
-    (seen_by (next_in (shape_of script) b.machine.call b.machine.phase) world.words)
-    b.machine.phase)) →
+    (seen_by (next_in (shape_of script) b.machine.call b.machine.stage) world.words)
+    b.machine.stage)) →
     Invariant script (world_after world t b (words_after (next_access b.machine) world.words)
     (after_access b.machine (seen_by (next_access b.machine) world.words)))
 of-shape script world t b e h =
     subst (λ (s : Shape). Invariant script
-    (world_after world t b (words_after (next_in s b.machine.call b.machine.phase) world.words)
+    (world_after world t b (words_after (next_in s b.machine.call b.machine.stage) world.words)
     (after_in s b.machine.call
-    (seen_by (next_in s b.machine.call b.machine.phase) world.words) b.machine.phase)))
+    (seen_by (next_in s b.machine.call b.machine.stage) world.words) b.machine.stage)))
     (sym e) h
 
 stepped-kept : (script : Scripted) (world : World) (t : ℕ) (c : Option Begun) → Invariant script world →
@@ -402,7 +402,7 @@ stepped-kept script world t None k sound room e =
 stepped-kept script world t (Some b) k sound room e =
     let r = call-ready script world t b k sound e in
     of-shape script world t b r.1.of.0
-    (begun-kept script world t b b.machine.phase k sound room r.0 r.1 refl)
+    (begun-kept script world t b b.machine.stage k sound room r.0 r.1 refl)
 
 pub step-kept : (script : Scripted) (world : World) (t : ℕ) → Invariant script world → IsSound script →
     world.position < 1000000 → Invariant script (step script world t)
@@ -484,17 +484,17 @@ unfolding execution_of
 always-kept script steps sound few =
     steps-kept script (opening script) steps (opening-kept script sound) sound (omega (arith, few))
 
-phase-safe : (script : Scripted) (world : World) (call : Call) (phase : Phase) → Invariant script world →
+stage-safe : (script : Scripted) (world : World) (call : Call) (stage : Stage) → Invariant script world →
     world.position < 1000000 →
     FitsIn (record_limits (shape_of script))
     (counts_at (record_limits (shape_of script)) (slice_index world.words 1)).write_count
     (counts_at (record_limits (shape_of script)) (slice_index world.words 1)).writers
-    (content_in script world) (drop 2 world.words) (doing_at phase) →
-    IsSafeIn (shape_of script) call phase world.words
-phase-safe script world call (OnLock seen) k room f =
+    (content_in script world) (drop 2 world.words) (doing_at stage) →
+    IsSafeIn (shape_of script) call stage world.words
+stage-safe script world call (OnLock seen) k room f =
     lock-safe (shape_of script) call seen world.words k.memory
     (record { events = (events_in script world); represented = k.represented })
-phase-safe script world call (OnRecord job place) k room f =
+stage-safe script world call (OnRecord job place) k room f =
     record-safe (shape_of script) call (record_limits (shape_of script)) _ _ (content_in script world)
     (drop 2 world.words) job place world.words k.memory k.width k.record_kept.admitted
     (let v = record_room script.limits.layout in let few = k.few in omega (arith, v, few, room)) f.2
@@ -502,16 +502,16 @@ phase-safe script world call (OnRecord job place) k room f =
 -- what a thread's step needs
 pub current-safe : (script : Scripted) (world : World) (t : ℕ) (b : Begun) → Invariant script world →
     IsSound script → world.position < 1000000 → current script world t ≡ Some b →
-    IsSafeIn b.machine.shape b.machine.call b.machine.phase world.words
+    IsSafeIn b.machine.shape b.machine.call b.machine.stage world.words
 current-safe script world t b k sound room e =
     let r = call-ready script world t b k sound e in
-    subst (λ (s : Shape). IsSafeIn s b.machine.call b.machine.phase world.words) (sym r.1.of.0)
-    (phase-safe script world b.machine.call b.machine.phase k room r.1.fits)
+    subst (λ (s : Shape). IsSafeIn s b.machine.call b.machine.stage world.words) (sym r.1.of.0)
+    (stage-safe script world b.machine.call b.machine.stage k room r.1.fits)
 
 -- the exchange that releases finds what it expects
 releases : (script : Scripted) (world : World) (t : ℕ) (b : Begun) (job : Job) (s : ℕ) (r : Reply) →
     Invariant script world → IsSound script → world.position < 1000000 → current script world t ≡ Some b →
-    b.machine.phase ≡ OnRecord job (places.Releasing s r) →
+    b.machine.stage ≡ OnRecord job (places.Releasing s r) →
     (next_access b.machine ≡ Cas 1 s (s + (units script.limits).writer))
     × (slice_index world.words 1 ≡ s)
 releases script world t b job s r k sound room e at =
@@ -542,7 +542,7 @@ pub execution_of-more : (script : Scripted) (steps : List ℕ) (t : ℕ) →
 unfolding execution_of
 execution_of-more script steps t = fold-append (step script) (opening script) steps (t ∷ [])
 
--- the call that a thread is in is of the script's shape, and its phase is one of its call
+-- the call that a thread is in is of the script's shape, and its stage is one of its call
 pub current-of : (script : Scripted) (world : World) (t : ℕ) (b : Begun) → Invariant script world →
     IsSound script → current script world t ≡ Some b → IsOf (shape_of script) (Some b)
 current-of script world t b k sound e =

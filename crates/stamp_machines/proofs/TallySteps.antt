@@ -22,9 +22,9 @@ use Rattle.stamp_machines.specs.declared.running.Stepped.TheVariants.{Idle, Goin
 use Rattle.stamp_machines.specs.Script.{Scripted, IsSound, calls_of}
 use Rattle.stamp_machines.specs.World.{World, current, current_of, begin, shape_of, stamps_of}
 use Rattle.stamp_machines.specs.World.{call_of, world_after, stepped, entry_of, execution_of}
-use Rattle.stamp_machines.specs.World.{completed_calls}
+use Rattle.stamp_machines.specs.World.{finished_calls}
 use Rattle.stamp_machines.specs.MachineState.{start}
-use Rattle.stamp_machines.specs.Stepped.{Reports}
+use Rattle.stamp_machines.specs.Stepped.{AnswersStep}
 use Rattle.stamp_machines.specs.Interference.{lock_word, own_since, changes_since, cost}
 use Rattle.stamp_machines.specs.Tally.{TallyState, IsMetered, IsTallied, idle_meter, meter_at}
 use Rattle.stamp_machines.specs.Tally.{meter_after, before_in, tally_after}
@@ -64,10 +64,10 @@ costs-older script steps n (e ∷ entries) all =
     ) refl
 
 have-stood : (script : Scripted) (steps : List ℕ) → IsSound script → length steps ≤ 1000000 →
-    All (HasStood steps) (completed_calls script steps)
+    All (HasStood steps) (finished_calls script steps)
 have-stood script steps sound few = λ k d lt.
     let o : InOrder script (execution_of script steps) = always-in-order script steps sound few in
-    let within : IsWithin (slice_index_or (completed_calls script steps) k d) =
+    let within : IsWithin (slice_index_or (finished_calls script steps) k d) =
     o.linearized.within k d lt in
     let begun = within.begun in
     let ended = within.ended in
@@ -228,7 +228,7 @@ tallied-going script steps n s b words (turned.Going m) sound few within all mea
       threads = length-set s.meters n _ ∙ all.threads;
       report = rw (ap (λ (w : World). w.entries) now)
           (all.report ∙ sym
-          (costs-older script steps n (completed_calls script steps)
+          (costs-older script steps n (finished_calls script steps)
           (have-stood script steps sound few)));
     }
 
@@ -275,23 +275,23 @@ tallied-ended script steps n s b e words (turned.Done r) sound few within all me
     let longer = one_more steps n in
     let one = change_few script steps n in
     let small = all.few in
-    let before : s.report ≡ map (cost script (steps ++ n ∷ [])) (completed_calls script steps) =
+    let before : s.report ≡ map (cost script (steps ++ n ∷ [])) (finished_calls script steps) =
     all.report ∙ sym
-    (costs-older script steps n (completed_calls script steps) (have-stood script steps sound few)) in
+    (costs-older script steps n (finished_calls script steps) (have-stood script steps sound few)) in
     let last = cost-last script steps n b r s measures in
     let m : Meter = meter_after s.changes (change_by script steps n) (meter_at s.meters n) in
     let pair : ℕ × ℕ = (m.steps, s.changes + change_by script steps n - m.before) in
-    let joined : map (cost script (steps ++ n ∷ [])) (completed_calls script steps ++ x ∷ [])
-    ≡ map (cost script (steps ++ n ∷ [])) (completed_calls script steps)
+    let joined : map (cost script (steps ++ n ∷ [])) (finished_calls script steps ++ x ∷ [])
+    ≡ map (cost script (steps ++ n ∷ [])) (finished_calls script steps)
     ++ cost script (steps ++ n ∷ []) x ∷ [] =
-    map-append (cost script (steps ++ n ∷ [])) (completed_calls script steps) (x ∷ []) in
+    map-append (cost script (steps ++ n ∷ [])) (finished_calls script steps) (x ∷ []) in
     record {
       meters = λ t. rw (ap (λ (w : World). w.begun) now)
           (meters-set script steps n s None idle_meter all (rw threads within) metered refl t);
       few = omega (arith, longer, one, small);
       threads = length-set s.meters n _ ∙ all.threads;
       report = ap (λ (xs : List (ℕ × ℕ)). xs ++ pair ∷ []) before
-          ∙ ap (λ (y : ℕ × ℕ). map (cost script (steps ++ n ∷ [])) (completed_calls script steps)
+          ∙ ap (λ (y : ℕ × ℕ). map (cost script (steps ++ n ∷ [])) (finished_calls script steps)
           ++ y ∷ []) (sym last) ∙ sym joined
           ∙ ap (λ (w : World). map (cost script (steps ++ n ∷ [])) w.entries) (sym now);
     }
@@ -312,7 +312,7 @@ tallied-idle script steps n s sound few all idle now =
       threads = all.threads;
       report = rw (ap (λ (w : World). w.entries) now)
           (all.report ∙ sym
-          (costs-older script steps n (completed_calls script steps)
+          (costs-older script steps n (finished_calls script steps)
           (have-stood script steps sound few)));
     }
   where
@@ -343,7 +343,7 @@ tallied-idle script steps n s sound few all idle now =
 
 pub tallied-more : (script : Scripted) (steps : List ℕ) (n : ℕ) (s : TallyState) (told : Stepped) →
     IsSound script → length steps ≤ 1000000 → n < length script.threads → IsTallied script steps s →
-    Reports script (execution_of script steps) n told →
+    AnswersStep script (execution_of script steps) n told →
     IsTallied script (steps ++ n ∷ []) (tally_after s n (change_by script steps n) told)
 tallied-more script steps n s told sound few within all says =
     by (current script (execution_of script steps) n) refl told says
@@ -352,7 +352,7 @@ tallied-more script steps n s told sound few within all says =
     world = execution_of script steps
 
     by : (c : Option Begun) → current script world n ≡ c → (told : Stepped) →
-        Reports script world n told →
+        AnswersStep script world n told →
         IsTallied script (steps ++ n ∷ []) (tally_after s n (change_by script steps n) told)
     by None e Idle says =
         tallied-idle script steps n s sound few all e

@@ -11,7 +11,7 @@ use Rattle.stamp_core.specs.declared.decision.Decision.{Decision}
 use Rattle.stamp_core.specs.declared.decision.Decision.TheVariants.{Answer, Change, Wait}
 use Rattle.stamp_machines.specs.declared.shape.Shape.{Shape}
 use Rattle.stamp_machines.specs.declared.machine.Turn.TheVariants.{Going}
-use Rattle.stamp_machines.specs.LockPhase.{judged}
+use Rattle.stamp_machines.specs.LockPhase.{turn_on}
 use Rattle.stamp_machines.specs.MachineState.{MachineState, OnLock}
 use Rattle.stamp_machines.specs.Machine.{lock_turn}
 use Rattle.stamp_machines.specs.Undisturbed.{left_alone, HasEnded, EndsWithinTwo}
@@ -19,10 +19,10 @@ use Rattle.stamp_machines.proofs.LockCallSteps.{by_number, decided}
 use Rattle.stamp_machines.proofs.TwoKindsOfCall.{lock_none}
 
 first : Shape → Call → MachineState
-first shape call = record { shape = shape; call = call; phase = OnLock None }
+first shape call = record { shape = shape; call = call; stage = OnLock None }
 
 seeing : Shape → Call → ℕ → MachineState
-seeing shape call w = record { shape = shape; call = call; phase = OnLock (Some w) }
+seeing shape call w = record { shape = shape; call = call; stage = OnLock (Some w) }
 
 itself : (w : ℕ) → (w == w) ≡ true
 itself w = grind arith
@@ -33,7 +33,7 @@ wins : (shape : Shape) (call : Call) (w : ℕ) (rest : List ℕ) (events : List 
     decision shape.limits w call ≡ Change new r →
     Moves shape.limits events call (word_at shape.limits w) (word_at shape.limits new.bits) r →
     HasEnded shape.limits events call
-    (left_alone 1 (w ∷ rest) (Going (record { shape = shape; call = call; phase = OnLock (Some w) })))
+    (left_alone 1 (w ∷ rest) (Going (record { shape = shape; call = call; stage = OnLock (Some w) })))
 wins shape call w rest events new r is moves = rw (is, itself w) (record {
   taken = record { appended = moves.appended; reply = r };
   taken_is = moves.transition_is;
@@ -46,7 +46,7 @@ by_decision : (shape : Shape) (call : Call) (w : ℕ) (rest : List ℕ) (events 
     Decides shape.limits (word_at shape.limits w) call d →
     Represents shape.limits (word_at shape.limits w) events →
     transition shape.limits events call ≢ None →
-    HasEnded shape.limits events call (left_alone 1 (w ∷ rest) (lock_turn shape call (judged w d)))
+    HasEnded shape.limits events call (left_alone 1 (w ∷ rest) (lock_turn shape call (turn_on w d)))
 by_decision shape call w rest events (Answer r) is says represented some = record {
   taken = record { appended = []; reply = r };
   taken_is = says events represented;

@@ -3,7 +3,7 @@ use Rattle.std.specs.Prelude.{◌≡◌, ℕ, ◌+◌, ◌<◌, ◌≤◌, List,
 use Rattle.std.specs.Prelude.{slice_get}
 use Rattle.stamp_core.specs.declared.entry.Entry.{Entry}
 use Rattle.stamp_machines.specs.Script.{Scripted}
-use Rattle.stamp_machines.specs.World.{completed_calls}
+use Rattle.stamp_machines.specs.World.{finished_calls}
 
 -- the script, how many of its steps were made, the entry passed on last, and those to come
 pub record Completing : Type 0 where
@@ -15,7 +15,7 @@ pub record Completing : Type 0 where
 -- before the first step
 abbrev pub before_all : Scripted → Completing
 before_all script =
-    record { script = script; made = 0; last = None; rest = completed_calls script script.steps }
+    record { script = script; made = 0; last = None; rest = finished_calls script script.steps }
 
 -- the steps up to the one by which the call of this entry ended, or else all
 abbrev pub steps_until : Scripted → Option Entry → ℕ

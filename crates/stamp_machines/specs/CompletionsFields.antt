@@ -4,7 +4,7 @@ use Rattle.std.specs.Prelude.{vec_len}
 use Rattle.stamp_core.specs.declared.entry.Entry.{Entry}
 use Rattle.stamp_machines.specs.Completing.{Completing, after_next}
 use Rattle.stamp_machines.specs.Script.{Scripted}
-use Rattle.stamp_machines.specs.World.{execution_of, completed_calls, stamps_of}
+use Rattle.stamp_machines.specs.World.{execution_of, finished_calls, stamps_of}
 use Rattle.stamp_machines.specs.StateFields.{world_at, stamps_at}
 use Rattle.stamp_machines.specs.declared.state.State.{State}
 use Rattle.stamp_machines.specs.declared.state.StepKind.{StepKind}
@@ -13,10 +13,10 @@ use Rattle.stamp_machines.specs.declared.completions.Completions.TheInside.{Insi
 
 -- what this many of the script's steps finish, and what the later ones do
 abbrev pub calls_until : Scripted → ℕ → List Entry
-calls_until script made = completed_calls script (take made script.steps)
+calls_until script made = finished_calls script (take made script.steps)
 
 abbrev pub calls_after : Scripted → ℕ → List Entry
-calls_after script made = drop (length (calls_until script made)) (completed_calls script script.steps)
+calls_after script made = drop (length (calls_until script made)) (finished_calls script script.steps)
 
 -- no entry but the last one is kept
 abbrev pub completing_at : Scripted → State → ℕ → Completing
@@ -39,7 +39,7 @@ pub record IsAfter (script : Scripted) (s : State) (made : ℕ) : Type 0 where
   pub workers : vec_len s.workers ≡ length script.threads
   pub stamps : (t : ℕ) → stamps_at s.workers.items t ≡ stamps_of t (calls_until script made)
 
--- what is to come after a step that is reported so
+-- what is to come after a step of this kind
 abbrev pub HandsOn : Scripted → State → ℕ → StepKind → Type 0
 HandsOn script s made Ended =
     completing_at script s (made + 1) ≡ after_next (completing_at script s made)

@@ -8,7 +8,7 @@ use Rattle.stamp_core.specs.declared.call.Call.{Call}
 use Rattle.stamp_core.specs.declared.call.Call.TheVariants.{WriteLock, ReadLock}
 use Rattle.stamp_core.specs.declared.entry.Entry.{Entry}
 use Rattle.stamp_machines.specs.Script.{Scripted, IsSound}
-use Rattle.stamp_machines.specs.World.{World, step, execution_of, completed_calls}
+use Rattle.stamp_machines.specs.World.{World, step, execution_of, finished_calls}
 use Rattle.stamp_machines.specs.declared.state.Begun.{Begun}
 
 abbrev pub lock_word : World → ℕ
@@ -60,7 +60,7 @@ abbrev pub StepsBoundedAlways : Type 0
 StepsBoundedAlways =
     (script : Scripted) (steps : List ℕ) → IsSound script → length steps ≤ 1000000 →
     All (λ (e : Entry). NeverWaits e.call → own_steps steps e ≤ interference script steps e + 2)
-    (completed_calls script steps)
+    (finished_calls script steps)
 
 -- One that is still under way has made fewer than this many, at every position.
 abbrev pub UnderWayBoundedAlways : Type 0

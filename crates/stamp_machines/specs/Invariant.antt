@@ -7,29 +7,29 @@ use Rattle.stamp_core.specs.Linearized.{history_of}
 use Rattle.stamp_machines.specs.LockNumber.{RepresentsAt, counts_at}
 use Rattle.stamp_machines.specs.Job.{Job, job_in}
 use Rattle.stamp_machines.specs.declared.shape.Shape.{Shape}
-use Rattle.stamp_machines.specs.MachineState.{Phase, OnLock, OnRecord, record_limits}
+use Rattle.stamp_machines.specs.MachineState.{Stage, OnLock, OnRecord, record_limits}
 use Rattle.stamp_machines.specs.Script.{Scripted}
 use Rattle.stamp_machines.specs.World.{World, shape_of}
 use Rattle.stamp_machines.specs.declared.state.Begun.{Begun}
 use Rattle.stamp_machines.specs.RecordKept.{Doing, RecordKept}
 
--- the record's call that a phase is in
-abbrev pub doing_at : Phase → Option Doing
+-- the record's call that a stage is of
+abbrev pub doing_at : Stage → Option Doing
 doing_at (OnLock seen) = None
 doing_at (OnRecord job place) = Some (record { job = job; place = place })
 
 abbrev pub doing_in : Option Begun → Option Doing
 doing_in None = None
-doing_in (Some b) = doing_at b.machine.phase
+doing_in (Some b) = doing_at b.machine.stage
 
-abbrev pub job_at : Phase → Option Job
+abbrev pub job_at : Stage → Option Job
 job_at (OnLock seen) = None
 job_at (OnRecord job place) = Some job
 
--- a call's machine has the script's shape, and its phase is one of its call
+-- a call's machine has the script's shape, and its stage is one of its call
 abbrev pub IsOf : Shape → Option Begun → Type 0
 IsOf shape None = Unit {0}
-IsOf shape (Some b) = (b.machine.shape ≡ shape) × (job_in b.machine.call ≡ job_at b.machine.phase)
+IsOf shape (Some b) = (b.machine.shape ≡ shape) × (job_in b.machine.call ≡ job_at b.machine.stage)
 
 -- the events and the content that the finished calls leave
 abbrev pub events_in : Scripted → World → List LockEvent

@@ -17,28 +17,28 @@ use Rattle.stamp_machines.specs.Place.{Releasing}
 use Rattle.stamp_machines.specs.MachineState.{OnRecord}
 use Rattle.stamp_machines.specs.Machine.{next_access}
 use Rattle.stamp_machines.specs.Script.{Scripted, IsSound}
-use Rattle.stamp_machines.specs.World.{execution_of, completed_calls, current}
+use Rattle.stamp_machines.specs.World.{execution_of, finished_calls, current}
 
 -- The finished calls are a legal history of lock and record, with exactly the replies given.
 abbrev pub LegalAlways : Type 0
 LegalAlways =
     (script : Scripted) (steps : List ℕ) → IsSound script → length steps ≤ 1000000 →
-    IsLegal script.limits script.width (history_of (completed_calls script steps))
+    IsLegal script.limits script.width (history_of (finished_calls script steps))
 
 -- Word 0 represents the events of that history.
 abbrev pub RepresentedAlways : Type 0
 RepresentedAlways =
     (script : Scripted) (steps : List ℕ) → IsSound script → length steps ≤ 1000000 →
     Represents script.limits (word_at script.limits (slice_index (execution_of script steps).words 0))
-    (events_of script.limits (history_of (completed_calls script steps)))
+    (events_of script.limits (history_of (finished_calls script steps)))
 
 -- The finished calls are linearized by their last steps: these lie in their intervals and rise, and
 -- the calls of a thread do not overlap.
 abbrev pub LinearizedAlways : Type 0
 LinearizedAlways =
     (script : Scripted) (steps : List ℕ) → IsSound script → length steps ≤ 1000000 →
-    AreLinearized script.limits script.width (completed_calls script steps)
-    × All (λ (e : Entry). e.point ≡ e.last) (completed_calls script steps)
+    AreLinearized script.limits script.width (finished_calls script steps)
+    × All (λ (e : Entry). e.point ≡ e.last) (finished_calls script steps)
 
 -- A stamp that a finished call answered is validated by a later one exactly where no call between
 -- them acquired write mode.
@@ -46,7 +46,7 @@ abbrev pub StampsValidateAlways : Type 0
 StampsValidateAlways =
     (script : Scripted) (steps : List ℕ) (before between after : List Entry) (issue check : Entry)
     (s : ℕ) → IsSound script → length steps ≤ 1000000 →
-    completed_calls script steps ≡ before ++ issue ∷ between ++ check ∷ after →
+    finished_calls script steps ≡ before ++ issue ∷ between ++ check ∷ after →
     issue.reply ≡ Stamp s → s ≢ 0 → check.call ≡ Validate s →
     (check.reply ≡ Yes)
     ↔ NoneAcquiresWrite script.limits (events_of script.limits (history_of (before ++ issue ∷ [])))
@@ -58,7 +58,7 @@ abbrev pub GetsAnswerContentAlways : Type 0
 GetsAnswerContentAlways =
     (script : Scripted) (steps : List ℕ) (before after : List Entry) (get : Entry) → IsSound script →
     length steps ≤ 1000000 →
-    completed_calls script steps ≡ before ++ get ∷ after → get.call ≡ Get →
+    finished_calls script steps ≡ before ++ get ∷ after → get.call ≡ Get →
     get.reply ≡ Content (content_after script.width (history_of before))
 
 -- The exchange by which a call of the record releases its write lock finds what it expects.
@@ -67,6 +67,6 @@ ReleasesWinAlways =
     (script : Scripted) (steps : List ℕ) (thread : ℕ) (b : Begun) (job : Job) (stamp : ℕ)
     (r : Reply) → IsSound script → length steps < 1000000 →
     current script (execution_of script steps) thread ≡ Some b →
-    b.machine.phase ≡ OnRecord job (Releasing stamp r) →
+    b.machine.stage ≡ OnRecord job (Releasing stamp r) →
     (next_access b.machine ≡ Cas 1 stamp (stamp + (units script.limits).writer))
     × (slice_index (execution_of script steps).words 1 ≡ stamp)

@@ -9,7 +9,7 @@ pub mod Machine
 pub mod PhaseState
 pub mod LockCallSteps
 pub mod MachinePhase
-pub mod PhaseNext
+pub mod IsLockPhase
 pub mod MachineFields
 pub mod MachineTurn
 pub mod Script

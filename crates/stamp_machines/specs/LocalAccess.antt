@@ -1,4 +1,4 @@
--- An access as a phase sees it: to its lock's word, or to a word of the record.
+-- An access as a stage sees it: to its lock's word, or to a word of the record.
 use Rattle.std.specs.Prelude.{ℕ, ◌+◌, ◌==◌, List, if◌then◌else◌, slice_index, slice_set}
 use Rattle.stamp_machines.specs.declared.access.Access.{Access}
 use Rattle.stamp_machines.specs.declared.access.Access.TheVariants.{Load, Cas, Store}

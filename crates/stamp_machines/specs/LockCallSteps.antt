@@ -9,7 +9,7 @@ use Rattle.stamp_core.specs.declared.call.Call.TheVariants.{WriteLock, ReadLock}
 use Rattle.stamp_core.specs.declared.reply.Reply.{Reply}
 use Rattle.stamp_machines.specs.LockPhase.{PhaseTurn, Still, Ended}
 use Rattle.stamp_machines.specs.PhaseState.{PhaseState}
-use Rattle.stamp_machines.specs.MachineState.{MachineState, Phase, OnLock, OnRecord}
+use Rattle.stamp_machines.specs.MachineState.{MachineState, Stage, OnLock, OnRecord}
 use Rattle.stamp_machines.specs.declared.access.Access.{Access}
 use Rattle.stamp_machines.specs.declared.access.Access.TheVariants.{Load, Cas, Store}
 use Rattle.stamp_machines.specs.declared.machine.Turn.{Turn}
@@ -51,12 +51,12 @@ abbrev pub on_lock : Bounds → Call → Option ℕ → PhaseState
 on_lock limits call seen = record { at = 0; limits = limits; call = call; seen = seen }
 
 -- the lock phase that the machine of a lock call is: on word 0
-abbrev pub seen_in : Phase → Option ℕ
+abbrev pub seen_in : Stage → Option ℕ
 seen_in (OnLock seen) = seen
 seen_in (OnRecord job place) = None
 
 abbrev pub lock_phase : MachineState → PhaseState
-lock_phase m = record { at = 0; limits = m.shape.limits; call = m.call; seen = seen_in m.phase }
+lock_phase m = record { at = 0; limits = m.shape.limits; call = m.call; seen = seen_in m.stage }
 
 -- where it leads to have found this word
 abbrev pub Leads : PhaseState → ℕ → Turn → Type 0

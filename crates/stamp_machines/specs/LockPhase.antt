@@ -25,18 +25,19 @@ abbrev pub phase_next : Bounds → Call → Option ℕ → LocalAccess
 phase_next limits call None = LoadLock
 phase_next limits call (Some word) = next_on word (decision limits word call)
 
-abbrev pub judged : ℕ → Decision → PhaseTurn
-judged word (Answer reply) = Ended reply
-judged word (Change new reply) = Still (Some word)
-judged word Wait = Still None
+-- its turn by the decision on this word, which it found
+abbrev pub turn_on : ℕ → Decision → PhaseTurn
+turn_on word (Answer reply) = Ended reply
+turn_on word (Change new reply) = Still (Some word)
+turn_on word Wait = Still None
 
 abbrev pub tried : Bounds → Call → ℕ → ℕ → Decision → PhaseTurn
-tried limits call old found (Answer reply) = judged found (decision limits found call)
+tried limits call old found (Answer reply) = turn_on found (decision limits found call)
 tried limits call old found (Change new reply) =
-    if found == old then Ended reply else judged found (decision limits found call)
-tried limits call old found Wait = judged found (decision limits found call)
+    if found == old then Ended reply else turn_on found (decision limits found call)
+tried limits call old found Wait = turn_on found (decision limits found call)
 
 -- where it is after an access has found this word
 abbrev pub phase_after : Bounds → Call → Option ℕ → ℕ → PhaseTurn
-phase_after limits call None found = judged found (decision limits found call)
+phase_after limits call None found = turn_on found (decision limits found call)
 phase_after limits call (Some old) found = tried limits call old found (decision limits old call)

@@ -7,32 +7,32 @@ use Rattle.stamp_machines.specs.Place as places
 use Rattle.stamp_machines.specs.Place.{Place, PlaceTurn}
 use Rattle.stamp_machines.specs.LocalAccess.{with_lock}
 use Rattle.stamp_machines.specs.LockPhase.{PhaseTurn, Still, Ended, phase_next, phase_after}
-use Rattle.stamp_machines.specs.MachineState.{MachineState, Phase, OnLock, OnRecord, record_limits}
+use Rattle.stamp_machines.specs.MachineState.{MachineState, Stage, OnLock, OnRecord, record_limits}
 use Rattle.stamp_machines.specs.declared.shape.Shape.{Shape}
 use Rattle.stamp_machines.specs.declared.machine.Turn.{Turn}
 use Rattle.stamp_machines.specs.declared.machine.Turn.TheVariants.{Going, Done}
 use Rattle.stamp_machines.specs.declared.access.Access.{Access}
 
 -- a lock phase is on word 0; a call of the record has its lock at word 1
-abbrev pub next_in : Shape → Call → Phase → Access
+abbrev pub next_in : Shape → Call → Stage → Access
 next_in shape call (OnLock seen) = with_lock 0 (phase_next shape.limits call seen)
 next_in shape call (OnRecord job place) =
     with_lock 1 (places.next (record_limits shape) shape.width job place)
 
 abbrev pub next_access : MachineState → Access
-next_access s = next_in s.shape s.call s.phase
+next_access s = next_in s.shape s.call s.stage
 
 abbrev pub lock_turn : Shape → Call → PhaseTurn → Turn
 lock_turn shape call (Still seen) =
-    Going (record { shape = shape; call = call; phase = OnLock seen })
+    Going (record { shape = shape; call = call; stage = OnLock seen })
 lock_turn shape call (Ended r) = Done r
 
 abbrev pub record_turn : Shape → Call → Job → PlaceTurn → Turn
 record_turn shape call job (places.Going place) =
-    Going (record { shape = shape; call = call; phase = OnRecord job place })
+    Going (record { shape = shape; call = call; stage = OnRecord job place })
 record_turn shape call job (places.Done r) = Done r
 
-abbrev pub after_in : Shape → Call → ℕ → Phase → Turn
+abbrev pub after_in : Shape → Call → ℕ → Stage → Turn
 after_in shape call seen (OnLock last) =
     lock_turn shape call (phase_after shape.limits call last seen)
 after_in shape call seen (OnRecord job place) =
@@ -40,7 +40,7 @@ after_in shape call seen (OnRecord job place) =
 
 -- where the call stands after its access has seen this, or its reply
 abbrev pub after_access : MachineState → ℕ → Turn
-after_access s seen = after_in s.shape s.call seen s.phase
+after_access s seen = after_in s.shape s.call seen s.stage
 
 -- the accesses of a call found these words, one after another, and it stands here after them. A call
 -- that has ended makes no access
@@ -67,9 +67,9 @@ IsFoundAt shape (places.Checking s loaded) found = Unit {0}
 IsFoundAt shape (places.Storing s i) found = Unit {0}
 IsFoundAt shape (places.Releasing s r) found = Unit {0}
 
-abbrev pub IsFoundIn : Shape → Phase → ℕ → Type 0
+abbrev pub IsFoundIn : Shape → Stage → ℕ → Type 0
 IsFoundIn shape (OnLock seen) found = IsAdmittedAt shape.limits found
 IsFoundIn shape (OnRecord job place) found = IsFoundAt shape place found
 
 abbrev pub IsFound : MachineState → ℕ → Type 0
-IsFound s found = IsFoundIn s.shape s.phase found
+IsFound s found = IsFoundIn s.shape s.stage found

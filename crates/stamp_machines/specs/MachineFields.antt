@@ -1,16 +1,19 @@
 -- How a machine's fields are read as a call on its way.
 use Rattle.std.specs.Prelude.{◌≡◌, ◌⊎◌, ◌<◌, ◌≤◌, ◌^◌, ℕ, Bool, true, false, List, length, Option}
 use Rattle.std.specs.Prelude.{Some, None, if◌then◌else◌}
+use Rattle.std.specs.declared.ops.ControlFlow.{ControlFlow}
+use Rattle.std.specs.declared.ops.ControlFlow.TheVariants.{Continue, Break}
 use Rattle.stamp_core.specs.Call.{is_lock_call}
 use Rattle.stamp_core.specs.declared.call.Call.{Call}
 use Rattle.stamp_core.specs.declared.reply.Reply.{Reply}
 use Rattle.stamp_core.specs.declared.reply.Reply.TheVariants.{No}
 use Rattle.stamp_machines.specs.LockNumber.{IsAdmittedAt}
-use Rattle.stamp_machines.specs.PhaseNext.{IsChanging, IsLockPhase}
+use Rattle.stamp_machines.specs.IsLockPhase.{IsChanging, IsLockPhase}
 use Rattle.stamp_machines.specs.Job.{Job, Getting, job_in, is_get, new_words, stored_reply}
 use Rattle.stamp_machines.specs.Place as places
 use Rattle.stamp_machines.specs.Place.{call_for}
-use Rattle.stamp_machines.specs.MachineState.{MachineState, Phase, OnLock, OnRecord, record_limits}
+use Rattle.stamp_machines.specs.MachineState as states
+use Rattle.stamp_machines.specs.MachineState.{MachineState, OnLock, OnRecord, record_limits}
 use Rattle.stamp_machines.specs.declared.shape.Shape.{Shape}
 use Rattle.stamp_machines.specs.declared.stage.Stage.{Stage}
 use Rattle.stamp_machines.specs.declared.stage.Stage.TheVariants.{Public, LoadingLock, Copying}
@@ -19,8 +22,6 @@ use Rattle.stamp_machines.specs.declared.stage.Stage.TheVariants.{Storing, Relea
 use Rattle.stamp_machines.specs.declared.stage.GuardCall.{GuardCall}
 use Rattle.stamp_machines.specs.declared.stage.GuardCall.TheVariants.{Share, Leave, Refuse, Upgrade}
 use Rattle.stamp_machines.specs.declared.stage.GuardCall.TheVariants.{ReleaseFirst, Claim}
-use Rattle.stamp_machines.specs.declared.stage.StageNext.{StageNext}
-use Rattle.stamp_machines.specs.declared.stage.StageNext.TheVariants as next
 use Rattle.stamp_machines.specs.declared.machine.Turn.{Turn}
 use Rattle.stamp_machines.specs.declared.machine.Turn.TheVariants.{Going}
 use Rattle.stamp_machines.specs.declared.machine.Turn.TheVariants as turned
@@ -46,30 +47,30 @@ guard_call_in loaded Claim = places.ToClaim
 abbrev pub released_reply : Job → Bool → Reply
 released_reply job is_stored = if is_stored then stored_reply job else No
 
-abbrev pub phase_at : Call → List ℕ → Stage → Phase
-phase_at call loaded (Public seen) = OnLock seen
-phase_at call loaded LoadingLock = OnRecord (job_of call) places.LoadingLock
-phase_at call loaded (Copying first) = OnRecord (job_of call) (places.Copying first loaded)
-phase_at call loaded (Locking guard_call seen) =
+abbrev pub stage_at : Call → List ℕ → Stage → states.Stage
+stage_at call loaded (Public seen) = OnLock seen
+stage_at call loaded LoadingLock = OnRecord (job_of call) places.LoadingLock
+stage_at call loaded (Copying first) = OnRecord (job_of call) (places.Copying first loaded)
+stage_at call loaded (Locking guard_call seen) =
     OnRecord (job_of call) (places.Locking (guard_call_in loaded guard_call) seen)
-phase_at call loaded (Reading stamp) = OnRecord (job_of call) (places.Reading stamp loaded)
-phase_at call loaded (Checking stamp) = OnRecord (job_of call) (places.Checking stamp loaded)
-phase_at call loaded (Storing stamp stored) = OnRecord (job_of call) (places.Storing stamp stored)
-phase_at call loaded (Releasing stamp is_stored) =
+stage_at call loaded (Reading stamp) = OnRecord (job_of call) (places.Reading stamp loaded)
+stage_at call loaded (Checking stamp) = OnRecord (job_of call) (places.Checking stamp loaded)
+stage_at call loaded (Storing stamp stored) = OnRecord (job_of call) (places.Storing stamp stored)
+stage_at call loaded (Releasing stamp is_stored) =
     OnRecord (job_of call) (places.Releasing stamp (released_reply (job_of call) is_stored))
 
 abbrev pub state_in : Inside → MachineState
-state_in m = record { shape = m.shape; call = m.call; phase = phase_at m.call m.loaded m.stage }
+state_in m = record { shape = m.shape; call = m.call; stage = stage_at m.call m.loaded m.stage }
 
 -- a call that has these words loaded goes on at this stage
 abbrev pub going_at : Shape → Call → List ℕ → Stage → Turn
 going_at shape call loaded stage =
-    Going (record { shape = shape; call = call; phase = phase_at call loaded stage })
+    Going (record { shape = shape; call = call; stage = stage_at call loaded stage })
 
 -- the turn of a call that has these words loaded, with this reply
-abbrev pub turn_in : Shape → Call → List ℕ → Reply → StageNext → Turn
-turn_in shape call loaded reply (next.Going stage) = going_at shape call loaded stage
-turn_in shape call loaded reply next.Done = turned.Done reply
+abbrev pub turn_in : Shape → Call → List ℕ → Reply → ControlFlow (Unit {0}) Stage → Turn
+turn_in shape call loaded reply (Continue stage) = going_at shape call loaded stage
+turn_in shape call loaded reply (Break _) = turned.Done reply
 
 -- a call of the record has the record's width
 abbrev pub IsRecordCall : Shape → Call → Type 0
@@ -109,9 +110,9 @@ IsStage shape call loaded (Releasing stamp is_stored) =
     (is_lock_call call ≡ false) × (stamp < 2 ^ 63)
 
 -- where it goes on with the words now loaded; the end of a call leaves them as they were
-abbrev pub IsStageNext : Shape → Call → List ℕ → List ℕ → StageNext → Type 0
-IsStageNext shape call before loaded (next.Going stage) = IsStage shape call loaded stage
-IsStageNext shape call before loaded next.Done = loaded ≡ before
+abbrev pub IsNextStage : Shape → Call → List ℕ → List ℕ → ControlFlow (Unit {0}) Stage → Type 0
+IsNextStage shape call before loaded (Continue stage) = IsStage shape call loaded stage
+IsNextStage shape call before loaded (Break _) = loaded ≡ before
 
 abbrev pub IsAtStage : Inside → Type 0
 IsAtStage m = IsStage m.shape m.call m.loaded m.stage

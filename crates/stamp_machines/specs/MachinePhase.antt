@@ -4,7 +4,7 @@ use Rattle.stamp_core.specs.declared.call.Call.{Call}
 use Rattle.stamp_machines.specs.LockCallSteps.{on_lock, LeadsBy}
 use Rattle.stamp_machines.specs.LockPhase.{PhaseTurn}
 use Rattle.stamp_machines.specs.Machine.{lock_turn, record_turn}
-use Rattle.stamp_machines.specs.MachineState.{MachineState, Phase, OnLock, OnRecord, record_limits}
+use Rattle.stamp_machines.specs.MachineState.{MachineState, Stage, OnLock, OnRecord, record_limits}
 use Rattle.stamp_machines.specs.PhaseState.{PhaseState}
 use Rattle.stamp_machines.specs.Place.{GuardCall, Locking, call_for, passed}
 use Rattle.stamp_machines.specs.declared.machine.Turn.{Turn}
@@ -20,7 +20,7 @@ abbrev pub on_record_lock : Shape → GuardCall → Option ℕ → PhaseState
 on_record_lock shape guard_call seen =
     record { at = 1; limits = record_limits shape; call = call_for guard_call; seen = seen }
 
-abbrev pub phase_in : Shape → Call → Phase → Option MachinePhase
+abbrev pub phase_in : Shape → Call → Stage → Option MachinePhase
 phase_in shape call (OnLock seen) =
     Some (record { state = on_lock shape.limits call seen; turn = lock_turn shape call })
 phase_in shape call (OnRecord job (Locking guard_call seen)) =
@@ -32,7 +32,7 @@ phase_in shape call (OnRecord job place) = None
 
 -- none between its phases, at the record's words
 abbrev pub phase_of : MachineState → Option MachinePhase
-phase_of m = phase_in m.shape m.call m.phase
+phase_of m = phase_in m.shape m.call m.stage
 
 -- where it leads to have found this word: to where the phase leads
 abbrev pub LeadsIn : MachinePhase → ℕ → Turn → Type 0

@@ -6,21 +6,22 @@ use Rattle.stamp_machines.specs.Job.{Job, job_in}
 use Rattle.stamp_machines.specs.Place.{Place, first_place}
 use Rattle.stamp_machines.specs.declared.shape.Shape.{Shape}
 
-pub data Phase : Type 0 where
-  OnLock : Option ℕ → Phase  -- a lock phase on word 0, with the word that it decided on
-  OnRecord : Job → Place → Phase  -- a call of the record
+-- where a call stands between two of its accesses
+pub data Stage : Type 0 where
+  OnLock : Option ℕ → Stage  -- a lock phase on word 0, with the word that it decided on
+  OnRecord : Job → Place → Stage  -- a call of the record
 
 pub record MachineState : Type 0 where
   pub shape : Shape
   pub call : Call
-  pub phase : Phase
+  pub stage : Stage
 
-abbrev pub first_phase : Option Job → Phase
-first_phase None = OnLock None
-first_phase (Some job) = OnRecord job (first_place job)
+abbrev pub first_stage : Option Job → Stage
+first_stage None = OnLock None
+first_stage (Some job) = OnRecord job (first_place job)
 
 abbrev pub start : Shape → Call → MachineState
-start shape call = record { shape = shape; call = call; phase = first_phase (job_in call) }
+start shape call = record { shape = shape; call = call; stage = first_stage (job_in call) }
 
 -- the limits of the record's lock
 abbrev pub record_limits : Shape → Bounds
@@ -33,4 +34,4 @@ lock_alone limits = record { limits = limits; width = 0 }
 -- the machine of a lock call there, which has seen this word
 abbrev pub on_lock_alone : Bounds → Call → Option ℕ → MachineState
 on_lock_alone limits call seen =
-    record { shape = lock_alone limits; call = call; phase = OnLock seen }
+    record { shape = lock_alone limits; call = call; stage = OnLock seen }

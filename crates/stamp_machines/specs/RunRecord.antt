@@ -6,21 +6,21 @@ use Rattle.stamp_core.specs.Record.{Recorded, recorded}
 use Rattle.stamp_machines.specs.Interference.{cost}
 use Rattle.stamp_machines.specs.RunView.{RunView}
 use Rattle.stamp_machines.specs.Script.{Scripted}
-use Rattle.stamp_machines.specs.World.{completed_calls}
+use Rattle.stamp_machines.specs.World.{finished_calls}
 
 -- the finished calls, in the order of their last steps
 abbrev pub run_record : Scripted → Recorded
-run_record script = recorded script.limits script.width (completed_calls script script.steps) []
+run_record script = recorded script.limits script.width (finished_calls script script.steps) []
 
 -- and what each of them cost
 abbrev pub reported_record : Scripted → Recorded
 reported_record script =
-    let entries = completed_calls script script.steps in
+    let entries = finished_calls script script.steps in
     recorded script.limits script.width entries (map (cost script script.steps) entries)
 
 -- the finished calls of a run, with this report; each takes effect at its last step
 pub record IsRecordOf (run : RunView) (report : List (ℕ × ℕ)) (r : Recorded) : Type 0 where
   pub calls : r
-      ≡ recorded run.script.limits run.script.width (completed_calls run.script run.steps) report
+      ≡ recorded run.script.limits run.script.width (finished_calls run.script run.steps) report
   pub linearized : IsLinearized r
   pub points : All (λ (e : Entry). e.point ≡ e.last) r.entries

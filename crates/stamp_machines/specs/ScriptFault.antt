@@ -10,14 +10,16 @@ use Rattle.stamp_core.specs.declared.script_error.ScriptError.TheVariants.{TooMa
 use Rattle.stamp_core.specs.declared.script_error.ScriptError.TheVariants.{NoSuchThread}
 use Rattle.stamp_core.specs.declared.script_error.ScriptError.TheVariants.{RecordWidth}
 
-abbrev pub calls_in : Vec ScriptCall Global → List ScriptCall
-calls_in calls = calls.items
+-- the calls of a thread
+abbrev pub thread_calls : Vec ScriptCall Global → List ScriptCall
+thread_calls calls = calls.items
 
 abbrev pub AreShort : List (Vec ScriptCall Global) → Type 0
 AreShort threads = All (λ (calls : Vec ScriptCall Global). length calls.items ≤ 10000) threads
 
-abbrev pub AreSuited : ℕ → List (Vec ScriptCall Global) → Type 0
-AreSuited width threads =
+-- each call suits a record of this width
+abbrev pub AreOfWidth : ℕ → List (Vec ScriptCall Global) → Type 0
+AreOfWidth width threads =
     All (λ (calls : Vec ScriptCall Global). All (Suits width) calls.items) threads
 
 -- each step is of one of this many threads
@@ -39,10 +41,10 @@ IsFirstFault width threads steps (NoSuchThread i) =
     × IsFirstUnknown (length threads) steps i
 IsFirstFault width threads steps RecordWidth =
     (length threads ≤ 64) × AreShort threads × (length steps ≤ 1000000)
-    × AreOfThreads (length threads) steps × ((16 < width) ⊎ (AreSuited width threads → ⊥))
+    × AreOfThreads (length threads) steps × ((16 < width) ⊎ (AreOfWidth width threads → ⊥))
 
 -- there is no fault
 abbrev pub IsGood : ℕ → List (Vec ScriptCall Global) → List ℕ → Type 0
 IsGood width threads steps =
     (length threads ≤ 64) × AreShort threads × (length steps ≤ 1000000)
-    × AreOfThreads (length threads) steps × (width ≤ 16) × AreSuited width threads
+    × AreOfThreads (length threads) steps × (width ≤ 16) × AreOfWidth width threads

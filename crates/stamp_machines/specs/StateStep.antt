@@ -13,4 +13,4 @@ pub record IsStep (gone : List Entry) (script : Scripted) (old new : State) (thr
     (kind : StepKind) : Type 0 where
   pub world : world_at gone new (position + 1) ≡ step script (world_at gone old position) thread
   pub stamps : (t : ℕ) → stamps_at new.workers.items t ≡ stamps_of t (gone ++ new.entries.items)
-  pub report : IsOfKind script (world_at gone old position) thread kind
+  pub of_kind : IsOfKind script (world_at gone old position) thread kind

@@ -1,4 +1,4 @@
--- What a step reports.
+-- What a step answers.
 use Rattle.std.specs.Prelude.{◌≡◌, ℕ, [], ◌∷◌, ◌++◌, IsSome, None}
 use Rattle.stamp_machines.specs.Script.{Scripted}
 use Rattle.stamp_machines.specs.World.{World, current, step}
@@ -6,8 +6,8 @@ use Rattle.stamp_machines.specs.declared.running.Stepped.{Stepped}
 use Rattle.stamp_machines.specs.declared.running.Stepped.TheVariants.{Idle, Going, Ended}
 
 -- idle where the thread has no call left, ended with the entry that was appended, and else going
-abbrev pub Reports : Scripted → World → ℕ → Stepped → Type 0
-Reports script world thread Idle = current script world thread ≡ None
-Reports script world thread Going =
+abbrev pub AnswersStep : Scripted → World → ℕ → Stepped → Type 0
+AnswersStep script world thread Idle = current script world thread ≡ None
+AnswersStep script world thread Going =
     IsSome (current script world thread) × ((step script world thread).entries ≡ world.entries)
-Reports script world thread (Ended e) = (step script world thread).entries ≡ world.entries ++ e ∷ []
+AnswersStep script world thread (Ended e) = (step script world thread).entries ≡ world.entries ++ e ∷ []

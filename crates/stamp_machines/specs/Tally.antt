@@ -2,7 +2,7 @@
 use Rattle.std.specs.Prelude.{ℕ, ◌≡◌, ◌≤◌, ◌+◌, ◌-◌, ◌==◌, Option, Some, None, length, map, List}
 use Rattle.std.specs.Prelude.{[], ◌∷◌, ◌++◌, slice_set, slice_index_or, if◌then◌else◌}
 use Rattle.stamp_machines.specs.Script.{Scripted}
-use Rattle.stamp_machines.specs.World.{execution_of, completed_calls}
+use Rattle.stamp_machines.specs.World.{execution_of, finished_calls}
 use Rattle.stamp_machines.specs.Interference.{own_since, changes_since, cost}
 use Rattle.stamp_machines.specs.declared.state.Begun.{Begun}
 use Rattle.stamp_machines.specs.declared.tally.Meter.{Meter}
@@ -63,4 +63,4 @@ pub record IsTallied (script : Scripted) (steps : List ℕ) (s : TallyState) : T
       (meter_at s.meters t)
   pub few : s.changes ≤ length steps
   pub threads : length s.meters ≡ length script.threads
-  pub report : s.report ≡ map (cost script steps) (completed_calls script steps)
+  pub report : s.report ≡ map (cost script steps) (finished_calls script steps)

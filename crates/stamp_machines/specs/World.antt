@@ -163,5 +163,5 @@ unfoldable pub execution_of : Scripted → List ℕ → World
 execution_of script steps = fold (step script) (opening script) steps
 
 -- one entry for each call that they finish, by rising last step
-abbrev pub completed_calls : Scripted → List ℕ → List Entry
-completed_calls script steps = (execution_of script steps).entries
+abbrev pub finished_calls : Scripted → List ℕ → List Entry
+finished_calls script steps = (execution_of script steps).entries

@@ -2,6 +2,15 @@
 ghost use Rattle.std.specs.Prelude.{◌≡◌, ◌<◌, length};
 ghost use Rattle.stamp_machines.specs.Access.{place_of, words_after, seen_by};
 
+/// The place of the lock's word.
+pub(crate) const LOCK: usize = 0;
+
+/// The place of the word of the record's own lock.
+pub(crate) const RECORD_LOCK: usize = 1;
+
+/// The place of the record's first word.
+pub(crate) const FIRST_WORD: usize = 2;
+
 /// One access to the word of this place, counted from 0: 0 is the lock's word, 1 that of the
 /// record's own lock, and the record's words come after them. What an access sees is the value that
 /// stood there before it.

@@ -71,7 +71,8 @@ fn run_on(script: &Script, state: &mut State, made: &mut usize) -> Result<(), Al
 }
 
 impl<'a> Completions<'a> {
-    /// Before the script's first step. Only want of memory refuses, and leaves nothing.
+    /// The finished calls of this script, none passed on yet. Only want of memory refuses, and
+    /// leaves nothing.
     pub fn start(alloc: Global, script: &'a Script) -> Result<Completions<'a>, RunError>
         ensures ok { IfOk result (λ r. r ≡ before_all script.now) }
         ensures memory { OnErr result (result ≡ Err RunError.Memory) }

@@ -25,6 +25,7 @@ impl Model for LoadedWords {
 }
 
 impl LoadedWords {
+    /// No word.
     pub(crate) fn none() -> LoadedWords
         ensures { result ≡ [] }
     {
@@ -34,6 +35,7 @@ impl LoadedWords {
         }
     }
 
+    /// How many they are.
     #[inline(always)]
     pub(crate) fn len(&self) -> usize
         ensures len { result ≡ length self.now }
@@ -67,6 +69,7 @@ impl LoadedWords {
         &self.words[..self.len]
     }
 
+    /// All of them, of which there is at least one.
     pub(crate) fn words(&self) -> Words
         requires { 1 ≤ length self.now }
         ensures { result ≡ self.now }

@@ -4,20 +4,12 @@ ghost use Rattle.std.specs.Prelude.{◌≡◌, ◌↔◌, ℕ, Some, IsTrue};
 ghost use Rattle.stamp_core.specs.Word.{IsAdmitted, word_at};
 ghost use Rattle.stamp_machines.specs.LocalAccess.{with_lock, lock_after};
 ghost use Rattle.stamp_machines.specs.LockPhase.{phase_next, phase_after};
-ghost use Rattle.stamp_machines.specs.LockCallSteps.{Plans};
-ghost use Rattle.stamp_machines.specs.PhaseNext.{phase_turn, IsLockPhase, IsPhaseNext, LeadsOn};
+ghost use Rattle.stamp_machines.specs.LockCallSteps.{Plans, LeadsBy};
+ghost use Rattle.stamp_machines.specs.IsLockPhase.{phase_turn, IsLockPhase, IsPhaseTurn};
 
 use crate::access::Access;
 use stamp_core::{Call, Limits, LockDecision, Reply, decide_lock};
-
-/// What an access of a lock call leads to, in its phase.
-#[derive(Clone, Copy)]
-pub enum PhaseNext {
-    /// It goes on: to an exchange from this word, which was seen, or to a load.
-    Going(Option<u64>),
-    /// Its reply was written where the caller asked.
-    Done,
-}
+use std::ops::ControlFlow;
 
 /// The next access of a lock call, on the word `at`: an exchange of the word seen for the one that the
 /// call changes it to, and a load where none was seen.
@@ -31,6 +23,7 @@ pub(crate) fn lock_access(at: usize, limits: Limits, call: &Call, seen: Option<u
     let Some(old) = seen else {
         return Access::Load(at);
     };
+    // By this call the prover knows that the limits are in range.
     let _ = limits.layout();
     match decide_lock(limits, limits.word(old), call) {
         LockDecision::Change(new, _) => Access::Cas(at, old, new.bits()),
@@ -38,8 +31,9 @@ pub(crate) fn lock_access(at: usize, limits: Limits, call: &Call, seen: Option<u
     }
 }
 
-/// Decides a lock call on the word that its access has found: the word after the access, and where the
-/// call goes on.
+/// Decides a lock call on the word that its access has found. Gives the word after the access, and
+/// where the call goes on: to an exchange from this word, which was seen, or to a load. Where it
+/// has ended, its reply is written to `answer`.
 #[inline(always)]
 pub(crate) fn decide_on(
     limits: Limits,
@@ -47,31 +41,32 @@ pub(crate) fn decide_on(
     seen: Option<u64>,
     found: u64,
     answer: &mut Reply,
-) -> (u64, PhaseNext)
+) -> (u64, ControlFlow<(), Option<u64>>)
     requires phase { IsLockPhase limits call.now seen }
     requires word { IsAdmitted limits (word_at limits found) }
     ensures word { result.0 ≡ lock_after (phase_next limits call.now seen) found }
     ensures turn { phase_turn result.1 answer.new ≡ phase_after limits call.now seen found }
-    ensures changing { IsPhaseNext limits call.now result.1 answer.new }
+    ensures changing { IsPhaseTurn limits call.now (phase_turn result.1 answer.new) }
     ensures leads { (at : ℕ) →
-        LeadsOn (record { at = at; limits = limits; call = call.now; seen = seen }) found result.1
-        answer.new }
+        LeadsBy (record { at = at; limits = limits; call = call.now; seen = seen }) found
+        (phase_turn result.1 answer.new) }
 {
+    // By this call the prover knows that the limits are in range.
     let _ = limits.layout();
     match decide_lock(limits, limits.word(found), call) {
         LockDecision::Answer(reply) => {
             *answer = reply.as_reply();
-            (found, PhaseNext::Done)
+            (found, ControlFlow::Break(()))
         }
         LockDecision::Change(new, reply) => {
             if is_seen(seen, found) {
                 *answer = reply.as_reply();
-                (new.bits(), PhaseNext::Done)
+                (new.bits(), ControlFlow::Break(()))
             } else {
-                (found, PhaseNext::Going(Some(found)))
+                (found, ControlFlow::Continue(Some(found)))
             }
         }
-        LockDecision::Wait => (found, PhaseNext::Going(None)),
+        LockDecision::Wait => (found, ControlFlow::Continue(None)),
     }
 }
 

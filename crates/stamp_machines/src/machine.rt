@@ -10,20 +10,21 @@ ghost use Rattle.stamp_machines.specs.Machine.{after_in, IsFoundIn};
 ghost use Rattle.stamp_machines.specs.MachineState.{MachineState, OnLock, record_limits};
 ghost use Rattle.stamp_machines.specs.Access.{place_of, words_after, seen_by};
 ghost use Rattle.stamp_machines.specs.MachineTurn.{turn_of};
-ghost use Rattle.stamp_machines.specs.MachineFields.{phase_at, turn_in, guard_call_in, IsStage};
-ghost use Rattle.stamp_machines.specs.MachineFields.{IsGuardCall, IsStageNext};
+ghost use Rattle.stamp_machines.specs.MachineFields.{stage_at, turn_in, guard_call_in, IsStage};
+ghost use Rattle.stamp_machines.specs.MachineFields.{IsGuardCall, IsNextStage};
 ghost use Rattle.stamp_machines.specs.Place.{call_for};
 
-use crate::access::{Access, make};
+use crate::access::{Access, FIRST_WORD, LOCK, RECORD_LOCK, make};
 use crate::loaded_words::LoadedWords;
-use crate::lock_phase::{PhaseNext, decide_on, lock_access};
+use crate::lock_phase::{decide_on, lock_access};
 use crate::shape::Shape;
 use crate::stage::{
-    GuardCall, Stage, StageNext, call_for, checked, copied, ended, first_stage, lock_loaded,
-    new_word, read, released_reply, stored,
+    GuardCall, Stage, call_for, checked, copied, ended, first_stage, lock_loaded, new_word, read,
+    released_reply, stored,
 };
 use stamp_core::{Call, Reply};
 use std::marker::Model;
+use std::ops::ControlFlow;
 
 /// A call that is being made.
 #[derive(Drop)]
@@ -55,7 +56,7 @@ impl Model for Machine {
     ghost invariant = { IsAtStage };
 }
 
-/// A lock call on the public lock goes on.
+/// Where a lock call goes on after its access has found this at word 0, which is the public lock.
 #[inline(always)]
 fn after_public(
     shape: &Shape,
@@ -64,31 +65,32 @@ fn after_public(
     seen: Option<u64>,
     found: u64,
     answer: &mut Reply,
-) -> StageNext
+) -> ControlFlow<(), Stage>
     requires stage { IsStage shape.now call.now loaded.now (Stage.Public seen) }
-    requires found { IsFoundIn shape.now (phase_at call.now loaded.now (Stage.Public seen)) found }
+    requires found { IsFoundIn shape.now (stage_at call.now loaded.now (Stage.Public seen)) found }
     ensures next { turn_in shape.now call.now loaded.now answer.new result
-        ≡ after_in shape.now call.now found (phase_at call.now loaded.now (Stage.Public seen)) }
-    ensures sound { IsStageNext shape.now call.now loaded.now loaded.now result }
+        ≡ after_in shape.now call.now found (stage_at call.now loaded.now (Stage.Public seen)) }
+    ensures sound { IsNextStage shape.now call.now loaded.now loaded.now result }
     ensures leads { Leads (lock_phase
         (record {
           shape = shape.now;
           call = call.now;
-          phase = phase_at call.now loaded.now (Stage.Public seen);
+          stage = stage_at call.now loaded.now (Stage.Public seen);
         })) found
         (turn_in shape.now call.now loaded.now answer.new result) }
     ensures phase { IfSome
-        (phase_in shape.now call.now (phase_at call.now loaded.now (Stage.Public seen)))
+        (phase_in shape.now call.now (stage_at call.now loaded.now (Stage.Public seen)))
         (λ p. LeadsIn p found (turn_in shape.now call.now loaded.now answer.new result)) }
 {
     let (_, next) = decide_on(shape.limits, call, seen, found, answer);
     match next {
-        PhaseNext::Going(seen) => StageNext::Going(Stage::Public { seen }),
-        PhaseNext::Done => StageNext::Done,
+        ControlFlow::Continue(seen) => ControlFlow::Continue(Stage::Public { seen }),
+        ControlFlow::Break(()) => ControlFlow::Break(()),
     }
 }
 
-/// A lock call on the record's lock goes on.
+/// Where a call of the record goes on from a lock call on the record's own lock, after an access
+/// has found this at its word, word 1.
 #[inline(always)]
 fn after_locking(
     shape: &Shape,
@@ -98,27 +100,28 @@ fn after_locking(
     loaded: &mut LoadedWords,
     found: u64,
     answer: &mut Reply,
-) -> StageNext
+) -> ControlFlow<(), Stage>
     requires stage { IsStage shape.now call.now loaded.old (Stage.Locking guard_call seen) }
-    requires found { IsFoundIn shape.now (phase_at call.now loaded.old (Stage.Locking guard_call seen))
+    requires found { IsFoundIn shape.now (stage_at call.now loaded.old (Stage.Locking guard_call seen))
         found }
     ensures next { turn_in shape.now call.now loaded.new answer.new result
         ≡ after_in shape.now call.now found
-        (phase_at call.now loaded.old (Stage.Locking guard_call seen)) }
-    ensures sound { IsStageNext shape.now call.now loaded.old loaded.new result }
+        (stage_at call.now loaded.old (Stage.Locking guard_call seen)) }
+    ensures sound { IsNextStage shape.now call.now loaded.old loaded.new result }
     ensures phase { IfSome
-        (phase_in shape.now call.now (phase_at call.now loaded.old (Stage.Locking guard_call seen)))
+        (phase_in shape.now call.now (stage_at call.now loaded.old (Stage.Locking guard_call seen)))
         (λ p. LeadsIn p found (turn_in shape.now call.now loaded.new answer.new result)) }
 {
     let limits = shape.record_limits();
     let (_, next) = decide_on(limits, &call_for(guard_call), seen, found, answer);
     match next {
-        PhaseNext::Going(seen) => StageNext::Going(Stage::Locking { guard_call, seen }),
-        PhaseNext::Done => ended(shape, call, guard_call, loaded, answer),
+        ControlFlow::Continue(seen) => ControlFlow::Continue(Stage::Locking { guard_call, seen }),
+        ControlFlow::Break(()) => ended(shape, call, guard_call, loaded, answer),
     }
 }
 
-/// Where a call goes on from a stage after its access has found this.
+/// Where a call goes on from a stage after its access has found this. Where it has ended, its reply
+/// is written to `answer`.
 #[inline(always)]
 fn next(
     shape: &Shape,
@@ -127,44 +130,47 @@ fn next(
     stage: Stage,
     found: u64,
     answer: &mut Reply,
-) -> StageNext
+) -> ControlFlow<(), Stage>
     requires stage { IsStage shape.now call.now loaded.old stage }
-    requires found { IsFoundIn shape.now (phase_at call.now loaded.old stage) found }
+    requires found { IsFoundIn shape.now (stage_at call.now loaded.old stage) found }
     ensures next { turn_in shape.now call.now loaded.new answer.new result
-        ≡ after_in shape.now call.now found (phase_at call.now loaded.old stage) }
-    ensures sound { IsStageNext shape.now call.now loaded.old loaded.new result }
+        ≡ after_in shape.now call.now found (stage_at call.now loaded.old stage) }
+    ensures sound { IsNextStage shape.now call.now loaded.old loaded.new result }
     ensures leads { IsTrue (is_lock_call call.now) →
         Leads (lock_phase
         (record {
           shape = shape.now;
           call = call.now;
-          phase = phase_at call.now loaded.old stage;
+          stage = stage_at call.now loaded.old stage;
         })) found
         (turn_in shape.now call.now loaded.new answer.new result) }
-    ensures phase { IfSome (phase_in shape.now call.now (phase_at call.now loaded.old stage))
+    ensures phase { IfSome (phase_in shape.now call.now (stage_at call.now loaded.old stage))
         (λ p. LeadsIn p found (turn_in shape.now call.now loaded.new answer.new result)) }
 {
     match stage {
         Stage::Public { seen } => after_public(shape, call, loaded, seen, found, answer),
-        Stage::LoadingLock => StageNext::Going(lock_loaded(shape, call, loaded, found)),
+        Stage::LoadingLock => ControlFlow::Continue(lock_loaded(shape, call, loaded, found)),
         Stage::Copying { first } => copied(shape, call, first, loaded, found, answer),
         Stage::Locking { guard_call, seen } => {
             after_locking(shape, call, guard_call, seen, loaded, found, answer)
         }
-        Stage::Reading { stamp } => StageNext::Going(read(shape, call, stamp, loaded, found)),
-        Stage::Checking { stamp } => StageNext::Going(checked(shape, call, stamp, loaded, found)),
+        Stage::Reading { stamp } => ControlFlow::Continue(read(shape, call, stamp, loaded, found)),
+        Stage::Checking { stamp } => {
+            ControlFlow::Continue(checked(shape, call, stamp, loaded, found))
+        }
         Stage::Storing { stamp, stored: i } => {
-            StageNext::Going(stored(shape, call, stamp, i, loaded, found))
+            ControlFlow::Continue(stored(shape, call, stamp, i, loaded, found))
         }
         Stage::Releasing { is_stored, .. } => {
             *answer = released_reply(call, is_stored);
-            StageNext::Done
+            ControlFlow::Break(())
         }
     }
 }
 
 impl Machine {
-    /// The machine of a call, before its first access.
+    /// The machine of a call, before its first access. The call suits the shape's width, which is
+    /// 16 at most.
     #[inline(always)]
     pub fn start(call: Call, shape: Shape) -> Machine
         requires suits { IsTrue (call_suits shape.width call) }
@@ -195,34 +201,41 @@ impl Machine {
         ensures phase { IfSome (phase_of self.now) (λ p. Plans p.state result) }
     {
         match self.stage {
-            Stage::Public { seen } => lock_access(0, self.shape.limits, &self.call, seen),
-            Stage::LoadingLock => Access::Load(1),
+            Stage::Public { seen } => lock_access(LOCK, self.shape.limits, &self.call, seen),
+            Stage::LoadingLock => Access::Load(RECORD_LOCK),
             Stage::Copying { .. } => {
-                if self.loaded.len() < self.shape.words() {
-                    Access::Load(2 + self.loaded.len())
+                if self.loaded.len() < self.shape.word_count() {
+                    Access::Load(FIRST_WORD + self.loaded.len())
                 } else {
-                    Access::Load(1)
+                    Access::Load(RECORD_LOCK)
                 }
             }
             Stage::Locking { guard_call, seen } => {
-                lock_access(1, self.shape.record_limits(), &call_for(guard_call), seen)
+                let limits = self.shape.record_limits();
+                lock_access(RECORD_LOCK, limits, &call_for(guard_call), seen)
             }
-            Stage::Reading { .. } | Stage::Checking { .. } => Access::Load(2 + self.loaded.len()),
+            Stage::Reading { .. } | Stage::Checking { .. } => {
+                Access::Load(FIRST_WORD + self.loaded.len())
+            }
             Stage::Storing { stored, .. } => Access::Store(
-                2 + stored,
+                FIRST_WORD + stored,
                 new_word(&self.call, stored),
             ),
             Stage::Releasing { stamp, .. } => {
-                Access::Cas(1, stamp, self.shape.limits.layout().released(stamp))
+                // A write stamp is the number of the word while it is held: the exchange is from it.
+                let released = self.shape.limits.layout().released(stamp);
+                Access::Cas(RECORD_LOCK, stamp, released)
             }
         }
     }
 
-    /// Goes on after the planned access has found this: the value that stood there before it. What
-    /// is found at a lock's word has to be a word that the lock's limits admit, at the record's own
-    /// lock those are the widest of the layout; what a store or a releasing exchange finds is of no
-    /// account. A call of the record that is about its lock has to find a version left there, so who
-    /// drives machines by hand has to stop before the last one (no run ever comes to it).
+    /// Goes on after the planned access. `found` is the value that stood at its place before it.
+    ///
+    /// A value found at a lock's word has to be a word that the lock's limits admit. The limits of
+    /// the record's own lock are the widest of the layout. Where a call of the record is in a lock
+    /// call on that lock, the word found there must have a version left. So whoever drives machines
+    /// by hand has to stop before the versions are spent; a run never comes to their end. What a
+    /// store or a releasing exchange finds may be any number.
     pub fn resume(self, found: u64) -> Turn
         requires { IsFound self found }
         ensures after { result ≡ after_access self found }
@@ -239,8 +252,9 @@ impl Machine {
     }
 
     /// Makes the planned access and goes on after it, in place. Tells whether the call has ended:
-    /// then its reply stands in `answer`, and where the machine stands is of no account. An access of
-    /// a lock call on the public lock decides once, on the word found.
+    /// then its reply stands in `answer`, and where the machine stands is of no account. For speed
+    /// an access of word 0 has a way of its own: `plan` would decide the lock call on the word
+    /// seen, and `go_on` on the word found; here it is decided once, on the word found.
     #[inline(always)]
     pub(crate) fn access(&mut self, words: &mut [u64], answer: &mut Reply) -> bool
         requires memory { place_of (next_access self.old) < length words.old }
@@ -254,14 +268,14 @@ impl Machine {
             let found = make(words, self.plan());
             return self.go_on(found, answer);
         };
-        let (word, next) = decide_on(self.shape.limits, &self.call, seen, words[0], answer);
-        words[0] = word;
+        let (word, next) = decide_on(self.shape.limits, &self.call, seen, words[LOCK], answer);
+        words[LOCK] = word;
         match next {
-            PhaseNext::Going(seen) => {
+            ControlFlow::Continue(seen) => {
                 self.stage = Stage::Public { seen };
                 false
             }
-            PhaseNext::Done => true,
+            ControlFlow::Break(()) => true,
         }
     }
 
@@ -285,11 +299,11 @@ impl Machine {
             found,
             answer,
         ) {
-            StageNext::Going(stage) => {
+            ControlFlow::Continue(stage) => {
                 self.stage = stage;
                 false
             }
-            StageNext::Done => true,
+            ControlFlow::Break(()) => true,
         }
     }
 }

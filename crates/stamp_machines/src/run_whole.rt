@@ -9,8 +9,9 @@ use crate::tally::Tally;
 use stamp_core::Record;
 use std::alloc::Global;
 
-/// Runs a script to its end. The record has an entry for each finished call, in the order of their
-/// last steps, which are their points. The one error is 6 `Memory`, after which nothing is kept.
+/// Runs a script to its end. The recorded history has an entry for each finished call, in the order
+/// of their last steps, which are their points. The one error is 6 `Memory`, after which nothing is
+/// kept.
 pub fn run(alloc: Global, script: &Script) -> Result<Record, RunError>
     ensures record { IfOk result (λ r. r ≡ run_record script.now) }
     ensures linearized { IfOk result (λ r. IsLinearized r) }

@@ -2,6 +2,7 @@
 ghost use Rattle.std.specs.Prelude.{◌≡◌, ◌<◌, ◌≤◌, ◌↔◌, [], length, IfOk, OnOk, OnErr};
 ghost use Rattle.std.specs.Prelude.{slice_index, All};
 
+use crate::access::LOCK;
 use crate::script::Script;
 use crate::state::{State, StepKind};
 use crate::tally::Tally;
@@ -57,7 +58,7 @@ impl From<AllocError> for RunError {
 
 /// A run of a script's threads. `step` is given which of them makes the next step; the steps that
 /// the script itself lists are for `run` alone. `finished` has the entries so far, of which
-/// `Record::of` makes a record.
+/// `Record::of` makes a recorded history.
 #[derive(Drop)]
 pub struct Run<'a> {
     script: &'a Script,
@@ -78,13 +79,13 @@ impl<'a> Model for Run<'a> {
 }
 
 impl<'a> Run<'a> {
-    ghost use Rattle.stamp_machines.specs.World.{execution_of, completed_calls};
+    ghost use Rattle.stamp_machines.specs.World.{execution_of, finished_calls};
     ghost use Rattle.stamp_core.specs.Word.{Represents, word_at};
     ghost use Rattle.stamp_core.specs.History.{events_of};
     ghost use Rattle.stamp_core.specs.Linearized.{history_of, AreLinearized};
     ghost use Rattle.stamp_machines.specs.Script.{IsSound};
     ghost use Rattle.stamp_machines.specs.RunView.{with_step, HasNoStepLeft};
-    ghost use Rattle.stamp_machines.specs.Stepped.{Reports};
+    ghost use Rattle.stamp_machines.specs.Stepped.{AnswersStep};
     ghost use Rattle.stamp_machines.specs.StepKind.{IsOfKind, told_by};
     ghost use Rattle.stamp_machines.specs.Tally.{tally_of, IsTallied};
 
@@ -101,14 +102,14 @@ impl<'a> Run<'a> {
         })
     }
 
-    /// One access of the thread's current call. It refuses as 3 `TooManySteps` exactly where 1,000,000
-    /// steps were made, and as 6 `Memory`; a refused step leaves the run as it was, and can be made
-    /// again.
+    /// One access of the thread's current call. The thread is below the number of the script's
+    /// threads. It refuses as 3 `TooManySteps` exactly where 1,000,000 steps were made, and as 6
+    /// `Memory`; a refused step leaves the run as it was, and can be made again.
     pub fn step(&mut self, thread: u64) -> Result<Stepped, RunError>
         requires { thread < length self.old.script.threads }
         ensures ok { OnOk result (self.new ≡ with_step self.old thread) }
-        ensures report { IfOk result
-            (Reports self.old.script (execution_of self.old.script self.old.steps) thread) }
+        ensures stepped { IfOk result
+            (AnswersStep self.old.script (execution_of self.old.script self.old.steps) thread) }
         ensures err { OnErr result (self.new ≡ self.old) }
         ensures full { (result ≡ Err RunError.TooManySteps) ↔ HasNoStepLeft self.old }
     {
@@ -116,13 +117,13 @@ impl<'a> Run<'a> {
         Ok(self.state.told(kind))
     }
 
-    /// One access, of which the kind alone is reported: the entry of a call that has ended by it is the
+    /// One access, of which the kind alone is told: the entry of a call that has ended by it is the
     /// last one.
     #[inline(always)]
     pub(crate) fn make_step(&mut self, thread: u64) -> Result<StepKind, RunError>
         requires { thread < length self.old.script.threads }
         ensures ok { OnOk result (self.new ≡ with_step self.old thread) }
-        ensures report { IfOk result
+        ensures kind { IfOk result
             (IsOfKind self.old.script (execution_of self.old.script self.old.steps) thread) }
         ensures err { OnErr result (self.new ≡ self.old) }
         ensures full { (result ≡ Err RunError.TooManySteps) ↔ HasNoStepLeft self.old }
@@ -138,7 +139,7 @@ impl<'a> Run<'a> {
         Ok(self.state.step(self.script, at, position))
     }
 
-    /// What each run keeps to.
+    /// Touches a field, by which the prover knows what each run keeps to.
     fn known(&self)
         ensures sound { IsSound self.now.script }
         ensures few { length self.now.steps ≤ 1000000 }
@@ -180,7 +181,7 @@ impl<'a> Run<'a> {
 
     /// The finished calls, in the order of their last steps.
     pub fn finished(&self) -> &[Entry]
-        ensures entries { result.now ≡ completed_calls self.now.script self.now.steps }
+        ensures entries { result.now ≡ finished_calls self.now.script self.now.steps }
         ensures linearized { AreLinearized self.now.script.limits self.now.script.width result.now }
     {
         &self.state.entries
@@ -192,17 +193,17 @@ impl<'a> Run<'a> {
             (slice_index (execution_of self.now.script self.now.steps).words 0) }
         ensures represented { Represents self.now.script.limits result
             (events_of self.now.script.limits
-            (history_of (completed_calls self.now.script self.now.steps))) }
+            (history_of (finished_calls self.now.script self.now.steps))) }
     {
-        self.script.limits().word(self.state.words[0])
+        self.script.limits().word(self.state.words[LOCK])
     }
 }
 
 impl<'a> Run<'a> {
     ghost use Rattle.stamp_machines.specs.RunRecord.{IsRecordOf};
-    ghost use Rattle.stamp_machines.specs.World.{completed_calls};
+    ghost use Rattle.stamp_machines.specs.World.{finished_calls};
 
-    /// The finished calls as a record, with no report.
+    /// The finished calls as a recorded history, with no report.
     pub(crate) fn into_record(self) -> Record
         ensures { IsRecordOf self.entry [] result }
     {
@@ -214,9 +215,9 @@ impl<'a> Run<'a> {
         .unwrap()
     }
 
-    /// The finished calls as a record, with a report that has a pair for each.
+    /// The finished calls as a recorded history, with a report that has a pair for each.
     pub(crate) fn into_reported(self, report: Vec<(u64, u64)>) -> Record
-        requires { length report.items ≡ length (completed_calls self.script self.steps) }
+        requires { length report.items ≡ length (finished_calls self.script self.steps) }
         ensures { IsRecordOf self.entry report.items result }
     {
         Record::of_reported(

@@ -89,8 +89,9 @@ impl Model for Script {
     ghost invariant = { HasGoodFields };
 }
 
-ghost use Rattle.stamp_machines.specs.ScriptFault.{calls_in, AreShort, AreSuited, AreOfThreads};
-ghost use Rattle.stamp_machines.specs.ScriptFault.{IsFirstUnknown, IsFirstFault, IsGood};
+ghost use Rattle.stamp_machines.specs.ScriptFault.{thread_calls, AreShort, AreOfWidth};
+ghost use Rattle.stamp_machines.specs.ScriptFault.{AreOfThreads, IsFirstUnknown, IsFirstFault};
+ghost use Rattle.stamp_machines.specs.ScriptFault.{IsGood};
 
 fn suits(width: u64, call: &ScriptCall) -> bool
     ensures { IsTrue result ↔ Suits width call.now }
@@ -112,7 +113,7 @@ fn calls_suit(width: u64, calls: &[ScriptCall]) -> bool
 }
 
 fn are_suited(width: u64, threads: &[Vec<ScriptCall>]) -> bool
-    ensures { IsTrue result ↔ AreSuited width threads.now }
+    ensures { IsTrue result ↔ AreOfWidth width threads.now }
 {
     threads.iter().all(|calls| calls_suit(width, calls))
 }
@@ -144,7 +145,7 @@ impl Script {
             (λ s. s ≡ record {
               limits = limits;
               width = width;
-              threads = map calls_in threads.items;
+              threads = map thread_calls threads.items;
               steps = steps.items;
             }) }
         ensures good { IfOk result (λ _. IsGood width threads.items steps.items) }
@@ -174,7 +175,7 @@ impl Script {
         })
     }
 
-    /// What each script keeps to.
+    /// Touches a field, by which the prover knows what each script keeps to.
     fn known(&self)
         ensures sound { IsSound self.now }
         ensures few { length self.now.steps ≤ 1000000 }
@@ -216,7 +217,7 @@ impl Script {
 
     /// The calls of each thread, in the order in which it makes them.
     pub fn threads(&self) -> &[Vec<ScriptCall>]
-        ensures threads { map calls_in result.now ≡ self.now.threads }
+        ensures threads { map thread_calls result.now ≡ self.now.threads }
         ensures sound { IsSound self.now }
     {
         self.known();
@@ -234,6 +235,7 @@ impl Script {
         &self.steps
     }
 
+    /// How many threads it has.
     pub(crate) fn thread_count(&self) -> usize
         ensures count { result ≡ length self.now.threads }
         ensures few { result ≤ 64 }

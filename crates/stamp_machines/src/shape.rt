@@ -14,8 +14,8 @@ pub struct Shape {
 }
 
 impl Shape {
-    /// The width as a number of places.
-    pub(crate) fn words(&self) -> usize
+    /// How many words the record has.
+    pub(crate) fn word_count(&self) -> usize
         ensures { result ≡ self.now.width }
     {
         self.width as usize

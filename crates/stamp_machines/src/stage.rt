@@ -9,15 +9,16 @@ ghost use Rattle.stamp_machines.specs.Job.{job_in, new_words, is_get, expects, s
 ghost use Rattle.stamp_machines.specs.Place.{after, unchanged, all_read, guard_call_done};
 ghost use Rattle.stamp_machines.specs.Place.{claimed, call_for};
 ghost use Rattle.stamp_machines.specs.Place as places;
-ghost use Rattle.stamp_machines.specs.MachineState.{first_phase, record_limits};
+ghost use Rattle.stamp_machines.specs.MachineState.{first_stage, record_limits};
 ghost use Rattle.stamp_machines.specs.Machine.{record_turn};
-ghost use Rattle.stamp_machines.specs.MachineFields.{phase_at, going_at, turn_in, guard_call_in};
-ghost use Rattle.stamp_machines.specs.MachineFields.{job_of, released_reply, IsStage, IsStageNext};
+ghost use Rattle.stamp_machines.specs.MachineFields.{stage_at, going_at, turn_in, guard_call_in};
+ghost use Rattle.stamp_machines.specs.MachineFields.{job_of, released_reply, IsStage, IsNextStage};
 ghost use Rattle.stamp_machines.specs.MachineFields.{IsRecordCall, IsWriter, IsGuardCall};
 
 use crate::loaded_words::LoadedWords;
 use crate::shape::Shape;
 use stamp_core::{Call, Limits, Reply, Words};
+use std::ops::ControlFlow;
 
 /// A lock call on the record's lock, and what its end leads to.
 #[derive(Clone, Copy)]
@@ -30,13 +31,14 @@ pub(crate) enum GuardCall {
     Refuse { stamp: u64 },
     /// The words are those expected: the read lock is to become a write lock.
     Upgrade { stamp: u64 },
-    /// It could not.
+    /// The read lock could not become a write lock: it is released, and a write lock comes next.
     ReleaseFirst { stamp: u64 },
     /// A write lock.
     Claim,
 }
 
-/// A word that was seen is one that a lock call is to change.
+/// Where a call stands between two of its accesses. A word that was seen is one that a lock call is
+/// to change.
 #[derive(Clone, Copy)]
 pub(crate) enum Stage {
     /// A lock call, on the public lock.
@@ -72,15 +74,6 @@ pub(crate) enum Stage {
         stamp: u64,
         is_stored: bool,
     },
-}
-
-/// What an access of a call leads to, in a stage.
-#[derive(Clone, Copy)]
-pub(crate) enum StageNext {
-    /// It goes on, at this stage.
-    Going(Stage),
-    /// Its reply was written where the caller asked.
-    Done,
 }
 
 /// The stamp in a reply, 0 where it has none.
@@ -146,6 +139,7 @@ fn is_free(limits: Limits, found: u64) -> bool
     requires { IsAdmitted limits (word_at limits found) }
     ensures { result ≡ ((counts_at limits found).writers == 0) }
 {
+    // By this call the prover knows that the limits are in range.
     let _ = limits.layout();
     !limits.word(found).is_writing()
 }
@@ -156,6 +150,7 @@ fn is_unchanged(limits: Limits, first: u64, found: u64) -> bool
     requires first { IsAdmitted limits (word_at limits first) }
     ensures { result ≡ unchanged limits first found }
 {
+    // By this call the prover knows that the limits are in range.
     let _ = limits.layout();
     let now = limits.word(found);
     !now.is_writing() && now.writes() == limits.word(first).writes()
@@ -175,6 +170,7 @@ fn locking(shape: &Shape, call: &Call, loaded: &LoadedWords, guard_call: GuardCa
     }
 }
 
+/// Where a get goes on after its first load of the record's lock has found this.
 #[inline(always)]
 pub(crate) fn lock_loaded(shape: &Shape, call: &Call, loaded: &mut LoadedWords, found: u64) -> Stage
     requires call { IsRecordCall shape.now call.now }
@@ -193,6 +189,8 @@ pub(crate) fn lock_loaded(shape: &Shape, call: &Call, loaded: &mut LoadedWords, 
     }
 }
 
+/// Where a get that copies without a lock goes on after a load has found this: one of a word, or,
+/// after the last word, the second one of the lock.
 #[inline(always)]
 pub(crate) fn copied(
     shape: &Shape,
@@ -201,7 +199,7 @@ pub(crate) fn copied(
     loaded: &mut LoadedWords,
     found: u64,
     answer: &mut Reply,
-) -> StageNext
+) -> ControlFlow<(), Stage>
     requires call { IsRecordCall shape.now call.now }
     requires first { IsAdmitted (record_limits shape.now)
         (word_at (record_limits shape.now) first) }
@@ -212,19 +210,20 @@ pub(crate) fn copied(
         ≡ record_turn shape.now call.now (job_of call.now)
         (after (record_limits shape.now) shape.now.width (job_of call.now)
         (places.Copying first loaded.old) found) }
-    ensures sound { IsStageNext shape.now call.now loaded.old loaded.new result }
+    ensures sound { IsNextStage shape.now call.now loaded.old loaded.new result }
 {
-    if loaded.len() < shape.words() {
+    if loaded.len() < shape.word_count() {
         loaded.push(found);
-        StageNext::Going(Stage::Copying { first })
+        ControlFlow::Continue(Stage::Copying { first })
     } else if is_unchanged(shape.record_limits(), first, found) {
         *answer = Reply::Content(loaded.words());
-        StageNext::Done
+        ControlFlow::Break(())
     } else {
-        StageNext::Going(locking(shape, call, loaded, GuardCall::Share))
+        ControlFlow::Continue(locking(shape, call, loaded, GuardCall::Share))
     }
 }
 
+/// Where a call that reads under a read lock goes on after its load of a word has found this.
 #[inline(always)]
 pub(crate) fn read(
     shape: &Shape,
@@ -242,7 +241,7 @@ pub(crate) fn read(
     ensures sound { IsStage shape.now call.now loaded.new result }
 {
     loaded.push(found);
-    if loaded.len() < shape.words() {
+    if loaded.len() < shape.word_count() {
         Stage::Reading { stamp }
     } else {
         all_read(shape, call, stamp, loaded)
@@ -266,6 +265,8 @@ fn all_read(shape: &Shape, call: &Call, stamp: u64, loaded: &LoadedWords) -> Sta
     }
 }
 
+/// Where a `PutIf` that compares under a write lock goes on after its load of a word has found
+/// this.
 #[inline(always)]
 pub(crate) fn checked(
     shape: &Shape,
@@ -284,7 +285,7 @@ pub(crate) fn checked(
     ensures sound { IsStage shape.now call.now loaded.new result }
 {
     loaded.push(found);
-    if loaded.len() < shape.words() {
+    if loaded.len() < shape.word_count() {
         Stage::Checking { stamp }
     } else if expects(call, &loaded.words()) {
         Stage::Storing { stamp, stored: 0 }
@@ -317,6 +318,7 @@ pub(crate) fn released_reply(call: &Call, is_stored: bool) -> Reply
     }
 }
 
+/// Where a call goes on after it has stored the word at this place.
 #[inline(always)]
 pub(crate) fn stored(
     shape: &Shape,
@@ -335,7 +337,7 @@ pub(crate) fn stored(
         (places.Storing stamp stored) found) }
     ensures sound { IsStage shape.now call.now loaded.now result }
 {
-    if stored + 1 < shape.words() {
+    if stored + 1 < shape.word_count() {
         Stage::Storing {
             stamp,
             stored: stored + 1,
@@ -393,40 +395,43 @@ fn shared(shape: &Shape, call: &Call, stamp: u64, loaded: &mut LoadedWords) -> S
     Stage::Reading { stamp }
 }
 
-/// A lock call on the record's lock has ended with the reply that stands in `answer`.
+/// Where a call goes on after a lock call on the record's lock has ended with the reply that stands
+/// in `answer`. Where the call itself has ended by that, its own reply is written there.
 pub(crate) fn ended(
     shape: &Shape,
     call: &Call,
     guard_call: GuardCall,
     loaded: &mut LoadedWords,
     answer: &mut Reply,
-) -> StageNext
+) -> ControlFlow<(), Stage>
     requires guard_call { IsGuardCall shape.now call.now loaded.old guard_call }
     requires fits { stamp_in answer.old < 2 ^ 63 }
     ensures next { turn_in shape.now call.now loaded.new answer.new result
         ≡ record_turn shape.now call.now (job_of call.now)
         (guard_call_done (job_of call.now) (guard_call_in loaded.old guard_call) (stamp_in answer.old)) }
-    ensures sound { IsStageNext shape.now call.now loaded.old loaded.new result }
+    ensures sound { IsNextStage shape.now call.now loaded.old loaded.new result }
 {
     let got = stamp_in(answer);
     match guard_call {
-        GuardCall::Share => StageNext::Going(shared(shape, call, got, loaded)),
+        GuardCall::Share => ControlFlow::Continue(shared(shape, call, got, loaded)),
         GuardCall::Leave { .. } => {
             *answer = Reply::Content(loaded.words());
-            StageNext::Done
+            ControlFlow::Break(())
         }
         GuardCall::Refuse { .. } => {
             *answer = Reply::No;
-            StageNext::Done
+            ControlFlow::Break(())
         }
-        GuardCall::Upgrade { stamp } => StageNext::Going(upgraded(shape, call, stamp, loaded, got)),
-        GuardCall::ReleaseFirst { .. } => StageNext::Going(locking(
+        GuardCall::Upgrade { stamp } => {
+            ControlFlow::Continue(upgraded(shape, call, stamp, loaded, got))
+        }
+        GuardCall::ReleaseFirst { .. } => ControlFlow::Continue(locking(
             shape,
             call,
             loaded,
             GuardCall::Claim,
         )),
-        GuardCall::Claim => StageNext::Going(claimed(shape, call, got, loaded)),
+        GuardCall::Claim => ControlFlow::Continue(claimed(shape, call, got, loaded)),
     }
 }
 
@@ -435,9 +440,9 @@ pub(crate) fn ended(
 pub(crate) fn first_stage(shape: &Shape, call: &Call) -> Stage
     requires suits { IsTrue (call_suits shape.now.width call.now) }
     requires width { shape.now.width ≤ 16 }
-    ensures stage { (loaded : List ℕ) → IsStage shape.now call.now loaded result }
-    ensures phase { (loaded : List ℕ) →
-        phase_at call.now loaded result ≡ first_phase (job_in call.now) }
+    ensures sound { (loaded : List ℕ) → IsStage shape.now call.now loaded result }
+    ensures stage { (loaded : List ℕ) →
+        stage_at call.now loaded result ≡ first_stage (job_in call.now) }
 {
     match call {
         Call::Get => Stage::LoadingLock,

@@ -4,6 +4,7 @@ ghost use Rattle.std.specs.Prelude.{vec_capacity, IfOk, OnOk, None, Some, slice_
 ghost use Rattle.std.specs.Prelude.{slice_index_or, slice_get, slice_set, ◌==◌, ◌++◌, ◌∷◌, []};
 ghost use Rattle.std.specs.Prelude.{if◌then◌else◌, is_some, IfSome, false, List};
 
+use crate::access::FIRST_WORD;
 use crate::machine::Machine;
 use crate::running::Stepped;
 use crate::script::{Arg, Script, ScriptCall};
@@ -23,6 +24,8 @@ pub(crate) struct Begun {
 #[derive(Drop)]
 pub(crate) struct Worker {
     pub(crate) begun: Option<Begun>,
+    /// The stamp that each finished call answered, 0 where it answered none. There is one for each,
+    /// so their number is also that of the finished calls, and the index of the thread's next call.
     pub(crate) stamps: Vec<u64>,
 }
 
@@ -36,7 +39,7 @@ pub(crate) struct State {
     answer: Reply,
 }
 
-/// The kind of a step: what `Stepped` says, without the entry.
+/// The kind of a step: what `Stepped` says, without the entry, which is expensive to move.
 #[derive(Clone, Copy)]
 pub(crate) enum StepKind {
     Idle,
@@ -172,10 +175,10 @@ fn opening_words(alloc: Global, shape: &Shape) -> Result<Vec<u64>, AllocError>
         shape.now.width 0) }
 {
     let opening = Word::opening_in(shape.limits.layout()).bits();
-    let mut words = Vec::with_capacity(alloc, 2 + shape.words())?;
+    let mut words = Vec::with_capacity(alloc, FIRST_WORD + shape.word_count())?;
     words.push(opening)?;
     words.push(opening)?;
-    for _ in 0..shape.words() {
+    for _ in 0..shape.word_count() {
         words.push(0)?;
     }
     Ok(words)

@@ -64,6 +64,7 @@ fn set_meter(meters: &mut [Meter], thread: usize, meter: Meter)
 }
 
 impl Tally {
+    /// Before the first step, for this many threads.
     pub(crate) fn new(alloc: Global, threads: usize) -> Result<Tally, AllocError>
         ensures { IfOk result
             (λ t. tally_of t ≡ record {

@@ -15,9 +15,9 @@ use Rattle.stamp_core.specs.declared.decision.Decision.{Decision}
 use Rattle.stamp_core.specs.declared.decision.Decision.TheVariants.{Answer, Change, Wait}
 use Rattle.stamp_machines.specs.Job.{Job}
 use Rattle.stamp_machines.specs.LockPhase as phases
-use Rattle.stamp_machines.specs.LockPhase.{judged}
+use Rattle.stamp_machines.specs.LockPhase.{turn_on}
 use Rattle.stamp_machines.specs.Machine.{Finds, after_access, lock_turn}
-use Rattle.stamp_machines.specs.MachineState.{MachineState, start, first_phase}
+use Rattle.stamp_machines.specs.MachineState.{MachineState, start, first_stage}
 use Rattle.stamp_machines.specs.MachineState.{lock_alone, on_lock_alone}
 use Rattle.stamp_machines.specs.declared.machine.Turn.{Turn}
 use Rattle.stamp_machines.specs.declared.machine.Turn.TheVariants.{Going, Done}
@@ -93,7 +93,7 @@ begins limits call v found w lock loaded = record {
   machine = ap (λ (j : Option Job). after_access (record {
     shape = lock_alone limits;
     call = call;
-    phase = first_phase j;
+    stage = first_stage j;
   }) found) (lock_none call lock);
 }
 
@@ -108,10 +108,10 @@ module _ (limits : Bounds) (call : Call) (v : LockPassView) (found : ℕ) (w : L
   -- the machine stands where the decision on the word found leads
   turns : (d : Decision) → d ≡ decision limits found call →
       Finds (underway.words ++ found ∷ []) (Going (start (lock_alone limits) call))
-      (lock_turn (lock_alone limits) call (judged found d))
+      (lock_turn (lock_alone limits) call (turn_on found d))
   turns d is = subst (λ (e : Decision). Finds (underway.words ++ found ∷ [])
       (Going (start (lock_alone limits) call))
-      (lock_turn (lock_alone limits) call (judged found e))) (sym is) underway.machine
+      (lock_turn (lock_alone limits) call (turn_on found e))) (sym is) underway.machine
 
   -- the word found answers the call
   pub is_answered : (reply : Reply) → Answers limits (word_at limits found) call reply →
@@ -136,12 +136,12 @@ module _ (limits : Bounds) (call : Call) (v : LockPassView) (found : ℕ) (w : L
     -- where the machine stands after its exchange has found this word
     exchanged : (word : ℕ) (b : Bool) → (word == found) ≡ b →
         after_access (on_lock_alone limits call (Some found)) word ≡ lock_turn (lock_alone limits) call
-        (if b then phases.Ended reply else judged word (decision limits word call))
+        (if b then phases.Ended reply else turn_on word (decision limits word call))
     exchanged word b same =
         ap (λ (d : Decision). lock_turn (lock_alone limits) call (phases.tried limits call found word d))
         (sym is) ∙
         ap (λ (c : Bool). lock_turn (lock_alone limits) call
-        (if c then phases.Ended reply else judged word (decision limits word call))) same
+        (if c then phases.Ended reply else turn_on word (decision limits word call))) same
 
     -- the exchange found the same word
     pub is_made : (u : LockPassView) → Won limits call w found u → Answered limits call reply v u
@@ -170,7 +170,7 @@ module _ (limits : Bounds) (call : Call) (v : LockPassView) (found : ℕ) (w : L
       loaded = loaded;
       machine = finds_more (underway.words ++ found ∷ []) (Going (start (lock_alone limits) call))
           (on_lock_alone limits call (Some found)) word
-          (lock_turn (lock_alone limits) call (judged word (decision limits word call)))
+          (lock_turn (lock_alone limits) call (turn_on word (decision limits word call)))
           (turns (Change new reply) is) (exchanged word false other);
     }
 
@@ -186,7 +186,7 @@ module _ (limits : Bounds) (call : Call) (v : LockPassView) (found : ℕ) (w : L
     loaded = loaded;
     machine = finds_more (underway.words ++ found ∷ []) (Going (start (lock_alone limits) call))
         (on_lock_alone limits call None) word
-        (lock_turn (lock_alone limits) call (judged word (decision limits word call)))
+        (lock_turn (lock_alone limits) call (turn_on word (decision limits word call)))
         (turns Wait is) refl;
   }
 

@@ -5,7 +5,7 @@ use Rattle.stamp_core.specs.Limits.{Bounds}
 use Rattle.stamp_core.specs.CountedDecision.{decision}
 use Rattle.stamp_core.specs.declared.call.Call.{Call}
 use Rattle.stamp_core.specs.declared.reply.Reply.{Reply}
-use Rattle.stamp_machines.specs.LockPhase.{judged}
+use Rattle.stamp_machines.specs.LockPhase.{turn_on}
 use Rattle.stamp_machines.specs.Machine.{Finds, lock_turn}
 use Rattle.stamp_machines.specs.MachineState.{start, lock_alone, on_lock_alone}
 use Rattle.stamp_machines.specs.declared.machine.Turn.{Turn}
@@ -52,4 +52,4 @@ pub record Underway (limits : Bounds) (call : Call) (v : LockPassView) (found : 
   pub waited : Waited v words before
   pub loaded : Loaded limits call before found w
   pub machine : Finds (words ++ found ∷ []) (Going (start (lock_alone limits) call))
-      (lock_turn (lock_alone limits) call (judged found (decision limits found call)))
+      (lock_turn (lock_alone limits) call (turn_on found (decision limits found call)))

@@ -6,7 +6,7 @@ use Rattle.stamp_core.specs.Record.{Recorded}
 use Rattle.stamp_core.specs.declared.entry.Entry.{Entry}
 use Rattle.stamp_machines.specs.Script.{Scripted}
 use Rattle.stamp_machines.specs.Completing.{Completing, before_all}
-use Rattle.stamp_machines.specs.World.{completed_calls}
+use Rattle.stamp_machines.specs.World.{finished_calls}
 use Rattle.stamp_machines.specs.RunRecord.{run_record}
 use Rattle.stamp_history.specs.HistoryText.{entries_data, after_entries, history_data}
 use Rattle.stamp_history.proofs.Appending.{onto}
@@ -21,7 +21,7 @@ returns c =
     let before : started ≡ before_all script =
     grind (arith, common_steps, c.start.ensures.ok, c.map_err.ensures.cases, c.in_ok-completions.was) in
     let written : List Entry = started.rest in
-    let all : written ≡ completed_calls script script.steps = ap (λ (d : Completing). d.rest) before in
+    let all : written ≡ finished_calls script script.steps = ap (λ (d : Completing). d.rest) before in
     let r : Recorded = record { limits = c.limits.result; width = c.width.result; entries = written; report = [] } in
     let same : r ≡ run_record script =
     same_record (run_record script) _ _ _ _ c.limits.ensures.limits c.width.ensures.width all refl in

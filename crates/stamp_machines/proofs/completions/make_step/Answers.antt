@@ -9,7 +9,7 @@ use Rattle.stamp_machines.specs.World.{stamps_of}
 use Rattle.stamp_machines.specs.StateFields.{stamps_at}
 use Rattle.stamp_machines.specs.CompletionsFields.{IsAfter, calls_until}
 use Rattle.stamp_machines.specs.declared.state.State.{State}
-use Rattle.stamp_machines.proofs.CompletedCalls.{step-made, after-reserved, kept-after}
+use Rattle.stamp_machines.proofs.FinishedCalls.{step-made, after-reserved, kept-after}
 use Rattle.stamp_machines.proofs.completions.make_step.Goals as goal
 
 pub step-requires : goal.step-requires
@@ -52,4 +52,4 @@ returns-clause-ok c =
     step-made script old c.step.new.self made (get_or c.steps.result.now made 0) c.step.result
     (after-reserved script c.args.state.now old made same c.requires.after) c.requires.few
     (same.entries ∙ c.requires.none) taken c.step.ensures.step.world c.step.ensures.workers
-    c.step.ensures.step.stamps c.step.ensures.step.report
+    c.step.ensures.step.stamps c.step.ensures.step.of_kind

@@ -2,22 +2,22 @@ use Rattle.std.proofs.Common.{refl}
 use Rattle.stamp_machines.specs.LockPhase.{Still, Ended}
 use Rattle.stamp_machines.proofs.machine.after_public.Goals as goal
 
-pub returns-in-Going-clause-leads : goal.returns-in-Going-clause-leads
-returns-in-Going-clause-leads c = rw c.in-Going.is at (c.decide_on-next.ensures.leads 0)
+pub returns-in-Continue-clause-leads : goal.returns-in-Continue-clause-leads
+returns-in-Continue-clause-leads c = rw c.in-Continue.is at (c.decide_on-next.ensures.leads 0)
 
-pub returns-in-Done-clause-leads : goal.returns-in-Done-clause-leads
-returns-in-Done-clause-leads c = rw c.in-Done.is at (c.decide_on-next.ensures.leads 0)
+pub returns-in-Break-clause-leads : goal.returns-in-Break-clause-leads
+returns-in-Break-clause-leads c = rw c.in-Break.is at (c.decide_on-next.ensures.leads 0)
 
-pub returns-in-Going-clause-phase : goal.returns-in-Going-clause-phase
-returns-in-Going-clause-phase c = (
-  Still c.in-Going.seen,
-  rw c.in-Going.is at (c.decide_on-next.ensures.leads 0),
+pub returns-in-Continue-clause-phase : goal.returns-in-Continue-clause-phase
+returns-in-Continue-clause-phase c = (
+  Still c.in-Continue.seen,
+  rw c.in-Continue.is at (c.decide_on-next.ensures.leads 0),
   refl,
 )
 
-pub returns-in-Done-clause-phase : goal.returns-in-Done-clause-phase
-returns-in-Done-clause-phase c = (
+pub returns-in-Break-clause-phase : goal.returns-in-Break-clause-phase
+returns-in-Break-clause-phase c = (
   Ended c.decide_on-next.new.answer,
-  rw c.in-Done.is at (c.decide_on-next.ensures.leads 0),
+  rw c.in-Break.is at (c.decide_on-next.ensures.leads 0),
   refl,
 )

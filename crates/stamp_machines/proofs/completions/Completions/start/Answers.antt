@@ -3,7 +3,7 @@ use Rattle.stamp_machines.specs.Script.{Scripted}
 use Rattle.stamp_machines.specs.World.{opening, opening_of}
 use Rattle.stamp_machines.specs.StateFields.{world_at}
 use Rattle.stamp_machines.specs.declared.shape.Shape.{Shape}
-use Rattle.stamp_machines.proofs.CompletedCalls.{opening-after, opening-completing}
+use Rattle.stamp_machines.proofs.FinishedCalls.{opening-after, opening-completing}
 use Rattle.stamp_machines.proofs.completions.Completions.start.Goals as goal
 
 pub invariant_of-result : goal.invariant_of-result

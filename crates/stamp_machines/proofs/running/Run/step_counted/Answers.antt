@@ -20,7 +20,7 @@ pub returns-in_ok-count-in-Ok-clause-tallied : goal.returns-in_ok-count-in-Ok-cl
 returns-in_ok-count-in-Ok-clause-tallied c =
     let more = tallied-more c.args.self.now.script c.args.self.now.steps c.args.thread _
     c.in-Ok.stepped c.known.ensures.sound c.known.ensures.few c.requires.thread
-    c.requires.tallied c.in-Ok.ensures.report in
+    c.requires.tallied c.in-Ok.ensures.stepped in
     let before : c.bits-before.result
     ≡ lock_word (execution_of c.args.self.now.script c.args.self.now.steps) =
     c.bits-before.ensures.bits ∙ ap (λ (w : LockWord). w.bits) c.word.ensures.word in

@@ -44,7 +44,7 @@ words_found g c = grind (arith, common_steps)
 access_is_safe : (g : Over) (c : After-deref_mut g) →
     HasBegun g.gone c.args.script.now c.args.self.now c.begin.new.self c.args.thread c.args.position →
     let machine = c.in-Some.begun.machine in
-    IsSafeIn machine.shape machine.call machine.phase c.deref_mut.result.now
+    IsSafeIn machine.shape machine.call machine.stage c.deref_mut.result.now
 access_is_safe g c begun = rw (words_found g c)
     (worker-safe g.gone _ _ _ _ _ _ _ begun c.requires.1.0 c.requires.0 c.requires.1.1.0 (is_in_call g c))
 

@@ -1,5 +1,7 @@
--- What an access of a lock call leads to.
+-- What a lock call on its way keeps to, and what its accesses lead to.
 use Rattle.std.specs.Prelude.{◌≡◌, ℕ, ◌<◌, ◌^◌, Option, Some, None, true}
+use Rattle.std.specs.declared.ops.ControlFlow.{ControlFlow}
+use Rattle.std.specs.declared.ops.ControlFlow.TheVariants.{Continue, Break}
 use Rattle.stamp_core.specs.Call.{is_lock_call}
 use Rattle.stamp_core.specs.Limits.{Bounds}
 use Rattle.stamp_core.specs.Word.{LockWord, IsAdmitted, word_at}
@@ -8,16 +10,12 @@ use Rattle.stamp_core.specs.Decision.{stamp_in}
 use Rattle.stamp_core.specs.declared.call.Call.{Call}
 use Rattle.stamp_core.specs.declared.reply.Reply.{Reply}
 use Rattle.stamp_core.specs.declared.decision.Decision.TheVariants.{Change}
-use Rattle.stamp_machines.specs.declared.lock_phase.PhaseNext.{PhaseNext}
-use Rattle.stamp_machines.specs.declared.lock_phase.PhaseNext.TheVariants as made
 use Rattle.stamp_machines.specs.LockPhase.{PhaseTurn, Still, Ended}
-use Rattle.stamp_machines.specs.PhaseState.{PhaseState}
-use Rattle.stamp_machines.specs.LockCallSteps.{Ends, Goes}
 
--- with this reply
-abbrev pub phase_turn : PhaseNext → Reply → PhaseTurn
-phase_turn (made.Going seen) reply = Still seen
-phase_turn made.Done reply = Ended reply
+-- it goes on with this word, or with none, or has ended with this reply
+abbrev pub phase_turn : ControlFlow (Unit {0}) (Option ℕ) → Reply → PhaseTurn
+phase_turn (Continue seen) reply = Still seen
+phase_turn (Break _) reply = Ended reply
 
 -- what the call does to a word
 pub record Changing (limits : Bounds) (call : Call) (old : ℕ) : Type 0 where
@@ -36,11 +34,6 @@ abbrev pub IsLockPhase : Bounds → Call → Option ℕ → Type 0
 IsLockPhase limits call seen = (is_lock_call call ≡ true) × IsChanging limits call seen
 
 -- it goes on with such a word, or the stamp that it ended with is below 2^63
-abbrev pub IsPhaseNext : Bounds → Call → PhaseNext → Reply → Type 0
-IsPhaseNext limits call (made.Going seen) reply = IsChanging limits call seen
-IsPhaseNext limits call made.Done reply = stamp_in reply < 2 ^ 63
-
--- where it leads to have found this word
-abbrev pub LeadsOn : PhaseState → ℕ → PhaseNext → Reply → Type 0
-LeadsOn p found (made.Going seen) reply = Goes p found (record p { seen = seen })
-LeadsOn p found made.Done reply = Ends p found reply
+abbrev pub IsPhaseTurn : Bounds → Call → PhaseTurn → Type 0
+IsPhaseTurn limits call (Still seen) = IsChanging limits call seen
+IsPhaseTurn limits call (Ended reply) = stamp_in reply < 2 ^ 63

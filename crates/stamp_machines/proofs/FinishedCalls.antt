@@ -8,7 +8,7 @@ use Rattle.std.proofs.Math.Seq.{drop-append_seam}
 use Rattle.stamp_core.specs.declared.entry.Entry.{Entry}
 use Rattle.stamp_machines.specs.Script.{Scripted, IsSound}
 use Rattle.stamp_machines.specs.Invariant.{Invariant}
-use Rattle.stamp_machines.specs.World.{World, execution_of, completed_calls, step, stepped, world_after}
+use Rattle.stamp_machines.specs.World.{World, execution_of, finished_calls, step, stepped, world_after}
 use Rattle.stamp_machines.specs.World.{current, stamps_of, opening}
 use Rattle.stamp_machines.specs.StepKind.{IsOfKind}
 use Rattle.stamp_machines.specs.CompletionsFields.{IsAfter, calls_until, calls_after, HandsOn}
@@ -69,11 +69,11 @@ stepped-last world t (Some b) e more = world_after-last world t b _ _ e more
 
 -- all that a script finishes is what it has finished and what it still does
 until-and-after : (script : Scripted) (made : ℕ) →
-    completed_calls script script.steps ≡ calls_until script made ++ calls_after script made
+    finished_calls script script.steps ≡ calls_until script made ++ calls_after script made
 until-and-after script made =
     let more =
     entries-more script (execution_of script (take made script.steps)) (drop made script.steps) in
-    let all : completed_calls script script.steps ≡ calls_until script made ++ more.0 =
+    let all : finished_calls script script.steps ≡ calls_until script made ++ more.0 =
     ap (λ (w : World). w.entries) (sym (execution-rest script script.steps made)) ∙ more.1 in
     let rest : calls_after script made ≡ more.0 =
     ap (λ (es : List Entry). drop (length (calls_until script made)) es) all
@@ -84,7 +84,7 @@ after-ended : (script : Scripted) (made made' : ℕ) (e : Entry) →
     calls_until script made' ≡ calls_until script made ++ e ∷ [] →
     calls_after script made ≡ e ∷ calls_after script made'
 after-ended script made made' e more =
-    let all : completed_calls script script.steps
+    let all : finished_calls script script.steps
     ≡ calls_until script made ++ (e ∷ calls_after script made') =
     until-and-after script made'
     ∙ ap (λ (es : List Entry). es ++ calls_after script made') more
@@ -95,7 +95,7 @@ after-ended script made made' e more =
 after-same : (script : Scripted) (made made' : ℕ) → calls_until script made' ≡ calls_until script made →
     calls_after script made' ≡ calls_after script made
 after-same script made made' same =
-    ap (λ (es : List Entry). drop (length es) (completed_calls script script.steps)) same
+    ap (λ (es : List Entry). drop (length es) (finished_calls script script.steps)) same
 
 -- before the first step
 pub opening-after : (script : Scripted) (s : State) → world_at [] s 0 ≡ opening script →
@@ -118,7 +118,7 @@ opening-completing script s world =
       script = script;
       made = 0;
       last = slice_get es 0;
-      rest = completed_calls script script.steps;
+      rest = finished_calls script script.steps;
     }) (ap (λ (w : World). w.entries) world)
 
 -- the schedule's world, where the entries of the steps made are gone
@@ -148,7 +148,7 @@ after-reserved script old mid made same after =
       stamps = λ t. same.stamps t ∙ after.stamps t;
     }
 
--- what is reported of a step, and what it left
+-- what kind a step is of, and what it left
 going : (script : Scripted) (old new : State) (made t : ℕ) → old.entries.items ≡ [] →
     calls_until script (made + 1) ≡ calls_until script made ++ new.entries.items →
     calls_until script made ++ new.entries.items ≡ calls_until script made ++ old.entries.items →
