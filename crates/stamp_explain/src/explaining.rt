@@ -87,8 +87,8 @@ fn without_order(
 
 /// Explains an observed history: finds an order in which a single-threaded lock and record give its calls these
 /// replies, and makes a recorded history of it, with a point for each call. Position p becomes the positions
-/// 64 p to 64 p + 63; a call under way that took effect ends with the history, and one that didn't is left out. A
-/// search gives up once it has looked at more than `most` configurations. Refuses as 1 `Stuck` or
+/// 64 p to 64 p + 63; a call under way that took effect ends with the history, and one that didn't is left out.
+/// A search gives up once it has looked at more than `most` configurations. Refuses as 1 `Stuck` or
 /// 2 `Unexplained`, where no order explains the history, 3 `Undecided`, where that isn't known, or 4 `Memory`,
 /// where an allocation was refused. It refuses as 2 or 3 only where a search gives up.
 pub fn explain(alloc: Global, observed: &Observed, most: u64) -> Result<Record, ExplainError>
