@@ -12,9 +12,9 @@ use Rattle.stamp_explain.specs.declared.node.Node.{Node}
 use Rattle.stamp_explain.specs.declared.node.Next.{Next}
 use Rattle.stamp_explain.specs.declared.node.Waiting.{Waiting}
 use Rattle.stamp_explain.specs.declared.store.Store.{Store}
-use Rattle.stamp_explain.specs.Observed.{IsObserved, ObservedHistory}
+use Rattle.stamp_explain.specs.Observed.{IsObserved, ObservedHistory, IsReturnAt}
 use Rattle.stamp_explain.specs.Explained.{IsExplained}
-use Rattle.stamp_explain.specs.Search.{LockSteps, IsCompletedBy, IsReturnAt, AreReturns, first_state}
+use Rattle.stamp_explain.specs.Search.{LockSteps, IsCompletedBy, AreReturns, first_state}
 use Rattle.stamp_explain.specs.Configuration.{AreOne, AwaitsNext, Configuration, GoesOnFrom, IsAlive, LookedAtMore}
 use Rattle.stamp_explain.specs.Configuration.{MovesFromOne}
 use Rattle.stamp_explain.specs.Node.{IsFirstNode, IsNext}
@@ -73,8 +73,8 @@ deepens_no_more h returns store waited expanded are before all seen explained =
 
     by : IsDead h returns first ⊎ IsOpen h returns was.configurations [] None_now 0 first of_first.configuration → ⊥
     by (inl dead) = dead moves hope
-    by (inr going) = all_passed h returns was.configurations [] 0 first of_first.configuration going (omega arith) moves
-        hope
+    by (inr going) = all_passed h returns was.configurations [] 0 first of_first.configuration going (omega arith)
+        moves hope
 
 -- where a search begins no call is in effect
 pub first_settled : (h : ObservedHistory) (returns : List ℕ) (node : Node) → IsFirstNode h node →

@@ -6,8 +6,8 @@ use Rattle.stamp_core.specs.Limits.{Bounds}
 use Rattle.stamp_core.specs.declared.call.Call.{Call}
 use Rattle.stamp_core.specs.declared.reply.Reply.{Reply}
 use Rattle.stamp_explain.specs.declared.observed.Observation.{Observation}
-use Rattle.stamp_explain.specs.Observed.{ObservedHistory, IsObserved, HasReturned, IsInterval, IsBefore, AreOfOneObject}
-use Rattle.stamp_explain.specs.Observed.{of_lock, of_record}
+use Rattle.stamp_explain.specs.Observed.{ObservedHistory, IsObserved, HasReturned, IsInterval, IsBefore}
+use Rattle.stamp_explain.specs.Observed.{AreOfOneObject, of_lock, of_record, IsReturnAt}
 use Rattle.stamp_explain.specs.Explained.{Effect, IsEffectOf, IsExplained}
 use Rattle.stamp_core.specs.Record.{Recorded}
 use Rattle.stamp_core.specs.Linearized.{IsLinearized}
@@ -15,7 +15,6 @@ use Rattle.stamp_explain.specs.Points.{IsRecordOfObserved}
 use Rattle.stamp_explain.specs.Cut.{cut, seen_at, IsStuck}
 use Rattle.stamp_explain.specs.Search.{LockState, FindsOrder, CanComplete, MayTake, AreReturns, AreReturnsOf}
 use Rattle.stamp_explain.specs.Search.{LockSteps, LockAlone, RecordAlone, first_state, IsFirstReturn, IsAlikeSooner}
-use Rattle.stamp_explain.specs.Search.{IsReturnAt}
 use Rattle.stamp_explain.specs.Configuration.{Configuration, IsAlive, GivesUp}
 use Rattle.stamp_core.specs.Content.{zeros}
 use Rattle.stamp_explain.specs.Unchanging.{changes_nothing, is_open_question}
@@ -105,11 +104,11 @@ OpenQuestionsAreNotNeeded =
     LockSteps limits s (x.entry.call, x.reply) t → CanComplete (LockSteps limits) entries to_come t (x.index ∷ taken) →
     CanComplete (LockSteps limits) entries to_come s taken
 
--- A record of an observed history that is linearized explains it.
+-- A recorded history of an observed one that is linearized explains it.
 abbrev pub PointsExplain : Type 0
 PointsExplain = (h : ObservedHistory) (r : Recorded) → IsRecordOfObserved h r → IsLinearized r → IsExplained h
 
--- And each one that is explained has such a record.
+-- And each one that is explained has such a recorded history.
 abbrev pub ExplainedHasPoints : Type 0
 ExplainedHasPoints = (h : ObservedHistory) → IsObserved h → IsExplained h →
     (r : Recorded) × (IsRecordOfObserved h r × IsLinearized r)

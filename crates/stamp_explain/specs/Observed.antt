@@ -1,5 +1,5 @@
 -- Observed histories: what each call was, when it began and, unless it is under way, when it returned and what.
-use Rattle.std.specs.Prelude.{ℕ, ◌≡◌, ◌≤◌, ◌<◌, ◌⊎◌, List, length, Some, MatchOption, IsTrue, Bool}
+use Rattle.std.specs.Prelude.{ℕ, ◌≡◌, ◌≤◌, ◌<◌, ◌⊎◌, List, length, slice_get, Some, MatchOption, IsTrue, Bool}
 use Rattle.std.specs.Prelude.{filter, not}
 use Rattle.std.specs.List.{All, AllPairs}
 use Rattle.stamp_core.specs.Call.{call_suits, is_lock_call}
@@ -38,6 +38,13 @@ AllowsReply e reply = MatchOption e.returned (Unit {0}) (λ (r : Returned). r.re
 abbrev pub HasReturned : Observation → Type 0
 HasReturned e = (r : Returned) × (e.returned ≡ Some r)
 
+-- a call that has returned stands at this place
+pub record IsReturnAt (entries : List Observation) (i : ℕ) : Type 0 where
+  pub entry : Observation
+  pub return : Returned
+  pub is_entry : slice_get entries i ≡ Some entry
+  pub returned : entry.returned ≡ Some return
+
 -- the call is of the lock, or of the record
 abbrev pub is_of_lock : Observation → Bool
 is_of_lock e = is_lock_call e.call
@@ -55,6 +62,15 @@ of_record h = record h { entries = filter is_of_record h.entries }
 -- both calls are of the lock, or both of the record
 abbrev pub AreOfOneObject : Observation → Observation → Type 0
 AreOfOneObject a b = is_lock_call a.call ≡ is_lock_call b.call
+
+-- both returned, with one call and one reply
+pub record AreAlikeCalls (e f : Observation) : Type 0 where
+  pub call : e.call ≡ f.call
+  pub first : Returned
+  pub at_first : e.returned ≡ Some first
+  pub second : Returned
+  pub at_second : f.returned ≡ Some second
+  pub reply : first.reply ≡ second.reply
 
 -- a call is not over before it began
 abbrev pub IsInterval : Observation → Type 0

@@ -1,7 +1,7 @@
 //! The recorded history of an order that explains an observed history, or the return at which none does.
 ghost use Rattle.std.specs.Prelude.{◌≡◌};
 ghost use Rattle.stamp_explain.specs.Observed.{IsObserved};
-ghost use Rattle.stamp_explain.specs.Verdict.{IsAnswer, IsNotFound};
+ghost use Rattle.stamp_explain.specs.Answer.{IsAnswer, IsNotFound};
 
 use crate::first_fault::first_fault;
 use crate::found::{Found, find};
@@ -30,7 +30,7 @@ pub enum ExplainError {
 
 impl fmt::Display for ExplainError {
     ghost use Rattle.std.specs.Prelude.{Some};
-    ghost use Rattle.stamp_explain.specs.Verdict.{explain_error_text};
+    ghost use Rattle.stamp_explain.specs.Answer.{explain_error_text};
 
     ghost output = { λ e. Some (explain_error_text e) };
 
@@ -85,11 +85,12 @@ fn without_order(
     Err(first_fault(alloc, observed, ends.as_slice(), most, unexplained)?)
 }
 
-/// A recorded history of an order that explains this one, with a point for each call. Position p becomes the
-/// positions 64 p to 64 p + 63; a call under way that took effect ends with the history, and one that
-/// didn't is left out. A search gives up once it has looked at more than `most` configurations. Refuses as
-/// 1 `Stuck` or 2 `Unexplained`, where no order explains the history, 3 `Undecided` or 4 `Memory`. Where no
-/// search gives up it is no 2 and no 3.
+/// Explains an observed history: finds an order in which a single-threaded lock and record give its calls these
+/// replies, and makes a recorded history of it, with a point for each call. Position p becomes the positions
+/// 64 p to 64 p + 63; a call under way that took effect ends with the history, and one that didn't is left out.
+/// A search gives up once it has looked at more than `most` configurations. Refuses as 1 `Stuck` or
+/// 2 `Unexplained`, where no order explains the history, 3 `Undecided`, where that isn't known, or 4 `Memory`,
+/// where an allocation was refused. It refuses as 2 or 3 only where a search gives up.
 pub fn explain(alloc: Global, observed: &Observed, most: u64) -> Result<Record, ExplainError>
     requires { IsObserved observed.now }
     ensures { IsAnswer observed.now most result }

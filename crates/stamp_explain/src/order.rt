@@ -8,19 +8,17 @@ ghost use Rattle.stamp_explain.specs.Order.{IsOrderOf, IsTakenAt, IsEnd, Replies
 
 use crate::node::Node;
 use crate::observed::Observed;
-use crate::stepping::step_of;
 use crate::store::Store;
 use crate::timeline::Timeline;
+use crate::transition::transition_of;
 use stamp_core::Reply;
 use std::alloc::{AllocError, Global};
 
-/// A call that took effect: its entry in the history, and its reply.
-#[derive(Clone, Copy, Debug, PartialEq, Eq)]
-pub struct Taken {
-    /// Where it stands among the entries of the history.
-    pub entry: usize,
-    /// What it was answered.
-    pub reply: Reply,
+/// A call that took effect: where it stands among the entries of the history, and its reply.
+#[derive(Clone, Copy)]
+pub(crate) struct Taken {
+    pub(crate) entry: usize,
+    pub(crate) reply: Reply,
 }
 
 /// What a call is answered where it takes effect at this node.
@@ -29,10 +27,10 @@ fn reply_at(observed: &Observed, node: &Node, i: usize) -> Reply
     requires led { IsLedBy observed.now node.now i }
     ensures { RepliesAt observed.now node.now (record { entry = i; reply = result }) }
 {
-    let Some(step) = step_of(observed, node.bits, node.writer, i) else {
+    let Some(transition) = transition_of(observed, node.bits, node.writer, i) else {
         unreachable!();
     };
-    step.reply
+    transition.reply
 }
 
 /// The call that took effect when the search left this node, with its reply, which is that of its return

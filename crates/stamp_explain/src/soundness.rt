@@ -17,8 +17,8 @@ pub(crate) fn is_before(a: &Observation, b: &Observation) -> bool
     }
 }
 
-/// Whether it isn't over before it began.
-fn is_interval(entry: &Observation) -> bool
+/// Whether a call isn't over before it began, as an observer may tell it; one that is under way isn't over.
+pub fn is_interval(entry: &Observation) -> bool
     ensures { IsTrue result ↔ IsInterval entry.now }
 {
     match &entry.returned {
@@ -52,8 +52,8 @@ fn is_apart_from(others: &[Observation], entry: &Observation) -> bool
     true
 }
 
-/// Whether an observer may tell this: no call is over before it began, calls of one thread don't
-/// overlap, threads are below 64, and the calls suit the width.
+/// Whether an observer may tell this history, so that it can be explained: no call is over before it began,
+/// calls of one thread don't overlap, threads are below 64, and the calls suit the width.
 pub fn is_observed(observed: &Observed) -> bool
     ensures { IsTrue result ↔ IsObserved observed.now }
 {
