@@ -22,7 +22,7 @@ use Rattle.stamp_threads.specs.RecordLog.{puts, puts_in, content_in, is_locked, 
 use Rattle.stamp_threads.specs.RecordPass.{RecordPassView, Seated, IsConsistentWith, marks_ahead, first_of}
 use Rattle.stamp_threads.specs.RecordRule.{KnowsReading, Knows, IsWriting, IsKept, calling}
 use Rattle.stamp_threads.specs.RecordRule.{starting_to_read, stopping, get_of, loading_one, loaded_one}
-use Rattle.stamp_threads.specs.RecordRule.{Confirmed, Overtaken, Opened, word_to_confirm, OpenTells}
+use Rattle.stamp_threads.specs.RecordRule.{Confirmed, Overtaken, LoadedForGet, word_to_confirm, LoadForGetTells}
 use Rattle.stamp_threads.specs.RecordRule.{LoadTells, ConfirmTells}
 use Rattle.stamp_threads.proofs.Beginnings.{begins_all}
 use Rattle.stamp_threads.proofs.MadeBy.{grows_one, made_by-same}
@@ -147,16 +147,16 @@ module _ {enterable : Bool} (P : List ℕ → Type 0) (shape : RecordShape) (s :
       }
 
 -- the first load of a get, by whether somebody has write mode
-open_at : {enterable : Bool} (P : List ℕ → Type 0) (shape : RecordShape)
+load_for_get_at : {enterable : Bool} (P : List ℕ → Type 0) (shape : RecordShape)
     (s : State (Unit {0}) (List RecordPassView)) (r : IsKept enterable P shape s)
     (id : ℕ) (v : RecordPassView) → get_elem? s.views id ≡ some (v ∷ []) → v.phase ≡ Idle →
     (b : Bool) → is_locked r.log ≡ b →
     (word : ℕ) → KeptBy enterable P shape s id (if b then knowing (finding v word) r.log
     else starting_to_read (finding v word) r.log) s.words
-open_at P shape s r id v here idle true e word =
+load_for_get_at P shape s r id v here idle true e word =
     only_views P shape s r id v here (idle_quiet v.phase idle) (knowing (finding v word) r.log)
     refl refl (knowing_brings P shape s r id v here word)
-open_at P shape s r id v here idle false e word =
+load_for_get_at P shape s r id v here idle false e word =
     let f = fits_here P shape s r id v here in
     only_views P shape s r id v here (idle_quiet v.phase idle) (starting_to_read (finding v word) r.log)
     refl refl (record {
@@ -170,10 +170,10 @@ open_at P shape s r id v here idle false e word =
       };
     })
 
-pub allows_open : {enterable : Bool} (P : List ℕ → Type 0) (shape : RecordShape) (slots id : ℕ) (me : Seated) →
+pub allows_load_for_get : {enterable : Bool} (P : List ℕ → Type 0) (shape : RecordShape) (slots id : ℕ) (me : Seated) →
     me ≡ alone (first_of me.0) → (first_of me.0).phase ≡ Idle →
-    Allows (IsKept enterable P shape) slots id me 0 (λ n. n) (OpenTells shape (step slots 0 0 0 none) me)
-allows_open P shape slots id me is idle s r _ at _ =
+    Allows (IsKept enterable P shape) slots id me 0 (λ n. n) (LoadForGetTells shape (step slots 0 0 0 none) me)
+allows_load_for_get P shape slots id me is idle s r _ at _ =
     let v : RecordPassView = first_of me.0 in
     let here : get_elem? s.views id ≡ some (v ∷ []) =
     at ∙ ap (λ (m : Seated). some m.0) is in
@@ -181,8 +181,8 @@ allows_open P shape slots id me is idle s r _ at _ =
     let w : RecordPassView = if is_locked r.log then knowing (finding v word) r.log
     else starting_to_read (finding v word) r.log in
     let quiet = idle_quiet v.phase idle in
-    load_leaves P shape s id me 0 w (Opened shape v word)
-    (open_at P shape s r id v here idle (is_locked r.log) refl word) (record {
+    load_leaves P shape s id me 0 w (LoadedForGet shape v word)
+    (load_for_get_at P shape s r id v here idle (is_locked r.log) refl word) (record {
       log = r.log;
       left = leaves_now P shape s r id v here;
       after = λ i. (w ∷ [], (is i).1);

@@ -14,7 +14,8 @@ use Rattle.stamp_threads.specs.Seats.{alone, both}
 use Rattle.stamp_threads.specs.RecordWord.{version_unit, writer_unit, word_with}
 use Rattle.stamp_threads.specs.RecordLog.{RecordLog, puts, is_locked}
 use Rattle.stamp_threads.specs.RecordPass.{RecordPassView, Seated, LeavesLockWord, first_of, second_of}
-use Rattle.stamp_threads.specs.RecordRule.{with_phase, starting_to_read, acquiring, Looked, Acquired, Opened, Released}
+use Rattle.stamp_threads.specs.RecordRule.{with_phase, starting_to_read, acquiring, LoadedForPut}
+use Rattle.stamp_threads.specs.RecordRule.{Acquired, LoadedForGet, Released}
 use Rattle.stamp_threads.specs.RecordRule.{Confirmed, Overtaken, word_to_confirm, Met}
 use Rattle.stamp_threads.specs.RecordCall.{RecordAnswered, SawWord, WasBusy, WasLost, WasSpent}
 use Rattle.stamp_threads.specs.RecordCall.{RecordPassesMet}
@@ -69,12 +70,12 @@ module _ (shape : RecordShape) (v : RecordPassView) (found : ℕ) where
       same_word shape.limits.layout (puts log) (puts log) (is_locked log) false refl free
 
   -- a put goes on
-  pub goes_on : (me : Seated) (t : Looked shape v found me) →
+  pub put_goes_on : (me : Seated) (t : LoadedForPut shape v found me) →
       eqb (found % version_unit shape.limits.layout) (writer_unit shape.limits.layout) ≡ false →
       writes_in shape.limits.layout found < shape.limits.versions →
       (is_locked t.log ≡ false) × (found ≡ word_with shape.limits.layout (puts t.log) false) ×
       (puts t.log < shape.limits.versions)
-  goes_on me t test less =
+  put_goes_on me t test less =
       let free = is_free t.log t.left test in
       let p = puts_of shape.limits.layout (is_locked t.log) found (puts t.log) t.left.word_is free
       in
@@ -106,10 +107,10 @@ module _ (shape : RecordShape) (v : RecordPassView) (found : ℕ) where
       sym (held_is shape.limits.layout (puts log))) left.few
 
   -- a get goes on
-  pub opened : (me : Seated) (t : Opened shape v found me) →
+  pub get_goes_on : (me : Seated) (t : LoadedForGet shape v found me) →
       eqb (found % version_unit shape.limits.layout) (writer_unit shape.limits.layout) ≡ false →
       (first_of me.0).phase ≡ Reading (puts t.log) []
-  opened me t test =
+  get_goes_on me t test =
       let free = is_free t.log t.left test in
       ap (λ (m : Seated). (first_of m.0).phase) t.after ∙
       ap (λ (b : Bool). (if b then knowing (finding v found) t.log
@@ -121,9 +122,9 @@ HeldTest shape word b =
 
 -- refusals, and a get that is made; v is the pass before the call
 module _ (shape : RecordShape) (v : RecordPassView) (loaded : ℕ) where
-  looked_saw : (me : Seated) → Looked shape v loaded me → v.phase ≡ Idle →
+  load_saw : (me : Seated) → LoadedForPut shape v loaded me → v.phase ≡ Idle →
       SawWord shape v loaded (first_of me.0)
-  looked_saw me t idle =
+  load_saw me t idle =
       subst (λ (m : Seated). SawWord shape v loaded (first_of m.0)) (sym t.after) (record {
         left = t.left;
         others = t.others;
@@ -138,16 +139,16 @@ module _ (shape : RecordShape) (v : RecordPassView) (loaded : ℕ) where
   locked_of log left test =
       sym (held_test shape.limits.layout (is_locked log) loaded (puts log) left.word_is) ∙ test
 
-  put_busy : (me : Seated) → Looked shape v loaded me → v.phase ≡ Idle →
+  put_busy : (me : Seated) → LoadedForPut shape v loaded me → v.phase ≡ Idle →
       HeldTest shape loaded true → WasBusy shape v loaded (first_of me.0)
   put_busy me t idle test = record {
     looks = ap (λ (m : Seated). (first_of m.0).found) t.after;
-    saw = looked_saw me t idle;
+    saw = load_saw me t idle;
     locked = ap (λ (m : Seated). is_locked (first_of m.0).known) t.after ∙
         locked_of t.log t.left test;
   }
 
-  put_spent : (me : Seated) → Looked shape v loaded me → v.phase ≡ Idle →
+  put_spent : (me : Seated) → LoadedForPut shape v loaded me → v.phase ≡ Idle →
       HeldTest shape loaded false →
       shape.limits.versions ≤ writes_in shape.limits.layout loaded →
       WasSpent shape v loaded (first_of me.0)
@@ -159,7 +160,7 @@ module _ (shape : RecordShape) (v : RecordPassView) (loaded : ℕ) where
       let all : puts t.log ≡ shape.limits.versions = omega arith in
       record {
         looks = ap (λ (m : Seated). (first_of m.0).found) t.after;
-        saw = looked_saw me t idle;
+        saw = load_saw me t idle;
         free = ap (λ (m : Seated). is_locked (first_of m.0).known) t.after ∙ free;
         all = ap (λ (m : Seated). puts (first_of m.0).known) t.after ∙ all;
         last = free_word shape v loaded t.log t.left free ∙
@@ -193,7 +194,7 @@ module _ (shape : RecordShape) (v : RecordPassView) (loaded : ℕ) where
     };
   }
 
-  get_busy : (me : Seated) → Opened shape v loaded me → v.phase ≡ Idle →
+  get_busy : (me : Seated) → LoadedForGet shape v loaded me → v.phase ≡ Idle →
       HeldTest shape loaded true → WasBusy shape v loaded (first_of me.0)
   get_busy me t idle test =
       let locked = locked_of t.log t.left test in
@@ -209,7 +210,7 @@ module _ (shape : RecordShape) (v : RecordPassView) (loaded : ℕ) where
       }) idle test
 
   -- what the pass knows when it has loaded the words
-  module _ (P : List ℕ → Type 0) (me me2 : Seated) (words : List ℕ) (t : Opened shape v loaded me)
+  module _ (P : List ℕ → Type 0) (me me2 : Seated) (words : List ℕ) (t : LoadedForGet shape v loaded me)
       (test : HeldTest shape loaded false)
       (loads : (version : ℕ) → (first_of me.0).phase ≡ Reading version [] →
       me2 ≡ alone (with_phase (first_of me.0) (Reading version words))) where
@@ -290,7 +291,7 @@ module _ (shape : RecordShape) (v : RecordPassView) (loaded : ℕ) where
         o.obeys
 
   put_made : (me me2 me3 me4 : Seated) (words : List ℕ) (found held : ℕ)
-      (t : Looked shape v loaded me) (got : Acquired shape (first_of me.0) found me2 words) →
+      (t : LoadedForPut shape v loaded me) (got : Acquired shape (first_of me.0) found me2 words) →
       found ≡ loaded →
       me3 ≡ alone (with_phase (first_of me2.0) (Writing (puts got.log) words shape.width)) →
       held ≡ loaded + writer_unit shape.limits.layout →
@@ -334,15 +335,15 @@ module _ (shape : RecordShape) (v : RecordPassView) (loaded : ℕ) where
         consistent = o.consistent;
       })
 
-  put_lost : (me : Seated) (t : Looked shape v loaded me) → v.phase ≡ Idle →
+  put_lost : (me : Seated) (t : LoadedForPut shape v loaded me) → v.phase ≡ Idle →
       HeldTest shape loaded false → (found : ℕ) (me2 : Seated) →
-      Looked shape (first_of me.0) found me2 → found ≢ loaded →
+      LoadedForPut shape (first_of me.0) found me2 → found ≢ loaded →
       WasLost shape v loaded found (first_of me2.0)
   put_lost me t idle test found me2 told differ =
       let u : RecordPassView = knowing (finding v loaded) t.log in
       let is : first_of me.0 ≡ u = ap (λ (m : Seated). first_of m.0) t.after in
-      let o : Looked shape u found me2 =
-      subst (λ (x : RecordPassView). Looked shape x found me2) is told in
+      let o : LoadedForPut shape u found me2 =
+      subst (λ (x : RecordPassView). LoadedForPut shape x found me2) is told in
       subst (λ (m : Seated). WasLost shape v loaded found (first_of m.0)) (sym o.after)
       (lost_after t.log v.phase found _ t.left (is_free shape v loaded t.log t.left test) differ
       (record {
@@ -356,13 +357,13 @@ module _ (shape : RecordShape) (v : RecordPassView) (loaded : ℕ) where
 
 -- the same where the code has a copy of the table's key
 module _ (key shape : RecordShape) (same : key ≡ shape) (v : RecordPassView) (loaded : ℕ) where
-  pub put_busy_of : (me : Seated) → Looked key v loaded me → v.phase ≡ Idle →
+  pub put_busy_of : (me : Seated) → LoadedForPut key v loaded me → v.phase ≡ Idle →
       HeldTest shape loaded true → WasBusy shape v loaded (first_of me.0)
   put_busy_of me t idle =
       subst (λ (z : RecordShape). HeldTest z loaded true → WasBusy z v loaded (first_of me.0)) same
       (put_busy key v loaded me t idle)
 
-  pub put_spent_of : (me : Seated) → Looked key v loaded me → v.phase ≡ Idle →
+  pub put_spent_of : (me : Seated) → LoadedForPut key v loaded me → v.phase ≡ Idle →
       HeldTest shape loaded false →
       shape.limits.versions ≤ writes_in shape.limits.layout loaded →
       WasSpent shape v loaded (first_of me.0)
@@ -372,9 +373,9 @@ module _ (key shape : RecordShape) (same : key ≡ shape) (v : RecordPassView) (
       WasSpent z v loaded (first_of me.0)) same
       (put_spent key v loaded me t idle)
 
-  pub put_lost_of : (me : Seated) → Looked key v loaded me → v.phase ≡ Idle →
+  pub put_lost_of : (me : Seated) → LoadedForPut key v loaded me → v.phase ≡ Idle →
       HeldTest shape loaded false → (found : ℕ) (me2 : Seated) →
-      Looked key (first_of me.0) found me2 → found ≢ loaded →
+      LoadedForPut key (first_of me.0) found me2 → found ≢ loaded →
       WasLost shape v loaded found (first_of me2.0)
   put_lost_of me t idle test found me2 told differ =
       subst (λ (z : RecordShape). HeldTest z loaded false →
@@ -382,7 +383,7 @@ module _ (key shape : RecordShape) (same : key ≡ shape) (v : RecordPassView) (
       (λ f. put_lost key v loaded me t idle f found me2 told differ) test
 
   pub put_made_of : (me me2 me3 me4 : Seated) (words : List ℕ) (found held : ℕ)
-      (t : Looked key v loaded me) (got : Acquired key (first_of me.0) found me2 words) →
+      (t : LoadedForPut key v loaded me) (got : Acquired key (first_of me.0) found me2 words) →
       found ≡ loaded →
       me3 ≡ alone (with_phase (first_of me2.0) (Writing (puts got.log) words key.width)) →
       held ≡ loaded + writer_unit shape.limits.layout →
@@ -393,13 +394,13 @@ module _ (key shape : RecordShape) (same : key ≡ shape) (v : RecordPassView) (
       RecordAnswered z (Put words) Done v (first_of me4.0)) same
       (λ is. put_made key v loaded me me2 me3 me4 words found held t got hit stored is told) up
 
-  pub get_busy_of : (me : Seated) → Opened key v loaded me → v.phase ≡ Idle →
+  pub get_busy_of : (me : Seated) → LoadedForGet key v loaded me → v.phase ≡ Idle →
       HeldTest shape loaded true → WasBusy shape v loaded (first_of me.0)
   get_busy_of me t idle =
       subst (λ (z : RecordShape). HeldTest z loaded true → WasBusy z v loaded (first_of me.0)) same
       (get_busy key v loaded me t idle)
 
-  module _ (P : List ℕ → Type 0) (me me2 : Seated) (words : List ℕ) (t : Opened key v loaded me)
+  module _ (P : List ℕ → Type 0) (me me2 : Seated) (words : List ℕ) (t : LoadedForGet key v loaded me)
       (test : HeldTest shape loaded false)
       (loads : (version : ℕ) → (first_of me.0).phase ≡ Reading version [] →
       me2 ≡ alone (with_phase (first_of me.0) (Reading version words))) (found : ℕ)

@@ -115,7 +115,8 @@ get_of words = Called Get (Content words)
 
 -- v is the pass before a step that has found this word, and me the seat after it
 module _ (shape : RecordShape) (v : RecordPassView) (found : ℕ) (me : Seated) where
-  pub record Looked : Type 0 where
+  -- the first load of a put, or its exchange where that lost: the pass knows the whole history
+  pub record LoadedForPut : Type 0 where
     pub log : RecordLog
     pub left : LeavesLockWord shape v found log
     pub after : me ≡ alone (knowing (finding v found) log)
@@ -136,7 +137,7 @@ module _ (shape : RecordShape) (v : RecordPassView) (found : ℕ) (me : Seated) 
     pub consistent : IsConsistentWith shape.width (calling (finding v found) log (put_of words))
 
   -- the first load of a get: where nobody has write mode the pass begins to read
-  pub record Opened : Type 0 where
+  pub record LoadedForGet : Type 0 where
     pub log : RecordLog
     pub left : LeavesLockWord shape v found log
     pub after : me ≡ alone (if is_locked log then knowing (finding v found) log
@@ -199,13 +200,13 @@ word_to_confirm layout (Reading version words) = word_with layout version false
 abbrev pub Tells : Type 1
 Tells = Step (Unit {0}) → Seated → ℕ → Seated → Type 0
 
-abbrev pub LookTells : RecordShape → Tells
-LookTells shape st m found n = Looked shape (first_of m.0) found n
+abbrev pub LoadForPutTells : RecordShape → Tells
+LoadForPutTells shape st m found n = LoadedForPut shape (first_of m.0) found n
 
 abbrev pub AcquireTells : RecordShape → List ℕ → Tells
 AcquireTells shape words st m found n =
     MatchBool (found == st.first) (Acquired shape (first_of m.0) found n words)
-    (Looked shape (first_of m.0) found n)
+    (LoadedForPut shape (first_of m.0) found n)
 
 abbrev pub StoreTells : Tells
 StoreTells st m found n = n ≡ alone (stored_one (first_of m.0))
@@ -213,8 +214,8 @@ StoreTells st m found n = n ≡ alone (stored_one (first_of m.0))
 abbrev pub ReleaseTells : RecordShape → List ℕ → Tells
 ReleaseTells shape words st m found n = Released shape (first_of m.0) st.first n words
 
-abbrev pub OpenTells : RecordShape → Tells
-OpenTells shape st m found n = Opened shape (first_of m.0) found n
+abbrev pub LoadForGetTells : RecordShape → Tells
+LoadForGetTells shape st m found n = LoadedForGet shape (first_of m.0) found n
 
 abbrev pub LoadTells : Tells
 LoadTells st m found n = n ≡ alone (loaded_one (first_of m.0) found)

@@ -55,14 +55,14 @@ impl WordsStep for Brand {
 }
 
 /// The load that a put begins with.
-pub struct LookStep<C> {
+pub struct LoadForPutStep<C> {
     of: PhantomData<C>,
 }
 
-impl<C: WordsStep> Play<(), RecordPasses> for LookStep<C> {
-    ghost use Rattle.stamp_threads.specs.RecordRule.{LookTells};
+impl<C: WordsStep> Play<(), RecordPasses> for LoadForPutStep<C> {
+    ghost use Rattle.stamp_threads.specs.RecordRule.{LoadForPutTells};
 
-    ghost then = { LookTells C.shape };
+    ghost then = { LoadForPutTells C.shape };
 }
 
 /// The exchange that gets write mode.
@@ -97,14 +97,14 @@ impl<C: WordsStep> Play<(), RecordPasses> for ReleaseStep<C> {
 }
 
 /// The first load of a get.
-pub struct OpenStep<C> {
+pub struct LoadForGetStep<C> {
     of: PhantomData<C>,
 }
 
-impl<C: WordsStep> Play<(), RecordPasses> for OpenStep<C> {
-    ghost use Rattle.stamp_threads.specs.RecordRule.{OpenTells};
+impl<C: WordsStep> Play<(), RecordPasses> for LoadForGetStep<C> {
+    ghost use Rattle.stamp_threads.specs.RecordRule.{LoadForGetTells};
 
-    ghost then = { OpenTells C.shape };
+    ghost then = { LoadForGetTells C.shape };
 }
 
 /// A load of a word of the record.

@@ -14,7 +14,7 @@ use crate::faults::{GetFault, PutFault};
 use crate::record_get::get_words;
 use crate::record_pass::RecordPass;
 use crate::record_rule::{AnyContent, ContentRule, RecordRule};
-use crate::record_steps::{self, acquire, look, release, store_all};
+use crate::record_steps::{self, acquire, load_for_put, release, store_all};
 use crate::record_view::{RecordKey, RecordPasses, RecordShape};
 use crate::record_word::{first_word, opening_word};
 use crate::running_lock::LockError;
@@ -180,7 +180,7 @@ impl<P: ContentRule> RuledRecord<P> {
         let table = &self.table.shared;
         let layout = self.shape.limits.layout();
         let words = words.as_slice();
-        let loaded = look::<Brand, P>(table, &mut pass.seat);
+        let loaded = load_for_put::<Brand, P>(table, &mut pass.seat);
         if layout.has_writer(loaded) {
             return Err(PutFault::Busy(loaded));
         }
