@@ -187,21 +187,21 @@ impl RunningLock {
     {
         let table = &self.table.shared;
         let mut patience = Patience::new();
-        let mut found = load::<Brand>(table, &mut pass.seat, &call);
+        let mut seen = load::<Brand>(table, &mut pass.seat, &call);
         for _ in rt.forever() {
-            match self.decide(&call, found) {
+            match self.decide(&call, seen) {
                 LockDecision::Answer(reply) => return reply.as_reply(),
                 LockDecision::Change(new, reply) => {
-                    let old = found;
-                    found = exchange::<Brand>(table, &mut pass.seat, &call, old, new.bits());
-                    if found == old {
+                    let old = seen;
+                    seen = exchange::<Brand>(table, &mut pass.seat, &call, old, new.bits());
+                    if seen == old {
                         return reply.as_reply();
                     }
                     patience.lose();
                 }
                 LockDecision::Wait => {
-                    patience.wait(rt, table, found);
-                    found = load::<Brand>(table, &mut pass.seat, &call);
+                    patience.wait(rt, table, seen);
+                    seen = load::<Brand>(table, &mut pass.seat, &call);
                 }
             }
         }

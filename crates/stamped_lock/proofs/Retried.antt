@@ -36,8 +36,8 @@ made_after_loss limits call reply loaded found v u w l a = record {
 pub made_again : (call : Call) (reply : Reply) (lost : Lost) (h u h' : LockHandleView) →
     HasLost call lost h u → Made call reply u h' → Made call reply h h'
 made_again call reply lost h u h' l m = record {
-  lock = m.lock ∙ l.lock;
-  answered = made_after_loss h.lock.limits call reply lost.loaded lost.found h.pass u.pass h'.pass
-      l.exchange (subst (λ (x : LockView). Answered x.limits call reply u.pass h'.pass) l.lock
+  same = m.same ∙ l.same;
+  answered = made_after_loss h.running.limits call reply lost.loaded lost.found h.pass u.pass h'.pass
+      l.exchange (subst (λ (x : LockView). Answered x.limits call reply u.pass h'.pass) l.same
       m.answered);
 }

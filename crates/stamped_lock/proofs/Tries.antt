@@ -17,7 +17,7 @@ tried_none h = record {
   same_pass = record { name = refl; splits = refl };
 }
 
-tried_word : (shape : RecordShape) (word : ℕ) (h h' : RecordHandleView) → h'.shared ≡ h.shared →
+tried_word : (shape : RecordShape) (word : ℕ) (h h' : RecordHandleView) → h'.running ≡ h.running →
     SawWord shape h.pass word h'.pass → Tried h h'
 tried_word shape word h h' same saw = record {
   same = same;

@@ -29,9 +29,9 @@ use std::sync::Wait;
 /// the handle: dropping a handle releases nothing.
 #[derive(Drop)]
 pub struct LockHandle<'a> {
-    lock: &'a RunningLock,
+    running: &'a RunningLock,
     pass: Pass,
-    ghost table: { pass.table ≡ lock.now.table },
+    ghost table: { pass.table ≡ running.now.table },
 }
 
 impl<'a> Model for LockHandle<'a> {
@@ -40,17 +40,17 @@ impl<'a> Model for LockHandle<'a> {
 
     ghost Value = { LockHandleView };
 
-    ghost view = { λ h. record { lock = h.lock.now; pass = h.pass.view } };
+    ghost view = { λ h. record { running = h.running.now; pass = h.pass.view } };
 }
 
 impl<'a> LockHandle<'a> {
     /// The handle of a lock and a pass of it.
-    pub(crate) fn new(lock: &'a RunningLock, pass: Pass) -> LockHandle<'a>
-        requires { pass.table ≡ lock.now.table }
-        ensures lock { result.lock ≡ lock.now }
+    pub(crate) fn new(running: &'a RunningLock, pass: Pass) -> LockHandle<'a>
+        requires { pass.table ≡ running.now.table }
+        ensures running { result.running ≡ running.now }
         ensures pass { result.pass ≡ pass.view }
     {
-        LockHandle { lock, pass }
+        LockHandle { running, pass }
     }
 
     /// Makes a call that waits for nobody. Where its exchange loses, it is made again until it wins.
@@ -61,10 +61,9 @@ impl<'a> LockHandle<'a> {
         ensures made { Made call result self.old self.new }
         ensures reply { MayReply call result }
     {
-        let again = call;
         match self.make_once(call) {
             Ok(reply) => reply,
-            Err(_) => self.make_waiting(rt, again),
+            Err(_) => self.make_waiting(rt, call),
         }
     }
 
@@ -75,7 +74,7 @@ impl<'a> LockHandle<'a> {
         ensures made { Made call result self.old self.new }
         ensures reply { MayReply call result }
     {
-        self.lock.call(rt, &mut self.pass, call)
+        self.running.call(rt, &mut self.pass, call)
     }
 
     /// Makes a call that doesn't wait, by one load and at most one exchange.
@@ -86,7 +85,7 @@ impl<'a> LockHandle<'a> {
         ensures made { MadeOrLost call (λ r. r) result self.old self.new }
         ensures reply { IfOk result (λ r. MayReply call r) }
     {
-        self.lock.once(&mut self.pass, call)
+        self.running.once(&mut self.pass, call)
     }
 
     /// Makes a call that can't lose, by one load and at most one exchange.
@@ -96,7 +95,7 @@ impl<'a> LockHandle<'a> {
         ensures made { Made call result self.old self.new }
         ensures reply { MayReply call result }
     {
-        match self.lock.once(&mut self.pass, call) {
+        match self.running.once(&mut self.pass, call) {
             Ok(reply) => reply,
             Err(_) => unreachable!(),
         }
@@ -247,13 +246,14 @@ impl<'a> LockHandle<'a> {
 
     /// One more handle of the same lock, which knows as much as this one and has made no call.
     pub fn split(&mut self) -> LockHandle<'a>
-        ensures lock { (self.new.lock ≡ self.old.lock) × (result.lock ≡ self.old.lock) }
+        ensures running { (self.new.running ≡ self.old.running)
+            × (result.running ≡ self.old.running) }
         ensures given { self.new.pass ≡ after_split self.old.pass }
         ensures new { result.pass ≡ split_off self.old.pass }
     {
-        let pass = self.lock.split_off(&mut self.pass);
+        let pass = self.running.split_off(&mut self.pass);
         LockHandle {
-            lock: self.lock,
+            running: self.running,
             pass,
         }
     }

@@ -48,7 +48,7 @@ impl StampedLock {
 
     /// A handle, for one thread at a time. It has made no call. It takes one load and no memory.
     pub fn enter(&self) -> LockHandle<'_>
-        ensures lock { result.lock ≡ self.now }
+        ensures running { result.running ≡ self.now }
         ensures entered { HasEntered self.now.limits result.pass }
     {
         LockHandle::new(&self.running, self.running.enter())

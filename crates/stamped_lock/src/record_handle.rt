@@ -17,10 +17,10 @@ use std::thread;
 /// `split` makes another one. It has no bytes but the record's reference.
 #[derive(Drop)]
 pub struct RecordHandle<'a, const N: usize, P: ContentRule> {
-    shared: &'a RuledRecord<P>,
+    running: &'a RuledRecord<P>,
     pass: RecordPass,
-    ghost table: { pass.table ≡ shared.now.table },
-    ghost width: { (shared.now.shape.width ≡ N) × (1 ≤ N) × (N ≤ 16) },
+    ghost table: { pass.table ≡ running.now.table },
+    ghost width: { (running.now.shape.width ≡ N) × (1 ≤ N) × (N ≤ 16) },
 }
 
 impl<'a, const N: usize, P: ContentRule> Model for RecordHandle<'a, N, P> {
@@ -29,18 +29,18 @@ impl<'a, const N: usize, P: ContentRule> Model for RecordHandle<'a, N, P> {
 
     ghost Value = { RecordHandleView };
 
-    ghost view = { λ h. record { shared = h.shared.now; pass = h.pass.view } };
+    ghost view = { λ h. record { running = h.running.now; pass = h.pass.view } };
 }
 
 impl<'a, const N: usize, P: ContentRule> RecordHandle<'a, N, P> {
     /// The handle of a record and a pass of it.
-    pub(crate) fn new(shared: &'a RuledRecord<P>, pass: RecordPass) -> RecordHandle<'a, N, P>
-        requires table { pass.table ≡ shared.now.table }
-        requires width { (shared.now.shape.width ≡ N) × (1 ≤ N) × (N ≤ 16) }
-        ensures shared { result.shared ≡ shared.now }
+    pub(crate) fn new(running: &'a RuledRecord<P>, pass: RecordPass) -> RecordHandle<'a, N, P>
+        requires table { pass.table ≡ running.now.table }
+        requires width { (running.now.shape.width ≡ N) × (1 ≤ N) × (N ≤ 16) }
+        ensures running { result.running ≡ running.now }
         ensures pass { result.pass ≡ pass.view }
     {
-        RecordHandle { shared, pass }
+        RecordHandle { running, pass }
     }
 
     /// Puts the words if nobody else is putting. It waits for nobody, and where it fails nothing was
@@ -53,11 +53,11 @@ impl<'a, const N: usize, P: ContentRule> RecordHandle<'a, N, P> {
         ensures err { let h = self.old in let w = self.new in
             IfErr result (λ fault. RefusesPut fault h w) }
     {
-        let shared = self.shared;
+        let running = self.running;
         let Some(words) = Words::new(&row) else {
             unreachable!()
         };
-        shared.put_once(&mut self.pass, words)
+        running.put_once(&mut self.pass, words)
     }
 
     /// Gets the words if nobody is putting. It waits for nobody: it fails as `Busy` where the first
@@ -71,7 +71,7 @@ impl<'a, const N: usize, P: ContentRule> RecordHandle<'a, N, P> {
             IfErr result (λ fault. RefusesGet fault h w) }
     {
         let mut row = [0; N];
-        self.shared.get_into(&mut self.pass, &mut row)?;
+        self.running.get_into(&mut self.pass, &mut row)?;
         Ok(row)
     }
 
@@ -110,13 +110,14 @@ impl<'a, const N: usize, P: ContentRule> RecordHandle<'a, N, P> {
 
     /// One more handle of the same record, which knows as much as this one and has made no call.
     pub fn split(&mut self) -> RecordHandle<'a, N, P>
-        ensures shared { (self.new.shared ≡ self.old.shared) × (result.shared ≡ self.old.shared) }
+        ensures running { (self.new.running ≡ self.old.running)
+            × (result.running ≡ self.old.running) }
         ensures given { self.new.pass ≡ after_split self.old.pass }
         ensures new { result.pass ≡ split_off self.old.pass }
     {
-        let pass = self.shared.split_off(&mut self.pass);
+        let pass = self.running.split_off(&mut self.pass);
         RecordHandle {
-            shared: self.shared,
+            running: self.running,
             pass,
         }
     }
