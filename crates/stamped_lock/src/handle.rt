@@ -53,7 +53,9 @@ impl<'a> LockHandle<'a> {
         LockHandle { running, pass }
     }
 
-    /// Makes a call that waits for nobody. Where its exchange loses, it is made again until it wins.
+    /// Makes a call that waits for nobody. `once` is tried first, since its code is inlined, and makes
+    /// the call unless another thread comes in between. Where it lost, `call` goes on: it tries again
+    /// until an exchange wins, or the word that was found answers the call.
     #[inline(always)]
     fn make<R: Wait>(&mut self, rt: &R, call: Call) -> Reply
         requires lock_call { IsTrue (is_lock_call call) }
@@ -63,13 +65,15 @@ impl<'a> LockHandle<'a> {
     {
         match self.make_once(call) {
             Ok(reply) => reply,
-            Err(_) => self.make_waiting(rt, call),
+            Err(_) => self.make_until_done(rt, call),
         }
     }
 
-    /// Makes a call that may wait for others.
+    /// Makes the call by `RunningLock::call`: it tries again until the call is made, and waits for
+    /// holders if the call is one that does. To the contract of `call` it adds `reply`, the kind of the
+    /// reply, by which a method reads its typed answer out of it.
     #[inline(always)]
-    fn make_waiting<R: Wait>(&mut self, rt: &R, call: Call) -> Reply
+    fn make_until_done<R: Wait>(&mut self, rt: &R, call: Call) -> Reply
         requires { IsTrue (is_lock_call call) }
         ensures made { Made call result self.old self.new }
         ensures reply { MayReply call result }
@@ -77,7 +81,8 @@ impl<'a> LockHandle<'a> {
         self.running.call(rt, &mut self.pass, call)
     }
 
-    /// Makes a call that doesn't wait, by one load and at most one exchange.
+    /// Makes a call that waits for nobody by `RunningLock::once`: by one load and at most one exchange,
+    /// so it may lose. It adds `reply`, as `make_until_done` does.
     #[inline(always)]
     pub(crate) fn make_once(&mut self, call: Call) -> Result<Reply, Lost>
         requires lock_call { IsTrue (is_lock_call call) }
@@ -88,7 +93,8 @@ impl<'a> LockHandle<'a> {
         self.running.once(&mut self.pass, call)
     }
 
-    /// Makes a call that can't lose, by one load and at most one exchange.
+    /// Makes a call that can't lose by `RunningLock::once`: by one load and at most one exchange. It
+    /// adds `reply`, and that the call was made.
     #[inline(always)]
     fn make_surely(&mut self, call: Call) -> Reply
         requires { NeverLoses call }
@@ -106,7 +112,7 @@ impl<'a> LockHandle<'a> {
     pub fn write<R: Wait>(&mut self, rt: &R) -> Option<Stamp>
         ensures { Made WriteLock (stamped result) self.old self.new }
     {
-        stamp_in(self.make_waiting(rt, Call::WriteLock))
+        stamp_in(self.make_until_done(rt, Call::WriteLock))
     }
 
     /// Acquires write mode if nobody holds the lock (`tryWriteLock`). None where somebody does, or no
@@ -121,7 +127,7 @@ impl<'a> LockHandle<'a> {
     pub fn read<R: Wait>(&mut self, rt: &R) -> Stamp
         ensures { Made ReadLock (stamped (Some result)) self.old self.new }
     {
-        some_stamp_in(self.make_waiting(rt, Call::ReadLock))
+        some_stamp_in(self.make_until_done(rt, Call::ReadLock))
     }
 
     /// Acquires read mode if there is no writer, and room for a reader (`tryReadLock`). It waits for no
