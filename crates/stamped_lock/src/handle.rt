@@ -53,9 +53,9 @@ impl<'a> LockHandle<'a> {
         LockHandle { running, pass }
     }
 
-    /// Makes a call that waits for nobody. `once` is tried first, since its code is inlined, and makes
-    /// the call unless another thread comes in between. Where it lost, `call` goes on: it tries again
-    /// until an exchange wins, or the word that was found answers the call.
+    /// Makes a call that waits for nobody. `once` is tried first, since its code is inlined and makes
+    /// nearly all calls. Where it lost, `call` goes on: it tries again until an exchange wins, or a word
+    /// that was found answers the call.
     #[inline(always)]
     fn make<R: Wait>(&mut self, rt: &R, call: Call) -> Reply
         requires lock_call { IsTrue (is_lock_call call) }
