@@ -13,7 +13,7 @@ use Rattle.stamp_threads.specs.PassView.{entry, knowing, finding, HasFound}
 use Rattle.stamp_threads.specs.Seats.{alone, both}
 use Rattle.stamp_threads.specs.RecordWord.{version_unit, writer_unit, word_with}
 use Rattle.stamp_threads.specs.RecordLog.{RecordLog, puts, is_locked}
-use Rattle.stamp_threads.specs.RecordPass.{RecordPassView, Seated, LeavesLockWord, first_of, second_of}
+use Rattle.stamp_threads.specs.RecordPass.{RecordPassView, Seated, LeavesWord, first_of, second_of}
 use Rattle.stamp_threads.specs.RecordRule.{with_phase, starting_to_read, acquiring, LoadedForPut}
 use Rattle.stamp_threads.specs.RecordRule.{Acquired, LoadedForGet, Released}
 use Rattle.stamp_threads.specs.RecordRule.{Confirmed, Overtaken, word_to_confirm, Met}
@@ -58,13 +58,13 @@ still_idle shape v u me m a b = (
 
 module _ (shape : RecordShape) (v : RecordPassView) (found : ℕ) where
   -- nobody has write mode where the test says so
-  is_free : (log : RecordLog) → LeavesLockWord shape v found log →
+  is_free : (log : RecordLog) → LeavesWord shape v found log →
       eqb (found % version_unit shape.limits.layout) (writer_unit shape.limits.layout) ≡ false →
       is_locked log ≡ false
   is_free log left test =
       sym (held_test shape.limits.layout (is_locked log) found (puts log) left.word_is) ∙ test
 
-  free_word : (log : RecordLog) → LeavesLockWord shape v found log → is_locked log ≡ false →
+  free_word : (log : RecordLog) → LeavesWord shape v found log → is_locked log ≡ false →
       found ≡ word_with shape.limits.layout (puts log) false
   free_word log left free = left.word_is ∙
       same_word shape.limits.layout (puts log) (puts log) (is_locked log) false refl free
@@ -89,16 +89,16 @@ module _ (shape : RecordShape) (v : RecordPassView) (found : ℕ) where
       ap (λ (n : ℕ). n + writer_unit shape.limits.layout) is ∙
       sym (held_is shape.limits.layout (puts t.log))
 
-  pub found_large : (log : RecordLog) → LeavesLockWord shape v found log → version_unit shape.limits.layout ≤ found
+  pub found_large : (log : RecordLog) → LeavesWord shape v found log → version_unit shape.limits.layout ≤ found
   found_large log left = word_large shape.limits.layout (is_locked log) found (puts log) left.word_is
 
-  pub found_small : (log : RecordLog) → LeavesLockWord shape v found log →
+  pub found_small : (log : RecordLog) → LeavesWord shape v found log →
       AreInRange shape.limits → found < 2 ^ 63
   found_small log left range =
       word_small shape.limits (is_locked log) found (puts log) range left.word_is left.few
 
   -- and with write mode held it is small, too
-  pub held_small : (log : RecordLog) → LeavesLockWord shape v found log → AreInRange shape.limits →
+  pub held_small : (log : RecordLog) → LeavesWord shape v found log → AreInRange shape.limits →
       eqb (found % version_unit shape.limits.layout) (writer_unit shape.limits.layout) ≡ false →
       found + writer_unit shape.limits.layout < 2 ^ 63
   held_small log left range test =
@@ -134,7 +134,7 @@ module _ (shape : RecordShape) (v : RecordPassView) (loaded : ℕ) where
         consistent = t.consistent;
       })
 
-  locked_of : (log : RecordLog) → LeavesLockWord shape v loaded log → HeldTest shape loaded true →
+  locked_of : (log : RecordLog) → LeavesWord shape v loaded log → HeldTest shape loaded true →
       is_locked log ≡ true
   locked_of log left test =
       sym (held_test shape.limits.layout (is_locked log) loaded (puts log) left.word_is) ∙ test
@@ -169,7 +169,7 @@ module _ (shape : RecordShape) (v : RecordPassView) (loaded : ℕ) where
 
   -- the pass that knew the first history has come to know a longer one
   lost_after : (first : RecordLog) (phase : RecordPhase) (found : ℕ) (w : RecordPassView) →
-      LeavesLockWord shape v loaded first → is_locked first ≡ false → found ≢ loaded →
+      LeavesWord shape v loaded first → is_locked first ≡ false → found ≢ loaded →
       SawWord shape (with_phase (knowing (finding v loaded) first) phase) found w →
       HasFound (finding v loaded) (found ∷ []) w → WasLost shape v loaded found w
   lost_after first phase found w left free differ saw looks = record {

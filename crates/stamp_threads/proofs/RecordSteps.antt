@@ -17,7 +17,7 @@ use Rattle.stamp_threads.specs.Seats.{StandsAt, AreSeated}
 use Rattle.stamp_threads.specs.RecordLog.{RecordLog, IsLegalRecord, puts, puts_in, is_locked}
 use Rattle.stamp_threads.specs.RecordLog.{marker_in, content_in, is_own, is_mark, marks_of}
 use Rattle.stamp_threads.specs.RecordPass.{RecordPassView, Seated, IsConsistentWith}
-use Rattle.stamp_threads.specs.RecordPass.{LeavesLockWord, marks_ahead}
+use Rattle.stamp_threads.specs.RecordPass.{LeavesWord, marks_ahead}
 use Rattle.stamp_threads.specs.RecordRule.{Knows, KnowsPart, IsWriting}
 use Rattle.stamp_threads.specs.RecordRule.{HasWriter, IsKept}
 use Rattle.stamp_threads.proofs.Beginnings.{begins_all}
@@ -136,7 +136,7 @@ module _ {enterable : Bool} (P : List ℕ → Type 0) (shape : RecordShape) (s :
   pub fits_here : KnowsPart P shape.width s.words r.log v
   fits_here = r.passes.fits id 0 v stands_here
 
-  pub leaves_now : LeavesLockWord shape v (get_or s.words 0 0) r.log
+  pub leaves_now : LeavesWord shape v (get_or s.words 0 0) r.log
   leaves_now = record {
     begins = fits_here.part.known;
     legal = r.legal;

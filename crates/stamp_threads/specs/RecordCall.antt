@@ -18,7 +18,7 @@ use Rattle.stamp_threads.specs.declared.faults.GetFault.TheVariants as get
 use Rattle.stamp_threads.specs.PassView.{entry, HasFound, IsSamePass}
 use Rattle.stamp_threads.specs.RecordWord.{word_with, writer_unit}
 use Rattle.stamp_threads.specs.RecordLog.{RecordLog, word_after, content_in, is_locked, marker_in, puts}
-use Rattle.stamp_threads.specs.RecordPass.{RecordPassView, IsConsistentWith, LeavesLockWord}
+use Rattle.stamp_threads.specs.RecordPass.{RecordPassView, IsConsistentWith, LeavesWord}
 
 -- what a call that was made found at the lock word: a get's two loads found one word, and so did a
 -- put's load and exchange; its release found that word with write mode held
@@ -39,7 +39,7 @@ pub record RecordAnswered (shape : RecordShape) (call : Call) (reply : Reply) (v
   pub word : ℕ
   pub looks : HasFound v (words_found shape.limits.layout call word) w
   pub first : RecordLog
-  pub at_first : LeavesLockWord shape v word first
+  pub at_first : LeavesWord shape v word first
   pub log : RecordLog
   pub longer : IsPrefix first log
   pub left : last_found shape.limits.layout call word ≡ word_after shape.limits.layout log
@@ -55,7 +55,7 @@ pub record RecordAnswered (shape : RecordShape) (call : Call) (reply : Reply) (v
 -- is locked, another pass made its last mark
 pub record SawWord (shape : RecordShape) (v : RecordPassView) (word : ℕ) (w : RecordPassView) :
     Type 0 where
-  pub left : LeavesLockWord shape v word w.known
+  pub left : LeavesWord shape v word w.known
   pub others : is_locked w.known ≡ true → marker_in w.known ≢ v.name
   pub own : w.own ≡ v.own
   pub same : IsSamePass v w
@@ -76,7 +76,7 @@ pub record WasLost (shape : RecordShape) (v : RecordPassView) (loaded found : �
   pub differ : loaded ≢ found
   pub looks : HasFound v (loaded ∷ found ∷ []) w
   pub first : RecordLog
-  pub at_first : LeavesLockWord shape v loaded first
+  pub at_first : LeavesWord shape v loaded first
   pub free : is_locked first ≡ false
   pub longer : IsPrefix first w.known
   pub saw : SawWord shape v found w

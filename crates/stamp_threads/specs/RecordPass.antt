@@ -68,7 +68,7 @@ abbrev pub IsConsistentIn : TableId → RecordPassView → Type 0
 IsConsistentIn table v = (width : ℕ) → table.words ≡ width + 1 → IsConsistentWith width v
 
 -- a legal history that begins with what the pass knows, and leaves this lock word
-pub record LeavesLockWord (shape : RecordShape) (v : RecordPassView) (word : ℕ) (log : RecordLog) :
+pub record LeavesWord (shape : RecordShape) (v : RecordPassView) (word : ℕ) (log : RecordLog) :
     Type 0 where
   pub begins : IsPrefix v.known log
   pub legal : IsLegalRecord shape.width log

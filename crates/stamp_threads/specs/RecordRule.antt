@@ -18,7 +18,7 @@ use Rattle.stamp_threads.specs.RecordWord.{word_with}
 use Rattle.stamp_threads.specs.RecordLog.{RecordLog, IsLegalRecord, content_in, puts, puts_in}
 use Rattle.stamp_threads.specs.RecordLog.{is_locked, marker_in, word_after, is_own, marks_of}
 use Rattle.stamp_threads.specs.RecordPass.{RecordPassView, RecordView, RecordToken, Seated}
-use Rattle.stamp_threads.specs.RecordPass.{IsConsistentWith, LeavesLockWord}
+use Rattle.stamp_threads.specs.RecordPass.{IsConsistentWith, LeavesWord}
 use Rattle.stamp_threads.specs.RecordPass.{marks_ahead, first_of, second_of, first_pass}
 use Rattle.stamp_threads.specs.RecordPass.{HasEntered}
 
@@ -118,14 +118,14 @@ module _ (shape : RecordShape) (v : RecordPassView) (found : ℕ) (me : Seated) 
   -- the first load of a put, or its exchange where that lost: the pass knows the whole history
   pub record LoadedForPut : Type 0 where
     pub log : RecordLog
-    pub left : LeavesLockWord shape v found log
+    pub left : LeavesWord shape v found log
     pub after : me ≡ alone (knowing (finding v found) log)
     pub others : is_locked log ≡ true → marker_in log ≢ v.name
     pub consistent : IsConsistentWith shape.width (knowing (finding v found) log)
 
   pub record Acquired (words : List ℕ) : Type 0 where
     pub log : RecordLog
-    pub left : LeavesLockWord shape v found log
+    pub left : LeavesWord shape v found log
     pub after : me ≡ alone (acquiring (finding v found) log words)
 
   pub record Released (words : List ℕ) : Type 0 where
@@ -139,7 +139,7 @@ module _ (shape : RecordShape) (v : RecordPassView) (found : ℕ) (me : Seated) 
   -- the first load of a get: where nobody has write mode the pass begins to read
   pub record LoadedForGet : Type 0 where
     pub log : RecordLog
-    pub left : LeavesLockWord shape v found log
+    pub left : LeavesWord shape v found log
     pub after : me ≡ alone (if is_locked log then knowing (finding v found) log
         else starting_to_read (finding v found) log)
     pub others : is_locked log ≡ true → marker_in log ≢ v.name
@@ -150,14 +150,14 @@ module _ (shape : RecordShape) (v : RecordPassView) (found : ℕ) (me : Seated) 
     pub log : RecordLog
     pub content : words ≡ content_in shape.width log
     pub obeys : P words
-    pub left : LeavesLockWord shape v found log
+    pub left : LeavesWord shape v found log
     pub after : me ≡ alone (calling (finding v found) log (get_of words))
     pub consistent : IsConsistentWith shape.width (calling (finding v found) log (get_of words))
 
   -- and where it is another
   pub record Overtaken : Type 0 where
     pub log : RecordLog
-    pub left : LeavesLockWord shape v found log
+    pub left : LeavesWord shape v found log
     pub after : me ≡ alone (stopping (finding v found) log)
     pub others : is_locked log ≡ true → marker_in log ≢ v.name
     pub consistent : IsConsistentWith shape.width (stopping (finding v found) log)
