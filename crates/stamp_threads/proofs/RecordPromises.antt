@@ -20,6 +20,7 @@ use Rattle.stamp_threads.specs.RecordRule.{Confirmed, Overtaken, word_to_confirm
 use Rattle.stamp_threads.specs.RecordCall.{RecordAnswered, SawWord, WasBusy, WasLost, WasSpent}
 use Rattle.stamp_threads.specs.RecordCall.{RecordPassesMet}
 use Rattle.stamp_threads.proofs.Beginnings.{begins_further, begins_more}
+use Rattle.stamp_threads.proofs.SamePass.{no_call_by}
 use Rattle.stamp_threads.proofs.RecordLogs.{puts_get}
 use Rattle.stamp_threads.proofs.RecordWords.{held_test, writes_in, puts_of, held_is, same_word, word_small, word_large}
 
@@ -32,13 +33,14 @@ have_met shape v u me v' u' m first second =
     let b : u' ≡ knowing u m.log = second ∙ ap (λ (n : Seated). second_of n.0) m.after in
     subst (λ (p : RecordPassView × RecordPassView). RecordPassesMet shape.width v u p.0 p.1)
     (λ i. (sym a i, sym b i)) (record {
-      first_begins = m.first_begins;
-      second_begins = m.second_begins;
-      alike = refl;
-      apart = m.apart;
-      owns = (refl, refl);
-      finds = (refl, refl);
-      same = (record { name = refl; splits = refl }, record { name = refl; splits = refl });
+      met = record {
+        first_begins = m.first_begins;
+        second_begins = m.second_begins;
+        alike = refl;
+        apart = m.apart;
+        no_calls = (no_call_by v _ refl refl refl, no_call_by u _ refl refl refl);
+        finds = (refl, refl);
+      };
       idle = (refl, refl);
       all_consistent = (m.first_consistent, m.second_consistent);
     })
@@ -128,8 +130,7 @@ module _ (shape : RecordShape) (v : RecordPassView) (loaded : ℕ) where
       subst (λ (m : Seated). SawWord shape v loaded (first_of m.0)) (sym t.after) (record {
         left = t.left;
         others = t.others;
-        own = refl;
-        same = record { name = refl; splits = refl };
+        no_call = no_call_by v _ refl refl refl;
         idle = idle;
         consistent = t.consistent;
       })
@@ -187,8 +188,7 @@ module _ (shape : RecordShape) (v : RecordPassView) (loaded : ℕ) where
         few = saw.left.few;
       };
       others = saw.others;
-      own = saw.own;
-      same = record { name = saw.same.name; splits = saw.same.splits };
+      no_call = no_call_by v w saw.no_call.same.name saw.no_call.same.splits saw.no_call.own;
       idle = saw.idle;
       consistent = saw.consistent;
     };
@@ -253,8 +253,7 @@ module _ (shape : RecordShape) (v : RecordPassView) (loaded : ℕ) where
         (lost_after t.log (Reading (puts t.log) words) found _ t.left free_now differ (record {
           left = o.left;
           others = o.others;
-          own = refl;
-          same = record { name = refl; splits = refl };
+          no_call = no_call_by _ _ refl refl refl;
           idle = refl;
           consistent = o.consistent;
         }) refl)
@@ -349,8 +348,7 @@ module _ (shape : RecordShape) (v : RecordPassView) (loaded : ℕ) where
       (record {
         left = o.left;
         others = o.others;
-        own = refl;
-        same = record { name = refl; splits = refl };
+        no_call = no_call_by _ _ refl refl refl;
         idle = idle;
         consistent = o.consistent;
       }) refl)

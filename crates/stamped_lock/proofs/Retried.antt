@@ -9,6 +9,7 @@ use Rattle.stamp_threads.specs.Answered.{Answered}
 use Rattle.stamp_threads.specs.LostExchange.{LostExchange}
 use Rattle.stamp_threads.specs.declared.lost.Lost.{Lost}
 use Rattle.stamp_threads.proofs.Beginnings.{begins_further}
+use Rattle.stamp_threads.proofs.SamePass.{same_further}
 use Rattle.stamped_lock.specs.LockHandleView.{LockHandleView}
 use Rattle.stamped_lock.specs.Made.{Made, HasLost}
 
@@ -26,10 +27,9 @@ made_after_loss limits call reply loaded found v u w l a = record {
   earlier = loaded ∷ found ∷ a.earlier;
   last = a.last ∙ (ap (λ (xs : List ℕ). xs ++ (a.earlier ++ a.word ∷ [])) l.looks ∙
       append_assoc v.found (loaded ∷ found ∷ []) (a.earlier ++ a.word ∷ []));
-  known = a.known ∙ ap (λ (n : List ℕ). a.log ++ entry n (call, reply) ∷ []) l.name;
-  own = a.own ∙ ap (λ (xs : List (Call × Reply)). xs ++ (call, reply) ∷ []) l.own;
-  name = a.name ∙ l.name;
-  splits = a.splits ∙ l.splits;
+  known = a.known ∙ ap (λ (n : List ℕ). a.log ++ entry n (call, reply) ∷ []) l.no_call.same.name;
+  own = a.own ∙ ap (λ (xs : List (Call × Reply)). xs ++ (call, reply) ∷ []) l.no_call.own;
+  same = same_further v u w l.no_call.same a.same;
   consistent = a.consistent;
 }
 
