@@ -7,7 +7,7 @@ ghost use Rattle.stamp_threads.specs.PassView.{after_split, split_off};
 ghost use Rattle.stamp_threads.specs.Seats.{alone, both, StandsAlone};
 ghost use Rattle.stamp_threads.specs.RecordWord.{word_with, writer_unit};
 ghost use Rattle.stamp_threads.specs.RecordPass.{first_of, second_of, HasEntered};
-ghost use Rattle.stamp_threads.specs.RecordPass.{IsAtSeat, AreAtSeat};
+ghost use Rattle.stamp_threads.specs.RecordPass.{IsAtSeat, AreAtSeat, AreIdle};
 ghost use Rattle.stamp_threads.specs.RecordRule.{LoadedForPut, Acquired, Released, stored_one};
 ghost use Rattle.stamp_threads.specs.RecordRule.{LoadedForGet, loaded_one, Confirmed, Overtaken};
 ghost use Rattle.stamp_threads.specs.RecordRule.{word_to_confirm};
@@ -227,8 +227,7 @@ pub fn share_seat<P: ContentRule>(table: &RecordTable<P>, seat: &mut RecordSeat,
 pub fn load_both<C: WordsStep, P: ContentRule>(table: &RecordTable<P>, seat: &mut RecordSeat)
     requires step { C.shape ≡ table.now.key.shape }
     requires seat { AreAtSeat table.now.table_id table.now.key.shape seat.old.table_id seat.old.me }
-    requires idle { ((first_of seat.old.me.0).phase ≡ Idle)
-        × ((second_of seat.old.me.0).phase ≡ Idle) }
+    requires idle { AreIdle seat.old.me.0 }
     ensures table { seat.new.table_id ≡ seat.old.table_id }
     ensures told { let old = seat.old.me.0 in
         Met table.now.key.shape (first_of old) (second_of old) seat.new.me }
@@ -239,8 +238,7 @@ pub fn load_both<C: WordsStep, P: ContentRule>(table: &RecordTable<P>, seat: &mu
 /// Puts the two passes of a seat on two seats.
 pub fn part_seats<P: ContentRule>(table: &RecordTable<P>, seat: &mut RecordSeat) -> RecordSeat
     requires seat { AreAtSeat table.now.table_id table.now.key.shape seat.old.table_id seat.old.me }
-    requires idle { ((first_of seat.old.me.0).phase ≡ Idle)
-        × ((second_of seat.old.me.0).phase ≡ Idle) }
+    requires idle { AreIdle seat.old.me.0 }
     ensures first { StandsAlone seat.old.table_id seat.new (first_of seat.old.me.0) }
     ensures second { StandsAlone seat.old.table_id result (second_of seat.old.me.0) }
 {
