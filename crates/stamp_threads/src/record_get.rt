@@ -29,6 +29,7 @@ pub fn get_words<P: ContentRule>(
     ensures err { let v = first_of seat.old.me.0 in let w = first_of seat.new.me.0 in
         IfErr result (λ fault. GetRefused shape v fault w) }
 {
+    // `Brand` stands for what a step's contract speaks of: this shape and the words loaded.
     let loaded = load_for_get::<Brand, P>(table, seat);
     if shape.limits.layout().has_writer(loaded) {
         return Err(GetFault::Busy(loaded));

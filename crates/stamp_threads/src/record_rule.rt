@@ -34,7 +34,8 @@ impl<P: ContentRule> TableRule<(), RecordPasses, RecordKey> for RecordRule<P> {
     ghost first = { λ key. opening_pass key.first ∷ [] };
 }
 
-/// The shape of the record, and the words that a step puts or has loaded. Each step picks its own.
+/// The shape of the record, and the words that a step puts or has loaded: what the step's contract
+/// speaks of. Code that makes a step passes `Brand` for it, and its proof picks both.
 pub trait WordsStep {
     ghost use Rattle.std.specs.Prelude.{ℕ, List};
     ghost use Rattle.stamp_threads.specs.declared.record_view.RecordShape.{RecordShape};
@@ -44,6 +45,7 @@ pub trait WordsStep {
     ghost words: { List ℕ };
 }
 
+// No step keeps these values: the proof of each picks its own.
 impl WordsStep for Brand {
     ghost use Rattle.std.specs.Prelude.{[]};
     ghost use Rattle.stamp_core.specs.Limits.{bounds};

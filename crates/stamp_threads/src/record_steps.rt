@@ -42,7 +42,8 @@ pub fn load_for_put<C: WordsStep, P: ContentRule>(
     table.load::<LoadForPutStep<C>>(seat, 0)
 }
 
-/// Gets write mode by an exchange, to put these words. One that finds another word is as a load.
+/// Gets write mode by an exchange, to put these words. One that finds another word tells what a load
+/// would tell.
 #[inline(always)]
 pub fn acquire<C: WordsStep, P: ContentRule>(
     table: &RecordTable<P>,
@@ -64,6 +65,7 @@ pub fn acquire<C: WordsStep, P: ContentRule>(
         MatchBool (result == free) (Acquired key v result seat.new.me words.now)
         (LoadedForPut key v result seat.new.me) }
 {
+    // The words stand in the contract alone.
     let _ = words;
     table.compare_exchange::<AcquireStep<C>>(seat, 0, free, held)
 }
@@ -118,6 +120,7 @@ pub fn release<C: WordsStep, P: ContentRule>(
     ensures told { let v = first_of seat.old.me.0 in
         Released table.now.key.shape v held seat.new.me words.now }
 {
+    // The words stand in the contract alone.
     let _ = words;
     table.compare_exchange::<ReleaseStep<C>>(seat, 0, held, free);
 }
@@ -185,6 +188,7 @@ pub fn confirm<C: WordsStep, P: ContentRule>(
         MatchBool (result == word_to_confirm key.limits.layout v.phase)
         (Confirmed key v result seat.new.me P.holds words.now) (Overtaken key v result seat.new.me) }
 {
+    // The words stand in the contract alone.
     let _ = words;
     table.load::<ConfirmStep<C, P>>(seat, 0)
 }

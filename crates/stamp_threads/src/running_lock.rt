@@ -120,7 +120,7 @@ impl RunningLock {
         }
     }
 
-    /// Decides the call on this word. Each layout has its own code, where the masks are constants.
+    /// Decides the call on this word.
     #[inline(always)]
     fn decide(&self, call: &Call, word: u64) -> LockDecision
         requires lock_call { IsTrue (is_lock_call call.now) }
@@ -130,6 +130,7 @@ impl RunningLock {
         ensures number { decision_as result ≡ decision self.now.limits word call.now }
     {
         let word = self.limits.word(word);
+        // In each of the equal arms the compiler knows the layout, so that its masks are constants.
         match self.limits.layout() {
             Layout::One => decide_lock(self.limits, word, call),
             Layout::Two => decide_lock(self.limits, word, call),
@@ -155,6 +156,7 @@ impl RunningLock {
     {
         let call = try_form(&call);
         let table = &self.table.shared;
+        // `Brand` stands for what a step's contract speaks of: these limits and this call.
         let loaded = load::<Brand>(table, &mut pass.seat, &call);
         match self.decide(&call, loaded) {
             LockDecision::Answer(reply) => Ok(reply.as_reply()),
@@ -197,7 +199,7 @@ impl RunningLock {
                     if seen == old {
                         return reply.as_reply();
                     }
-                    patience.lose();
+                    patience.pause();
                 }
                 LockDecision::Wait => {
                     patience.wait(rt, table, seen);

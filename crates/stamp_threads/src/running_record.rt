@@ -180,6 +180,7 @@ impl<P: ContentRule> RuledRecord<P> {
         let table = &self.table.shared;
         let layout = self.shape.limits.layout();
         let words = words.as_slice();
+        // `Brand` stands for what a step's contract speaks of: this shape and these words.
         let loaded = load_for_put::<Brand, P>(table, &mut pass.seat);
         if layout.has_writer(loaded) {
             return Err(PutFault::Busy(loaded));
@@ -258,7 +259,7 @@ impl<P: ContentRule> RuledRecord<P> {
             IfErr result (λ fault. GetRefused self.now.shape v fault w) }
     {
         let shape = self.shape;
-        // Each layout has its own code, where the masks are constants.
+        // In each of the equal arms the compiler knows the layout, so that its masks are constants.
         match shape.limits.layout() {
             Layout::One => get_words(&self.table.shared, shape, &mut pass.seat, into),
             Layout::Two => get_words(&self.table.shared, shape, &mut pass.seat, into),
