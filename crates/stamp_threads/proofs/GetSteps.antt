@@ -32,7 +32,7 @@ use Rattle.stamp_threads.proofs.RecordLogs.{legal_longer, marks_called, puts_get
 use Rattle.stamp_threads.proofs.RecordSteps.{Brings, OthersKnow, fits_here, leaves_now}
 use Rattle.stamp_threads.proofs.RecordSteps.{others_mark, one_after, one_consistent, only_views}
 use Rattle.stamp_threads.proofs.RecordSteps.{only_consistent, knowing_brings, same_knows}
-use Rattle.stamp_threads.proofs.RecordSteps.{idle_quiet, KeptBy, Leaves, load_leaves}
+use Rattle.stamp_threads.proofs.RecordSteps.{idle_quiet, KeptBy, Leaves, load_leaves, load_knows}
 
 module _ {enterable : Bool} (P : List ℕ → Type 0) (shape : RecordShape) (s : State (Unit {0}) (List RecordPassView))
     (r : IsKept enterable P shape s)
@@ -229,17 +229,10 @@ confirm_at P shape s r id me version xs is here reading long true e =
     })
 confirm_at P shape s r id me version xs is here reading long false e =
     let v : RecordPassView = first_of me.0 in
-    let w = stopping (finding v (get_or s.words 0 0)) r.log in
-    let quiet = reading_quiet P shape s r id v here version xs reading in
-    let brings = stopping_brings P shape s r id v here version xs reading (get_or s.words 0 0) in
-    load_leaves P shape s id me 0 w (Overtaken shape v (get_or s.words 0 0))
-    (only_views P shape s r id v here quiet w refl refl brings) (record {
-      log = r.log;
-      left = leaves_now P shape s r id v here;
-      after = λ i. (w ∷ [], (is i).1);
-      others = others_mark P shape s r id v here quiet;
-      consistent = only_consistent P shape s r id v here quiet w refl refl brings refl;
-    })
+    let word : ℕ = get_or s.words 0 0 in
+    load_knows P shape s r id me is here (reading_quiet P shape s r id v here version xs reading)
+    (stopping (finding v word)) refl refl refl
+    (stopping_brings P shape s r id v here version xs reading word)
 
 pub allows_confirm : {enterable : Bool} (P : List ℕ → Type 0) (shape : RecordShape) (slots id : ℕ) (me : Seated)
     (version : ℕ)

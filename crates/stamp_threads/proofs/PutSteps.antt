@@ -34,10 +34,10 @@ use Rattle.stamp_threads.proofs.RecordLogs.{content_longer, legal_marked, legal_
 use Rattle.stamp_threads.proofs.RecordLogs.{marks_marked, marks_called, puts_marked, puts_put}
 use Rattle.stamp_threads.proofs.RecordLogs.{puts_in_put}
 use Rattle.stamp_threads.proofs.RecordSteps.{Brings, OthersKnow, fits_here, leaves_now, not_other}
-use Rattle.stamp_threads.proofs.RecordSteps.{others_mark, one_after, one_consistent, one_stands}
-use Rattle.stamp_threads.proofs.RecordSteps.{only_views, only_consistent, knowing_brings}
+use Rattle.stamp_threads.proofs.RecordSteps.{one_after, one_consistent, one_stands}
+use Rattle.stamp_threads.proofs.RecordSteps.{knowing_brings, load_knows}
 use Rattle.stamp_threads.proofs.RecordSteps.{locked_by, reader_knows, idle_quiet, KeptBy}
-use Rattle.stamp_threads.proofs.RecordSteps.{Leaves, load_leaves}
+use Rattle.stamp_threads.proofs.RecordSteps.{Leaves}
 
 module _ {enterable : Bool} (P : List ℕ → Type 0) (shape : RecordShape) (s : State (Unit {0}) (List RecordPassView))
     (r : IsKept enterable P shape s)
@@ -243,17 +243,8 @@ load_for_put_at : {enterable : Bool} (P : List ℕ → Type 0) (shape : RecordSh
 load_for_put_at P shape s r id me is idle here =
     let v : RecordPassView = first_of me.0 in
     let word : ℕ = get_or s.words 0 0 in
-    let w = knowing (finding v word) r.log in
-    let quiet = idle_quiet v.phase idle in
-    let brings = knowing_brings P shape s r id v here word in
-    load_leaves P shape s id me 0 w (LoadedForPut shape v word)
-    (only_views P shape s r id v here quiet w refl refl brings) (record {
-      log = r.log;
-      left = leaves_now P shape s r id v here;
-      after = λ i. (w ∷ [], (is i).1);
-      others = others_mark P shape s r id v here quiet;
-      consistent = only_consistent P shape s r id v here quiet w refl refl brings refl;
-    })
+    load_knows P shape s r id me is here (idle_quiet v.phase idle) (knowing (finding v word))
+    refl refl refl (knowing_brings P shape s r id v here word)
 
 pub allows_load_for_put : {enterable : Bool} (P : List ℕ → Type 0) (shape : RecordShape) (slots id : ℕ) (me : Seated) →
     me ≡ alone (first_of me.0) → (first_of me.0).phase ≡ Idle →

@@ -115,13 +115,18 @@ get_of words = Called Get (Content words)
 
 -- v is the pass before a step that has found this word, and me the seat after it
 module _ (shape : RecordShape) (v : RecordPassView) (found : ℕ) (me : Seated) where
-  -- the first load of a put, or its exchange where that lost: the pass knows the whole history
-  pub record LoadedForPut : Type 0 where
+  -- the pass has come to know the whole history, is this one then, and made no call: where the
+  -- history is locked, another pass made its last mark
+  pub record CameToKnow (after_it : RecordLog → RecordPassView) : Type 0 where
     pub log : RecordLog
     pub left : LeavesWord shape v found log
-    pub after : me ≡ alone (knowing (finding v found) log)
+    pub after : me ≡ alone (after_it log)
     pub others : is_locked log ≡ true → marker_in log ≢ v.name
-    pub consistent : IsConsistentWith shape.width (knowing (finding v found) log)
+    pub consistent : IsConsistentWith shape.width (after_it log)
+
+  -- the first load of a put, or its exchange where that found another word
+  abbrev pub LoadedForPut : Type 0
+  LoadedForPut = CameToKnow (knowing (finding v found))
 
   pub record Acquired (words : List ℕ) : Type 0 where
     pub log : RecordLog
@@ -155,12 +160,8 @@ module _ (shape : RecordShape) (v : RecordPassView) (found : ℕ) (me : Seated) 
     pub consistent : IsConsistentWith shape.width (calling (finding v found) log (get_of words))
 
   -- and where it is another
-  pub record Overtaken : Type 0 where
-    pub log : RecordLog
-    pub left : LeavesWord shape v found log
-    pub after : me ≡ alone (stopping (finding v found) log)
-    pub others : is_locked log ≡ true → marker_in log ≢ v.name
-    pub consistent : IsConsistentWith shape.width (stopping (finding v found) log)
+  abbrev pub Overtaken : Type 0
+  Overtaken = CameToKnow (stopping (finding v found))
 
 -- a load by a seat that holds two passes
 pub record Met (shape : RecordShape) (v w : RecordPassView) (me : Seated) : Type 0 where
