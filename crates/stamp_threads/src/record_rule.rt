@@ -5,14 +5,16 @@ use crate::record_view::{RecordKey, RecordPasses};
 use atomic_table::{Join, Play, Split, TableRule};
 use std::marker::{Brand, PhantomData};
 
-/// A fact that each content which is put has.
+/// A rule on what a record holds. A user's type implements it, and stands for the rule in the record's
+/// type: `holds` says it of the words. Each content that is put keeps to it, so each one that is got
+/// does.
 pub trait ContentRule {
     ghost use Rattle.std.specs.Prelude.{ℕ, List};
 
     ghost holds: { List ℕ → Type 0 };
 }
 
-/// Nothing is asked of the content.
+/// The rule that all words keep to.
 pub struct AnyContent;
 
 impl ContentRule for AnyContent {

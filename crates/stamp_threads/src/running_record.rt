@@ -96,7 +96,8 @@ impl RuledRecord<AnyContent> {
 
 impl<P: ContentRule> RuledRecord<P> {
     /// A record of these words, which keep to the rule, and its first pass, of which all others are
-    /// split off: as if that had put them. So it takes one version. It refuses only for want of memory.
+    /// split off: as if that had put them. So the limits have a version, and it takes one. It refuses
+    /// only for want of memory.
     pub fn holding(
         alloc: Global,
         limits: Limits,
@@ -163,9 +164,10 @@ impl<P: ContentRule> RuledRecord<P> {
         }
     }
 
-    /// Puts the words, where nobody else has write mode: by one load, one exchange, a store a word
-    /// and one exchange that releases. It waits for nobody. A put that is refused got no write mode
-    /// and changed no word.
+    /// Puts the words, as many as the record's width, which keep to the rule: by one load, one exchange,
+    /// a store a word and one exchange that releases. It waits for nobody. Refuses as 1 `Busy` where the
+    /// load found somebody in write mode, as 3 `Spent` where it found no version left, and as 2 `Lost`
+    /// where the exchange found another word; it got no write mode and changed no word then.
     #[inline(always)]
     pub fn put_once(&self, pass: &mut RecordPass, words: Words) -> Result<(), PutFault>
         requires table { pass.old.table ≡ self.now.table }
@@ -199,8 +201,9 @@ impl<P: ContentRule> RuledRecord<P> {
         Ok(())
     }
 
-    /// Gets the words, where nobody has write mode or comes in between: by one load, a load a word
-    /// and one load. It waits for nobody, and may fail for ever beside writers.
+    /// Gets the words, which stood together: by one load, a load a word and one load. It waits for
+    /// nobody. Refuses as 1 `Busy` where the first load found somebody in write mode, and as 2 `Lost`
+    /// where the last one found another word; beside writers it may be refused each time.
     #[inline(always)]
     pub fn get_once(&self, pass: &mut RecordPass) -> Result<Words, GetFault>
         requires { pass.old.table ≡ self.now.table }
@@ -245,8 +248,8 @@ impl<P: ContentRule> RuledRecord<P> {
         Ok(Words::of_row(row, width))
     }
 
-    /// As `get_once`, into a place of the caller's that has the width.
-    /// Where it is refused, any words may stand there.
+    /// As `get_once`, into a place of the caller's that has the width. It refuses as `get_once` does;
+    /// any words may stand in the place then.
     #[inline(always)]
     pub fn get_into(&self, pass: &mut RecordPass, into: &mut [u64]) -> Result<(), GetFault>
         requires table { pass.old.table ≡ self.now.table }
@@ -292,7 +295,8 @@ impl<P: ContentRule> RuledRecord<P> {
         RecordPass { seat }
     }
 
-    /// The pass given, and a new one, which knows as much and has made no call.
+    /// The pass given, and a new one, which knows as much and has made no call. It makes one load and
+    /// takes no memory.
     pub fn split(&self, mut pass: RecordPass) -> (RecordPass, RecordPass)
         requires { pass.table ≡ self.now.table }
         ensures table { (result.0.table ≡ self.now.table) × (result.1.table ≡ self.now.table) }

@@ -42,8 +42,8 @@ impl<const N: usize, P: ContentRule> StampedRecord<N, P> {
         StampedRecord::with_limits(alloc, Limits::widest(Layout::One), first)
     }
 
-    /// The same with other limits. Of these the versions count, of which the first content takes one;
-    /// the readers don't matter.
+    /// A record of these limits and words. Of the limits the versions count, of which the first content
+    /// takes one; the readers don't matter. It refuses only for want of memory; nothing was made then.
     pub fn with_limits(
         alloc: Global,
         limits: Limits,

@@ -44,8 +44,8 @@ impl<'a, const N: usize, P: ContentRule> RecordHandle<'a, N, P> {
     }
 
     /// Puts the words if nobody else is putting. It waits for nobody, and where it fails nothing was
-    /// put: `Busy` where the first look found somebody putting, `Lost` where the lock word changed
-    /// after it, `Spent` where no version is left.
+    /// put: `Busy` where the first load of the lock word found somebody putting, `Lost` where the word
+    /// changed after it, `Spent` where no version is left.
     pub fn put_once(&mut self, row: [u64; N]) -> Result<(), PutFault>
         requires { P.holds row }
         ensures ok { let h = self.old in let w = self.new in
@@ -60,8 +60,8 @@ impl<'a, const N: usize, P: ContentRule> RecordHandle<'a, N, P> {
         running.put_once(&mut self.pass, words)
     }
 
-    /// Gets the words if nobody is putting. It waits for nobody: it fails as `Busy` where the first
-    /// look found somebody putting, and as `Lost` where the lock word changed after it.
+    /// Gets the words if nobody is putting. It waits for nobody: it fails as `Busy` where the first load
+    /// of the lock word found somebody putting, and as `Lost` where the word changed after it.
     #[inline(always)]
     pub fn get_once(&mut self) -> Result<[u64; N], GetFault>
         ensures rule { IfOk result (λ row. P.holds row) }
@@ -75,7 +75,8 @@ impl<'a, const N: usize, P: ContentRule> RecordHandle<'a, N, P> {
         Ok(row)
     }
 
-    /// Gets the words. While somebody is putting it lets other threads run and tries again.
+    /// Gets the words. Where `get_once` fails, as `Busy` or as `Lost`, it lets other threads run and
+    /// tries again.
     pub fn get<R: Wait>(&mut self, rt: &R) -> [u64; N]
         ensures rule { P.holds result }
         ensures made { MadeAtLast Get (Content result) self.old self.new }
@@ -89,8 +90,8 @@ impl<'a, const N: usize, P: ContentRule> RecordHandle<'a, N, P> {
         unreachable!()
     }
 
-    /// Puts the words. While somebody else is putting it lets other threads run and tries again. It
-    /// fails only where no version is left; nothing was put then.
+    /// Puts the words. Where `put_once` fails as `Busy` or as `Lost`, it lets other threads run and
+    /// tries again. It fails only where no version is left; nothing was put then.
     pub fn put<R: Wait>(&mut self, rt: &R, row: [u64; N]) -> Result<(), Spent>
         requires { P.holds row }
         ensures made { let h = self.old in let w = self.new in
