@@ -207,7 +207,8 @@ allows_load_word P shape slots id me version k xs is reading long inside s r _ t
     (loads P shape s r id v here version xs reading k long inside) (λ i. (w ∷ [], (is i).1))
 
 -- the second load of the lock word, by whether it is the word of the first
-confirm_at : {enterable : Bool} (P : List ℕ → Type 0) (shape : RecordShape) (s : State (Unit {0}) (List RecordPassView))
+confirm_at : {enterable : Bool} (P : List ℕ → Type 0) (shape : RecordShape)
+    (s : State (Unit {0}) (List RecordPassView))
     (r : IsKept enterable P shape s) (id : ℕ) (me : Seated) (version : ℕ) (xs : List ℕ) →
     me ≡ alone (first_of me.0) → get_elem? s.views id ≡ some (first_of me.0 ∷ []) →
     (first_of me.0).phase ≡ Reading version xs → length xs ≡ shape.width → (b : Bool) →

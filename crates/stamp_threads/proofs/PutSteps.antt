@@ -253,7 +253,8 @@ allows_load_for_put P shape slots id me is idle s r _ at _ =
     load_for_put_at P shape s r id me is idle (at ∙ ap (λ (m : Seated). some m.0) is)
 
 -- the exchange that gets write mode, by whether the word found is the old one
-acquire_at : {enterable : Bool} (P : List ℕ → Type 0) (shape : RecordShape) (s : State (Unit {0}) (List RecordPassView))
+acquire_at : {enterable : Bool} (P : List ℕ → Type 0) (shape : RecordShape)
+    (s : State (Unit {0}) (List RecordPassView))
     (r : IsKept enterable P shape s) (id : ℕ) (me : Seated) (n old held : ℕ) (xs : List ℕ) →
     me ≡ alone (first_of me.0) → (first_of me.0).phase ≡ Idle →
     get_elem? s.views id ≡ some (first_of me.0 ∷ []) →

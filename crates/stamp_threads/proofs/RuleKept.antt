@@ -36,7 +36,8 @@ use Rattle.stamp_threads.proofs.SeatSteps.{other_part}
 use Rattle.stamp_threads.proofs.LockLogs.{legal_longer, represents_unchanged, represents_changed}
 use Rattle.stamp_threads.proofs.SamePass.{no_call_by}
 
-module _ {enterable : Bool} (limits : Bounds) (s : State (Unit {0}) (List LockPassView)) (r : IsKept enterable limits s)
+module _ {enterable : Bool} (limits : Bounds) (s : State (Unit {0}) (List LockPassView))
+    (r : IsKept enterable limits s)
     (id : ℕ)
     (vs ws : List LockPassView) (log' : LockLog) (at : get_elem? s.views id ≡ some vs)
     (same : Same vs ws) (grows : Grows vs r.log log')
@@ -93,7 +94,8 @@ Leaves enterable limits s id me word Told = (w : List LockPassView) × (a : Act 
     Valid s.homes me.1 a × IsKept enterable limits (stepped s 0 word id me.1 w a) ×
     (((w, carried_after me.1 a) ≡ alone (first_of w)) × Told (first_of w))
 
-module _ {enterable : Bool} (limits : Bounds) (s : State (Unit {0}) (List LockPassView)) (r : IsKept enterable limits s)
+module _ {enterable : Bool} (limits : Bounds) (s : State (Unit {0}) (List LockPassView))
+    (r : IsKept enterable limits s)
     (id : ℕ)
     (v : LockPassView) (at : get_elem? s.views id ≡ some (v ∷ [])) where
   part_now : IsPart every r.log v
