@@ -18,6 +18,7 @@ use Rattle.stamp_threads.specs.LockPass.{LockPassView, IsConsistentWith, LeavesW
 use Rattle.stamp_threads.specs.LockRule.{Loaded, Won, Exchanged, making, reading, answering}
 use Rattle.stamp_threads.specs.Underway.{WentOn}
 use Rattle.stamp_threads.specs.Answered.{Answered, IsWaiting}
+use Rattle.stamp_threads.proofs.SamePass.{no_call_by}
 
 module _ (limits : Bounds) (call : Call) (v : LockPassView) (found : ℕ) (w : LockPassView) where
   answered_at : (log : LockLog) (reply : Reply) → LeavesWord limits v found log →
@@ -31,8 +32,10 @@ module _ (limits : Bounds) (call : Call) (v : LockPassView) (found : ℕ) (w : L
     last = ap (λ (u : LockPassView). u.found) is;
     known = ap (λ (u : LockPassView). u.known) is;
     own = ap (λ (u : LockPassView). u.own) is;
-    name = ap (λ (u : LockPassView). u.name) is;
-    splits = ap (λ (u : LockPassView). u.splits) is;
+    same = record {
+      name = ap (λ (u : LockPassView). u.name) is;
+      splits = ap (λ (u : LockPassView). u.splits) is;
+    };
     consistent = consistent;
   }
 
@@ -40,9 +43,8 @@ module _ (limits : Bounds) (call : Call) (v : LockPassView) (found : ℕ) (w : L
       IsConsistentWith limits w → WentOn limits v found w
   went_at log left is consistent = record {
     left = subst (LeavesWord limits v found) (sym (ap (λ (u : LockPassView). u.known) is)) left;
-    own = ap (λ (u : LockPassView). u.own) is;
-    name = ap (λ (u : LockPassView). u.name) is;
-    splits = ap (λ (u : LockPassView). u.splits) is;
+    no_call = no_call_by v w (ap (λ (u : LockPassView). u.name) is)
+        (ap (λ (u : LockPassView). u.splits) is) (ap (λ (u : LockPassView). u.own) is);
     consistent = consistent;
   }
 

@@ -22,7 +22,7 @@ use Rattle.stamp_threads.specs.RecordLog.{puts, puts_in, content_in, is_locked, 
 use Rattle.stamp_threads.specs.RecordPass.{RecordPassView, Seated, IsConsistentWith, marks_ahead, first_of}
 use Rattle.stamp_threads.specs.RecordRule.{KnowsReading, Knows, IsWriting, IsKept, calling}
 use Rattle.stamp_threads.specs.RecordRule.{starting_to_read, stopping, get_of, loading_one, loaded_one}
-use Rattle.stamp_threads.specs.RecordRule.{Confirmed, Overtaken, Opened, word_to_confirm, OpenTells}
+use Rattle.stamp_threads.specs.RecordRule.{Confirmed, Overtaken, LoadedForGet, word_to_confirm, LoadForGetTells}
 use Rattle.stamp_threads.specs.RecordRule.{LoadTells, ConfirmTells}
 use Rattle.stamp_threads.proofs.Beginnings.{begins_all}
 use Rattle.stamp_threads.proofs.MadeBy.{grows_one, made_by-same}
@@ -32,7 +32,7 @@ use Rattle.stamp_threads.proofs.RecordLogs.{legal_longer, marks_called, puts_get
 use Rattle.stamp_threads.proofs.RecordSteps.{Brings, OthersKnow, fits_here, leaves_now}
 use Rattle.stamp_threads.proofs.RecordSteps.{others_mark, one_after, one_consistent, only_views}
 use Rattle.stamp_threads.proofs.RecordSteps.{only_consistent, knowing_brings, same_knows}
-use Rattle.stamp_threads.proofs.RecordSteps.{idle_quiet, KeptBy, Leaves, load_leaves}
+use Rattle.stamp_threads.proofs.RecordSteps.{idle_quiet, KeptBy, Leaves, load_leaves, load_knows}
 
 module _ {enterable : Bool} (P : List ℕ → Type 0) (shape : RecordShape) (s : State (Unit {0}) (List RecordPassView))
     (r : IsKept enterable P shape s)
@@ -147,16 +147,16 @@ module _ {enterable : Bool} (P : List ℕ → Type 0) (shape : RecordShape) (s :
       }
 
 -- the first load of a get, by whether somebody has write mode
-open_at : {enterable : Bool} (P : List ℕ → Type 0) (shape : RecordShape)
+load_for_get_at : {enterable : Bool} (P : List ℕ → Type 0) (shape : RecordShape)
     (s : State (Unit {0}) (List RecordPassView)) (r : IsKept enterable P shape s)
     (id : ℕ) (v : RecordPassView) → get_elem? s.views id ≡ some (v ∷ []) → v.phase ≡ Idle →
     (b : Bool) → is_locked r.log ≡ b →
     (word : ℕ) → KeptBy enterable P shape s id (if b then knowing (finding v word) r.log
     else starting_to_read (finding v word) r.log) s.words
-open_at P shape s r id v here idle true e word =
+load_for_get_at P shape s r id v here idle true e word =
     only_views P shape s r id v here (idle_quiet v.phase idle) (knowing (finding v word) r.log)
     refl refl (knowing_brings P shape s r id v here word)
-open_at P shape s r id v here idle false e word =
+load_for_get_at P shape s r id v here idle false e word =
     let f = fits_here P shape s r id v here in
     only_views P shape s r id v here (idle_quiet v.phase idle) (starting_to_read (finding v word) r.log)
     refl refl (record {
@@ -170,10 +170,10 @@ open_at P shape s r id v here idle false e word =
       };
     })
 
-pub allows_open : {enterable : Bool} (P : List ℕ → Type 0) (shape : RecordShape) (slots id : ℕ) (me : Seated) →
+pub allows_load_for_get : {enterable : Bool} (P : List ℕ → Type 0) (shape : RecordShape) (slots id : ℕ) (me : Seated) →
     me ≡ alone (first_of me.0) → (first_of me.0).phase ≡ Idle →
-    Allows (IsKept enterable P shape) slots id me 0 (λ n. n) (OpenTells shape (step slots 0 0 0 none) me)
-allows_open P shape slots id me is idle s r _ at _ =
+    Allows (IsKept enterable P shape) slots id me 0 (λ n. n) (LoadForGetTells shape (step slots 0 0 0 none) me)
+allows_load_for_get P shape slots id me is idle s r _ at _ =
     let v : RecordPassView = first_of me.0 in
     let here : get_elem? s.views id ≡ some (v ∷ []) =
     at ∙ ap (λ (m : Seated). some m.0) is in
@@ -181,8 +181,8 @@ allows_open P shape slots id me is idle s r _ at _ =
     let w : RecordPassView = if is_locked r.log then knowing (finding v word) r.log
     else starting_to_read (finding v word) r.log in
     let quiet = idle_quiet v.phase idle in
-    load_leaves P shape s id me 0 w (Opened shape v word)
-    (open_at P shape s r id v here idle (is_locked r.log) refl word) (record {
+    load_leaves P shape s id me 0 w (LoadedForGet shape v word)
+    (load_for_get_at P shape s r id v here idle (is_locked r.log) refl word) (record {
       log = r.log;
       left = leaves_now P shape s r id v here;
       after = λ i. (w ∷ [], (is i).1);
@@ -207,7 +207,8 @@ allows_load_word P shape slots id me version k xs is reading long inside s r _ t
     (loads P shape s r id v here version xs reading k long inside) (λ i. (w ∷ [], (is i).1))
 
 -- the second load of the lock word, by whether it is the word of the first
-confirm_at : {enterable : Bool} (P : List ℕ → Type 0) (shape : RecordShape) (s : State (Unit {0}) (List RecordPassView))
+confirm_at : {enterable : Bool} (P : List ℕ → Type 0) (shape : RecordShape)
+    (s : State (Unit {0}) (List RecordPassView))
     (r : IsKept enterable P shape s) (id : ℕ) (me : Seated) (version : ℕ) (xs : List ℕ) →
     me ≡ alone (first_of me.0) → get_elem? s.views id ≡ some (first_of me.0 ∷ []) →
     (first_of me.0).phase ≡ Reading version xs → length xs ≡ shape.width → (b : Bool) →
@@ -229,17 +230,10 @@ confirm_at P shape s r id me version xs is here reading long true e =
     })
 confirm_at P shape s r id me version xs is here reading long false e =
     let v : RecordPassView = first_of me.0 in
-    let w = stopping (finding v (get_or s.words 0 0)) r.log in
-    let quiet = reading_quiet P shape s r id v here version xs reading in
-    let brings = stopping_brings P shape s r id v here version xs reading (get_or s.words 0 0) in
-    load_leaves P shape s id me 0 w (Overtaken shape v (get_or s.words 0 0))
-    (only_views P shape s r id v here quiet w refl refl brings) (record {
-      log = r.log;
-      left = leaves_now P shape s r id v here;
-      after = λ i. (w ∷ [], (is i).1);
-      others = others_mark P shape s r id v here quiet;
-      consistent = only_consistent P shape s r id v here quiet w refl refl brings refl;
-    })
+    let word : ℕ = get_or s.words 0 0 in
+    load_knows P shape s r id me is here (reading_quiet P shape s r id v here version xs reading)
+    (stopping (finding v word)) refl refl refl
+    (stopping_brings P shape s r id v here version xs reading word)
 
 pub allows_confirm : {enterable : Bool} (P : List ℕ → Type 0) (shape : RecordShape) (slots id : ℕ) (me : Seated)
     (version : ℕ)

@@ -1,4 +1,5 @@
 pub mod Beginnings
+pub mod SamePass
 pub mod ListElements
 pub mod MadeBy
 pub mod GivenNames

@@ -23,8 +23,8 @@ use Rattle.stamp_threads.specs.RecordWord.{word_with, writer_unit}
 use Rattle.stamp_threads.specs.RecordLog.{puts, puts_in, is_locked, is_own}
 use Rattle.stamp_threads.specs.RecordPass.{RecordPassView, Seated, IsConsistentWith, marks_ahead, first_of}
 use Rattle.stamp_threads.specs.RecordRule.{KnowsWriting, Knows, IsWriting, IsKept}
-use Rattle.stamp_threads.specs.RecordRule.{acquiring, calling, put_of, Looked, Acquired}
-use Rattle.stamp_threads.specs.RecordRule.{storing_one, stored_one, LookTells, AcquireTells}
+use Rattle.stamp_threads.specs.RecordRule.{acquiring, calling, put_of, LoadedForPut, Acquired}
+use Rattle.stamp_threads.specs.RecordRule.{storing_one, stored_one, LoadForPutTells, AcquireTells}
 use Rattle.stamp_threads.specs.RecordRule.{StoreTells, ReleaseTells}
 use Rattle.stamp_threads.proofs.Beginnings.{begins_all}
 use Rattle.stamp_threads.proofs.MadeBy.{grows_none, grows_one, made_by-same}
@@ -34,10 +34,10 @@ use Rattle.stamp_threads.proofs.RecordLogs.{content_longer, legal_marked, legal_
 use Rattle.stamp_threads.proofs.RecordLogs.{marks_marked, marks_called, puts_marked, puts_put}
 use Rattle.stamp_threads.proofs.RecordLogs.{puts_in_put}
 use Rattle.stamp_threads.proofs.RecordSteps.{Brings, OthersKnow, fits_here, leaves_now, not_other}
-use Rattle.stamp_threads.proofs.RecordSteps.{others_mark, one_after, one_consistent, one_stands}
-use Rattle.stamp_threads.proofs.RecordSteps.{only_views, only_consistent, knowing_brings}
+use Rattle.stamp_threads.proofs.RecordSteps.{one_after, one_consistent, one_stands}
+use Rattle.stamp_threads.proofs.RecordSteps.{knowing_brings, load_knows}
 use Rattle.stamp_threads.proofs.RecordSteps.{locked_by, reader_knows, idle_quiet, KeptBy}
-use Rattle.stamp_threads.proofs.RecordSteps.{Leaves, load_leaves}
+use Rattle.stamp_threads.proofs.RecordSteps.{Leaves}
 
 module _ {enterable : Bool} (P : List ℕ → Type 0) (shape : RecordShape) (s : State (Unit {0}) (List RecordPassView))
     (r : IsKept enterable P shape s)
@@ -234,35 +234,27 @@ module _ {enterable : Bool} (P : List ℕ → Type 0) (shape : RecordShape) (s :
       )
 
 -- a load that a put begins with
-look_at : {enterable : Bool} (P : List ℕ → Type 0) (shape : RecordShape)
+load_for_put_at : {enterable : Bool} (P : List ℕ → Type 0) (shape : RecordShape)
     (s : State (Unit {0}) (List RecordPassView)) (r : IsKept enterable P shape s)
     (id : ℕ) (me : Seated) → me ≡ alone (first_of me.0) → (first_of me.0).phase ≡ Idle →
     get_elem? s.views id ≡ some (first_of me.0 ∷ []) →
     Leaves enterable P shape s id me 0 (get_or s.words 0 0)
-    (Looked shape (first_of me.0) (get_or s.words 0 0))
-look_at P shape s r id me is idle here =
+    (LoadedForPut shape (first_of me.0) (get_or s.words 0 0))
+load_for_put_at P shape s r id me is idle here =
     let v : RecordPassView = first_of me.0 in
     let word : ℕ = get_or s.words 0 0 in
-    let w = knowing (finding v word) r.log in
-    let quiet = idle_quiet v.phase idle in
-    let brings = knowing_brings P shape s r id v here word in
-    load_leaves P shape s id me 0 w (Looked shape v word)
-    (only_views P shape s r id v here quiet w refl refl brings) (record {
-      log = r.log;
-      left = leaves_now P shape s r id v here;
-      after = λ i. (w ∷ [], (is i).1);
-      others = others_mark P shape s r id v here quiet;
-      consistent = only_consistent P shape s r id v here quiet w refl refl brings refl;
-    })
+    load_knows P shape s r id me is here (idle_quiet v.phase idle) (knowing (finding v word))
+    refl refl refl (knowing_brings P shape s r id v here word)
 
-pub allows_look : {enterable : Bool} (P : List ℕ → Type 0) (shape : RecordShape) (slots id : ℕ) (me : Seated) →
+pub allows_load_for_put : {enterable : Bool} (P : List ℕ → Type 0) (shape : RecordShape) (slots id : ℕ) (me : Seated) →
     me ≡ alone (first_of me.0) → (first_of me.0).phase ≡ Idle →
-    Allows (IsKept enterable P shape) slots id me 0 (λ n. n) (LookTells shape (step slots 0 0 0 none) me)
-allows_look P shape slots id me is idle s r _ at _ =
-    look_at P shape s r id me is idle (at ∙ ap (λ (m : Seated). some m.0) is)
+    Allows (IsKept enterable P shape) slots id me 0 (λ n. n) (LoadForPutTells shape (step slots 0 0 0 none) me)
+allows_load_for_put P shape slots id me is idle s r _ at _ =
+    load_for_put_at P shape s r id me is idle (at ∙ ap (λ (m : Seated). some m.0) is)
 
 -- the exchange that gets write mode, by whether the word found is the old one
-acquire_at : {enterable : Bool} (P : List ℕ → Type 0) (shape : RecordShape) (s : State (Unit {0}) (List RecordPassView))
+acquire_at : {enterable : Bool} (P : List ℕ → Type 0) (shape : RecordShape)
+    (s : State (Unit {0}) (List RecordPassView))
     (r : IsKept enterable P shape s) (id : ℕ) (me : Seated) (n old held : ℕ) (xs : List ℕ) →
     me ≡ alone (first_of me.0) → (first_of me.0).phase ≡ Idle →
     get_elem? s.views id ≡ some (first_of me.0 ∷ []) →
@@ -271,7 +263,7 @@ acquire_at : {enterable : Bool} (P : List ℕ → Type 0) (shape : RecordShape) 
     length xs ≡ shape.width → P xs → (b : Bool) → eqb (get_or s.words 0 0) old ≡ b →
     Leaves enterable P shape s id me 0 (either b held (get_or s.words 0 0)) (λ m. MatchBool b
     (Acquired shape (first_of me.0) (get_or s.words 0 0) m xs)
-    (Looked shape (first_of me.0) (get_or s.words 0 0) m))
+    (LoadedForPut shape (first_of me.0) (get_or s.words 0 0) m))
 acquire_at P shape s r id me n old held xs is idle here free up room long good true e =
     let v : RecordPassView = first_of me.0 in
     let w = acquiring (finding v (get_or s.words 0 0)) r.log xs in
@@ -290,7 +282,7 @@ acquire_at P shape s r id me n old held xs is idle here free up room long good t
       },
     )
 acquire_at P shape s r id me n old held xs is idle here free up room long good false e =
-    look_at P shape s r id me is idle here
+    load_for_put_at P shape s r id me is idle here
 
 pub allows_acquire : {enterable : Bool} (P : List ℕ → Type 0) (shape : RecordShape) (slots id : ℕ) (me : Seated)
     (n old held : ℕ)

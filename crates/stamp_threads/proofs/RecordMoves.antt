@@ -95,7 +95,8 @@ module _ (log : RecordLog) (views : List (List RecordPassView)) (id : ℕ)
   writer_beside : (ws us : List RecordPassView) → HasWriter log (set views id ws ++ us ∷ [])
   writer_beside ws us = writer_before log (set views id ws) us (writer_stays ws)
 
-split_kept : {enterable : Bool} (P : List ℕ → Type 0) (shape : RecordShape) (s : State (Unit {0}) (List RecordPassView))
+split_kept : {enterable : Bool} (P : List ℕ → Type 0) (shape : RecordShape)
+    (s : State (Unit {0}) (List RecordPassView))
     (r : IsKept enterable P shape s) (id : ℕ) (v : RecordPassView) →
     get_elem? s.views id ≡ some (v ∷ []) → v.phase ≡ Idle →
     IsKept enterable P shape record {

@@ -13,12 +13,14 @@ use Rattle.stamp_threads.specs.PassView.{entry, knowing, finding, HasFound}
 use Rattle.stamp_threads.specs.Seats.{alone, both}
 use Rattle.stamp_threads.specs.RecordWord.{version_unit, writer_unit, word_with}
 use Rattle.stamp_threads.specs.RecordLog.{RecordLog, puts, is_locked}
-use Rattle.stamp_threads.specs.RecordPass.{RecordPassView, Seated, LeavesLockWord, first_of, second_of}
-use Rattle.stamp_threads.specs.RecordRule.{with_phase, starting_to_read, acquiring, Looked, Acquired, Opened, Released}
+use Rattle.stamp_threads.specs.RecordPass.{RecordPassView, Seated, LeavesWord, first_of, second_of}
+use Rattle.stamp_threads.specs.RecordRule.{with_phase, starting_to_read, acquiring, LoadedForPut}
+use Rattle.stamp_threads.specs.RecordRule.{Acquired, LoadedForGet, Released}
 use Rattle.stamp_threads.specs.RecordRule.{Confirmed, Overtaken, word_to_confirm, Met}
 use Rattle.stamp_threads.specs.RecordCall.{RecordAnswered, SawWord, WasBusy, WasLost, WasSpent}
 use Rattle.stamp_threads.specs.RecordCall.{RecordPassesMet}
 use Rattle.stamp_threads.proofs.Beginnings.{begins_further, begins_more}
+use Rattle.stamp_threads.proofs.SamePass.{no_call_by}
 use Rattle.stamp_threads.proofs.RecordLogs.{puts_get}
 use Rattle.stamp_threads.proofs.RecordWords.{held_test, writes_in, puts_of, held_is, same_word, word_small, word_large}
 
@@ -31,13 +33,14 @@ have_met shape v u me v' u' m first second =
     let b : u' ≡ knowing u m.log = second ∙ ap (λ (n : Seated). second_of n.0) m.after in
     subst (λ (p : RecordPassView × RecordPassView). RecordPassesMet shape.width v u p.0 p.1)
     (λ i. (sym a i, sym b i)) (record {
-      first_begins = m.first_begins;
-      second_begins = m.second_begins;
-      alike = refl;
-      apart = m.apart;
-      owns = (refl, refl);
-      finds = (refl, refl);
-      same = (record { name = refl; splits = refl }, record { name = refl; splits = refl });
+      met = record {
+        first_begins = m.first_begins;
+        second_begins = m.second_begins;
+        alike = refl;
+        apart = m.apart;
+        no_calls = (no_call_by v _ refl refl refl, no_call_by u _ refl refl refl);
+        finds = (refl, refl);
+      };
       idle = (refl, refl);
       all_consistent = (m.first_consistent, m.second_consistent);
     })
@@ -57,24 +60,24 @@ still_idle shape v u me m a b = (
 
 module _ (shape : RecordShape) (v : RecordPassView) (found : ℕ) where
   -- nobody has write mode where the test says so
-  is_free : (log : RecordLog) → LeavesLockWord shape v found log →
+  is_free : (log : RecordLog) → LeavesWord shape v found log →
       eqb (found % version_unit shape.limits.layout) (writer_unit shape.limits.layout) ≡ false →
       is_locked log ≡ false
   is_free log left test =
       sym (held_test shape.limits.layout (is_locked log) found (puts log) left.word_is) ∙ test
 
-  free_word : (log : RecordLog) → LeavesLockWord shape v found log → is_locked log ≡ false →
+  free_word : (log : RecordLog) → LeavesWord shape v found log → is_locked log ≡ false →
       found ≡ word_with shape.limits.layout (puts log) false
   free_word log left free = left.word_is ∙
       same_word shape.limits.layout (puts log) (puts log) (is_locked log) false refl free
 
   -- a put goes on
-  pub goes_on : (me : Seated) (t : Looked shape v found me) →
+  pub put_goes_on : (me : Seated) (t : LoadedForPut shape v found me) →
       eqb (found % version_unit shape.limits.layout) (writer_unit shape.limits.layout) ≡ false →
       writes_in shape.limits.layout found < shape.limits.versions →
       (is_locked t.log ≡ false) × (found ≡ word_with shape.limits.layout (puts t.log) false) ×
       (puts t.log < shape.limits.versions)
-  goes_on me t test less =
+  put_goes_on me t test less =
       let free = is_free t.log t.left test in
       let p = puts_of shape.limits.layout (is_locked t.log) found (puts t.log) t.left.word_is free
       in
@@ -88,16 +91,16 @@ module _ (shape : RecordShape) (v : RecordPassView) (found : ℕ) where
       ap (λ (n : ℕ). n + writer_unit shape.limits.layout) is ∙
       sym (held_is shape.limits.layout (puts t.log))
 
-  pub found_large : (log : RecordLog) → LeavesLockWord shape v found log → version_unit shape.limits.layout ≤ found
+  pub found_large : (log : RecordLog) → LeavesWord shape v found log → version_unit shape.limits.layout ≤ found
   found_large log left = word_large shape.limits.layout (is_locked log) found (puts log) left.word_is
 
-  pub found_small : (log : RecordLog) → LeavesLockWord shape v found log →
+  pub found_small : (log : RecordLog) → LeavesWord shape v found log →
       AreInRange shape.limits → found < 2 ^ 63
   found_small log left range =
       word_small shape.limits (is_locked log) found (puts log) range left.word_is left.few
 
   -- and with write mode held it is small, too
-  pub held_small : (log : RecordLog) → LeavesLockWord shape v found log → AreInRange shape.limits →
+  pub held_small : (log : RecordLog) → LeavesWord shape v found log → AreInRange shape.limits →
       eqb (found % version_unit shape.limits.layout) (writer_unit shape.limits.layout) ≡ false →
       found + writer_unit shape.limits.layout < 2 ^ 63
   held_small log left range test =
@@ -106,10 +109,10 @@ module _ (shape : RecordShape) (v : RecordPassView) (found : ℕ) where
       sym (held_is shape.limits.layout (puts log))) left.few
 
   -- a get goes on
-  pub opened : (me : Seated) (t : Opened shape v found me) →
+  pub get_goes_on : (me : Seated) (t : LoadedForGet shape v found me) →
       eqb (found % version_unit shape.limits.layout) (writer_unit shape.limits.layout) ≡ false →
       (first_of me.0).phase ≡ Reading (puts t.log) []
-  opened me t test =
+  get_goes_on me t test =
       let free = is_free t.log t.left test in
       ap (λ (m : Seated). (first_of m.0).phase) t.after ∙
       ap (λ (b : Bool). (if b then knowing (finding v found) t.log
@@ -121,33 +124,32 @@ HeldTest shape word b =
 
 -- refusals, and a get that is made; v is the pass before the call
 module _ (shape : RecordShape) (v : RecordPassView) (loaded : ℕ) where
-  looked_saw : (me : Seated) → Looked shape v loaded me → v.phase ≡ Idle →
+  load_saw : (me : Seated) → LoadedForPut shape v loaded me → v.phase ≡ Idle →
       SawWord shape v loaded (first_of me.0)
-  looked_saw me t idle =
+  load_saw me t idle =
       subst (λ (m : Seated). SawWord shape v loaded (first_of m.0)) (sym t.after) (record {
         left = t.left;
         others = t.others;
-        own = refl;
-        same = record { name = refl; splits = refl };
+        no_call = no_call_by v _ refl refl refl;
         idle = idle;
         consistent = t.consistent;
       })
 
-  locked_of : (log : RecordLog) → LeavesLockWord shape v loaded log → HeldTest shape loaded true →
+  locked_of : (log : RecordLog) → LeavesWord shape v loaded log → HeldTest shape loaded true →
       is_locked log ≡ true
   locked_of log left test =
       sym (held_test shape.limits.layout (is_locked log) loaded (puts log) left.word_is) ∙ test
 
-  put_busy : (me : Seated) → Looked shape v loaded me → v.phase ≡ Idle →
+  put_busy : (me : Seated) → LoadedForPut shape v loaded me → v.phase ≡ Idle →
       HeldTest shape loaded true → WasBusy shape v loaded (first_of me.0)
   put_busy me t idle test = record {
     looks = ap (λ (m : Seated). (first_of m.0).found) t.after;
-    saw = looked_saw me t idle;
+    saw = load_saw me t idle;
     locked = ap (λ (m : Seated). is_locked (first_of m.0).known) t.after ∙
         locked_of t.log t.left test;
   }
 
-  put_spent : (me : Seated) → Looked shape v loaded me → v.phase ≡ Idle →
+  put_spent : (me : Seated) → LoadedForPut shape v loaded me → v.phase ≡ Idle →
       HeldTest shape loaded false →
       shape.limits.versions ≤ writes_in shape.limits.layout loaded →
       WasSpent shape v loaded (first_of me.0)
@@ -159,7 +161,7 @@ module _ (shape : RecordShape) (v : RecordPassView) (loaded : ℕ) where
       let all : puts t.log ≡ shape.limits.versions = omega arith in
       record {
         looks = ap (λ (m : Seated). (first_of m.0).found) t.after;
-        saw = looked_saw me t idle;
+        saw = load_saw me t idle;
         free = ap (λ (m : Seated). is_locked (first_of m.0).known) t.after ∙ free;
         all = ap (λ (m : Seated). puts (first_of m.0).known) t.after ∙ all;
         last = free_word shape v loaded t.log t.left free ∙
@@ -168,7 +170,7 @@ module _ (shape : RecordShape) (v : RecordPassView) (loaded : ℕ) where
 
   -- the pass that knew the first history has come to know a longer one
   lost_after : (first : RecordLog) (phase : RecordPhase) (found : ℕ) (w : RecordPassView) →
-      LeavesLockWord shape v loaded first → is_locked first ≡ false → found ≢ loaded →
+      LeavesWord shape v loaded first → is_locked first ≡ false → found ≢ loaded →
       SawWord shape (with_phase (knowing (finding v loaded) first) phase) found w →
       HasFound (finding v loaded) (found ∷ []) w → WasLost shape v loaded found w
   lost_after first phase found w left free differ saw looks = record {
@@ -186,14 +188,13 @@ module _ (shape : RecordShape) (v : RecordPassView) (loaded : ℕ) where
         few = saw.left.few;
       };
       others = saw.others;
-      own = saw.own;
-      same = record { name = saw.same.name; splits = saw.same.splits };
+      no_call = no_call_by v w saw.no_call.same.name saw.no_call.same.splits saw.no_call.own;
       idle = saw.idle;
       consistent = saw.consistent;
     };
   }
 
-  get_busy : (me : Seated) → Opened shape v loaded me → v.phase ≡ Idle →
+  get_busy : (me : Seated) → LoadedForGet shape v loaded me → v.phase ≡ Idle →
       HeldTest shape loaded true → WasBusy shape v loaded (first_of me.0)
   get_busy me t idle test =
       let locked = locked_of t.log t.left test in
@@ -209,7 +210,7 @@ module _ (shape : RecordShape) (v : RecordPassView) (loaded : ℕ) where
       }) idle test
 
   -- what the pass knows when it has loaded the words
-  module _ (P : List ℕ → Type 0) (me me2 : Seated) (words : List ℕ) (t : Opened shape v loaded me)
+  module _ (P : List ℕ → Type 0) (me me2 : Seated) (words : List ℕ) (t : LoadedForGet shape v loaded me)
       (test : HeldTest shape loaded false)
       (loads : (version : ℕ) → (first_of me.0).phase ≡ Reading version [] →
       me2 ≡ alone (with_phase (first_of me.0) (Reading version words))) where
@@ -252,8 +253,7 @@ module _ (shape : RecordShape) (v : RecordPassView) (loaded : ℕ) where
         (lost_after t.log (Reading (puts t.log) words) found _ t.left free_now differ (record {
           left = o.left;
           others = o.others;
-          own = refl;
-          same = record { name = refl; splits = refl };
+          no_call = no_call_by _ _ refl refl refl;
           idle = refl;
           consistent = o.consistent;
         }) refl)
@@ -290,7 +290,7 @@ module _ (shape : RecordShape) (v : RecordPassView) (loaded : ℕ) where
         o.obeys
 
   put_made : (me me2 me3 me4 : Seated) (words : List ℕ) (found held : ℕ)
-      (t : Looked shape v loaded me) (got : Acquired shape (first_of me.0) found me2 words) →
+      (t : LoadedForPut shape v loaded me) (got : Acquired shape (first_of me.0) found me2 words) →
       found ≡ loaded →
       me3 ≡ alone (with_phase (first_of me2.0) (Writing (puts got.log) words shape.width)) →
       held ≡ loaded + writer_unit shape.limits.layout →
@@ -334,35 +334,34 @@ module _ (shape : RecordShape) (v : RecordPassView) (loaded : ℕ) where
         consistent = o.consistent;
       })
 
-  put_lost : (me : Seated) (t : Looked shape v loaded me) → v.phase ≡ Idle →
+  put_lost : (me : Seated) (t : LoadedForPut shape v loaded me) → v.phase ≡ Idle →
       HeldTest shape loaded false → (found : ℕ) (me2 : Seated) →
-      Looked shape (first_of me.0) found me2 → found ≢ loaded →
+      LoadedForPut shape (first_of me.0) found me2 → found ≢ loaded →
       WasLost shape v loaded found (first_of me2.0)
   put_lost me t idle test found me2 told differ =
       let u : RecordPassView = knowing (finding v loaded) t.log in
       let is : first_of me.0 ≡ u = ap (λ (m : Seated). first_of m.0) t.after in
-      let o : Looked shape u found me2 =
-      subst (λ (x : RecordPassView). Looked shape x found me2) is told in
+      let o : LoadedForPut shape u found me2 =
+      subst (λ (x : RecordPassView). LoadedForPut shape x found me2) is told in
       subst (λ (m : Seated). WasLost shape v loaded found (first_of m.0)) (sym o.after)
       (lost_after t.log v.phase found _ t.left (is_free shape v loaded t.log t.left test) differ
       (record {
         left = o.left;
         others = o.others;
-        own = refl;
-        same = record { name = refl; splits = refl };
+        no_call = no_call_by _ _ refl refl refl;
         idle = idle;
         consistent = o.consistent;
       }) refl)
 
 -- the same where the code has a copy of the table's key
 module _ (key shape : RecordShape) (same : key ≡ shape) (v : RecordPassView) (loaded : ℕ) where
-  pub put_busy_of : (me : Seated) → Looked key v loaded me → v.phase ≡ Idle →
+  pub put_busy_of : (me : Seated) → LoadedForPut key v loaded me → v.phase ≡ Idle →
       HeldTest shape loaded true → WasBusy shape v loaded (first_of me.0)
   put_busy_of me t idle =
       subst (λ (z : RecordShape). HeldTest z loaded true → WasBusy z v loaded (first_of me.0)) same
       (put_busy key v loaded me t idle)
 
-  pub put_spent_of : (me : Seated) → Looked key v loaded me → v.phase ≡ Idle →
+  pub put_spent_of : (me : Seated) → LoadedForPut key v loaded me → v.phase ≡ Idle →
       HeldTest shape loaded false →
       shape.limits.versions ≤ writes_in shape.limits.layout loaded →
       WasSpent shape v loaded (first_of me.0)
@@ -372,9 +371,9 @@ module _ (key shape : RecordShape) (same : key ≡ shape) (v : RecordPassView) (
       WasSpent z v loaded (first_of me.0)) same
       (put_spent key v loaded me t idle)
 
-  pub put_lost_of : (me : Seated) → Looked key v loaded me → v.phase ≡ Idle →
+  pub put_lost_of : (me : Seated) → LoadedForPut key v loaded me → v.phase ≡ Idle →
       HeldTest shape loaded false → (found : ℕ) (me2 : Seated) →
-      Looked key (first_of me.0) found me2 → found ≢ loaded →
+      LoadedForPut key (first_of me.0) found me2 → found ≢ loaded →
       WasLost shape v loaded found (first_of me2.0)
   put_lost_of me t idle test found me2 told differ =
       subst (λ (z : RecordShape). HeldTest z loaded false →
@@ -382,7 +381,7 @@ module _ (key shape : RecordShape) (same : key ≡ shape) (v : RecordPassView) (
       (λ f. put_lost key v loaded me t idle f found me2 told differ) test
 
   pub put_made_of : (me me2 me3 me4 : Seated) (words : List ℕ) (found held : ℕ)
-      (t : Looked key v loaded me) (got : Acquired key (first_of me.0) found me2 words) →
+      (t : LoadedForPut key v loaded me) (got : Acquired key (first_of me.0) found me2 words) →
       found ≡ loaded →
       me3 ≡ alone (with_phase (first_of me2.0) (Writing (puts got.log) words key.width)) →
       held ≡ loaded + writer_unit shape.limits.layout →
@@ -393,13 +392,13 @@ module _ (key shape : RecordShape) (same : key ≡ shape) (v : RecordPassView) (
       RecordAnswered z (Put words) Done v (first_of me4.0)) same
       (λ is. put_made key v loaded me me2 me3 me4 words found held t got hit stored is told) up
 
-  pub get_busy_of : (me : Seated) → Opened key v loaded me → v.phase ≡ Idle →
+  pub get_busy_of : (me : Seated) → LoadedForGet key v loaded me → v.phase ≡ Idle →
       HeldTest shape loaded true → WasBusy shape v loaded (first_of me.0)
   get_busy_of me t idle =
       subst (λ (z : RecordShape). HeldTest z loaded true → WasBusy z v loaded (first_of me.0)) same
       (get_busy key v loaded me t idle)
 
-  module _ (P : List ℕ → Type 0) (me me2 : Seated) (words : List ℕ) (t : Opened key v loaded me)
+  module _ (P : List ℕ → Type 0) (me me2 : Seated) (words : List ℕ) (t : LoadedForGet key v loaded me)
       (test : HeldTest shape loaded false)
       (loads : (version : ℕ) → (first_of me.0).phase ≡ Reading version [] →
       me2 ≡ alone (with_phase (first_of me.0) (Reading version words))) (found : ℕ)

@@ -13,13 +13,13 @@ use Rattle.stamp_threads.specs.declared.record_view.RecordPhase.{RecordPhase}
 use Rattle.stamp_threads.specs.declared.record_view.RecordPhase.TheVariants.{Idle, Writing, Reading}
 use Rattle.stamp_threads.specs.PassName.{HasGivenAll}
 use Rattle.stamp_threads.specs.PassView.{made_by, knowing, finding}
-use Rattle.stamp_threads.specs.Seats.{StandsAt, AreSeated}
+use Rattle.stamp_threads.specs.Seats.{StandsAt, AreSeated, alone}
 use Rattle.stamp_threads.specs.RecordLog.{RecordLog, IsLegalRecord, puts, puts_in, is_locked}
 use Rattle.stamp_threads.specs.RecordLog.{marker_in, content_in, is_own, is_mark, marks_of}
 use Rattle.stamp_threads.specs.RecordPass.{RecordPassView, Seated, IsConsistentWith}
-use Rattle.stamp_threads.specs.RecordPass.{LeavesLockWord, marks_ahead}
+use Rattle.stamp_threads.specs.RecordPass.{LeavesWord, marks_ahead, first_of}
 use Rattle.stamp_threads.specs.RecordRule.{Knows, KnowsPart, IsWriting}
-use Rattle.stamp_threads.specs.RecordRule.{HasWriter, IsKept}
+use Rattle.stamp_threads.specs.RecordRule.{HasWriter, IsKept, CameToKnow}
 use Rattle.stamp_threads.proofs.Beginnings.{begins_all}
 use Rattle.stamp_threads.proofs.ListElements.{in_range, only_one}
 use Rattle.stamp_threads.proofs.MadeBy.{Grows, grows_none}
@@ -136,7 +136,7 @@ module _ {enterable : Bool} (P : List ℕ → Type 0) (shape : RecordShape) (s :
   pub fits_here : KnowsPart P shape.width s.words r.log v
   fits_here = r.passes.fits id 0 v stands_here
 
-  pub leaves_now : LeavesLockWord shape v (get_or s.words 0 0) r.log
+  pub leaves_now : LeavesWord shape v (get_or s.words 0 0) r.log
   leaves_now = record {
     begins = fits_here.part.known;
     legal = r.legal;
@@ -299,3 +299,25 @@ pub load_leaves : {enterable : Bool} (P : List ℕ → Type 0) (shape : RecordSh
     Leaves enterable P shape s id me index (get_or s.words index 0) Told
 load_leaves P shape s id me index w Told kept told =
     (w ∷ [], keeps, tt, subst (KeptBy _ P shape s id w) (sym (set-get_or s.words index 0)) kept, told)
+
+-- a load of the lock word by a pass that isn't writing: it knows the whole history then, and is the
+-- pass that this brings
+pub load_knows : {enterable : Bool} (P : List ℕ → Type 0) (shape : RecordShape)
+    (s : State (Unit {0}) (List RecordPassView)) (r : IsKept enterable P shape s) (id : ℕ)
+    (me : Seated) → me ≡ alone (first_of me.0) → get_elem? s.views id ≡ some (first_of me.0 ∷ []) →
+    (IsWriting (first_of me.0).phase → ⊥) → (after_it : RecordLog → RecordPassView) →
+    (after_it r.log).name ≡ (first_of me.0).name → (after_it r.log).splits ≡ (first_of me.0).splits →
+    (after_it r.log).known ≡ r.log → Brings P shape.width s.words r.log (after_it r.log) →
+    Leaves enterable P shape s id me 0 (get_or s.words 0 0)
+    (λ m. CameToKnow shape (first_of me.0) (get_or s.words 0 0) m after_it)
+load_knows P shape s r id me is here quiet after_it name splits known brings =
+    let v : RecordPassView = first_of me.0 in
+    let w : RecordPassView = after_it r.log in
+    load_leaves P shape s id me 0 w (λ m. CameToKnow shape v (get_or s.words 0 0) m after_it)
+    (only_views P shape s r id v here quiet w name splits brings) (record {
+      log = r.log;
+      left = leaves_now P shape s r id v here;
+      after = λ i. (w ∷ [], (is i).1);
+      others = others_mark P shape s r id v here quiet;
+      consistent = only_consistent P shape s r id v here quiet w name splits brings known;
+    })

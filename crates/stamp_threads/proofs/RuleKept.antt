@@ -34,8 +34,10 @@ use Rattle.stamp_threads.proofs.MadeBy.{Grows, grows_none, grows_one, made_by-sa
 use Rattle.stamp_threads.proofs.SeatSteps.{Same, same_one, same_two, stands_on, own_given}
 use Rattle.stamp_threads.proofs.SeatSteps.{other_part}
 use Rattle.stamp_threads.proofs.LockLogs.{legal_longer, represents_unchanged, represents_changed}
+use Rattle.stamp_threads.proofs.SamePass.{no_call_by}
 
-module _ {enterable : Bool} (limits : Bounds) (s : State (Unit {0}) (List LockPassView)) (r : IsKept enterable limits s)
+module _ {enterable : Bool} (limits : Bounds) (s : State (Unit {0}) (List LockPassView))
+    (r : IsKept enterable limits s)
     (id : ℕ)
     (vs ws : List LockPassView) (log' : LockLog) (at : get_elem? s.views id ≡ some vs)
     (same : Same vs ws) (grows : Grows vs r.log log')
@@ -92,7 +94,8 @@ Leaves enterable limits s id me word Told = (w : List LockPassView) × (a : Act 
     Valid s.homes me.1 a × IsKept enterable limits (stepped s 0 word id me.1 w a) ×
     (((w, carried_after me.1 a) ≡ alone (first_of w)) × Told (first_of w))
 
-module _ {enterable : Bool} (limits : Bounds) (s : State (Unit {0}) (List LockPassView)) (r : IsKept enterable limits s)
+module _ {enterable : Bool} (limits : Bounds) (s : State (Unit {0}) (List LockPassView))
+    (r : IsKept enterable limits s)
     (id : ℕ)
     (v : LockPassView) (at : get_elem? s.views id ≡ some (v ∷ [])) where
   part_now : IsPart every r.log v
@@ -255,15 +258,16 @@ allows_meet limits slots id me is s r _ at _ =
       (
         λ i. (ws, (is i).1),
         record {
-          first_begins = first.known;
-          second_begins = second.known;
-          same = refl;
-          apart = λ e. let t = (r.passes.apart id 0 id 1 v u (vs, here, refl) (vs, here, refl) e).1
-              in absurd (omega (arith, t));
-          owns = (refl, refl);
-          finds = (refl, refl);
-          names = (refl, refl);
-          splits = (refl, refl);
+          met = record {
+            first_begins = first.known;
+            second_begins = second.known;
+            alike = refl;
+            apart = λ e.
+                let t = (r.passes.apart id 0 id 1 v u (vs, here, refl) (vs, here, refl) e).1 in
+                absurd (omega (arith, t));
+            no_calls = (no_call_by v v' refl refl refl, no_call_by u u' refl refl refl);
+            finds = (refl, refl);
+          };
           all_consistent = (so 0 v' refl, so 1 u' refl);
         },
       ),

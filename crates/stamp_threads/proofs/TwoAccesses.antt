@@ -16,6 +16,7 @@ use Rattle.stamp_threads.specs.Underway.{WentOn}
 use Rattle.stamp_threads.proofs.Beginnings.{begins_further}
 use Rattle.stamp_threads.proofs.CallSteps.{by_answer, by_change, by_change_made}
 use Rattle.stamp_threads.proofs.Looks.{looks_by_load, looks_by_win, looks_twice}
+use Rattle.stamp_threads.proofs.SamePass.{no_call_further}
 
 appends : (limits : Bounds) (call : Call) (word : ℕ) (new : LockWord) (reply : Reply) →
     Changes limits (word_at limits word) call new reply → (log : LockLog) →
@@ -82,8 +83,6 @@ module _ (limits : Bounds) (call : Call) (v : LockPassView) (loaded : ℕ) (u : 
         first_appends = appends limits call loaded new reply changes u.known went.left.represents;
         second_appends = appends limits call found new' reply' changes' w.known
             later.left.represents;
-        own = later.own ∙ went.own;
-        name = later.name ∙ went.name;
-        splits = later.splits ∙ went.splits;
+        no_call = no_call_further v u w went.no_call later.no_call;
         consistent = later.consistent;
       }

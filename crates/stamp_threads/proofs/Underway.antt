@@ -30,6 +30,7 @@ use Rattle.stamp_threads.specs.Underway.{GoesAsMachine, Underway, Waited, WentOn
 use Rattle.stamp_threads.proofs.Beginnings.{begins_all, begins_further}
 use Rattle.stamp_threads.proofs.CallSteps.{by_answer, by_change, by_change_made, by_wait}
 use Rattle.stamp_threads.proofs.Looks.{looks_by_load, looks_by_win}
+use Rattle.stamp_threads.proofs.SamePass.{same_further, no_call_yet, no_call_further}
 
 -- a machine that goes on finds one word more
 finds_more : (words : List ℕ) (turn : Turn) (m : MachineState) (word : ℕ) (after : Turn) →
@@ -48,9 +49,7 @@ waits_more limits v u words found w waited went looks = record {
   begins = begins_further v.known u.known w.known waited.begins went.left.begins;
   found = looks ∙ (ap (λ (l : List ℕ). l ++ found ∷ []) waited.found ∙
       append_assoc v.found words (found ∷ []));
-  own = went.own ∙ waited.own;
-  name = went.name ∙ waited.name;
-  splits = went.splits ∙ waited.splits;
+  no_call = no_call_further v u w waited.no_call went.no_call;
 }
 
 -- a call that has waited, and is answered by the next access
@@ -69,10 +68,9 @@ answered_after limits call reply v u words w waited a = record {
   last = a.last ∙ (ap (λ (l : List ℕ). l ++ (a.earlier ++ a.word ∷ [])) waited.found ∙
       (append_assoc v.found words (a.earlier ++ a.word ∷ []) ∙
       ap (λ (l : List ℕ). v.found ++ l) (sym (append_assoc words a.earlier (a.word ∷ [])))));
-  known = a.known ∙ ap (λ (n : List ℕ). a.log ++ entry n (call, reply) ∷ []) waited.name;
-  own = a.own ∙ ap (λ (l : List (Call × Reply)). l ++ (call, reply) ∷ []) waited.own;
-  name = a.name ∙ waited.name;
-  splits = a.splits ∙ waited.splits;
+  known = a.known ∙ ap (λ (n : List ℕ). a.log ++ entry n (call, reply) ∷ []) waited.no_call.same.name;
+  own = a.own ∙ ap (λ (l : List (Call × Reply)). l ++ (call, reply) ∷ []) waited.no_call.own;
+  same = same_further v u w waited.no_call.same a.same;
   consistent = a.consistent;
 }
 
@@ -85,9 +83,7 @@ begins limits call v found w lock loaded = record {
   waited = record {
     begins = begins_all v.known;
     found = sym (append-nil v.found);
-    own = refl;
-    name = refl;
-    splits = refl;
+    no_call = no_call_yet v;
   };
   loaded = loaded;
   machine = ap (λ (j : Option Job). after_access (record {

@@ -6,7 +6,7 @@ use Rattle.stamp_core.specs.declared.call.Call.{Call}
 use Rattle.stamp_core.specs.declared.call.Call.TheVariants.{TryWrite, TryRead, WriteLock, ReadLock}
 use Rattle.stamp_core.specs.declared.reply.Reply.{Reply}
 use Rattle.stamp_threads.specs.declared.pass_view.LogEntry.{LogEntry}
-use Rattle.stamp_threads.specs.PassView.{entry, HasFound}
+use Rattle.stamp_threads.specs.PassView.{entry, HasFound, IsSamePass}
 use Rattle.stamp_threads.specs.LockLog.{LockLog}
 use Rattle.stamp_threads.specs.LockPass.{LockPassView, IsConsistentWith, LeavesWord}
 
@@ -30,8 +30,7 @@ pub record Answered (limits : Bounds) (call : Call) (reply : Reply) (v w : LockP
   pub last : HasFound v (earlier ++ word ∷ []) w
   pub known : w.known ≡ log ++ entry v.name (call, reply) ∷ []
   pub own : w.own ≡ v.own ++ (call, reply) ∷ []
-  pub name : w.name ≡ v.name
-  pub splits : w.splits ≡ v.splits
+  pub same : IsSamePass v w
   pub consistent : IsConsistentWith limits w
 
 -- two accesses of the word were made. The word that the first found is the one that a history left,

@@ -1,9 +1,9 @@
 -- An exchange that lost, where the call can't be answered without a change.
-use Rattle.std.specs.Prelude.{◌≡◌, ◌≢◌, ℕ, [], ◌∷◌}
+use Rattle.std.specs.Prelude.{◌≢◌, ℕ, [], ◌∷◌}
 use mathlib.Core.List.{IsPrefix}
 use Rattle.stamp_core.specs.Limits.{Bounds}
 use Rattle.stamp_core.specs.declared.call.Call.{Call}
-use Rattle.stamp_threads.specs.PassView.{HasFound}
+use Rattle.stamp_threads.specs.PassView.{HasFound, MadeNoCall}
 use Rattle.stamp_threads.specs.LockLog.{LockLog, Appends}
 use Rattle.stamp_threads.specs.LockPass.{LockPassView, IsConsistentWith, LeavesWord}
 
@@ -20,7 +20,5 @@ pub record LostExchange (limits : Bounds) (call : Call) (loaded found : ℕ) (v 
     pub longer : IsPrefix first w.known
     pub first_appends : Appends limits first call
     pub second_appends : Appends limits w.known call
-    pub own : w.own ≡ v.own
-    pub name : w.name ≡ v.name
-    pub splits : w.splits ≡ v.splits
+    pub no_call : MadeNoCall v w
     pub consistent : IsConsistentWith limits w

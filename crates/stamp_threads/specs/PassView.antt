@@ -1,6 +1,7 @@
 -- What a pass is seen as: its name, how often it was split, what it knows of the one history, what it
 -- made itself, and what its accesses found.
-use Rattle.std.specs.Prelude.{◌≡◌, ℕ, ◌+◌, Bool, true, if◌then◌else◌, nat_eq, List, [], ◌∷◌, ◌++◌}
+use Rattle.std.specs.Prelude.{◌≡◌, ◌≢◌, ℕ, ◌+◌, Bool, true, if◌then◌else◌, nat_eq, List, [], ◌∷◌}
+use Rattle.std.specs.Prelude.{◌++◌}
 use lib.Pointwise.{pointwise}
 use mathlib.Core.List.{IsPrefix}
 use Rattle.stamp_threads.specs.declared.pass_view.LogEntry.{LogEntry}
@@ -74,3 +75,18 @@ module _ {E P : Type 0} where
   pub record IsSamePass (v w : PassView E P) : Type 0 where
     pub name : w.name ≡ v.name
     pub splits : w.splits ≡ v.splits
+
+  -- and it has made no call since
+  pub record MadeNoCall (v w : PassView E P) : Type 0 where
+    pub same : IsSamePass v w
+    pub own : w.own ≡ v.own
+
+  -- v' and w' are v and w after they met: both know one history, which begins with what either knew.
+  -- They made no call, and keep what they found
+  pub record PassesMet (v w v' w' : PassView E P) : Type 0 where
+    pub first_begins : IsPrefix v.known v'.known
+    pub second_begins : IsPrefix w.known v'.known
+    pub alike : w'.known ≡ v'.known
+    pub apart : v.name ≢ w.name
+    pub no_calls : MadeNoCall v v' × MadeNoCall w w'
+    pub finds : (v'.found ≡ v.found) × (w'.found ≡ w.found)

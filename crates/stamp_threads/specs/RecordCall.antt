@@ -15,10 +15,10 @@ use Rattle.stamp_threads.specs.declared.faults.PutFault.{PutFault}
 use Rattle.stamp_threads.specs.declared.faults.PutFault.TheVariants.{Busy, Lost, Spent}
 use Rattle.stamp_threads.specs.declared.faults.GetFault.{GetFault}
 use Rattle.stamp_threads.specs.declared.faults.GetFault.TheVariants as get
-use Rattle.stamp_threads.specs.PassView.{entry, HasFound, IsSamePass}
+use Rattle.stamp_threads.specs.PassView.{entry, HasFound, IsSamePass, MadeNoCall, PassesMet}
 use Rattle.stamp_threads.specs.RecordWord.{word_with, writer_unit}
 use Rattle.stamp_threads.specs.RecordLog.{RecordLog, word_after, content_in, is_locked, marker_in, puts}
-use Rattle.stamp_threads.specs.RecordPass.{RecordPassView, IsConsistentWith, LeavesLockWord}
+use Rattle.stamp_threads.specs.RecordPass.{RecordPassView, IsConsistentWith, LeavesWord}
 
 -- what a call that was made found at the lock word: a get's two loads found one word, and so did a
 -- put's load and exchange; its release found that word with write mode held
@@ -39,7 +39,7 @@ pub record RecordAnswered (shape : RecordShape) (call : Call) (reply : Reply) (v
   pub word : ℕ
   pub looks : HasFound v (words_found shape.limits.layout call word) w
   pub first : RecordLog
-  pub at_first : LeavesLockWord shape v word first
+  pub at_first : LeavesWord shape v word first
   pub log : RecordLog
   pub longer : IsPrefix first log
   pub left : last_found shape.limits.layout call word ≡ word_after shape.limits.layout log
@@ -55,10 +55,9 @@ pub record RecordAnswered (shape : RecordShape) (call : Call) (reply : Reply) (v
 -- is locked, another pass made its last mark
 pub record SawWord (shape : RecordShape) (v : RecordPassView) (word : ℕ) (w : RecordPassView) :
     Type 0 where
-  pub left : LeavesLockWord shape v word w.known
+  pub left : LeavesWord shape v word w.known
   pub others : is_locked w.known ≡ true → marker_in w.known ≢ v.name
-  pub own : w.own ≡ v.own
-  pub same : IsSamePass v w
+  pub no_call : MadeNoCall v w
   pub idle : w.phase ≡ Idle
   pub consistent : IsConsistentWith shape.width w
 
@@ -76,7 +75,7 @@ pub record WasLost (shape : RecordShape) (v : RecordPassView) (loaded found : �
   pub differ : loaded ≢ found
   pub looks : HasFound v (loaded ∷ found ∷ []) w
   pub first : RecordLog
-  pub at_first : LeavesLockWord shape v loaded first
+  pub at_first : LeavesWord shape v loaded first
   pub free : is_locked first ≡ false
   pub longer : IsPrefix first w.known
   pub saw : SawWord shape v found w
@@ -113,14 +112,9 @@ abbrev pub GotOrRefused : (List ℕ → Type 0) → RecordShape → Result (List
 GotOrRefused P shape (Ok words) v w = WasGot P shape words v w
 GotOrRefused P shape (Err fault) v w = GetRefused shape v fault w
 
--- v' and w' are v and w after they met
+-- v' and w' are v and w after they met: both know one history, which is legal, and where the calls
+-- of either are just its own
 pub record RecordPassesMet (width : ℕ) (v w v' w' : RecordPassView) : Type 0 where
-  pub first_begins : IsPrefix v.known v'.known
-  pub second_begins : IsPrefix w.known v'.known
-  pub alike : w'.known ≡ v'.known
-  pub apart : v.name ≢ w.name
-  pub owns : (v'.own ≡ v.own) × (w'.own ≡ w.own)
-  pub finds : (v'.found ≡ v.found) × (w'.found ≡ w.found)
-  pub same : IsSamePass v v' × IsSamePass w w'
+  pub met : PassesMet v w v' w'
   pub idle : (v'.phase ≡ v.phase) × (w'.phase ≡ w.phase)
   pub all_consistent : IsConsistentWith width v' × IsConsistentWith width w'

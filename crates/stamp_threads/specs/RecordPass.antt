@@ -50,6 +50,10 @@ IsAtSeat table shape seat me = seats.IsAtSeat Idle table (shape.width + 1) seat 
 abbrev pub AreAtSeat : TableId → RecordShape → TableId → Seated → Type 0
 AreAtSeat table shape seat me = seats.AreAtSeat Idle table (shape.width + 1) seat me
 
+-- both passes of a seat are between two calls
+abbrev pub AreIdle : List RecordPassView → Type 0
+AreIdle vs = ((first_of vs).phase ≡ Idle) × ((second_of vs).phase ≡ Idle)
+
 -- a pass that is writing has a mark whose put has yet to come
 abbrev pub marks_ahead : RecordPhase → ℕ
 marks_ahead (Writing version words stored) = 1
@@ -68,7 +72,7 @@ abbrev pub IsConsistentIn : TableId → RecordPassView → Type 0
 IsConsistentIn table v = (width : ℕ) → table.words ≡ width + 1 → IsConsistentWith width v
 
 -- a legal history that begins with what the pass knows, and leaves this lock word
-pub record LeavesLockWord (shape : RecordShape) (v : RecordPassView) (word : ℕ) (log : RecordLog) :
+pub record LeavesWord (shape : RecordShape) (v : RecordPassView) (word : ℕ) (log : RecordLog) :
     Type 0 where
   pub begins : IsPrefix v.known log
   pub legal : IsLegalRecord shape.width log

@@ -18,7 +18,7 @@ use Rattle.stamp_threads.specs.RecordWord.{word_with}
 use Rattle.stamp_threads.specs.RecordLog.{RecordLog, IsLegalRecord, content_in, puts, puts_in}
 use Rattle.stamp_threads.specs.RecordLog.{is_locked, marker_in, word_after, is_own, marks_of}
 use Rattle.stamp_threads.specs.RecordPass.{RecordPassView, RecordView, RecordToken, Seated}
-use Rattle.stamp_threads.specs.RecordPass.{IsConsistentWith, LeavesLockWord}
+use Rattle.stamp_threads.specs.RecordPass.{IsConsistentWith, LeavesWord}
 use Rattle.stamp_threads.specs.RecordPass.{marks_ahead, first_of, second_of, first_pass}
 use Rattle.stamp_threads.specs.RecordPass.{HasEntered}
 
@@ -115,16 +115,22 @@ get_of words = Called Get (Content words)
 
 -- v is the pass before a step that has found this word, and me the seat after it
 module _ (shape : RecordShape) (v : RecordPassView) (found : ℕ) (me : Seated) where
-  pub record Looked : Type 0 where
+  -- the pass has come to know the whole history, is this one then, and made no call: where the
+  -- history is locked, another pass made its last mark
+  pub record CameToKnow (after_it : RecordLog → RecordPassView) : Type 0 where
     pub log : RecordLog
-    pub left : LeavesLockWord shape v found log
-    pub after : me ≡ alone (knowing (finding v found) log)
+    pub left : LeavesWord shape v found log
+    pub after : me ≡ alone (after_it log)
     pub others : is_locked log ≡ true → marker_in log ≢ v.name
-    pub consistent : IsConsistentWith shape.width (knowing (finding v found) log)
+    pub consistent : IsConsistentWith shape.width (after_it log)
+
+  -- the first load of a put, or its exchange where that found another word
+  abbrev pub LoadedForPut : Type 0
+  LoadedForPut = CameToKnow (knowing (finding v found))
 
   pub record Acquired (words : List ℕ) : Type 0 where
     pub log : RecordLog
-    pub left : LeavesLockWord shape v found log
+    pub left : LeavesWord shape v found log
     pub after : me ≡ alone (acquiring (finding v found) log words)
 
   pub record Released (words : List ℕ) : Type 0 where
@@ -136,9 +142,9 @@ module _ (shape : RecordShape) (v : RecordPassView) (found : ℕ) (me : Seated) 
     pub consistent : IsConsistentWith shape.width (calling (finding v found) log (put_of words))
 
   -- the first load of a get: where nobody has write mode the pass begins to read
-  pub record Opened : Type 0 where
+  pub record LoadedForGet : Type 0 where
     pub log : RecordLog
-    pub left : LeavesLockWord shape v found log
+    pub left : LeavesWord shape v found log
     pub after : me ≡ alone (if is_locked log then knowing (finding v found) log
         else starting_to_read (finding v found) log)
     pub others : is_locked log ≡ true → marker_in log ≢ v.name
@@ -149,17 +155,13 @@ module _ (shape : RecordShape) (v : RecordPassView) (found : ℕ) (me : Seated) 
     pub log : RecordLog
     pub content : words ≡ content_in shape.width log
     pub obeys : P words
-    pub left : LeavesLockWord shape v found log
+    pub left : LeavesWord shape v found log
     pub after : me ≡ alone (calling (finding v found) log (get_of words))
     pub consistent : IsConsistentWith shape.width (calling (finding v found) log (get_of words))
 
   -- and where it is another
-  pub record Overtaken : Type 0 where
-    pub log : RecordLog
-    pub left : LeavesLockWord shape v found log
-    pub after : me ≡ alone (stopping (finding v found) log)
-    pub others : is_locked log ≡ true → marker_in log ≢ v.name
-    pub consistent : IsConsistentWith shape.width (stopping (finding v found) log)
+  abbrev pub Overtaken : Type 0
+  Overtaken = CameToKnow (stopping (finding v found))
 
 -- a load by a seat that holds two passes
 pub record Met (shape : RecordShape) (v w : RecordPassView) (me : Seated) : Type 0 where
@@ -199,13 +201,13 @@ word_to_confirm layout (Reading version words) = word_with layout version false
 abbrev pub Tells : Type 1
 Tells = Step (Unit {0}) → Seated → ℕ → Seated → Type 0
 
-abbrev pub LookTells : RecordShape → Tells
-LookTells shape st m found n = Looked shape (first_of m.0) found n
+abbrev pub LoadForPutTells : RecordShape → Tells
+LoadForPutTells shape st m found n = LoadedForPut shape (first_of m.0) found n
 
 abbrev pub AcquireTells : RecordShape → List ℕ → Tells
 AcquireTells shape words st m found n =
     MatchBool (found == st.first) (Acquired shape (first_of m.0) found n words)
-    (Looked shape (first_of m.0) found n)
+    (LoadedForPut shape (first_of m.0) found n)
 
 abbrev pub StoreTells : Tells
 StoreTells st m found n = n ≡ alone (stored_one (first_of m.0))
@@ -213,8 +215,8 @@ StoreTells st m found n = n ≡ alone (stored_one (first_of m.0))
 abbrev pub ReleaseTells : RecordShape → List ℕ → Tells
 ReleaseTells shape words st m found n = Released shape (first_of m.0) st.first n words
 
-abbrev pub OpenTells : RecordShape → Tells
-OpenTells shape st m found n = Opened shape (first_of m.0) found n
+abbrev pub LoadForGetTells : RecordShape → Tells
+LoadForGetTells shape st m found n = LoadedForGet shape (first_of m.0) found n
 
 abbrev pub LoadTells : Tells
 LoadTells st m found n = n ≡ alone (loaded_one (first_of m.0) found)

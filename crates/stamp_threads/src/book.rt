@@ -46,7 +46,8 @@ fn entry_at(position: u64, thread: u64, call: &Call, reply: &Reply) -> Entry
 }
 
 impl Book {
-    /// The book of a new lock. It keeps the allocator and takes no memory.
+    /// The book of a new lock, for at most `most` entries; `most` is at most 640,000. It keeps the
+    /// allocator and takes no memory.
     pub fn new(alloc: Global, limits: Limits, most: u64) -> Book
         requires { most ≤ 640000 }
         ensures { result ≡ booked limits most [] }
@@ -59,9 +60,9 @@ impl Book {
         }
     }
 
-    /// Makes the call for this thread, and enters it with its reply. Refuses in this order: 3 `Waits`,
-    /// 1 `Full`, 2 `Memory`; the book is as before then. The thread is the caller's number for whoever
-    /// calls, and only stands in the entry.
+    /// Makes the call, which is a lock call, for this thread, and enters it with its reply. The thread
+    /// is the caller's number for whoever calls, below 64, and only stands in the entry. Refuses in
+    /// this order: 3 `Waits`, 1 `Full`, 2 `Memory`; the book is as before then.
     pub fn act(&mut self, thread: u64, call: Call) -> Result<Reply, BookError>
         requires lock_call { IsTrue (is_lock_call call) }
         requires thread { thread < 64 }

@@ -30,7 +30,8 @@ impl TableRule<(), LockPasses, LockKey> for LockRule {
     ghost first = { λ _. first_pass ∷ [] };
 }
 
-/// The limits of the lock, and the call that a step is made for. Each step picks its own.
+/// The limits of the lock, and the call that a step is made for: what the step's contract speaks of.
+/// Code that makes a step passes `Brand` for it, and its proof picks both.
 pub trait CallStep {
     ghost use Rattle.stamp_core.specs.Limits.{Bounds};
     ghost use Rattle.stamp_core.specs.declared.call.Call.{Call};
@@ -40,6 +41,7 @@ pub trait CallStep {
     ghost call: { Call };
 }
 
+// No step keeps these values: the proof of each picks its own.
 impl CallStep for Brand {
     ghost use Rattle.stamp_core.specs.Limits.{bounds};
     ghost use Rattle.stamp_core.specs.declared.layout.Layout.TheVariants.{One};

@@ -32,11 +32,12 @@ pub fn load<C: CallStep>(table: &LockTable, seat: &mut LockSeat, call: &Call) ->
     ensures told { let v = first_of seat.old.me.0 in
         Loaded table.now.key.limits call.now v result (first_of seat.new.me.0) }
 {
+    // The call stands in the contract alone.
     let _ = call;
     table.load::<LoadStep<C>>(seat, 0)
 }
 
-/// Makes the call by an exchange. One that finds another word is as a load.
+/// Makes the call by an exchange. One that finds another word tells what a load would tell.
 #[inline(always)]
 pub fn exchange<C: CallStep>(
     table: &LockTable,
@@ -54,6 +55,7 @@ pub fn exchange<C: CallStep>(
     ensures told { let v = first_of seat.old.me.0 in
         Exchanged table.now.key.limits call.now old v result (first_of seat.new.me.0) }
 {
+    // The call stands in the contract alone.
     let _ = call;
     table.compare_exchange::<ExchangeStep<C>>(seat, 0, old, new)
 }

@@ -9,9 +9,9 @@ pub struct LogEntry<E> {
     pub made: E,
 }
 
-/// A pass. Its name is a root and a path. The first pass has the root 0, and each that enters the next
-/// one; their paths are empty. The j-th split of a pass, counted from 0, gives one of the same root,
-/// whose path has j more at its end.
+/// The view of a pass: what it knows, beside its name. The name is a root and a path. The first pass
+/// has the root 0, and each that enters the next one; their paths are empty. The j-th split of a pass,
+/// counted from 0, gives one of the same root, whose path has j more at its end.
 pub struct PassView<E, P> {
     /// The root, and the path.
     pub name: LinkedList<u64>,

@@ -1,4 +1,4 @@
-//! What a call does before it looks at the word again.
+//! What a call does before it tries again.
 ghost use Rattle.std.specs.Prelude.{◌≡◌};
 
 use crate::lock_steps::LockTable;
@@ -6,30 +6,30 @@ use std::sync::Wait;
 use std::time::Duration;
 use std::{hint, thread};
 
-/// The rounds in which it spins, each twice as long as the one before.
+/// The rounds in which it spins. In later ones it lets other threads run.
 const SPINNING: u32 = 8;
 
-/// The rounds after which it has spun and let others run.
-const YIELDING: u32 = 16;
+/// The rounds in which it never sleeps. In later ones a call that waits does.
+const AWAKE: u32 = 16;
 
 /// How many microseconds it sleeps at most.
 const NAP: u64 = 100;
 
-/// How often a call has looked in vain. At first it spins a little, then it lets other threads run,
-/// and then it sleeps, 100 microseconds at most each time.
+/// How often a call has tried in vain, counted up to `AWAKE`.
 #[derive(Drop)]
 pub struct Patience {
     rounds: u32,
 }
 
 impl Patience {
-    /// Of a call that has not looked yet.
+    /// That of a call which has not tried yet.
     pub fn new() -> Patience {
         Patience { rounds: 0 }
     }
 
-    /// Spins, and after eight rounds lets other threads run.
-    fn spin(&mut self) {
+    /// Spins, each time twice as long as before, and after eight rounds lets other threads run. After a
+    /// lost exchange that is all: others come on, so the call can be tried again soon.
+    pub fn pause(&mut self) {
         if self.rounds < SPINNING {
             for _ in 0..1u32 << self.rounds {
                 hint::spin_loop();
@@ -37,23 +37,20 @@ impl Patience {
         } else {
             thread::yield_now();
         }
-        if self.rounds < YIELDING {
+        if self.rounds < AWAKE {
             self.rounds += 1;
         }
     }
 
-    /// After an exchange that was lost: others come on, so the call can be tried again soon.
-    pub fn lose(&mut self) {
-        self.spin();
-    }
-
-    /// After a look that found this word, on which the call waits.
+    /// Pauses after a load that found this word, on which the call waits. After sixteen rounds it sleeps
+    /// instead, 100 microseconds at most, and not at all where the word has changed since.
     pub fn wait<R: Wait>(&mut self, rt: &R, table: &LockTable, found: u64)
         requires { table.now.table_id.words ≡ 1 }
     {
-        if self.rounds < YIELDING {
-            self.spin();
+        if self.rounds < AWAKE {
+            self.pause();
         } else {
+            // The sleep compares no more bits than these, and each change of the word changes them.
             let low = (found & 0xffff_ffff) as u32;
             table.park_timeout(rt, 0, low, Duration::from_micros(NAP));
         }

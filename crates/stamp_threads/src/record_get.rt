@@ -6,7 +6,7 @@ ghost use Rattle.stamp_threads.specs.RecordCall.{WasGot, GetRefused};
 
 use crate::faults::GetFault;
 use crate::record_rule::ContentRule;
-use crate::record_steps::{RecordSeat, RecordTable, confirm, load_all, open};
+use crate::record_steps::{RecordSeat, RecordTable, confirm, load_all, load_for_get};
 use crate::record_view::RecordShape;
 use std::marker::Brand;
 
@@ -29,7 +29,8 @@ pub fn get_words<P: ContentRule>(
     ensures err { let v = first_of seat.old.me.0 in let w = first_of seat.new.me.0 in
         IfErr result (λ fault. GetRefused shape v fault w) }
 {
-    let loaded = open::<Brand, P>(table, seat);
+    // `Brand` stands for what a step's contract speaks of: this shape and the words loaded.
+    let loaded = load_for_get::<Brand, P>(table, seat);
     if shape.limits.layout().has_writer(loaded) {
         return Err(GetFault::Busy(loaded));
     }

@@ -5,14 +5,16 @@ use crate::record_view::{RecordKey, RecordPasses};
 use atomic_table::{Join, Play, Split, TableRule};
 use std::marker::{Brand, PhantomData};
 
-/// A fact that each content which is put has.
+/// A rule on what a record holds. A user's type implements it, and stands for the rule in the record's
+/// type: `holds` says it of the words. Each content that is put keeps to it, so each one that is got
+/// does.
 pub trait ContentRule {
     ghost use Rattle.std.specs.Prelude.{ℕ, List};
 
     ghost holds: { List ℕ → Type 0 };
 }
 
-/// Nothing is asked of the content.
+/// The rule that all words keep to.
 pub struct AnyContent;
 
 impl ContentRule for AnyContent {
@@ -34,7 +36,8 @@ impl<P: ContentRule> TableRule<(), RecordPasses, RecordKey> for RecordRule<P> {
     ghost first = { λ key. opening_pass key.first ∷ [] };
 }
 
-/// The shape of the record, and the words that a step puts or has loaded. Each step picks its own.
+/// The shape of the record, and the words that a step puts or has loaded: what the step's contract
+/// speaks of. Code that makes a step passes `Brand` for it, and its proof picks both.
 pub trait WordsStep {
     ghost use Rattle.std.specs.Prelude.{ℕ, List};
     ghost use Rattle.stamp_threads.specs.declared.record_view.RecordShape.{RecordShape};
@@ -44,6 +47,7 @@ pub trait WordsStep {
     ghost words: { List ℕ };
 }
 
+// No step keeps these values: the proof of each picks its own.
 impl WordsStep for Brand {
     ghost use Rattle.std.specs.Prelude.{[]};
     ghost use Rattle.stamp_core.specs.Limits.{bounds};
@@ -55,14 +59,14 @@ impl WordsStep for Brand {
 }
 
 /// The load that a put begins with.
-pub struct LookStep<C> {
+pub struct LoadForPutStep<C> {
     of: PhantomData<C>,
 }
 
-impl<C: WordsStep> Play<(), RecordPasses> for LookStep<C> {
-    ghost use Rattle.stamp_threads.specs.RecordRule.{LookTells};
+impl<C: WordsStep> Play<(), RecordPasses> for LoadForPutStep<C> {
+    ghost use Rattle.stamp_threads.specs.RecordRule.{LoadForPutTells};
 
-    ghost then = { LookTells C.shape };
+    ghost then = { LoadForPutTells C.shape };
 }
 
 /// The exchange that gets write mode.
@@ -97,14 +101,14 @@ impl<C: WordsStep> Play<(), RecordPasses> for ReleaseStep<C> {
 }
 
 /// The first load of a get.
-pub struct OpenStep<C> {
+pub struct LoadForGetStep<C> {
     of: PhantomData<C>,
 }
 
-impl<C: WordsStep> Play<(), RecordPasses> for OpenStep<C> {
-    ghost use Rattle.stamp_threads.specs.RecordRule.{OpenTells};
+impl<C: WordsStep> Play<(), RecordPasses> for LoadForGetStep<C> {
+    ghost use Rattle.stamp_threads.specs.RecordRule.{LoadForGetTells};
 
-    ghost then = { OpenTells C.shape };
+    ghost then = { LoadForGetTells C.shape };
 }
 
 /// A load of a word of the record.

@@ -7,15 +7,16 @@ ghost use Rattle.stamp_threads.specs.PassView.{after_split, split_off};
 ghost use Rattle.stamp_threads.specs.Seats.{alone, both, StandsAlone};
 ghost use Rattle.stamp_threads.specs.RecordWord.{word_with, writer_unit};
 ghost use Rattle.stamp_threads.specs.RecordPass.{first_of, second_of, HasEntered};
-ghost use Rattle.stamp_threads.specs.RecordPass.{IsAtSeat, AreAtSeat};
-ghost use Rattle.stamp_threads.specs.RecordRule.{Looked, Acquired, Released, stored_one, Opened};
-ghost use Rattle.stamp_threads.specs.RecordRule.{loaded_one, Confirmed, Overtaken, word_to_confirm};
+ghost use Rattle.stamp_threads.specs.RecordPass.{IsAtSeat, AreAtSeat, AreIdle};
+ghost use Rattle.stamp_threads.specs.RecordRule.{LoadedForPut, Acquired, Released, stored_one};
+ghost use Rattle.stamp_threads.specs.RecordRule.{LoadedForGet, loaded_one, Confirmed, Overtaken};
+ghost use Rattle.stamp_threads.specs.RecordRule.{word_to_confirm};
 ghost use Rattle.stamp_threads.specs.RecordRule.{Met, with_phase};
 
 use crate::lock_rule::{GivePass, PartSeats, ShareSeat};
 use crate::record_rule::{
-    AcquireStep, ConfirmStep, ContentRule, EnterRecordStep, LoadWordStep, LookStep, MeetRecordStep,
-    OpenStep, RecordRule, ReleaseStep, StoreStep, WordsStep,
+    AcquireStep, ConfirmStep, ContentRule, EnterRecordStep, LoadForGetStep, LoadForPutStep,
+    LoadWordStep, MeetRecordStep, RecordRule, ReleaseStep, StoreStep, WordsStep,
 };
 use crate::record_view::{RecordKey, RecordPasses};
 use atomic_table::{Seat, Shared};
@@ -26,19 +27,23 @@ pub type RecordTable<P> = Shared<(), RecordPasses, RecordKey, RecordRule<P>>;
 /// A seat of it, which a pass has.
 pub type RecordSeat = Seat<(), RecordPasses>;
 
-/// Loads the lock word, before a put.
+/// The load that a put begins with: of the lock word.
 #[inline(always)]
-pub fn look<C: WordsStep, P: ContentRule>(table: &RecordTable<P>, seat: &mut RecordSeat) -> u64
+pub fn load_for_put<C: WordsStep, P: ContentRule>(
+    table: &RecordTable<P>,
+    seat: &mut RecordSeat,
+) -> u64
     requires step { C.shape ≡ table.now.key.shape }
     requires seat { IsAtSeat table.now.table_id table.now.key.shape seat.old.table_id seat.old.me }
     requires idle { (first_of seat.old.me.0).phase ≡ Idle }
     ensures table { seat.new.table_id ≡ seat.old.table_id }
-    ensures told { Looked table.now.key.shape (first_of seat.old.me.0) result seat.new.me }
+    ensures told { LoadedForPut table.now.key.shape (first_of seat.old.me.0) result seat.new.me }
 {
-    table.load::<LookStep<C>>(seat, 0)
+    table.load::<LoadForPutStep<C>>(seat, 0)
 }
 
-/// Gets write mode by an exchange, to put these words. One that finds another word is as a load.
+/// Gets write mode by an exchange, to put these words. One that finds another word tells what a load
+/// would tell.
 #[inline(always)]
 pub fn acquire<C: WordsStep, P: ContentRule>(
     table: &RecordTable<P>,
@@ -58,8 +63,9 @@ pub fn acquire<C: WordsStep, P: ContentRule>(
     ensures table { seat.new.table_id ≡ seat.old.table_id }
     ensures told { let key = table.now.key.shape in let v = first_of seat.old.me.0 in
         MatchBool (result == free) (Acquired key v result seat.new.me words.now)
-        (Looked key v result seat.new.me) }
+        (LoadedForPut key v result seat.new.me) }
 {
+    // The words stand in the contract alone.
     let _ = words;
     table.compare_exchange::<AcquireStep<C>>(seat, 0, free, held)
 }
@@ -114,20 +120,25 @@ pub fn release<C: WordsStep, P: ContentRule>(
     ensures told { let v = first_of seat.old.me.0 in
         Released table.now.key.shape v held seat.new.me words.now }
 {
+    // The words stand in the contract alone.
     let _ = words;
     table.compare_exchange::<ReleaseStep<C>>(seat, 0, held, free);
 }
 
-/// Loads the lock word, before a get.
+/// The load that a get begins with: of the lock word. Where nobody has write mode, the pass begins
+/// to read.
 #[inline(always)]
-pub fn open<C: WordsStep, P: ContentRule>(table: &RecordTable<P>, seat: &mut RecordSeat) -> u64
+pub fn load_for_get<C: WordsStep, P: ContentRule>(
+    table: &RecordTable<P>,
+    seat: &mut RecordSeat,
+) -> u64
     requires step { C.shape ≡ table.now.key.shape }
     requires seat { IsAtSeat table.now.table_id table.now.key.shape seat.old.table_id seat.old.me }
     requires idle { (first_of seat.old.me.0).phase ≡ Idle }
     ensures table { seat.new.table_id ≡ seat.old.table_id }
-    ensures told { Opened table.now.key.shape (first_of seat.old.me.0) result seat.new.me }
+    ensures told { LoadedForGet table.now.key.shape (first_of seat.old.me.0) result seat.new.me }
 {
-    table.load::<OpenStep<C>>(seat, 0)
+    table.load::<LoadForGetStep<C>>(seat, 0)
 }
 
 /// Loads the word of this place.
@@ -177,6 +188,7 @@ pub fn confirm<C: WordsStep, P: ContentRule>(
         MatchBool (result == word_to_confirm key.limits.layout v.phase)
         (Confirmed key v result seat.new.me P.holds words.now) (Overtaken key v result seat.new.me) }
 {
+    // The words stand in the contract alone.
     let _ = words;
     table.load::<ConfirmStep<C, P>>(seat, 0)
 }
@@ -219,8 +231,7 @@ pub fn share_seat<P: ContentRule>(table: &RecordTable<P>, seat: &mut RecordSeat,
 pub fn load_both<C: WordsStep, P: ContentRule>(table: &RecordTable<P>, seat: &mut RecordSeat)
     requires step { C.shape ≡ table.now.key.shape }
     requires seat { AreAtSeat table.now.table_id table.now.key.shape seat.old.table_id seat.old.me }
-    requires idle { ((first_of seat.old.me.0).phase ≡ Idle)
-        × ((second_of seat.old.me.0).phase ≡ Idle) }
+    requires idle { AreIdle seat.old.me.0 }
     ensures table { seat.new.table_id ≡ seat.old.table_id }
     ensures told { let old = seat.old.me.0 in
         Met table.now.key.shape (first_of old) (second_of old) seat.new.me }
@@ -231,8 +242,7 @@ pub fn load_both<C: WordsStep, P: ContentRule>(table: &RecordTable<P>, seat: &mu
 /// Puts the two passes of a seat on two seats.
 pub fn part_seats<P: ContentRule>(table: &RecordTable<P>, seat: &mut RecordSeat) -> RecordSeat
     requires seat { AreAtSeat table.now.table_id table.now.key.shape seat.old.table_id seat.old.me }
-    requires idle { ((first_of seat.old.me.0).phase ≡ Idle)
-        × ((second_of seat.old.me.0).phase ≡ Idle) }
+    requires idle { AreIdle seat.old.me.0 }
     ensures first { StandsAlone seat.old.table_id seat.new (first_of seat.old.me.0) }
     ensures second { StandsAlone seat.old.table_id result (second_of seat.old.me.0) }
 {

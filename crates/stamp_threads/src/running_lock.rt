@@ -120,7 +120,7 @@ impl RunningLock {
         }
     }
 
-    /// Decides the call on this word. Each layout has its own code, where the masks are constants.
+    /// Decides the call on this word.
     #[inline(always)]
     fn decide(&self, call: &Call, word: u64) -> LockDecision
         requires lock_call { IsTrue (is_lock_call call.now) }
@@ -130,6 +130,7 @@ impl RunningLock {
         ensures number { decision_as result ≡ decision self.now.limits word call.now }
     {
         let word = self.limits.word(word);
+        // In each of the equal arms the compiler knows the layout, so that its masks are constants.
         match self.limits.layout() {
             Layout::One => decide_lock(self.limits, word, call),
             Layout::Two => decide_lock(self.limits, word, call),
@@ -155,6 +156,7 @@ impl RunningLock {
     {
         let call = try_form(&call);
         let table = &self.table.shared;
+        // `Brand` stands for what a step's contract speaks of: these limits and this call.
         let loaded = load::<Brand>(table, &mut pass.seat, &call);
         match self.decide(&call, loaded) {
             LockDecision::Answer(reply) => Ok(reply.as_reply()),
@@ -173,10 +175,11 @@ impl RunningLock {
         }
     }
 
-    /// Makes the call, and tries again until it is made: `WriteLock` and `ReadLock` wait for others.
-    /// Before it looks again it spins a little, the first eight times; the next eight it lets other
-    /// threads run; after that, where it waits, it sleeps 100 microseconds at most each time. It may
-    /// go on for ever.
+    /// Makes the call, and tries again until it is made: `WriteLock` and `ReadLock` where they wait for
+    /// others, and every call where its exchange lost. Before each try it spins, the first eight times,
+    /// each twice as long as before; after that it lets other threads run. From the seventeenth time on
+    /// it sleeps where it waits, 100 microseconds at most each time; after a lost exchange it never
+    /// does. It may go on for ever.
     pub fn call<R: Wait>(&self, rt: &R, pass: &mut Pass, call: Call) -> Reply
         requires lock_call { IsTrue (is_lock_call call) }
         requires table { pass.old.table ≡ self.now.table }
@@ -187,21 +190,21 @@ impl RunningLock {
     {
         let table = &self.table.shared;
         let mut patience = Patience::new();
-        let mut found = load::<Brand>(table, &mut pass.seat, &call);
+        let mut seen = load::<Brand>(table, &mut pass.seat, &call);
         for _ in rt.forever() {
-            match self.decide(&call, found) {
+            match self.decide(&call, seen) {
                 LockDecision::Answer(reply) => return reply.as_reply(),
                 LockDecision::Change(new, reply) => {
-                    let old = found;
-                    found = exchange::<Brand>(table, &mut pass.seat, &call, old, new.bits());
-                    if found == old {
+                    let old = seen;
+                    seen = exchange::<Brand>(table, &mut pass.seat, &call, old, new.bits());
+                    if seen == old {
                         return reply.as_reply();
                     }
-                    patience.lose();
+                    patience.pause();
                 }
                 LockDecision::Wait => {
-                    patience.wait(rt, table, found);
-                    found = load::<Brand>(table, &mut pass.seat, &call);
+                    patience.wait(rt, table, seen);
+                    seen = load::<Brand>(table, &mut pass.seat, &call);
                 }
             }
         }

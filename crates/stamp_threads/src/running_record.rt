@@ -14,7 +14,7 @@ use crate::faults::{GetFault, PutFault};
 use crate::record_get::get_words;
 use crate::record_pass::RecordPass;
 use crate::record_rule::{AnyContent, ContentRule, RecordRule};
-use crate::record_steps::{self, acquire, look, release, store_all};
+use crate::record_steps::{self, acquire, load_for_put, release, store_all};
 use crate::record_view::{RecordKey, RecordPasses, RecordShape};
 use crate::record_word::{first_word, opening_word};
 use crate::running_lock::LockError;
@@ -96,7 +96,8 @@ impl RuledRecord<AnyContent> {
 
 impl<P: ContentRule> RuledRecord<P> {
     /// A record of these words, which keep to the rule, and its first pass, of which all others are
-    /// split off: as if that had put them. So it takes one version. It refuses only for want of memory.
+    /// split off: as if that had put them. So the limits have a version, and it takes one. It refuses
+    /// only for want of memory.
     pub fn holding(
         alloc: Global,
         limits: Limits,
@@ -163,9 +164,10 @@ impl<P: ContentRule> RuledRecord<P> {
         }
     }
 
-    /// Puts the words, where nobody else has write mode: by one load, one exchange, a store a word
-    /// and one exchange that releases. It waits for nobody. A put that is refused got no write mode
-    /// and changed no word.
+    /// Puts the words, as many as the record's width, which keep to the rule: by one load, one exchange,
+    /// a store a word and one exchange that releases. It waits for nobody. Refuses as 1 `Busy` where the
+    /// load found somebody in write mode, as 3 `Spent` where it found no version left, and as 2 `Lost`
+    /// where the exchange found another word; it got no write mode and changed no word then.
     #[inline(always)]
     pub fn put_once(&self, pass: &mut RecordPass, words: Words) -> Result<(), PutFault>
         requires table { pass.old.table ≡ self.now.table }
@@ -180,7 +182,8 @@ impl<P: ContentRule> RuledRecord<P> {
         let table = &self.table.shared;
         let layout = self.shape.limits.layout();
         let words = words.as_slice();
-        let loaded = look::<Brand, P>(table, &mut pass.seat);
+        // `Brand` stands for what a step's contract speaks of: this shape and these words.
+        let loaded = load_for_put::<Brand, P>(table, &mut pass.seat);
         if layout.has_writer(loaded) {
             return Err(PutFault::Busy(loaded));
         }
@@ -198,8 +201,9 @@ impl<P: ContentRule> RuledRecord<P> {
         Ok(())
     }
 
-    /// Gets the words, where nobody has write mode or comes in between: by one load, a load a word
-    /// and one load. It waits for nobody, and may fail for ever beside writers.
+    /// Gets the words, which stood together: by one load, a load a word and one load. It waits for
+    /// nobody. Refuses as 1 `Busy` where the first load found somebody in write mode, and as 2 `Lost`
+    /// where the last one found another word; beside writers it may be refused each time.
     #[inline(always)]
     pub fn get_once(&self, pass: &mut RecordPass) -> Result<Words, GetFault>
         requires { pass.old.table ≡ self.now.table }
@@ -244,8 +248,8 @@ impl<P: ContentRule> RuledRecord<P> {
         Ok(Words::of_row(row, width))
     }
 
-    /// As `get_once`, into a place of the caller's that has the width.
-    /// Where it is refused, any words may stand there.
+    /// As `get_once`, into a place of the caller's that has the width. It refuses as `get_once` does;
+    /// any words may stand in the place then.
     #[inline(always)]
     pub fn get_into(&self, pass: &mut RecordPass, into: &mut [u64]) -> Result<(), GetFault>
         requires table { pass.old.table ≡ self.now.table }
@@ -258,7 +262,7 @@ impl<P: ContentRule> RuledRecord<P> {
             IfErr result (λ fault. GetRefused self.now.shape v fault w) }
     {
         let shape = self.shape;
-        // Each layout has its own code, where the masks are constants.
+        // In each of the equal arms the compiler knows the layout, so that its masks are constants.
         match shape.limits.layout() {
             Layout::One => get_words(&self.table.shared, shape, &mut pass.seat, into),
             Layout::Two => get_words(&self.table.shared, shape, &mut pass.seat, into),
@@ -291,7 +295,8 @@ impl<P: ContentRule> RuledRecord<P> {
         RecordPass { seat }
     }
 
-    /// The pass given, and a new one, which knows as much and has made no call.
+    /// The pass given, and a new one, which knows as much and has made no call. It makes one load and
+    /// takes no memory.
     pub fn split(&self, mut pass: RecordPass) -> (RecordPass, RecordPass)
         requires { pass.table ≡ self.now.table }
         ensures table { (result.0.table ≡ self.now.table) × (result.1.table ≡ self.now.table) }

@@ -28,9 +28,10 @@ impl Shared {
         }
     }
 
-    /// Makes the call as `Book::act` does, and never answers 3 `Waits`: a call that waits is tried
-    /// again whenever others have changed the word. It may wait for ever, as it does where the book is
-    /// full by then. Refuses as 1 `Full` and 2 `Memory`, and has entered nothing then.
+    /// Makes the call as `Book::act` does: a lock call, for a thread below 64. It never answers
+    /// 3 `Waits`: a call that waits is tried again whenever others have changed the word. It may wait
+    /// for ever, as it does where the book is full by then. Refuses as 1 `Full` and 2 `Memory`, and has
+    /// entered nothing then.
     pub fn call<R: Wait>(&self, rt: &R, thread: u64, call: Call) -> Result<Reply, BookError>
         requires lock_call { IsTrue (is_lock_call call) }
         requires thread { thread < 64 }
@@ -63,7 +64,8 @@ impl Shared {
         answer
     }
 
-    /// A copy of the history so far, as `Book::record` gives.
+    /// A copy of the history so far, as `Book::record` gives. It waits while another thread has the
+    /// book, and refuses only as 2 `Memory`.
     pub fn record<R: Wait>(&self, rt: &R) -> Result<Record, BookError>
         ensures book { IfOk result (λ r. IsOfBook r) }
         ensures memory { OnErr result (result ≡ Err BookError.Memory) }

@@ -9,6 +9,7 @@ use Rattle.stamp_threads.specs.Answered.{Answered}
 use Rattle.stamp_threads.specs.LostExchange.{LostExchange}
 use Rattle.stamp_threads.specs.declared.lost.Lost.{Lost}
 use Rattle.stamp_threads.proofs.Beginnings.{begins_further}
+use Rattle.stamp_threads.proofs.SamePass.{same_further}
 use Rattle.stamped_lock.specs.LockHandleView.{LockHandleView}
 use Rattle.stamped_lock.specs.Made.{Made, HasLost}
 
@@ -26,18 +27,17 @@ made_after_loss limits call reply loaded found v u w l a = record {
   earlier = loaded ∷ found ∷ a.earlier;
   last = a.last ∙ (ap (λ (xs : List ℕ). xs ++ (a.earlier ++ a.word ∷ [])) l.looks ∙
       append_assoc v.found (loaded ∷ found ∷ []) (a.earlier ++ a.word ∷ []));
-  known = a.known ∙ ap (λ (n : List ℕ). a.log ++ entry n (call, reply) ∷ []) l.name;
-  own = a.own ∙ ap (λ (xs : List (Call × Reply)). xs ++ (call, reply) ∷ []) l.own;
-  name = a.name ∙ l.name;
-  splits = a.splits ∙ l.splits;
+  known = a.known ∙ ap (λ (n : List ℕ). a.log ++ entry n (call, reply) ∷ []) l.no_call.same.name;
+  own = a.own ∙ ap (λ (xs : List (Call × Reply)). xs ++ (call, reply) ∷ []) l.no_call.own;
+  same = same_further v u w l.no_call.same a.same;
   consistent = a.consistent;
 }
 
 pub made_again : (call : Call) (reply : Reply) (lost : Lost) (h u h' : LockHandleView) →
     HasLost call lost h u → Made call reply u h' → Made call reply h h'
 made_again call reply lost h u h' l m = record {
-  lock = m.lock ∙ l.lock;
-  answered = made_after_loss h.lock.limits call reply lost.loaded lost.found h.pass u.pass h'.pass
-      l.exchange (subst (λ (x : LockView). Answered x.limits call reply u.pass h'.pass) l.lock
+  same = m.same ∙ l.same;
+  answered = made_after_loss h.running.limits call reply lost.loaded lost.found h.pass u.pass h'.pass
+      l.exchange (subst (λ (x : LockView). Answered x.limits call reply u.pass h'.pass) l.same
       m.answered);
 }

@@ -7,23 +7,22 @@ use Rattle.stamp_threads.specs.declared.faults.GetFault.{GetFault}
 use Rattle.stamp_threads.specs.declared.faults.GetFault.TheVariants as get
 use Rattle.stamp_threads.specs.RecordCall.{SawWord}
 use Rattle.stamp_threads.proofs.Beginnings.{begins_all, begins_further}
+use Rattle.stamp_threads.proofs.SamePass.{no_call_yet, no_call_further}
 use Rattle.stamped_lock.specs.RecordCalls.{RecordHandleView, Tried, RefusesPut, RefusesGet}
 
 pub tried_none : (h : RecordHandleView) → Tried h h
 tried_none h = record {
   same = refl;
   begins = begins_all h.pass.known;
-  own = refl;
-  same_pass = record { name = refl; splits = refl };
+  no_call = no_call_yet h.pass;
 }
 
-tried_word : (shape : RecordShape) (word : ℕ) (h h' : RecordHandleView) → h'.shared ≡ h.shared →
+tried_word : (shape : RecordShape) (word : ℕ) (h h' : RecordHandleView) → h'.running ≡ h.running →
     SawWord shape h.pass word h'.pass → Tried h h'
 tried_word shape word h h' same saw = record {
   same = same;
   begins = saw.left.begins;
-  own = saw.own;
-  same_pass = saw.same;
+  no_call = saw.no_call;
 }
 
 pub tried_put : (fault : PutFault) (h h' : RecordHandleView) → RefusesPut fault h h' → Tried h h'
@@ -39,9 +38,5 @@ pub tried_further : (h u h' : RecordHandleView) → Tried h u → Tried u h' →
 tried_further h u h' a b = record {
   same = b.same ∙ a.same;
   begins = begins_further h.pass.known u.pass.known h'.pass.known a.begins b.begins;
-  own = b.own ∙ a.own;
-  same_pass = record {
-    name = b.same_pass.name ∙ a.same_pass.name;
-    splits = b.same_pass.splits ∙ a.same_pass.splits;
-  };
+  no_call = no_call_further h.pass u.pass h'.pass a.no_call b.no_call;
 }

@@ -71,10 +71,10 @@ pub unwritten : (s : ℕ) (h m n : LockHandleView) → 0 < s → Made Optimistic
     Made (Validate s) Yes m n → IsUnwritten m n
 unwritten s h m n some issued valid =
     let a = subst (λ (l : Bounds). Answered l Optimistic (Stamp s) h.pass m.pass)
-    (ap (λ l. l.limits) (sym issued.lock)) issued.answered in
+    (ap (λ l. l.limits) (sym issued.same)) issued.answered in
     let b = valid.answered in
     record {
       goes_on = subst (IsPrefix m.pass.known) (sym b.known)
           (begins_further m.pass.known b.log _ b.left.begins (begins_more b.log _));
-      version = versions_same m.lock.limits s h.pass m.pass n.pass some a b;
+      version = versions_same m.running.limits s h.pass m.pass n.pass some a b;
     }

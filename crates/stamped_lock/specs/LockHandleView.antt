@@ -3,5 +3,5 @@ use Rattle.stamp_threads.specs.LockPass.{LockPassView, LockView}
 
 -- its lock, and what its pass knows
 pub record LockHandleView : Type 0 where
-  pub lock : LockView
+  pub running : LockView
   pub pass : LockPassView

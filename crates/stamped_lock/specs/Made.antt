@@ -13,13 +13,13 @@ use Rattle.stamped_lock.specs.declared.unlock_error.UnlockError.TheVariants as u
 -- the call was made with this reply: one legal history that begins with all that the handle knew, and
 -- ends with this call; h' is the handle after it
 pub record Made (call : Call) (reply : Reply) (h h' : LockHandleView) : Type 0 where
-  pub lock : h'.lock ≡ h.lock
-  pub answered : Answered h.lock.limits call reply h.pass h'.pass
+  pub same : h'.running ≡ h.running
+  pub answered : Answered h.running.limits call reply h.pass h'.pass
 
 -- the exchange of the call lost: the call was not made, and changed nothing
 pub record HasLost (call : Call) (lost : Lost) (h h' : LockHandleView) : Type 0 where
-  pub lock : h'.lock ≡ h.lock
-  pub exchange : LostExchange h.lock.limits call lost.loaded lost.found h.pass h'.pass
+  pub same : h'.running ≡ h.running
+  pub exchange : LostExchange h.running.limits call lost.loaded lost.found h.pass h'.pass
 
 -- the call was made, and this answer is its reply, or its exchange lost
 abbrev pub MadeOrLost : {A : Type 0} → Call → (A → Reply) → Result A Lost → LockHandleView → LockHandleView →

@@ -6,37 +6,36 @@ use Rattle.stamp_core.specs.declared.reply.Reply.{Reply}
 use Rattle.stamp_threads.specs.declared.faults.PutFault.{PutFault}
 use Rattle.stamp_threads.specs.declared.faults.PutFault.TheVariants.{Spent}
 use Rattle.stamp_threads.specs.declared.faults.GetFault.{GetFault}
-use Rattle.stamp_threads.specs.PassView.{IsSamePass}
+use Rattle.stamp_threads.specs.PassView.{MadeNoCall}
 use Rattle.stamp_threads.specs.RecordPass.{RecordPassView, RecordView}
 use Rattle.stamp_threads.specs.RecordCall.{RecordAnswered, PutRefused, GetRefused}
 
 -- its record, and what its pass knows
 pub record RecordHandleView : Type 0 where
-  pub shared : RecordView
+  pub running : RecordView
   pub pass : RecordPassView
 
 -- the call was made with this reply: one legal history that begins with all that the handle knew, and
 -- ends with this call; h' is the handle after it
 pub record MadeOnRecord (call : Call) (reply : Reply) (h h' : RecordHandleView) : Type 0 where
-  pub same : h'.shared ≡ h.shared
-  pub answered : RecordAnswered h.shared.shape call reply h.pass h'.pass
+  pub same : h'.running ≡ h.running
+  pub answered : RecordAnswered h.running.shape call reply h.pass h'.pass
 
 -- the put was refused, and changed nothing
 pub record RefusesPut (fault : PutFault) (h h' : RecordHandleView) : Type 0 where
-  pub same : h'.shared ≡ h.shared
-  pub refused : PutRefused h.shared.shape h.pass fault h'.pass
+  pub same : h'.running ≡ h.running
+  pub refused : PutRefused h.running.shape h.pass fault h'.pass
 
 -- and the get
 pub record RefusesGet (fault : GetFault) (h h' : RecordHandleView) : Type 0 where
-  pub same : h'.shared ≡ h.shared
-  pub refused : GetRefused h.shared.shape h.pass fault h'.pass
+  pub same : h'.running ≡ h.running
+  pub refused : GetRefused h.running.shape h.pass fault h'.pass
 
 -- calls were refused: the handle has come to know more, and made no call
 pub record Tried (h h' : RecordHandleView) : Type 0 where
-  pub same : h'.shared ≡ h.shared
+  pub same : h'.running ≡ h.running
   pub begins : IsPrefix h.pass.known h'.pass.known
-  pub own : h'.pass.own ≡ h.pass.own
-  pub same_pass : IsSamePass h.pass h'.pass
+  pub no_call : MadeNoCall h.pass h'.pass
 
 -- after some tries the call was made
 pub record MadeAtLast (call : Call) (reply : Reply) (h h' : RecordHandleView) : Type 0 where

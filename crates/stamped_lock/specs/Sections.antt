@@ -46,7 +46,7 @@ ReadSection {T} Ran (Err _) h h' =
 -- meanwhile
 pub record IsUnwritten (h h' : LockHandleView) : Type 0 where
   pub goes_on : IsPrefix h.pass.known h'.pass.known
-  pub version : let limits = h.lock.limits in
+  pub version : let limits = h.running.limits in
       write_count (events_after limits h'.pass.known) ≡ write_count (events_after limits h.pass.known)
 
 -- the closure ran between an optimistic stamp and a validation that said yes

@@ -29,9 +29,9 @@ use std::sync::Wait;
 /// the handle: dropping a handle releases nothing.
 #[derive(Drop)]
 pub struct LockHandle<'a> {
-    lock: &'a RunningLock,
+    running: &'a RunningLock,
     pass: Pass,
-    ghost table: { pass.table ≡ lock.now.table },
+    ghost table: { pass.table ≡ running.now.table },
 }
 
 impl<'a> Model for LockHandle<'a> {
@@ -40,20 +40,22 @@ impl<'a> Model for LockHandle<'a> {
 
     ghost Value = { LockHandleView };
 
-    ghost view = { λ h. record { lock = h.lock.now; pass = h.pass.view } };
+    ghost view = { λ h. record { running = h.running.now; pass = h.pass.view } };
 }
 
 impl<'a> LockHandle<'a> {
     /// The handle of a lock and a pass of it.
-    pub(crate) fn new(lock: &'a RunningLock, pass: Pass) -> LockHandle<'a>
-        requires { pass.table ≡ lock.now.table }
-        ensures lock { result.lock ≡ lock.now }
+    pub(crate) fn new(running: &'a RunningLock, pass: Pass) -> LockHandle<'a>
+        requires { pass.table ≡ running.now.table }
+        ensures running { result.running ≡ running.now }
         ensures pass { result.pass ≡ pass.view }
     {
-        LockHandle { lock, pass }
+        LockHandle { running, pass }
     }
 
-    /// Makes a call that waits for nobody. Where its exchange loses, it is made again until it wins.
+    /// Makes a call that waits for nobody. `once` is tried first, since its code is inlined and makes
+    /// nearly all calls. Where it lost, `call` goes on: it tries again until an exchange wins, or a word
+    /// that was found answers the call.
     #[inline(always)]
     fn make<R: Wait>(&mut self, rt: &R, call: Call) -> Reply
         requires lock_call { IsTrue (is_lock_call call) }
@@ -61,24 +63,26 @@ impl<'a> LockHandle<'a> {
         ensures made { Made call result self.old self.new }
         ensures reply { MayReply call result }
     {
-        let again = call;
         match self.make_once(call) {
             Ok(reply) => reply,
-            Err(_) => self.make_waiting(rt, again),
+            Err(_) => self.make_until_done(rt, call),
         }
     }
 
-    /// Makes a call that may wait for others.
+    /// Makes the call by `RunningLock::call`: it tries again until the call is made, and waits for
+    /// holders if the call is one that does. To the contract of `call` it adds `reply`, the kind of the
+    /// reply, by which a method reads its typed answer out of it.
     #[inline(always)]
-    fn make_waiting<R: Wait>(&mut self, rt: &R, call: Call) -> Reply
+    fn make_until_done<R: Wait>(&mut self, rt: &R, call: Call) -> Reply
         requires { IsTrue (is_lock_call call) }
         ensures made { Made call result self.old self.new }
         ensures reply { MayReply call result }
     {
-        self.lock.call(rt, &mut self.pass, call)
+        self.running.call(rt, &mut self.pass, call)
     }
 
-    /// Makes a call that doesn't wait, by one load and at most one exchange.
+    /// Makes a call that waits for nobody by `RunningLock::once`: by one load and at most one exchange,
+    /// so it may lose. It adds `reply`, as `make_until_done` does.
     #[inline(always)]
     pub(crate) fn make_once(&mut self, call: Call) -> Result<Reply, Lost>
         requires lock_call { IsTrue (is_lock_call call) }
@@ -86,17 +90,18 @@ impl<'a> LockHandle<'a> {
         ensures made { MadeOrLost call (λ r. r) result self.old self.new }
         ensures reply { IfOk result (λ r. MayReply call r) }
     {
-        self.lock.once(&mut self.pass, call)
+        self.running.once(&mut self.pass, call)
     }
 
-    /// Makes a call that can't lose, by one load and at most one exchange.
+    /// Makes a call that can't lose by `RunningLock::once`: by one load and at most one exchange. It
+    /// adds `reply`, and that the call was made.
     #[inline(always)]
     fn make_surely(&mut self, call: Call) -> Reply
         requires { NeverLoses call }
         ensures made { Made call result self.old self.new }
         ensures reply { MayReply call result }
     {
-        match self.lock.once(&mut self.pass, call) {
+        match self.running.once(&mut self.pass, call) {
             Ok(reply) => reply,
             Err(_) => unreachable!(),
         }
@@ -107,7 +112,7 @@ impl<'a> LockHandle<'a> {
     pub fn write<R: Wait>(&mut self, rt: &R) -> Option<Stamp>
         ensures { Made WriteLock (stamped result) self.old self.new }
     {
-        stamp_in(self.make_waiting(rt, Call::WriteLock))
+        stamp_in(self.make_until_done(rt, Call::WriteLock))
     }
 
     /// Acquires write mode if nobody holds the lock (`tryWriteLock`). None where somebody does, or no
@@ -122,7 +127,7 @@ impl<'a> LockHandle<'a> {
     pub fn read<R: Wait>(&mut self, rt: &R) -> Stamp
         ensures { Made ReadLock (stamped (Some result)) self.old self.new }
     {
-        some_stamp_in(self.make_waiting(rt, Call::ReadLock))
+        some_stamp_in(self.make_until_done(rt, Call::ReadLock))
     }
 
     /// Acquires read mode if there is no writer, and room for a reader (`tryReadLock`). It waits for no
@@ -247,13 +252,14 @@ impl<'a> LockHandle<'a> {
 
     /// One more handle of the same lock, which knows as much as this one and has made no call.
     pub fn split(&mut self) -> LockHandle<'a>
-        ensures lock { (self.new.lock ≡ self.old.lock) × (result.lock ≡ self.old.lock) }
+        ensures running { (self.new.running ≡ self.old.running)
+            × (result.running ≡ self.old.running) }
         ensures given { self.new.pass ≡ after_split self.old.pass }
         ensures new { result.pass ≡ split_off self.old.pass }
     {
-        let pass = self.lock.split_off(&mut self.pass);
+        let pass = self.running.split_off(&mut self.pass);
         LockHandle {
-            lock: self.lock,
+            running: self.running,
             pass,
         }
     }

@@ -1,4 +1,5 @@
 //! The calls of a handle that are tried once: one load and at most one exchange, whatever others do.
+//! `Lost` says when they fail so.
 ghost use Rattle.stamp_core.specs.declared.call.Call.TheVariants.{TryWrite, TryRead, UnlockWrite};
 ghost use Rattle.stamp_core.specs.declared.call.Call.TheVariants.{UnlockRead, Unlock, ToWrite};
 ghost use Rattle.stamp_core.specs.declared.call.Call.TheVariants.{ToRead, ToOptimistic};
@@ -14,8 +15,7 @@ use stamp_core::Call;
 use stamp_threads::Lost;
 
 impl<'a> LockHandle<'a> {
-    /// `try_write`, tried once. `Lost` where another thread changed the lock in between: nothing was
-    /// acquired, and the call can be made again.
+    /// `try_write`, tried once. Where it fails as `Lost`, nothing was acquired.
     #[inline(always)]
     pub fn try_write_once(&mut self) -> Result<Option<Stamp>, Lost>
         ensures { MadeOrLost TryWrite stamped result self.old self.new }
@@ -24,8 +24,7 @@ impl<'a> LockHandle<'a> {
         Ok(stamp_in(reply))
     }
 
-    /// `try_read`, tried once. `Lost` where another thread changed the lock in between: nothing was
-    /// acquired, and the call can be made again.
+    /// `try_read`, tried once. Where it fails as `Lost`, nothing was acquired.
     #[inline(always)]
     pub fn try_read_once(&mut self) -> Result<Option<Stamp>, Lost>
         ensures { MadeOrLost TryRead stamped result self.old self.new }
@@ -34,8 +33,7 @@ impl<'a> LockHandle<'a> {
         Ok(stamp_in(reply))
     }
 
-    /// `unlock_read`, tried once. `Lost` where another thread changed the lock in between: nothing was
-    /// released, and the call can be made again.
+    /// `unlock_read`, tried once. Where it fails as `Lost`, nothing was released.
     #[inline(always)]
     pub fn unlock_read_once(&mut self, stamp: Stamp) -> Result<(), UnlockError>
         ensures { UnlockedOrLost (UnlockRead stamp) result self.old self.new }
@@ -45,8 +43,7 @@ impl<'a> LockHandle<'a> {
         Ok(())
     }
 
-    /// `unlock`, tried once. `Lost` where another thread changed the lock in between: nothing was
-    /// released, and the call can be made again.
+    /// `unlock`, tried once. Where it fails as `Lost`, nothing was released.
     #[inline(always)]
     pub fn unlock_once(&mut self, stamp: Stamp) -> Result<(), UnlockError>
         ensures { UnlockedOrLost (Unlock stamp) result self.old self.new }
@@ -56,8 +53,7 @@ impl<'a> LockHandle<'a> {
         Ok(())
     }
 
-    /// `try_convert_to_write`, tried once. `Lost` where another thread changed the lock in between: the
-    /// old stamp still stands, and the call can be made again.
+    /// `try_convert_to_write`, tried once. Where it fails as `Lost`, the old stamp still stands.
     #[inline(always)]
     pub fn try_convert_to_write_once(&mut self, stamp: Stamp) -> Result<Option<Stamp>, Lost>
         ensures { MadeOrLost (ToWrite stamp) stamped result self.old self.new }
@@ -66,8 +62,7 @@ impl<'a> LockHandle<'a> {
         Ok(stamp_in(reply))
     }
 
-    /// `try_convert_to_read`, tried once. `Lost` where another thread changed the lock in between: the
-    /// old stamp still stands, and the call can be made again.
+    /// `try_convert_to_read`, tried once. Where it fails as `Lost`, the old stamp still stands.
     #[inline(always)]
     pub fn try_convert_to_read_once(&mut self, stamp: Stamp) -> Result<Option<Stamp>, Lost>
         ensures { MadeOrLost (ToRead stamp) stamped result self.old self.new }
@@ -76,8 +71,7 @@ impl<'a> LockHandle<'a> {
         Ok(stamp_in(reply))
     }
 
-    /// `try_convert_to_optimistic`, tried once. `Lost` where another thread changed the lock in between:
-    /// the old stamp still stands, and the call can be made again.
+    /// `try_convert_to_optimistic`, tried once. Where it fails as `Lost`, the old stamp still stands.
     #[inline(always)]
     pub fn try_convert_to_optimistic_once(&mut self, stamp: Stamp) -> Result<Option<Stamp>, Lost>
         ensures { MadeOrLost (ToOptimistic stamp) stamped result self.old self.new }
@@ -86,8 +80,7 @@ impl<'a> LockHandle<'a> {
         Ok(stamp_in(reply))
     }
 
-    /// `try_unlock_write`, tried once. `Lost` where another thread changed the lock in between: nothing
-    /// was released, and the call can be made again.
+    /// `try_unlock_write`, tried once. Where it fails as `Lost`, nothing was released.
     #[inline(always)]
     pub fn try_unlock_write_once(&mut self) -> Result<bool, Lost>
         ensures { MadeOrLost TryUnlockWrite tested result self.old self.new }
@@ -96,8 +89,7 @@ impl<'a> LockHandle<'a> {
         Ok(test_in(reply))
     }
 
-    /// `try_unlock_read`, tried once. `Lost` where another thread changed the lock in between: nothing
-    /// was released, and the call can be made again.
+    /// `try_unlock_read`, tried once. Where it fails as `Lost`, nothing was released.
     #[inline(always)]
     pub fn try_unlock_read_once(&mut self) -> Result<bool, Lost>
         ensures { MadeOrLost TryUnlockRead tested result self.old self.new }

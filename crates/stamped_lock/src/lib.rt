@@ -11,10 +11,10 @@
 //! - `write` and `read` wait until the mode is free.
 //! - `try_optimistic_read`, `validate`, `unlock_write` and the three queries make one load and at most
 //!   one exchange, which can't be lost.
-//! - Every other call waits for no holder. Where another thread changes the lock at the same time, it
-//!   tries again, until it is made.
+//! - Every other call waits for no holder. Where its exchange is lost to another thread, it tries
+//!   again, until it is made.
 //! - A call whose name ends in `_once` doesn't even try again. It makes one load and at most one
-//!   exchange, and answers `Lost` where another thread changed the lock in between.
+//!   exchange, and fails as `Lost` where these don't make it.
 //!
 //! # Sections
 //!

@@ -36,8 +36,8 @@ impl StampedLock {
         StampedLock::with_limits(alloc, Limits::widest(Layout::One))
     }
 
-    /// The same with other limits: fewer readers or write acquisitions, or layout 2, which has room
-    /// for 65,535 readers.
+    /// A lock of these limits: they may have fewer readers or write acquisitions, or layout 2, which has
+    /// room for 65,535 readers. It refuses only for want of memory; nothing was made then.
     pub fn with_limits(alloc: Global, limits: Limits) -> Result<StampedLock, LockError>
         ensures { IfOk result (λ lock. lock.limits ≡ limits) }
     {
@@ -48,7 +48,7 @@ impl StampedLock {
 
     /// A handle, for one thread at a time. It has made no call. It takes one load and no memory.
     pub fn enter(&self) -> LockHandle<'_>
-        ensures lock { result.lock ≡ self.now }
+        ensures running { result.running ≡ self.now }
         ensures entered { HasEntered self.now.limits result.pass }
     {
         LockHandle::new(&self.running, self.running.enter())

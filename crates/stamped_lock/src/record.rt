@@ -14,7 +14,7 @@ use std::marker::Model;
 /// handles.
 #[derive(Drop)]
 pub struct StampedRecord<const N: usize, P: ContentRule> {
-    shared: RuledRecord<P>,
+    running: RuledRecord<P>,
 }
 
 impl<const N: usize, P: ContentRule> Model for StampedRecord<N, P> {
@@ -23,10 +23,10 @@ impl<const N: usize, P: ContentRule> Model for StampedRecord<N, P> {
 
     ghost Value = { RecordView };
 
-    ghost view = { λ r. r.shared };
+    ghost view = { λ r. r.running };
 
-    ghost invariant = { λ r. (r.shared.shape.width ≡ N) × (1 ≤ N) × (N ≤ 16)
-        × (r.shared.enterable ≡ true) };
+    ghost invariant = { λ r. (r.running.shape.width ≡ N) × (1 ≤ N) × (N ≤ 16)
+        × (r.running.enterable ≡ true) };
 }
 
 impl<const N: usize, P: ContentRule> StampedRecord<N, P> {
@@ -42,8 +42,8 @@ impl<const N: usize, P: ContentRule> StampedRecord<N, P> {
         StampedRecord::with_limits(alloc, Limits::widest(Layout::One), first)
     }
 
-    /// The same with other limits. Of these the versions count, of which the first content takes one;
-    /// the readers don't matter.
+    /// A record of these limits and words. Of the limits the versions count, of which the first content
+    /// takes one; the readers don't matter. It refuses only for want of memory; nothing was made then.
     pub fn with_limits(
         alloc: Global,
         limits: Limits,
@@ -57,16 +57,16 @@ impl<const N: usize, P: ContentRule> StampedRecord<N, P> {
         let Some(words) = Words::new(&first) else {
             unreachable!()
         };
-        let (shared, pass) = RuledRecord::holding_enterable(alloc, limits, words)?;
+        let (running, pass) = RuledRecord::holding_enterable(alloc, limits, words)?;
         drop(pass);
-        Ok(StampedRecord { shared })
+        Ok(StampedRecord { running })
     }
 
     /// A handle, for one thread at a time. It has made no call. It takes one load and no memory.
     pub fn enter(&self) -> RecordHandle<'_, N, P>
-        ensures shared { result.shared ≡ self.now }
+        ensures running { result.running ≡ self.now }
         ensures entered { HasEntered self.now.shape result.pass }
     {
-        RecordHandle::new(&self.shared, self.shared.enter())
+        RecordHandle::new(&self.running, self.running.enter())
     }
 }

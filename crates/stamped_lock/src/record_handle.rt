@@ -17,10 +17,10 @@ use std::thread;
 /// `split` makes another one. It has no bytes but the record's reference.
 #[derive(Drop)]
 pub struct RecordHandle<'a, const N: usize, P: ContentRule> {
-    shared: &'a RuledRecord<P>,
+    running: &'a RuledRecord<P>,
     pass: RecordPass,
-    ghost table: { pass.table ≡ shared.now.table },
-    ghost width: { (shared.now.shape.width ≡ N) × (1 ≤ N) × (N ≤ 16) },
+    ghost table: { pass.table ≡ running.now.table },
+    ghost width: { (running.now.shape.width ≡ N) × (1 ≤ N) × (N ≤ 16) },
 }
 
 impl<'a, const N: usize, P: ContentRule> Model for RecordHandle<'a, N, P> {
@@ -29,23 +29,23 @@ impl<'a, const N: usize, P: ContentRule> Model for RecordHandle<'a, N, P> {
 
     ghost Value = { RecordHandleView };
 
-    ghost view = { λ h. record { shared = h.shared.now; pass = h.pass.view } };
+    ghost view = { λ h. record { running = h.running.now; pass = h.pass.view } };
 }
 
 impl<'a, const N: usize, P: ContentRule> RecordHandle<'a, N, P> {
     /// The handle of a record and a pass of it.
-    pub(crate) fn new(shared: &'a RuledRecord<P>, pass: RecordPass) -> RecordHandle<'a, N, P>
-        requires table { pass.table ≡ shared.now.table }
-        requires width { (shared.now.shape.width ≡ N) × (1 ≤ N) × (N ≤ 16) }
-        ensures shared { result.shared ≡ shared.now }
+    pub(crate) fn new(running: &'a RuledRecord<P>, pass: RecordPass) -> RecordHandle<'a, N, P>
+        requires table { pass.table ≡ running.now.table }
+        requires width { (running.now.shape.width ≡ N) × (1 ≤ N) × (N ≤ 16) }
+        ensures running { result.running ≡ running.now }
         ensures pass { result.pass ≡ pass.view }
     {
-        RecordHandle { shared, pass }
+        RecordHandle { running, pass }
     }
 
     /// Puts the words if nobody else is putting. It waits for nobody, and where it fails nothing was
-    /// put: `Busy` where the first look found somebody putting, `Lost` where the lock word changed
-    /// after it, `Spent` where no version is left.
+    /// put: `Busy` where the first load of the lock word found somebody putting, `Lost` where the word
+    /// changed after it, `Spent` where no version is left.
     pub fn put_once(&mut self, row: [u64; N]) -> Result<(), PutFault>
         requires { P.holds row }
         ensures ok { let h = self.old in let w = self.new in
@@ -53,15 +53,15 @@ impl<'a, const N: usize, P: ContentRule> RecordHandle<'a, N, P> {
         ensures err { let h = self.old in let w = self.new in
             IfErr result (λ fault. RefusesPut fault h w) }
     {
-        let shared = self.shared;
+        let running = self.running;
         let Some(words) = Words::new(&row) else {
             unreachable!()
         };
-        shared.put_once(&mut self.pass, words)
+        running.put_once(&mut self.pass, words)
     }
 
-    /// Gets the words if nobody is putting. It waits for nobody: it fails as `Busy` where the first
-    /// look found somebody putting, and as `Lost` where the lock word changed after it.
+    /// Gets the words if nobody is putting. It waits for nobody: it fails as `Busy` where the first load
+    /// of the lock word found somebody putting, and as `Lost` where the word changed after it.
     #[inline(always)]
     pub fn get_once(&mut self) -> Result<[u64; N], GetFault>
         ensures rule { IfOk result (λ row. P.holds row) }
@@ -71,11 +71,12 @@ impl<'a, const N: usize, P: ContentRule> RecordHandle<'a, N, P> {
             IfErr result (λ fault. RefusesGet fault h w) }
     {
         let mut row = [0; N];
-        self.shared.get_into(&mut self.pass, &mut row)?;
+        self.running.get_into(&mut self.pass, &mut row)?;
         Ok(row)
     }
 
-    /// Gets the words. While somebody is putting it lets other threads run and tries again.
+    /// Gets the words. Where `get_once` fails, as `Busy` or as `Lost`, it lets other threads run and
+    /// tries again.
     pub fn get<R: Wait>(&mut self, rt: &R) -> [u64; N]
         ensures rule { P.holds result }
         ensures made { MadeAtLast Get (Content result) self.old self.new }
@@ -89,8 +90,8 @@ impl<'a, const N: usize, P: ContentRule> RecordHandle<'a, N, P> {
         unreachable!()
     }
 
-    /// Puts the words. While somebody else is putting it lets other threads run and tries again. It
-    /// fails only where no version is left; nothing was put then.
+    /// Puts the words. Where `put_once` fails as `Busy` or as `Lost`, it lets other threads run and
+    /// tries again. It fails only where no version is left; nothing was put then.
     pub fn put<R: Wait>(&mut self, rt: &R, row: [u64; N]) -> Result<(), Spent>
         requires { P.holds row }
         ensures made { let h = self.old in let w = self.new in
@@ -110,13 +111,14 @@ impl<'a, const N: usize, P: ContentRule> RecordHandle<'a, N, P> {
 
     /// One more handle of the same record, which knows as much as this one and has made no call.
     pub fn split(&mut self) -> RecordHandle<'a, N, P>
-        ensures shared { (self.new.shared ≡ self.old.shared) × (result.shared ≡ self.old.shared) }
+        ensures running { (self.new.running ≡ self.old.running)
+            × (result.running ≡ self.old.running) }
         ensures given { self.new.pass ≡ after_split self.old.pass }
         ensures new { result.pass ≡ split_off self.old.pass }
     {
-        let pass = self.shared.split_off(&mut self.pass);
+        let pass = self.running.split_off(&mut self.pass);
         RecordHandle {
-            shared: self.shared,
+            running: self.running,
             pass,
         }
     }

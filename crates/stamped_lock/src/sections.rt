@@ -25,9 +25,9 @@ impl<'a> LockHandle<'a> {
         let Some(stamp) = self.write(rt) else {
             return Err(WriteError::Spent);
         };
-        let written = f(self);
+        let answer = f(self);
         match self.unlock_write(stamp) {
-            Ok(()) => Ok(written),
+            Ok(()) => Ok(answer),
             Err(_) => Err(WriteError::Mismatch),
         }
     }
@@ -46,9 +46,9 @@ impl<'a> LockHandle<'a> {
         ensures { ReadSection (λ t m. FnOnceReturnsAt F.FnOnce f m t) result self.old self.new }
     {
         let stamp = self.read(rt);
-        let found = f(self);
+        let answer = f(self);
         self.unlock_read(rt, stamp)?;
-        Ok(found)
+        Ok(answer)
     }
 
     /// Runs the closure between an optimistic stamp and its validation, and answers what it did while
@@ -67,10 +67,10 @@ impl<'a> LockHandle<'a> {
         let Some(stamp) = self.try_optimistic_read() else {
             return self.read_with(rt, f);
         };
-        let made = f(self);
+        let answer = f(self);
         let valid = self.validate(stamp);
         if valid {
-            return Ok(made);
+            return Ok(answer);
         }
         self.read_with(rt, f)
     }

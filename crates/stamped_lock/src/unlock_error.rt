@@ -12,7 +12,7 @@ use std::fmt;
 pub enum UnlockError {
     /// 1: the stamp matches no held mode that the call releases.
     Mismatch,
-    /// 2: another thread changed the lock in between. The call can be made again.
+    /// 2: its exchange lost, as `Lost` says. The call can be made again.
     Lost(Lost),
 }
 

@@ -3,19 +3,21 @@ use Rattle.stamp_threads.specs.declared.record_view.RecordShape.{RecordShape}
 use Rattle.stamp_threads.specs.Seats.{alone}
 use Rattle.stamp_threads.specs.RecordLog.{puts}
 use Rattle.stamp_threads.specs.RecordPass.{first_of, Seated}
-use Rattle.stamp_threads.proofs.RecordPromises.{opened, get_busy_of, get_lost_of}
+use Rattle.stamp_threads.proofs.RecordPromises.{get_goes_on, get_busy_of, get_lost_of}
 use Rattle.stamp_threads.proofs.RecordPromises.{get_made_of, get_obeys_of}
 use Rattle.stamp_threads.proofs.record_get.get_words.Goals as goal
 
 pub load_all-requires-clause-reading : goal.load_all-requires-clause-reading
 load_all-requires-clause-reading g c =
-    let t = rw c.requires.shape.0 at c.open-loaded.ensures.told in
-    (puts t.log, opened _ _ _ _ t (sym (rw c.layout.ensures.layout at c.has_writer.ensures) ∙ c.if-has_writer.false))
+    let t = rw c.requires.shape.0 at c.load_for_get-loaded.ensures.told in
+    let test = sym (rw c.layout.ensures.layout at c.has_writer.ensures) ∙ c.if-has_writer.false in
+    (puts t.log, get_goes_on _ _ _ _ t test)
 
 pub confirm-found-requires-clause-reading : goal.confirm-found-requires-clause-reading
 confirm-found-requires-clause-reading g c =
-    let t = rw c.requires.shape.0 at c.open-loaded.ensures.told in
-    let phase = opened _ _ _ _ t (sym (rw c.layout.ensures.layout at c.has_writer.ensures) ∙ c.if-has_writer.false) in (
+    let t = rw c.requires.shape.0 at c.load_for_get-loaded.ensures.told in
+    let test = sym (rw c.layout.ensures.layout at c.has_writer.ensures) ∙ c.if-has_writer.false in
+    let phase = get_goes_on _ _ _ _ t test in (
       puts t.log,
       ap (λ (m : Seated). (first_of m.0).phase) (c.load_all.ensures.told (puts t.log) phase),
       c.load_all.ensures.long ∙
@@ -24,29 +26,30 @@ confirm-found-requires-clause-reading g c =
 
 pub confirm-found-requires-clause-seat : goal.confirm-found-requires-clause-seat
 confirm-found-requires-clause-seat g c =
-    let t = rw c.requires.shape.0 at c.open-loaded.ensures.told in
-    let phase = opened _ _ _ _ t (sym (rw c.layout.ensures.layout at c.has_writer.ensures) ∙ c.if-has_writer.false) in
+    let t = rw c.requires.shape.0 at c.load_for_get-loaded.ensures.told in
+    let test = sym (rw c.layout.ensures.layout at c.has_writer.ensures) ∙ c.if-has_writer.false in
+    let phase = get_goes_on _ _ _ _ t test in
     let is = c.load_all.ensures.told (puts t.log) phase in
     (search rules, search rules, is ∙ sym (ap (λ (m : Seated). alone (first_of m.0)) is))
 
 pub returns-then-has_writer-clause-err : goal.returns-then-has_writer-clause-err
 returns-then-has_writer-clause-err g c =
     let test = sym (rw c.layout.ensures.layout at c.has_writer.ensures) ∙ c.if-has_writer.true in
-    get_busy_of _ _ c.requires.shape.0 _ _ _ c.open-loaded.ensures.told c.requires.idle test
+    get_busy_of _ _ c.requires.shape.0 _ _ _ c.load_for_get-loaded.ensures.told c.requires.idle test
 
 pub returns-then-found-loaded-clause-err : goal.returns-then-found-loaded-clause-err
 returns-then-found-loaded-clause-err g c =
     let test = sym (rw c.layout.ensures.layout at c.has_writer.ensures) ∙ c.if-has_writer.false in
-    get_lost_of _ _ c.requires.shape.0 _ _ _ _ _ _ c.open-loaded.ensures.told test
+    get_lost_of _ _ c.requires.shape.0 _ _ _ _ _ _ c.load_for_get-loaded.ensures.told test
     c.load_all.ensures.told _ _ c.confirm-found.ensures.told c.if-found-loaded.true
 
 pub returns-clause-ok : goal.returns-clause-ok
 returns-clause-ok g c =
     let test = sym (rw c.layout.ensures.layout at c.has_writer.ensures) ∙ c.if-has_writer.false in
     record {
-      answered = get_made_of _ _ c.requires.shape.0 _ _ _ _ _ _ c.open-loaded.ensures.told test
+      answered = get_made_of _ _ c.requires.shape.0 _ _ _ _ _ _ c.load_for_get-loaded.ensures.told test
           c.load_all.ensures.told _ _ c.confirm-found.ensures.told c.if-found-loaded.false;
       long = c.load_all.ensures.long ∙ c.requires.long;
-      obeys = get_obeys_of _ _ c.requires.shape.0 _ _ _ _ _ _ c.open-loaded.ensures.told test
+      obeys = get_obeys_of _ _ c.requires.shape.0 _ _ _ _ _ _ c.load_for_get-loaded.ensures.told test
           c.load_all.ensures.told _ _ c.confirm-found.ensures.told c.if-found-loaded.false;
     }

@@ -73,7 +73,7 @@ unreachable-requires-in-Wait c =
     never_waits _ _ _ _ _ (c.try_form-call.ensures.lock_call c.requires.lock_call)
     c.try_form-call.ensures.never told c.in-Wait.ensures.decides
 
--- the exchange found another word, so it is as a load, and the call is still under way
+-- the exchange found another word, so it tells what a load would tell: the call is still under way
 module _ (c : goal.Joined-decide-2) where
   told : Loaded c.args.self.now.limits c.try_form-call.result c.args.pass.now.view
       c.load-loaded.result (first_of c.load-loaded.new.seat.me.0)

@@ -1,8 +1,8 @@
 use Rattle.std.proofs.Common.{[]}
 use Rattle.stamp_threads.proofs.running_record.RuledRecord.put_once.Given as goal
 
-abbrev pub ghosts-look : goal.ghosts-look
-ghosts-look g a = record { shape = a.table.now.key.shape; words = [] }
+abbrev pub ghosts-load_for_put : goal.ghosts-load_for_put
+ghosts-load_for_put g a = record { shape = a.table.now.key.shape; words = [] }
 
 abbrev pub ghosts-acquire : goal.ghosts-acquire
 ghosts-acquire g a = record { shape = a.table.now.key.shape; words = a.words.now }

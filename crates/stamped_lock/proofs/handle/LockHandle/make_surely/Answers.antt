@@ -1,4 +1,5 @@
-use Rattle.stamped_lock.proofs.Replying.{may_reply_tried, never_losing_is_lock_call, never_losing_is_tried, never_loses}
+use Rattle.stamped_lock.proofs.Replying.{may_reply_tried, never_losing_is_lock_call}
+use Rattle.stamped_lock.proofs.Replying.{never_losing_is_tried, never_loses}
 use Rattle.stamped_lock.proofs.handle.LockHandle.make_surely.Goals as goal
 
 pub returns-clause-reply : goal.returns-clause-reply
