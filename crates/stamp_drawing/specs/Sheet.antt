@@ -12,7 +12,7 @@ use Rattle.stamp_picture.specs.Picture.{Drawn}
 use Rattle.stamp_drawing.specs.declared.places.Class.{Class}
 use Rattle.stamp_drawing.specs.declared.places.Class.TheVariants as class
 use Rattle.stamp_drawing.specs.declared.places.Place.{Place}
-use Rattle.stamp_drawing.specs.declared.sheet.Shape.{Shape}
+use Rattle.stamp_drawing.specs.declared.sheet.LabelledBox.{LabelledBox}
 use Rattle.stamp_drawing.specs.declared.sheet.Sheet.{Sheet}
 use Rattle.stamp_drawing.specs.Places.{ends_of, lanes_in, right_of, border, point_x, bar_place, mark_place}
 use Rattle.stamp_drawing.specs.Places.{moment_place, opening_place, content_place, lane_place, foot_of}
@@ -26,7 +26,7 @@ pub record Box : Type 0 where
   pub upper : List ℕ
   pub lower : List ℕ
 
-abbrev pub box_of : Shape → Box
+abbrev pub box_of : LabelledBox → Box
 box_of s = record {
   place = s.place;
   title = string_bytes s.title;
@@ -34,8 +34,8 @@ box_of s = record {
   lower = string_bytes s.lower;
 }
 
-abbrev pub boxes_of : List Shape → List Box
-boxes_of shapes = map box_of shapes
+abbrev pub boxes_of : List LabelledBox → List Box
+boxes_of boxes = map box_of boxes
 
 -- a box that says the same as its title
 abbrev pub plain_box : Place → List ℕ → Box

@@ -13,5 +13,5 @@ pub mod svg_laws;
 pub use labels::{CallLabel, ReplyLabel};
 pub use places::{Class, Place};
 pub use rows::text_of;
-pub use sheet::{Shape, Sheet, sheet_of};
+pub use sheet::{LabelledBox, Sheet, sheet_of};
 pub use svg::svg_of;

@@ -1,14 +1,14 @@
 use Rattle.std.proofs.Common.{◌∙◌, ◌++◌, sym, ap, codes, List, ℕ}
 use Rattle.std.specs.Prelude.{decimal}
 use Rattle.stamp_drawing.specs.Markup.{attribute_text}
-use Rattle.stamp_drawing.specs.Svg.{class_name, inside_text, shape_text}
+use Rattle.stamp_drawing.specs.Svg.{class_name, inside_text, box_text}
 use Rattle.stamp_drawing.proofs.Appending.{onto, of_five}
-use Rattle.stamp_drawing.proofs.svg.push_shape.Goals as goal
+use Rattle.stamp_drawing.proofs.svg.push_box.Goals as goal
 
 pub returns : goal.returns
-unfolding shape_text
+unfolding box_text
 returns c =
-    let s = c.args.shape.now in
+    let s = c.args.labelled.now in
     let class = attribute_text (codes "class", class_name s.place.class) in
     let x = attribute_text (codes "x", decimal s.place.x) in
     let y = attribute_text (codes "y", decimal s.place.y) in
