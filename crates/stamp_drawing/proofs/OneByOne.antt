@@ -11,7 +11,7 @@ use Rattle.std.proofs.lemmas.List.FromFn.{map-range_with_len_more}
 use Rattle.stamp_picture.specs.declared.bar.Bar.{Bar}
 use Rattle.stamp_picture.specs.declared.state.Moment.{Moment}
 use Rattle.stamp_drawing.specs.declared.sheet.LabelledBox.{LabelledBox}
-use Rattle.stamp_drawing.specs.Places.{ends_in, ends_of, lanes_in, point_x}
+use Rattle.stamp_drawing.specs.Frames.{ends_in, ends_of, lanes_in, point_x}
 use Rattle.stamp_drawing.specs.Sheet.{Box, box_of, boxes_of, mark_box, mark_boxes, same_content}
 use Rattle.stamp_drawing.specs.Sheet.{content_box, change_boxes}
 

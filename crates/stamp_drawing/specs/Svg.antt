@@ -1,9 +1,9 @@
 -- The text of a sheet as SVG.
 use Rattle.std.specs.Prelude.{ℕ, List, [], ◌∷◌, ◌++◌, map, codes, decimal, string_bytes}
 use Rattle.std.specs.List.{concat}
-use Rattle.stamp_drawing.specs.declared.places.Class.{Class}
-use Rattle.stamp_drawing.specs.declared.places.Class.TheVariants.{Free, Reading, Writing, Content}
-use Rattle.stamp_drawing.specs.declared.places.Class.TheVariants.{Lane, Bar, Bad, Mark, Note}
+use Rattle.stamp_drawing.specs.declared.frames.Class.{Class}
+use Rattle.stamp_drawing.specs.declared.frames.Class.TheVariants.{Free, Reading, Writing, Content}
+use Rattle.stamp_drawing.specs.declared.frames.Class.TheVariants.{Lane, Bar, Bad, Mark, Note}
 use Rattle.stamp_drawing.specs.declared.sheet.LabelledBox.{LabelledBox}
 use Rattle.stamp_drawing.specs.declared.sheet.Sheet.{Sheet}
 use Rattle.stamp_drawing.specs.Markup.{Attribute, escaped, element_text}
@@ -21,8 +21,8 @@ class_name Note = codes "note"
 
 abbrev pub box_attributes : LabelledBox → List Attribute
 box_attributes s =
-    (codes "class", class_name s.place.class) ∷ (codes "x", decimal s.place.x) ∷ (codes "y", decimal s.place.y) ∷
-    (codes "width", decimal s.place.width) ∷ (codes "height", decimal s.place.height) ∷ []
+    (codes "class", class_name s.frame.class) ∷ (codes "x", decimal s.frame.x) ∷ (codes "y", decimal s.frame.y) ∷
+    (codes "width", decimal s.frame.width) ∷ (codes "height", decimal s.frame.height) ∷ []
 
 -- the box fills its element
 abbrev pub rect_text : List ℕ

@@ -1,15 +1,15 @@
 //! A picture in characters, in which time goes down.
 ghost use Rattle.std.specs.Prelude.{◌≡◌, ◌<◌, ◌==◌, ◌++◌, map, reverse, option_map, OnOk, IfOk, All, string_bytes};
 ghost use Rattle.std.specs.List.{concat, find};
-ghost use Rattle.stamp_drawing.specs.Places.{lanes_in};
+ghost use Rattle.stamp_drawing.specs.Frames.{lanes_in};
 ghost use Rattle.stamp_drawing.specs.Rows as rows;
 ghost use Rattle.stamp_drawing.specs.Rows.{AreTimes, IsRows, AreNarrow};
 ghost use Rattle.stamp_drawing.specs.Rows.{sign_text, lane_text, lanes_text, time_text, told_text, left_text};
 ghost use Rattle.stamp_drawing.specs.Rows.{row_text, number_text, heading_text, at_first_text, cut_text};
 
+use crate::frames::{ends_of, is_bad, lanes_in};
 use crate::labels::{AnsweredLabel, BriefLabel, CallLabel, ReplyLabel, VerdictLabel};
 use crate::markup::push_text;
-use crate::places::{ends_of, is_bad, lanes_in};
 use stamp_picture::{Bar, Fault, Moment, Picture, State};
 use std::alloc::{AllocError, Global};
 

@@ -2,18 +2,18 @@
 ghost use Rattle.std.specs.Prelude.{◌≡◌, ◌≤◌, ◌<◌, ◌∷◌, [], map, length, IfOk, All, string_bytes, codes, decimal, Some};
 ghost use Rattle.std.specs.List.{range_with_len};
 ghost use Rattle.stamp_picture.specs.Picture.{most_bars};
-ghost use Rattle.stamp_drawing.specs.Places.{ends_of, opening_place};
+ghost use Rattle.stamp_drawing.specs.Frames.{ends_of, opening_frame};
 ghost use Rattle.stamp_drawing.specs.Sheet as spec;
 ghost use Rattle.stamp_drawing.specs.Sheet.{IsSheet, box_of, boxes_of, bar_box, mark_box, mark_boxes};
 ghost use Rattle.stamp_drawing.specs.Sheet.{state_box, moment_box};
 ghost use Rattle.stamp_drawing.specs.Sheet.{plain_box, content_box, content_boxes, lane_box, legend_box, note_boxes};
 
+use crate::frames::{
+    BORDER, Class, Frame, bar_frame, class_of, content_frame, ends_of, foot_of, lane_frame,
+    lanes_in, mark_frame, moment_frame, opening_frame, point_x, right_of,
+};
 use crate::labels::{
     AnsweredLabel, CallLabel, ContentLabel, ReplyLabel, ShortModeLabel, StateLabel, VerdictLabel,
-};
-use crate::places::{
-    BORDER, Class, Place, bar_place, class_of, content_place, ends_of, foot_of, lane_place,
-    lanes_in, mark_place, moment_place, opening_place, point_x, right_of,
 };
 use stamp_core::Words;
 use stamp_picture::{Bar, Fault, Mode, Moment, Picture, State};
@@ -23,7 +23,7 @@ use std::alloc::{AllocError, Global};
 #[derive(Drop)]
 pub struct LabelledBox {
     /// Where it stands.
-    pub place: Place,
+    pub frame: Frame,
     /// What is told of it where a reader points at it.
     pub title: String,
     /// Its upper line.
@@ -72,7 +72,7 @@ fn bar_box(
     ensures { IfOk result (λ labelled. box_of labelled ≡ bar_box verdict.now ends.now bar.now) }
 {
     Ok(LabelledBox {
-        place: bar_place(verdict, ends, bar),
+        frame: bar_frame(verdict, ends, bar),
         title: bar_title(alloc, bar)?,
         upper: CallLabel(bar.call).to_string(alloc)?,
         lower: format!(in alloc; "= {}", ReplyLabel(bar.reply))?,
@@ -102,7 +102,7 @@ fn mark_box(alloc: Global, ends: &[u64], bar: &Bar) -> Result<LabelledBox, Alloc
     ensures { IfOk result (λ labelled. box_of labelled ≡ mark_box ends.now bar.now) }
 {
     Ok(LabelledBox {
-        place: mark_place(ends, bar),
+        frame: mark_frame(ends, bar),
         title: bar_title(alloc, bar)?,
         upper: String::new(alloc),
         lower: String::new(alloc),
@@ -124,12 +124,12 @@ fn mark_boxes(alloc: Global, bars: &[Bar], ends: &[u64]) -> Result<Vec<LabelledB
     Ok(boxes)
 }
 
-fn state_box(alloc: Global, place: Place, state: &State) -> Result<LabelledBox, AllocError>
-    ensures { IfOk result (λ labelled. box_of labelled ≡ state_box place state.now) }
+fn state_box(alloc: Global, frame: Frame, state: &State) -> Result<LabelledBox, AllocError>
+    ensures { IfOk result (λ labelled. box_of labelled ≡ state_box frame state.now) }
 {
     let version = state.version;
     Ok(LabelledBox {
-        place,
+        frame,
         title: StateLabel(*state).to_string(alloc)?,
         upper: ShortModeLabel(state.mode).to_string(alloc)?,
         lower: format!(in alloc; "v {version}")?,
@@ -144,22 +144,22 @@ fn ribbon_boxes(
 ) -> Result<Vec<LabelledBox>, AllocError>
     requires { length ends.now ≤ 6000 }
     ensures { IfOk result (λ boxes. boxes_of boxes.items
-        ≡ state_box (opening_place ends.now opening.now) opening.now ∷ map (moment_box ends.now) ribbon.now) }
+        ≡ state_box (opening_frame ends.now opening.now) opening.now ∷ map (moment_box ends.now) ribbon.now) }
 {
     let mut boxes = Vec::new(alloc);
-    boxes.push(state_box(alloc, opening_place(ends, opening), opening)?)?;
+    boxes.push(state_box(alloc, opening_frame(ends, opening), opening)?)?;
     for moment in ribbon {
-        boxes.push(state_box(alloc, moment_place(ends, moment), &moment.state)?)?;
+        boxes.push(state_box(alloc, moment_frame(ends, moment), &moment.state)?)?;
     }
     Ok(boxes)
 }
 
 /// A box that says the same as its title.
-fn plain_box(alloc: Global, place: Place, words: &str) -> Result<LabelledBox, AllocError>
-    ensures { IfOk result (λ labelled. box_of labelled ≡ plain_box place words.now) }
+fn plain_box(alloc: Global, frame: Frame, words: &str) -> Result<LabelledBox, AllocError>
+    ensures { IfOk result (λ labelled. box_of labelled ≡ plain_box frame words.now) }
 {
     Ok(LabelledBox {
-        place,
+        frame,
         title: String::from_str(alloc, words)?,
         upper: String::from_str(alloc, words)?,
         lower: String::new(alloc),
@@ -169,14 +169,14 @@ fn plain_box(alloc: Global, place: Place, words: &str) -> Result<LabelledBox, Al
 fn name_box(alloc: Global, y: u64, name: &str) -> Result<LabelledBox, AllocError>
     ensures { IfOk result (λ labelled. box_of labelled ≡ spec.name_box y name.now) }
 {
-    let place = Place {
+    let frame = Frame {
         class: Class::Note,
         x: 4,
         y,
         width: 90,
         height: 22,
     };
-    plain_box(alloc, place, name)
+    plain_box(alloc, frame, name)
 }
 
 fn content_box(
@@ -189,7 +189,7 @@ fn content_box(
     ensures { IfOk result (λ labelled. box_of labelled ≡ content_box ends.now x content) }
 {
     let words = ContentLabel(content).to_string(alloc)?;
-    plain_box(alloc, content_place(ends, x), &words)
+    plain_box(alloc, content_frame(ends, x), &words)
 }
 
 fn same_content(one: &Option<Words>, other: &Option<Words>) -> bool
@@ -236,7 +236,7 @@ fn lane_box(alloc: Global, ends: &[u64], lane: u64) -> Result<LabelledBox, Alloc
     ensures { IfOk result (λ labelled. box_of labelled ≡ lane_box ends.now lane) }
 {
     Ok(LabelledBox {
-        place: lane_place(ends, lane),
+        frame: lane_frame(ends, lane),
         title: format!(in alloc; "thread {lane}")?,
         upper: String::new(alloc),
         lower: format!(in alloc; "thread {lane}")?,
@@ -255,7 +255,7 @@ fn lane_boxes(alloc: Global, lanes: u64, ends: &[u64]) -> Result<Vec<LabelledBox
     Ok(boxes)
 }
 
-/// A box of the legend, at a place and of a width.
+/// A box of the legend, from a left side on and so wide.
 fn legend_box(
     alloc: Global,
     y: u64,
@@ -266,14 +266,14 @@ fn legend_box(
     ensures { IfOk result (λ labelled. box_of labelled ≡ legend_box y class at.0 at.1 words.now) }
 {
     let (x, width) = at;
-    let place = Place {
+    let frame = Frame {
         class,
         x,
         y,
         width,
         height: 22,
     };
-    plain_box(alloc, place, words)
+    plain_box(alloc, frame, words)
 }
 
 fn verdict_box(alloc: Global, verdict: &Result<u64, Fault>) -> Result<LabelledBox, AllocError>

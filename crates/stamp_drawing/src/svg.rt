@@ -4,8 +4,8 @@ ghost use Rattle.stamp_drawing.specs.Markup.{escaped, element_text, IsDocument};
 ghost use Rattle.stamp_drawing.specs.Svg.{class_name, inside_text, box_text, boxes_text, sheet_text, svg_text};
 ghost use Rattle.stamp_drawing.specs.Svg as spec;
 
+use crate::frames::Class;
 use crate::markup::{push_attribute, push_escaped, push_number, push_plain, push_text};
-use crate::places::Class;
 use crate::sheet::{LabelledBox, Sheet};
 use std::alloc::{AllocError, Global};
 
@@ -56,11 +56,11 @@ fn push_box(text: &mut Vec<u8>, labelled: &LabelledBox) -> Result<(), AllocError
     ensures { OnOk result (text.new.items ≡ text.old.items ++ box_text labelled.now) }
 {
     push_text(text, "<svg")?;
-    push_attribute(text, "class", class_name(labelled.place.class))?;
-    push_number(text, "x", labelled.place.x)?;
-    push_number(text, "y", labelled.place.y)?;
-    push_number(text, "width", labelled.place.width)?;
-    push_number(text, "height", labelled.place.height)?;
+    push_attribute(text, "class", class_name(labelled.frame.class))?;
+    push_number(text, "x", labelled.frame.x)?;
+    push_number(text, "y", labelled.frame.y)?;
+    push_number(text, "width", labelled.frame.width)?;
+    push_number(text, "height", labelled.frame.height)?;
     push_text(text, ">")?;
     push_inside(text, labelled)?;
     push_text(text, "</svg>")?;

@@ -4,7 +4,7 @@ use Rattle.std.specs.List.{concat}
 use Rattle.stamp_picture.specs.declared.bar.Bar.{Bar}
 use Rattle.stamp_picture.specs.declared.picture.Fault.{Fault}
 use Rattle.stamp_picture.specs.declared.state.State.{State}
-use Rattle.stamp_drawing.specs.Places.{lanes_in}
+use Rattle.stamp_drawing.specs.Frames.{lanes_in}
 use Rattle.stamp_drawing.specs.Labels.{verdict_text}
 use Rattle.stamp_drawing.specs.Rows.{row_text, cut_text, legend_text, at_first_text, heading_text, lines_of, AreTimes}
 use Rattle.stamp_drawing.specs.Rows.{AreNarrow}

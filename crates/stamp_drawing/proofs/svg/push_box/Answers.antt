@@ -9,11 +9,11 @@ pub returns : goal.returns
 unfolding box_text
 returns c =
     let s = c.args.labelled.now in
-    let class = attribute_text (codes "class", class_name s.place.class) in
-    let x = attribute_text (codes "x", decimal s.place.x) in
-    let y = attribute_text (codes "y", decimal s.place.y) in
-    let width = attribute_text (codes "width", decimal s.place.width) in
-    let height = attribute_text (codes "height", decimal s.place.height) in
+    let class = attribute_text (codes "class", class_name s.frame.class) in
+    let x = attribute_text (codes "x", decimal s.frame.x) in
+    let y = attribute_text (codes "y", decimal s.frame.y) in
+    let width = attribute_text (codes "width", decimal s.frame.width) in
+    let height = attribute_text (codes "height", decimal s.frame.height) in
     let rest = codes ">" ++ (inside_text s ++ codes "</svg>") in
     onto _ (codes "<svg") (class ++ (x ++ (y ++ (width ++ (height ++ rest))))) c.in_ok-push_text.ensures
     (onto _ class (x ++ (y ++ (width ++ (height ++ rest))))

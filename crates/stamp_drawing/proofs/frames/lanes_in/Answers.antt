@@ -1,7 +1,7 @@
 use Rattle.std.proofs.Common.{◌∙◌, ◌+◌, ℕ, ap, sym, rules}
 use Rattle.std.specs.Prelude.{max}
 use Rattle.stamp_drawing.proofs.OneByOne.{lanes_more}
-use Rattle.stamp_drawing.proofs.places.lanes_in.Goals as goal
+use Rattle.stamp_drawing.proofs.frames.lanes_in.Goals as goal
 
 pub loop-bar-preserved : goal.loop-bar-preserved
 loop-bar-preserved c =

@@ -2,10 +2,10 @@ use Rattle.std.proofs.Common.{◌≡◌, ◌∙◌, ◌++◌, ◌∷◌, [], Lis
 use Rattle.std.proofs.lemmas.List.{take_all}
 use Rattle.std.proofs.lemmas.Grind.{common_steps}
 use Rattle.stamp_picture.specs.declared.bar.Bar.{Bar}
-use Rattle.stamp_drawing.specs.Places.{ends_in, ends_of}
+use Rattle.stamp_drawing.specs.Frames.{ends_in, ends_of}
 use Rattle.stamp_drawing.proofs.OneByOne.{ends_more, three_ends, marked_ends, unmarked_ends}
-use Rattle.stamp_drawing.proofs.places.ends_of.Goals as goal
-use Rattle.stamp_drawing.proofs.places.ends_of.Goals.{then-bar+in_ok-push-2, else-bar}
+use Rattle.stamp_drawing.proofs.frames.ends_of.Goals as goal
+use Rattle.stamp_drawing.proofs.frames.ends_of.Goals.{then-bar+in_ok-push-2, else-bar}
 
 pub loop-bar-preserved : goal.loop-bar-preserved
 loop-bar-preserved c =

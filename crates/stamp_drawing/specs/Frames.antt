@@ -8,9 +8,9 @@ use Rattle.stamp_picture.specs.declared.state.Mode.{Mode}
 use Rattle.stamp_picture.specs.declared.state.Mode.TheVariants.{Free, Reading, Writing}
 use Rattle.stamp_picture.specs.declared.state.State.{State}
 use Rattle.stamp_picture.specs.declared.state.Moment.{Moment}
-use Rattle.stamp_drawing.specs.declared.places.Class.{Class}
-use Rattle.stamp_drawing.specs.declared.places.Class.TheVariants as class
-use Rattle.stamp_drawing.specs.declared.places.Place.{Place}
+use Rattle.stamp_drawing.specs.declared.frames.Class.{Class}
+use Rattle.stamp_drawing.specs.declared.frames.Class.TheVariants as class
+use Rattle.stamp_drawing.specs.declared.frames.Frame.{Frame}
 
 -- where the part of a bar that is drawn begins, takes effect if its point is marked, and ends
 abbrev pub ends_in : Bar → List ℕ
@@ -59,8 +59,8 @@ abbrev pub bar_class : Result ℕ Fault → Bar → Class
 bar_class verdict bar = if is_bad verdict bar then class.Bad else class.Bar
 
 -- in its thread's lane, from the column where the part that is drawn begins to behind that where it ends
-abbrev pub bar_place : Result ℕ Fault → List ℕ → Bar → Place
-bar_place verdict ends bar = record {
+abbrev pub bar_frame : Result ℕ Fault → List ℕ → Bar → Frame
+bar_frame verdict ends bar = record {
   class = bar_class verdict bar;
   x = x_of (column ends bar.begin);
   y = lane_y bar.lane + 4;
@@ -73,8 +73,8 @@ abbrev pub point_x : List ℕ → ℕ → ℕ
 point_x ends point = x_of (column ends point) + 20
 
 -- at its point, on the lower side of the bar
-abbrev pub mark_place : List ℕ → Bar → Place
-mark_place ends bar = record {
+abbrev pub mark_frame : List ℕ → Bar → Frame
+mark_frame ends bar = record {
   class = class.Mark;
   x = point_x ends bar.point - 3;
   y = lane_y bar.lane + 33;
@@ -97,8 +97,8 @@ abbrev pub right_of : List ℕ → ℕ
 right_of ends = x_of (length ends)
 
 -- from its point to the right border; the moments behind it cover it
-abbrev pub moment_place : List ℕ → Moment → Place
-moment_place ends moment = record {
+abbrev pub moment_frame : List ℕ → Moment → Frame
+moment_frame ends moment = record {
   class = class_of moment.state.mode;
   x = point_x ends moment.point;
   y = 32;
@@ -107,8 +107,8 @@ moment_place ends moment = record {
 }
 
 -- the state before the first of them, from the border
-abbrev pub opening_place : List ℕ → State → Place
-opening_place ends state = record {
+abbrev pub opening_frame : List ℕ → State → Frame
+opening_frame ends state = record {
   class = class_of state.mode;
   x = border;
   y = 32;
@@ -116,13 +116,13 @@ opening_place ends state = record {
   height = 36;
 }
 
--- what the record holds, from its place to the right border
-abbrev pub content_place : List ℕ → ℕ → Place
-content_place ends x = record { class = class.Content; x = x; y = 72; width = right_of ends - x; height = 22 }
+-- what the record holds, from here to the right border
+abbrev pub content_frame : List ℕ → ℕ → Frame
+content_frame ends x = record { class = class.Content; x = x; y = 72; width = right_of ends - x; height = 22 }
 
 -- a lane, from side to side
-abbrev pub lane_place : List ℕ → ℕ → Place
-lane_place ends lane = record {
+abbrev pub lane_frame : List ℕ → ℕ → Frame
+lane_frame ends lane = record {
   class = class.Lane;
   x = 4;
   y = lane_y lane;

@@ -1,7 +1,7 @@
 //! Where bars, marks and moments stand on the sheet.
 ghost use Rattle.std.specs.Prelude.{◌≡◌, ◌≤◌, ◌<◌, ◌*◌, length, IfOk, All};
-ghost use Rattle.stamp_drawing.specs.Places as places;
-ghost use Rattle.stamp_drawing.specs.Places.{ends_of};
+ghost use Rattle.stamp_drawing.specs.Frames as frames;
+ghost use Rattle.stamp_drawing.specs.Frames.{ends_of};
 
 use stamp_picture::{Bar, Fault, Mode, Moment, State};
 use std::alloc::{AllocError, Global};
@@ -44,9 +44,9 @@ pub enum Class {
     Note,
 }
 
-/// A box on the sheet, in pixels from its left upper corner.
+/// Where a box stands on the sheet and how large it is, in pixels from the left upper corner.
 #[derive(Clone, Copy, Debug, PartialEq, Eq)]
-pub struct Place {
+pub struct Frame {
     /// What it is.
     pub class: Class,
     /// Its left side.
@@ -76,14 +76,14 @@ pub(crate) fn ends_of(alloc: Global, bars: &[Bar]) -> Result<Vec<u64>, AllocErro
 }
 
 fn column(ends: &[u64], position: u64) -> u64
-    ensures is { result ≡ places.column ends.now position }
+    ensures is { result ≡ frames.column ends.now position }
     ensures few { result ≤ length ends.now }
 {
     ends.iter().filter(|end| **end < position).count() as u64
 }
 
 fn column_after(ends: &[u64], position: u64) -> u64
-    ensures is { result ≡ places.column_after ends.now position }
+    ensures is { result ≡ frames.column_after ends.now position }
     ensures few { result ≤ length ends.now }
 {
     ends.iter().filter(|end| **end <= position).count() as u64
@@ -91,14 +91,14 @@ fn column_after(ends: &[u64], position: u64) -> u64
 
 fn x_of(columns: u64) -> u64
     requires { columns ≤ 6000 }
-    ensures { result ≡ places.x_of columns }
+    ensures { result ≡ frames.x_of columns }
 {
     LEFT + UNIT * columns
 }
 
 fn lane_y(lane: u64) -> u64
     requires { lane ≤ 64 }
-    ensures { result ≡ places.lane_y lane }
+    ensures { result ≡ frames.lane_y lane }
 {
     LANES_TOP + LANE_HEIGHT * lane
 }
@@ -106,7 +106,7 @@ fn lane_y(lane: u64) -> u64
 /// How many lanes there are: one more than the number of the last that a bar has.
 pub(crate) fn lanes_in(bars: &[Bar]) -> u64
     requires { All (λ bar. bar.lane < 64) bars.now }
-    ensures is { result ≡ places.lanes_in bars.now }
+    ensures is { result ≡ frames.lanes_in bars.now }
     ensures few { result ≤ 64 }
 {
     let mut lanes: u64 = 0;
@@ -119,14 +119,14 @@ pub(crate) fn lanes_in(bars: &[Bar]) -> u64
 /// The right side of the picture, after the last column.
 pub(crate) fn right_of(ends: &[u64]) -> u64
     requires { length ends.now ≤ 6000 }
-    ensures { result ≡ places.right_of ends.now }
+    ensures { result ≡ frames.right_of ends.now }
 {
     x_of(ends.len() as u64)
 }
 
 /// Whether the bar is that of the first fault.
 pub(crate) fn is_bad(verdict: &Result<u64, Fault>, bar: &Bar) -> bool
-    ensures { result ≡ places.is_bad verdict.now bar.now }
+    ensures { result ≡ frames.is_bad verdict.now bar.now }
 {
     match verdict {
         Ok(_) => false,
@@ -135,7 +135,7 @@ pub(crate) fn is_bad(verdict: &Result<u64, Fault>, bar: &Bar) -> bool
 }
 
 fn bar_class(verdict: &Result<u64, Fault>, bar: &Bar) -> Class
-    ensures { result ≡ places.bar_class verdict.now bar.now }
+    ensures { result ≡ frames.bar_class verdict.now bar.now }
 {
     if is_bad(verdict, bar) {
         Class::Bad
@@ -145,14 +145,14 @@ fn bar_class(verdict: &Result<u64, Fault>, bar: &Bar) -> Class
 }
 
 /// The box of a call, in the lane of its thread.
-pub(crate) fn bar_place(verdict: &Result<u64, Fault>, ends: &[u64], bar: &Bar) -> Place
+pub(crate) fn bar_frame(verdict: &Result<u64, Fault>, ends: &[u64], bar: &Bar) -> Frame
     requires few { length ends.now ≤ 6000 }
     requires lane { bar.now.lane < 64 }
-    ensures { result ≡ places.bar_place verdict.now ends.now bar.now }
+    ensures { result ≡ frames.bar_frame verdict.now ends.now bar.now }
 {
     let begin = column(ends, bar.begin);
     let end = column_after(ends, bar.end);
-    Place {
+    Frame {
         class: bar_class(verdict, bar),
         x: x_of(begin),
         y: lane_y(bar.lane) + 4,
@@ -164,18 +164,18 @@ pub(crate) fn bar_place(verdict: &Result<u64, Fault>, ends: &[u64], bar: &Bar) -
 /// The middle of the column of a point.
 pub(crate) fn point_x(ends: &[u64], point: u64) -> u64
     requires { length ends.now ≤ 6000 }
-    ensures { result ≡ places.point_x ends.now point }
+    ensures { result ≡ frames.point_x ends.now point }
 {
     x_of(column(ends, point)) + 20
 }
 
 /// The box that marks the point of a call.
-pub(crate) fn mark_place(ends: &[u64], bar: &Bar) -> Place
+pub(crate) fn mark_frame(ends: &[u64], bar: &Bar) -> Frame
     requires few { length ends.now ≤ 6000 }
     requires lane { bar.now.lane < 64 }
-    ensures { result ≡ places.mark_place ends.now bar.now }
+    ensures { result ≡ frames.mark_frame ends.now bar.now }
 {
-    Place {
+    Frame {
         class: Class::Mark,
         x: point_x(ends, bar.point) - 3,
         y: lane_y(bar.lane) + 33,
@@ -186,7 +186,7 @@ pub(crate) fn mark_place(ends: &[u64], bar: &Bar) -> Place
 
 /// What a box of this mode is.
 pub(crate) fn class_of(mode: Mode) -> Class
-    ensures { result ≡ places.class_of mode }
+    ensures { result ≡ frames.class_of mode }
 {
     match mode {
         Mode::Free => Class::Free,
@@ -196,12 +196,12 @@ pub(crate) fn class_of(mode: Mode) -> Class
 }
 
 /// The box of what the lock is from a moment on, to the right side.
-pub(crate) fn moment_place(ends: &[u64], moment: &Moment) -> Place
+pub(crate) fn moment_frame(ends: &[u64], moment: &Moment) -> Frame
     requires { length ends.now ≤ 6000 }
-    ensures { result ≡ places.moment_place ends.now moment.now }
+    ensures { result ≡ frames.moment_frame ends.now moment.now }
 {
     let x = point_x(ends, moment.point);
-    Place {
+    Frame {
         class: class_of(moment.state.mode),
         x,
         y: 32,
@@ -211,11 +211,11 @@ pub(crate) fn moment_place(ends: &[u64], moment: &Moment) -> Place
 }
 
 /// What lock and record are at first, from the border on.
-pub(crate) fn opening_place(ends: &[u64], state: &State) -> Place
+pub(crate) fn opening_frame(ends: &[u64], state: &State) -> Frame
     requires { length ends.now ≤ 6000 }
-    ensures { result ≡ places.opening_place ends.now state.now }
+    ensures { result ≡ frames.opening_frame ends.now state.now }
 {
-    Place {
+    Frame {
         class: class_of(state.mode),
         x: BORDER,
         y: 32,
@@ -225,11 +225,11 @@ pub(crate) fn opening_place(ends: &[u64], state: &State) -> Place
 }
 
 /// The box of what the record holds from here on, to the right side.
-pub(crate) fn content_place(ends: &[u64], x: u64) -> Place
+pub(crate) fn content_frame(ends: &[u64], x: u64) -> Frame
     requires { length ends.now ≤ 6000 }
-    ensures { result ≡ places.content_place ends.now x }
+    ensures { result ≡ frames.content_frame ends.now x }
 {
-    Place {
+    Frame {
         class: Class::Content,
         x,
         y: 72,
@@ -239,12 +239,12 @@ pub(crate) fn content_place(ends: &[u64], x: u64) -> Place
 }
 
 /// The box of a lane.
-pub(crate) fn lane_place(ends: &[u64], lane: u64) -> Place
+pub(crate) fn lane_frame(ends: &[u64], lane: u64) -> Frame
     requires few { length ends.now ≤ 6000 }
     requires lane { lane ≤ 64 }
-    ensures { result ≡ places.lane_place ends.now lane }
+    ensures { result ≡ frames.lane_frame ends.now lane }
 {
-    Place {
+    Frame {
         class: Class::Lane,
         x: 4,
         y: lane_y(lane),
@@ -256,7 +256,7 @@ pub(crate) fn lane_place(ends: &[u64], lane: u64) -> Place
 /// Below the lanes.
 pub(crate) fn foot_of(bars: &[Bar]) -> u64
     requires { All (λ bar. bar.lane < 64) bars.now }
-    ensures { result ≡ places.foot_of bars.now }
+    ensures { result ≡ frames.foot_of bars.now }
 {
     lane_y(lanes_in(bars)) + 10
 }
