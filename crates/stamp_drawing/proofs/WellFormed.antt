@@ -58,7 +58,7 @@ sheet_content : (s : Sheet) → IsContent (sheet_text s)
 sheet_content s =
     both _ _ (boxes_content s.lanes.items) (both _ _ (boxes_content s.ribbon.items)
     (both _ _ (boxes_content s.content.items) (both _ _ (boxes_content s.bars.items)
-    (both _ _ (boxes_content s.marks.items) (boxes_content s.notes.items)))))
+    (both _ _ (boxes_content s.points.items) (boxes_content s.notes.items)))))
 
 pub svg_is_well_formed : SvgIsWellFormed
 unfolding svg_text

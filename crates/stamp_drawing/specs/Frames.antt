@@ -1,4 +1,4 @@
--- Where bars, marks and moments stand on the sheet.
+-- Where bars, points and moments stand on the sheet.
 use Rattle.std.specs.Prelude.{ℕ, ◌+◌, ◌*◌, ◌-◌, ◌==◌, nat_lt, nat_le}
 use Rattle.std.specs.Prelude.{max, List, [], ◌∷◌, ◌++◌, Result, Ok, Err, length, count_by}
 use Rattle.std.specs.Prelude.{Bool, false, if◌then◌else◌}
@@ -12,9 +12,9 @@ use Rattle.stamp_drawing.specs.declared.frames.Class.{Class}
 use Rattle.stamp_drawing.specs.declared.frames.Class.TheVariants as class
 use Rattle.stamp_drawing.specs.declared.frames.Frame.{Frame}
 
--- where the part of a bar that is drawn begins, takes effect if its point is marked, and ends
+-- where the part of a bar that is drawn begins, takes effect if its point is shown, and ends
 abbrev pub ends_in : Bar → List ℕ
-ends_in b = b.begin ∷ (if b.marked then b.point ∷ b.end ∷ [] else b.end ∷ [])
+ends_in b = b.begin ∷ (if b.point_shown then b.point ∷ b.end ∷ [] else b.end ∷ [])
 
 abbrev pub ends_of : List Bar → List ℕ
 ends_of [] = []
@@ -73,9 +73,9 @@ abbrev pub point_x : List ℕ → ℕ → ℕ
 point_x ends point = x_of (column ends point) + 20
 
 -- at its point, on the lower side of the bar
-abbrev pub mark_frame : List ℕ → Bar → Frame
-mark_frame ends bar = record {
-  class = class.Mark;
+abbrev pub point_frame : List ℕ → Bar → Frame
+point_frame ends bar = record {
+  class = class.Point;
   x = point_x ends bar.point - 3;
   y = lane_y bar.lane + 33;
   width = 6;

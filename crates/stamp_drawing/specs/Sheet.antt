@@ -14,7 +14,7 @@ use Rattle.stamp_drawing.specs.declared.frames.Class.TheVariants as class
 use Rattle.stamp_drawing.specs.declared.frames.Frame.{Frame}
 use Rattle.stamp_drawing.specs.declared.sheet.LabelledBox.{LabelledBox}
 use Rattle.stamp_drawing.specs.declared.sheet.Sheet.{Sheet}
-use Rattle.stamp_drawing.specs.Frames.{ends_of, lanes_in, right_of, border, point_x, bar_frame, mark_frame}
+use Rattle.stamp_drawing.specs.Frames.{ends_of, lanes_in, right_of, border, point_x, bar_frame, point_frame}
 use Rattle.stamp_drawing.specs.Frames.{moment_frame, opening_frame, content_frame, lane_frame, foot_of}
 use Rattle.stamp_drawing.specs.Labels.{call_text, reply_text, answered_text, state_text, short_mode_text, content_text}
 use Rattle.stamp_drawing.specs.Labels.{verdict_text}
@@ -57,12 +57,12 @@ bar_box verdict ends bar = record {
   lower = codes "= " ++ reply_text bar.reply;
 }
 
-abbrev pub mark_box : List ℕ → Bar → Box
-mark_box ends bar = record { frame = mark_frame ends bar; title = bar_title bar; upper = []; lower = [] }
+abbrev pub point_box : List ℕ → Bar → Box
+point_box ends bar = record { frame = point_frame ends bar; title = bar_title bar; upper = []; lower = [] }
 
 -- one for each bar whose point is in the window
-abbrev pub mark_boxes : List ℕ → List Bar → List Box
-mark_boxes ends bars = map (mark_box ends) (filter (λ (b : Bar). b.marked) bars)
+abbrev pub point_boxes : List ℕ → List Bar → List Box
+point_boxes ends bars = map (point_box ends) (filter (λ (b : Bar). b.point_shown) bars)
 
 -- who holds the lock above its version
 abbrev pub state_box : Frame → State → Box
@@ -132,7 +132,7 @@ note_boxes verdict y =
     legend_box y class.Writing 240 60 (codes "writing") ∷
     legend_box y class.Bar 304 60 (codes "call") ∷
     legend_box y class.Bad 368 60 (codes "fault") ∷
-    legend_box y class.Mark 440 6 [] ∷
+    legend_box y class.Point 440 6 [] ∷
     legend_box y class.Note 448 268 (codes "takes effect; v: the version") ∷ []
 
 -- a box for each lane, bar, point in the window and moment, in their order, and the notes; the sheet is as
@@ -145,5 +145,5 @@ pub record IsSheet (p : Drawn) (sheet : Sheet) : Type 0 where
       state_box (opening_frame (ends_of p.bars) p.opening) p.opening ∷ map (moment_box (ends_of p.bars)) p.ribbon
   pub content : boxes_of sheet.content.items ≡ content_boxes (ends_of p.bars) p.opening.content p.ribbon
   pub bars : boxes_of sheet.bars.items ≡ map (bar_box p.verdict (ends_of p.bars)) p.bars
-  pub marks : boxes_of sheet.marks.items ≡ mark_boxes (ends_of p.bars) p.bars
+  pub points : boxes_of sheet.points.items ≡ point_boxes (ends_of p.bars) p.bars
   pub notes : boxes_of sheet.notes.items ≡ note_boxes p.verdict (foot_of p.bars)

@@ -3,7 +3,7 @@ use Rattle.std.specs.Prelude.{ℕ, List, [], ◌∷◌, ◌++◌, map, codes, de
 use Rattle.std.specs.List.{concat}
 use Rattle.stamp_drawing.specs.declared.frames.Class.{Class}
 use Rattle.stamp_drawing.specs.declared.frames.Class.TheVariants.{Free, Reading, Writing, Content}
-use Rattle.stamp_drawing.specs.declared.frames.Class.TheVariants.{Lane, Bar, Bad, Mark, Note}
+use Rattle.stamp_drawing.specs.declared.frames.Class.TheVariants.{Lane, Bar, Bad, Point, Note}
 use Rattle.stamp_drawing.specs.declared.sheet.LabelledBox.{LabelledBox}
 use Rattle.stamp_drawing.specs.declared.sheet.Sheet.{Sheet}
 use Rattle.stamp_drawing.specs.Markup.{Attribute, escaped, element_text}
@@ -16,7 +16,7 @@ class_name Content = codes "content"
 class_name Lane = codes "lane"
 class_name Bar = codes "bar"
 class_name Bad = codes "bad"
-class_name Mark = codes "mark"
+class_name Point = codes "mark"
 class_name Note = codes "note"
 
 abbrev pub box_attributes : LabelledBox → List Attribute
@@ -46,7 +46,7 @@ boxes_text boxes = concat (map box_text boxes)
 abbrev pub sheet_text : Sheet → List ℕ
 sheet_text s =
     boxes_text s.lanes.items ++ (boxes_text s.ribbon.items ++ (boxes_text s.content.items ++
-    (boxes_text s.bars.items ++ (boxes_text s.marks.items ++ boxes_text s.notes.items))))
+    (boxes_text s.bars.items ++ (boxes_text s.points.items ++ boxes_text s.notes.items))))
 
 abbrev pub view_text : ℕ → ℕ → List ℕ
 view_text width height = codes "0 0 " ++ (decimal width ++ (codes " " ++ decimal height))

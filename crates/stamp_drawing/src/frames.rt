@@ -1,4 +1,4 @@
-//! Where bars, marks and moments stand on the sheet.
+//! Where bars, points and moments stand on the sheet.
 ghost use Rattle.std.specs.Prelude.{◌≡◌, ◌≤◌, ◌<◌, ◌*◌, length, IfOk, All};
 ghost use Rattle.stamp_drawing.specs.Frames as frames;
 ghost use Rattle.stamp_drawing.specs.Frames.{ends_of};
@@ -39,7 +39,7 @@ pub enum Class {
     /// The call of the first fault.
     Bad,
     /// Where a call took effect.
-    Mark,
+    Point,
     /// Words beside the picture.
     Note,
 }
@@ -59,7 +59,7 @@ pub struct Frame {
     pub height: u64,
 }
 
-/// The positions at which the drawn parts of the bars begin and end, and the points that are marked.
+/// The positions at which the drawn parts of the bars begin and end, and the points that are shown.
 pub(crate) fn ends_of(alloc: Global, bars: &[Bar]) -> Result<Vec<u64>, AllocError>
     ensures ends { IfOk result (λ ends. ends.items ≡ ends_of bars.now) }
     ensures three { IfOk result (λ ends. length ends.items ≤ 3 * length bars.now) }
@@ -67,7 +67,7 @@ pub(crate) fn ends_of(alloc: Global, bars: &[Bar]) -> Result<Vec<u64>, AllocErro
     let mut ends = Vec::new(alloc);
     for bar in bars {
         ends.push(bar.begin)?;
-        if bar.marked {
+        if bar.point_shown {
             ends.push(bar.point)?;
         }
         ends.push(bar.end)?;
@@ -169,14 +169,14 @@ pub(crate) fn point_x(ends: &[u64], point: u64) -> u64
     x_of(column(ends, point)) + 20
 }
 
-/// The box that marks the point of a call.
-pub(crate) fn mark_frame(ends: &[u64], bar: &Bar) -> Frame
+/// The box at the point of a call.
+pub(crate) fn point_frame(ends: &[u64], bar: &Bar) -> Frame
     requires few { length ends.now ≤ 6000 }
     requires lane { bar.now.lane < 64 }
-    ensures { result ≡ frames.mark_frame ends.now bar.now }
+    ensures { result ≡ frames.point_frame ends.now bar.now }
 {
     Frame {
-        class: Class::Mark,
+        class: Class::Point,
         x: point_x(ends, bar.point) - 3,
         y: lane_y(bar.lane) + 33,
         width: 6,

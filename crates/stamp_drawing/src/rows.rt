@@ -17,7 +17,7 @@ const LEGEND: &str = ", begins  | goes on  * takes effect  ' ends; the faulty en
 
 const HEADING: &str = "    at  thread: call = reply -> what the lock was then (v: its version)";
 
-/// The positions at which the drawn part of a bar begins or ends, and the points that are marked.
+/// The positions at which the drawn part of a bar begins or ends, and the points that are shown.
 fn times_of(alloc: Global, bars: &[Bar]) -> Result<Vec<u64>, AllocError>
     ensures { IfOk result (λ times. AreTimes bars.now times.items) }
 {

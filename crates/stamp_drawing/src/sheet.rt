@@ -4,13 +4,13 @@ ghost use Rattle.std.specs.List.{range_with_len};
 ghost use Rattle.stamp_picture.specs.Picture.{most_bars};
 ghost use Rattle.stamp_drawing.specs.Frames.{ends_of, opening_frame};
 ghost use Rattle.stamp_drawing.specs.Sheet as spec;
-ghost use Rattle.stamp_drawing.specs.Sheet.{IsSheet, box_of, boxes_of, bar_box, mark_box, mark_boxes};
+ghost use Rattle.stamp_drawing.specs.Sheet.{IsSheet, box_of, boxes_of, bar_box, point_box, point_boxes};
 ghost use Rattle.stamp_drawing.specs.Sheet.{state_box, moment_box};
 ghost use Rattle.stamp_drawing.specs.Sheet.{plain_box, content_box, content_boxes, lane_box, legend_box, note_boxes};
 
 use crate::frames::{
     BORDER, Class, Frame, bar_frame, class_of, content_frame, ends_of, foot_of, lane_frame,
-    lanes_in, mark_frame, moment_frame, opening_frame, point_x, right_of,
+    lanes_in, moment_frame, opening_frame, point_frame, point_x, right_of,
 };
 use crate::labels::{
     AnsweredLabel, CallLabel, ContentLabel, ReplyLabel, ShortModeLabel, StateLabel, VerdictLabel,
@@ -48,7 +48,7 @@ pub struct Sheet {
     /// The calls.
     pub bars: Vec<LabelledBox>,
     /// Where the calls take effect, in the window.
-    pub marks: Vec<LabelledBox>,
+    pub points: Vec<LabelledBox>,
     /// The verdict and the legend.
     pub notes: Vec<LabelledBox>,
 }
@@ -96,29 +96,29 @@ fn bar_boxes(
     Ok(boxes)
 }
 
-fn mark_box(alloc: Global, ends: &[u64], bar: &Bar) -> Result<LabelledBox, AllocError>
+fn point_box(alloc: Global, ends: &[u64], bar: &Bar) -> Result<LabelledBox, AllocError>
     requires few { length ends.now ≤ 6000 }
     requires lane { bar.now.lane < 64 }
-    ensures { IfOk result (λ labelled. box_of labelled ≡ mark_box ends.now bar.now) }
+    ensures { IfOk result (λ labelled. box_of labelled ≡ point_box ends.now bar.now) }
 {
     Ok(LabelledBox {
-        frame: mark_frame(ends, bar),
+        frame: point_frame(ends, bar),
         title: bar_title(alloc, bar)?,
         upper: String::new(alloc),
         lower: String::new(alloc),
     })
 }
 
-/// A mark for each point in the window.
-fn mark_boxes(alloc: Global, bars: &[Bar], ends: &[u64]) -> Result<Vec<LabelledBox>, AllocError>
+/// A box for each point in the window.
+fn point_boxes(alloc: Global, bars: &[Bar], ends: &[u64]) -> Result<Vec<LabelledBox>, AllocError>
     requires few { length ends.now ≤ 6000 }
     requires lanes { All (λ bar. bar.lane < 64) bars.now }
-    ensures { IfOk result (λ boxes. boxes_of boxes.items ≡ mark_boxes ends.now bars.now) }
+    ensures { IfOk result (λ boxes. boxes_of boxes.items ≡ point_boxes ends.now bars.now) }
 {
     let mut boxes = Vec::new(alloc);
     for bar in bars {
-        if bar.marked {
-            boxes.push(mark_box(alloc, ends, bar)?)?;
+        if bar.point_shown {
+            boxes.push(point_box(alloc, ends, bar)?)?;
         }
     }
     Ok(boxes)
@@ -302,7 +302,7 @@ fn note_boxes(
     let writing = legend_box(alloc, y, Class::Writing, (240, 60), "writing")?;
     let call = legend_box(alloc, y, Class::Bar, (304, 60), "call")?;
     let fault = legend_box(alloc, y, Class::Bad, (368, 60), "fault")?;
-    let mark = legend_box(alloc, y, Class::Mark, (440, 6), "")?;
+    let point = legend_box(alloc, y, Class::Point, (440, 6), "")?;
     let words = legend_box(
         alloc,
         y,
@@ -311,7 +311,7 @@ fn note_boxes(
         "takes effect; v: the version",
     )?;
     Ok(vec![in alloc;
-        verdict, lock, free, reading, writing, call, fault, mark, words,
+        verdict, lock, free, reading, writing, call, fault, point, words,
     ]?)
 }
 
@@ -333,7 +333,7 @@ pub fn sheet_of(alloc: Global, picture: &Picture) -> Result<Sheet, AllocError>
         ribbon: ribbon_boxes(alloc, &opening, ribbon, &ends)?,
         content: content_boxes(alloc, &opening, ribbon, &ends)?,
         bars: bar_boxes(alloc, picture.verdict(), bars, &ends)?,
-        marks: mark_boxes(alloc, bars, &ends)?,
+        points: point_boxes(alloc, bars, &ends)?,
         notes: note_boxes(alloc, picture.verdict(), foot)?,
     })
 }

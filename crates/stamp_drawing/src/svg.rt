@@ -20,7 +20,7 @@ fn class_name(class: Class) -> &'static str
         Class::Lane => "lane",
         Class::Bar => "bar",
         Class::Bad => "bad",
-        Class::Mark => "mark",
+        Class::Point => "mark",
         Class::Note => "note",
     }
 }
@@ -83,7 +83,7 @@ fn push_sheet(text: &mut Vec<u8>, sheet: &Sheet) -> Result<(), AllocError>
     push_boxes(text, &sheet.ribbon)?;
     push_boxes(text, &sheet.content)?;
     push_boxes(text, &sheet.bars)?;
-    push_boxes(text, &sheet.marks)?;
+    push_boxes(text, &sheet.points)?;
     push_boxes(text, &sheet.notes)?;
     Ok(())
 }

@@ -3,7 +3,7 @@ use Rattle.std.proofs.lemmas.List.{take_all}
 use Rattle.std.proofs.lemmas.Grind.{common_steps}
 use Rattle.stamp_picture.specs.declared.bar.Bar.{Bar}
 use Rattle.stamp_drawing.specs.Frames.{ends_in, ends_of}
-use Rattle.stamp_drawing.proofs.OneByOne.{ends_more, three_ends, marked_ends, unmarked_ends}
+use Rattle.stamp_drawing.proofs.OneByOne.{ends_more, three_ends, shown_ends, unshown_ends}
 use Rattle.stamp_drawing.proofs.frames.ends_of.Goals as goal
 use Rattle.stamp_drawing.proofs.frames.ends_of.Goals.{then-bar+in_ok-push-2, else-bar}
 
@@ -13,10 +13,10 @@ loop-bar-preserved c =
     let old = c.loop-bar.ends.items in
     let new = c.push-in-loop-bar.new.self.items in
     let more : new ≡ old ++ ends_in b = elim c.if-bar.branch [
-      | then-bar+in_ok-push-2 w ↦ marked_ends b old new w.if-bar.true
+      | then-bar+in_ok-push-2 w ↦ shown_ends b old new w.if-bar.true
           ((rw w.ends-is at c.in_ok-push-3.ensures.items) ∙ ap (λ (ends : List ℕ). ends ++ b.end ∷ [])
           (w.in_ok-push-2.ensures.items ∙ ap (λ (ends : List ℕ). ends ++ b.point ∷ []) c.in_ok-push.ensures.items))
-      | else-bar w ↦ unmarked_ends b old new w.if-bar.false
+      | else-bar w ↦ unshown_ends b old new w.if-bar.false
           ((rw w.ends-is at c.in_ok-push-3.ensures.items)
           ∙ ap (λ (ends : List ℕ). ends ++ b.end ∷ []) c.in_ok-push.ensures.items)
     ] in
