@@ -9,7 +9,7 @@ ghost use Rattle.stamp_cli.specs.Source.{most_reads, most_taken};
 ghost use Rattle.stamp_explain_cli.specs.Answer.{ToldView, AnswersSource};
 
 use crate::answer::{Explanation, Told, told_of};
-use stamp_cli::{Line, ServeFault, Sink, Source, write_line};
+use stamp_cli::{Line, ServeFault, Sink, Source, write_text};
 use std::alloc::Global;
 
 /// Reads an observed history of the source, looks for an order that explains it, and writes one line: the
@@ -56,6 +56,6 @@ pub fn serve_explanation<S: Source, K: Sink>(
     let Told { line, note } = told_of(alloc, most, source)?;
     let Line { mut text, verdict } = line;
     text.push(b'\n')?;
-    write_line(sink, &text)?;
+    write_text(sink, &text)?;
     Ok(Explanation { verdict, note })
 }

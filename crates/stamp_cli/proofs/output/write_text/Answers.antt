@@ -1,7 +1,7 @@
 use Rattle.std.proofs.Common.{ℕ, length-take, length-drop, arith}
 use Rattle.stamp_cli.proofs.MadeSoFar as so_far
 use Rattle.stamp_cli.proofs.Sent.{Appends-more}
-use Rattle.stamp_cli.proofs.output.write_line.Goals as goal
+use Rattle.stamp_cli.proofs.output.write_text.Goals as goal
 
 pub loop-sent-preserved : goal.loop-sent-preserved
 loop-sent-preserved g c =
@@ -10,7 +10,7 @@ loop-sent-preserved g c =
       within = omega (arith, c.in_ok-sent.ensures.taken.1, length-take {A = ℕ}, length-drop {A = ℕ});
       writes = so_far.more _ _ _ _ _ once.result c.loop-sent.invariant.writes once.added once.fault
           (omega (arith, once.bytes));
-      front = Appends-more _ _ _ c.args.line.now c.loop-sent.sent c.in_ok-sent.field-0 c.loop-sent.invariant.front
+      front = Appends-more _ _ _ c.args.text.now c.loop-sent.sent c.in_ok-sent.field-0 c.loop-sent.invariant.front
           c.in_ok-sent.ensures.taken.2;
     }
 
