@@ -14,12 +14,12 @@ abbrev pub cause_text : Cause → List ℕ
 cause_text Interval = codes "interval"
 cause_text Overlap = codes "overlap"
 
-abbrev pub fault_text : ObservedFault → List ℕ
-fault_text fault = codes "bad " ++ decimal fault.entry ++ codes " " ++ cause_text fault.cause
+abbrev pub bad_text : ObservedFault → List ℕ
+bad_text fault = codes "bad " ++ decimal fault.entry ++ codes " " ++ cause_text fault.cause
 
 -- a record as its history
 abbrev pub finding_text : Finding → List ℕ
-finding_text (Unseen fault) = fault_text fault
+finding_text (Unseen fault) = bad_text fault
 finding_text (Explained made) = history_text made
 finding_text (Stuck i) = codes "stuck " ++ decimal i
 finding_text (Unexplained i) = codes "undecided " ++ decimal i
