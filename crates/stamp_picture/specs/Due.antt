@@ -22,6 +22,6 @@ DueAfter limits events content call None = (is_lock_call call ≡ true) × (tran
 DueAfter limits events content call (Some reply) = IsReply limits events content call reply
 
 -- the reply that is due to a call after these entries
-abbrev pub IsDue : Bounds → ℕ → List Entry → Call → Option Reply → Type 0
-IsDue limits width before call due =
+abbrev pub IsReplyDue : Bounds → ℕ → List Entry → Call → Option Reply → Type 0
+IsReplyDue limits width before call due =
     DueAfter limits (events_of limits (history_of before)) (content_after width (history_of before)) call due
