@@ -1,10 +1,10 @@
 //! What is wrong with the numbers that a C program gives.
 ghost use Rattle.std.specs.Prelude.{◌≡◌};
-ghost use Rattle.stamped_c.specs.Codes.{fault_code};
+ghost use Rattle.stamped_c.specs.Codes.{error_code};
 
 /// What is wrong with the numbers that a C program gives.
 #[derive(Clone, Copy, Debug, PartialEq, Eq)]
-pub enum Fault {
+pub enum CError {
     /// 1: the number names no layout.
     UnknownLayout,
     /// 2: no reader, or more readers or write acquisitions than the layout has room for.
@@ -17,17 +17,17 @@ pub enum Fault {
     UnknownCall,
 }
 
-impl Fault {
+impl CError {
     /// Its number in C.
     pub(crate) fn code(self) -> u32
-        ensures { result ≡ fault_code self }
+        ensures { result ≡ error_code self }
     {
         match self {
-            Fault::UnknownLayout => 1,
-            Fault::LimitsOutOfRange => 2,
-            Fault::NoWord => 3,
-            Fault::BeyondLimits => 4,
-            Fault::UnknownCall => 5,
+            CError::UnknownLayout => 1,
+            CError::LimitsOutOfRange => 2,
+            CError::NoWord => 3,
+            CError::BeyondLimits => 4,
+            CError::UnknownCall => 5,
         }
     }
 }

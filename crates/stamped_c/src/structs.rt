@@ -1,8 +1,8 @@
 //! The structs that C passes and gets, and how results are written into them.
 ghost use Rattle.std.specs.Prelude.{◌≡◌};
-ghost use Rattle.stamped_c.specs.Codes.{reply_number, replied_in_c, unreplied_in_c, made_in_c, fault_code, kind_in_c};
+ghost use Rattle.stamped_c.specs.Codes.{reply_number, replied_in_c, unreplied_in_c, made_in_c, error_code, kind_in_c};
 
-use crate::fault::Fault;
+use crate::error::CError;
 use stamp_core::{LockDecision, LockReply, StampKind};
 
 /// A lock's layout and limits, as C gives them (`struct stamped_limits`).
@@ -21,7 +21,7 @@ pub struct CLimits {
 #[repr(C)]
 #[derive(Clone, Copy)]
 pub struct CDecision {
-    /// The number of the lock's word afterwards; or, below 256, a wait or a fault.
+    /// The number of the lock's word afterwards; or, below 256, a wait or an error.
     pub word: u64,
     /// The reply as a number; 0 where there is none.
     pub reply: u64,
@@ -31,7 +31,7 @@ pub struct CDecision {
 #[repr(C)]
 #[derive(Clone, Copy)]
 pub struct CKind {
-    /// A kind, or a fault.
+    /// A kind, or an error.
     pub kind: u32,
     /// How many write acquisitions came before it was issued, its own included.
     pub version: u64,
@@ -51,13 +51,13 @@ fn reply_number(reply: LockReply) -> u64
 }
 
 impl CDecision {
-    /// The fault of what was given.
+    /// The error of what was given.
     #[cold]
     #[inline(never)]
-    pub(crate) fn fault(fault: Fault) -> CDecision
-        ensures { result ≡ unreplied_in_c (fault_code fault) }
+    pub(crate) fn error(error: CError) -> CDecision
+        ensures { result ≡ unreplied_in_c (error_code error) }
     {
-        CDecision::unreplied(u64::from(fault.code()))
+        CDecision::unreplied(u64::from(error.code()))
     }
 
     /// The decision on the word of this number.
@@ -90,8 +90,8 @@ impl CDecision {
 }
 
 impl CKind {
-    /// The kind of a stamp, or the fault of what was given.
-    pub(crate) fn of(kind: Result<StampKind, Fault>) -> CKind
+    /// The kind of a stamp, or the error of what was given.
+    pub(crate) fn of(kind: Result<StampKind, CError>) -> CKind
         ensures { result ≡ kind_in_c kind }
     {
         let (kind, version, readers) = match kind {
@@ -99,7 +99,7 @@ impl CKind {
             Ok(StampKind::Write(version)) => (17, version, 0),
             Ok(StampKind::Read(version, readers)) => (18, version, readers),
             Ok(StampKind::Optimistic(version)) => (19, version, 0),
-            Err(fault) => (fault.code(), 0, 0),
+            Err(error) => (error.code(), 0, 0),
         };
         CKind {
             kind,
