@@ -17,7 +17,7 @@ why_text Overlap = codes "overlap"
 abbrev pub bad_text : ObservedFault → List ℕ
 bad_text fault = codes "bad " ++ decimal fault.entry ++ codes " " ++ why_text fault.why
 
--- a record as its history
+-- a recorded history as its text
 abbrev pub finding_text : Finding → List ℕ
 finding_text (Unseen fault) = bad_text fault
 finding_text (Explained made) = history_text made

@@ -98,7 +98,7 @@ opening_more l n w xs i e lt is =
     ∙ ap (λ (ys : List Entry). if precedes e.point w then state_after l n ys else opening_state l n w (take i xs))
     (sym more)
 
--- the lanes are those of a record's threads
+-- the lanes are those of a recorded history's threads
 pub if_all : {X : Type 0} (P : X → Type 0) (b : Bool) (x : X) (xs : List X) → P x → All P xs →
     All P (if b then x ∷ xs else xs)
 if_all P true x xs here all = All-cons P x xs here all
