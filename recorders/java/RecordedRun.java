@@ -6,10 +6,10 @@ import java.util.Random;
 
 /**
  * Threads make random calls on a recorded lock, and then the run is written to standard output:
- * {@code Trial THREADS CALLS SEED}. All seventeen calls come up, each only as the documentation of
+ * {@code RecordedRun THREADS CALLS SEED}. All seventeen calls come up, each only as the documentation of
  * {@code StampedLock} allows it. The seed chooses the calls; how the threads meet differs from run to run.
  */
-public final class Trial {
+public final class RecordedRun {
     private final RecordedStampedLock lock = new RecordedStampedLock();
 
     /** A thread that holds at most one mode at a time, and keeps its last optimistic stamp. */
@@ -122,17 +122,17 @@ public final class Trial {
         int threads = Integer.parseInt(words[0]);
         int calls = Integer.parseInt(words[1]);
         long seed = Long.parseLong(words[2]);
-        Trial trial = new Trial();
+        RecordedRun run = new RecordedRun();
         Worker[] workers = new Worker[threads];
         for (int i = 0; i < threads; i++) {
-            workers[i] = trial.new Worker(calls / threads, seed + i);
+            workers[i] = run.new Worker(calls / threads, seed + i);
             workers[i].start();
         }
         for (Worker worker : workers) {
             worker.join();
         }
         try (Writer out = new OutputStreamWriter(System.out, StandardCharsets.US_ASCII)) {
-            trial.lock.writeTo(out);
+            run.lock.writeTo(out);
         }
     }
 }
