@@ -21,7 +21,7 @@ impl fmt::Display for WordsLabel {
     }
 }
 
-/// A call, with what it takes.
+/// Shows a call by `{}` as a picture has it, with what it takes.
 #[derive(Drop)]
 pub struct CallLabel(pub Call);
 
@@ -56,7 +56,7 @@ impl fmt::Display for CallLabel {
     }
 }
 
-/// A reply.
+/// Shows a reply by `{}` as a picture has it.
 #[derive(Drop)]
 pub struct ReplyLabel(pub Reply);
 

@@ -224,7 +224,8 @@ fn push_rows(
 }
 
 /// The picture in characters, in lines of at most so many: the lanes of the threads side by side, a line
-/// for each position at which a call begins, takes effect or ends in the window, and the verdict last.
+/// for each position at which a call begins, takes effect or ends in the window, and the verdict last. The
+/// lanes are below 64, as in each picture of `picture_of`. It refuses only for want of memory.
 pub fn text_of(alloc: Global, picture: &Picture, width: usize) -> Result<Vec<u8>, AllocError>
     requires { All (λ bar. bar.lane < 64) picture.now.bars }
     ensures rows { IfOk result (λ text. IsRows width picture.now text.items) }

@@ -316,7 +316,8 @@ fn note_boxes(
 }
 
 /// The picture as boxes: each call in its thread's lane, from its first position to its last as far as
-/// the window has them, and in the ribbon what the lock was from each point on.
+/// the window has them, and in the ribbon what the lock was from each point on. The picture has at most
+/// 2,000 bars, in lanes below 64, as each of `picture_of` has. It refuses only for want of memory.
 pub fn sheet_of(alloc: Global, picture: &Picture) -> Result<Sheet, AllocError>
     requires few { length picture.now.bars ≤ most_bars }
     requires lanes { All (λ bar. bar.lane < 64) picture.now.bars }

@@ -95,7 +95,7 @@ fn view_of(alloc: Global, width: u64, height: u64) -> Result<String, AllocError>
 }
 
 /// The sheet as one SVG document under a style (CSS), which is escaped as any text is: write no
-/// markup in it.
+/// markup in it. It refuses only for want of memory.
 pub fn svg_of(alloc: Global, style: &str, sheet: &Sheet) -> Result<Vec<u8>, AllocError>
     ensures text { IfOk result (λ text. text.items ≡ svg_text style.now sheet.now) }
     ensures document { IfOk result (λ text. IsDocument text.items) }
