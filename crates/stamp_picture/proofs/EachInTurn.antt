@@ -14,7 +14,8 @@ use Rattle.stamp_picture.specs.declared.state.State.{State}
 use Rattle.stamp_picture.specs.declared.window.Window.{Window}
 use Rattle.stamp_picture.specs.Window.{meets, contains, precedes}
 use Rattle.stamp_picture.specs.Bars.{bar_of, bars_from, bars_of}
-use Rattle.stamp_picture.specs.Moment.{moment_after, moments_from, moments_of, opening_from, opening_state, state_after}
+use Rattle.stamp_picture.specs.Moment.{moment_after, moments_from, moments_of, opening_from, opening_state}
+use Rattle.stamp_picture.specs.Moment.{state_after}
 
 pub taken_more : (xs : List Entry) (i : ℕ) (e : Entry) → i < length xs → e ≡ get_or xs i e →
     take (i + 1) xs ≡ take i xs ++ e ∷ []

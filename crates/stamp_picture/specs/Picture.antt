@@ -23,7 +23,8 @@ pub record Drawn : Type 0 where
   pub opening : State
   pub ribbon : List Moment
 
--- the verdict is the one that a check finds; of a bad history, also the call of its first fault, and what was due to it
+-- the verdict is the one that a check finds; of a bad history, also the call of its first fault, and what was due
+-- to it
 abbrev pub IsJudged : Recorded → Result ℕ Fault → Type 0
 IsJudged r (Ok n) = IsVerdict r (Ok n)
 IsJudged r (Err fault) = IsVerdict r (Err fault.bad) ×
