@@ -90,7 +90,10 @@ fn form_within(args: &[&str]) -> Option<PictureOrder>
     ensures { result ≡ form_within (map (λ arg. arg.now) args.now) }
 {
     match args {
-        [option, from, other, to] => both(Some(PictureFormat::Svg), window_in(option, from, other, to)),
+        [option, from, other, to] => both(
+            Some(PictureFormat::Svg),
+            window_in(option, from, other, to),
+        ),
         [text, option, from, other, to] => {
             both(text_format(text), window_in(option, from, other, to))
         }
