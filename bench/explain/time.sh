@@ -20,10 +20,10 @@ done
 room=$(mktemp -d)
 trap 'rm -rf "$room"' EXIT
 c++ -std=c++17 -O2 -o "$room/explain" "$here/explain.cpp"
-javac -d "$room" "$top"/recorders/java/{RecordedStampedLock,Trial}.java
+javac -d "$room" "$top"/recorders/java/{RecordedStampedLock,RecordedRun}.java
 faulty='{"call":["optimistic"],"first":288230376151711743,"last":0,"reply":256,"thread":63}'
 for calls in 12500 50000 200000; do
-    java -cp "$room" Trial 16 "$calls" 1 > "$room/$calls.json"
+    java -cp "$room" RecordedRun 16 "$calls" 1 > "$room/$calls.json"
     sed 's/],"format"/,'"$faulty"'],"format"/' "$room/$calls.json" > "$room/$calls.faulty"
 done
 python3 -B "$here/make_cases.py" "$room"

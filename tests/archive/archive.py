@@ -257,7 +257,7 @@ def stated():
     text = text_of("crates/stamped_c/specs/Codes.antt")
     found = {in_c(name): int(code) for code, name in re.findall(r"n == (\d+) then Some \(?(\w+)", text)}
     del found["ONE"], found["TWO"]
-    found |= {in_c(name): int(code) for name, code in re.findall(r"^fault_code (\w+) = (\d+)$", text, re.M)}
+    found |= {in_c(name): int(code) for name, code in re.findall(r"^error_code (\w+) = (\d+)$", text, re.M)}
     found |= {in_c(name): int(code) for name, code in re.findall(r"^reply_number (\w+) = (\d+)$", text, re.M)}
     kinds = re.findall(r"^kind_in_c \(Ok \(?kind\.(\w+)[^=]*= record \{ kind = (\d+)", text, re.M)
     found |= {"NEITHER" if name == "Neither" else f"{in_c(name)}_STAMP": int(code) for name, code in kinds}

@@ -77,10 +77,10 @@ def main():
     total = 0
     with tempfile.TemporaryDirectory() as classes:
         subprocess.run(["javac", "-d", classes] + [f"{JAVA}/{name}.java" for name in
-                                                   ("RecordedStampedLock", "Accounts", "Trial")], check=True)
+                                                   ("RecordedStampedLock", "Accounts", "RecordedRun")], check=True)
         total += try_run(explain, stamped, [classes, "Accounts", "100"])[0]
         for seed, threads in itertools.product(range(rounds), THREADS):
-            calls, seconds = try_run(explain, stamped, [classes, "Trial", str(threads), str(most), str(seed)])
+            calls, seconds = try_run(explain, stamped, [classes, "RecordedRun", str(threads), str(most), str(seed)])
             total += calls
             print(f"jdk: {threads} threads, {calls} calls, ok, judged in {seconds:.2f} s", flush=True)
     print(f"jdk: {total} calls explained; {len(DIFFERENCES)} differences are stuck")

@@ -6,10 +6,11 @@
 #![tactic(auto)]
 
 mod recorder;
-mod trial;
+mod run;
 
 use anyhow::{Result, bail, ensure};
 use recorder::Recorder;
+use run::work;
 use stamp_core::{Layout, Limits, MOST_THREADS};
 use stamp_explain::{MOST_OBSERVATIONS, Observation, Observed};
 use stamp_observed::write_observed;
@@ -21,7 +22,6 @@ use std::sync::Wait;
 use std::sync::atomic::AtomicU64;
 use std::thread::{Threads, map_indices};
 use std::{env, io};
-use trial::work;
 
 /// The calls that the threads make in so many rounds each, thread by thread.
 fn recorded<R: Threads + Wait + Sync + AllocGlobal>(

@@ -122,9 +122,13 @@ impl<'a> Recorder<'a> {
         }
     }
 
-    /// Takes a ticket: before each call, and by `end` after it.
-    pub fn begin(&self) -> u64 {
+    fn ticket(&self) -> u64 {
         self.tickets.fetch_add(1, Ordering::SeqCst)
+    }
+
+    /// Takes the ticket before a call.
+    pub fn begin(&self) -> u64 {
+        self.ticket()
     }
 
     /// Takes the ticket after a call, and keeps the call; one that lost is not kept. It gives the answer
@@ -138,7 +142,7 @@ impl<'a> Recorder<'a> {
         ensures tickets { self.new.tickets ≡ self.old.tickets }
         ensures handle { self.new.handle ≡ self.old.handle }
     {
-        let last = self.begin();
+        let last = self.ticket();
         if let Some(reply) = answer.reply() {
             self.tape.push(Observation {
                 thread: self.thread,

@@ -21,7 +21,7 @@ pub use faults::{ServeFault, fault_line};
 pub use input::{MOST_BYTES, read_input};
 pub use line::{Line, Verdict, accepted};
 pub use orders::{CommandFault, Order, number_in, order_of};
-pub use output::write_line;
+pub use output::write_text;
 pub use serving::serve;
 pub use sinks::{Sink, WriteSink};
 pub use sources::{ReadSource, Source};

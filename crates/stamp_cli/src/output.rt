@@ -1,4 +1,4 @@
-//! The line of a command, written whole.
+//! A text, written whole.
 
 ghost use Rattle.std.specs.Prelude.{◌≡◌, ◌<◌, ◌≤◌, length, take, IfOk, IfErr, OnOk, OnErr, is_err};
 ghost use Rattle.std.specs.Io.KnownBytes.{Appends, Keeps};
@@ -29,19 +29,19 @@ fn write_some<K: Sink>(sink: &mut K, bytes: &[u8]) -> Result<usize, ServeFault>
     }
 }
 
-/// Writes the line and nothing else, or, where a write answered an error or took no byte, a front of it:
+/// Writes the text and nothing else, or, where a write answered an error or took no byte, a front of it:
 /// `WriteFault` then.
-pub fn write_line<K: Sink>(sink: &mut K, line: &[u8]) -> Result<(), ServeFault>
-    ensures ok { OnOk result (Appends (K.sent sink.old) (K.sent sink.new) line.now) }
-    ensures whole { OnOk result (Makes (K.writes sink.old) (K.writes sink.new) (length line.now)) }
-    ensures front { OnErr result (AppendsFront (K.sent sink.old) (K.sent sink.new) line.now) }
+pub fn write_text<K: Sink>(sink: &mut K, text: &[u8]) -> Result<(), ServeFault>
+    ensures ok { OnOk result (Appends (K.sent sink.old) (K.sent sink.new) text.now) }
+    ensures whole { OnOk result (Makes (K.writes sink.old) (K.writes sink.new) (length text.now)) }
+    ensures front { OnErr result (AppendsFront (K.sent sink.old) (K.sent sink.new) text.now) }
     ensures err { IfErr result (λ e. e ≡ ServeFault.WriteFault) }
-    ensures writes { MakesAtMost (K.writes sink.old) (K.writes sink.new) (length line.now) (length line.now) }
+    ensures writes { MakesAtMost (K.writes sink.old) (K.writes sink.new) (length text.now) (length text.now) }
     ensures failed { any_since takes_none (K.writes sink.old) (K.writes sink.new) ≡ is_err result }
 {
     let mut sent = 0;
-    while sent < line.len() {
-        sent += write_some(sink, &line[sent..])?;
+    while sent < text.len() {
+        sent += write_some(sink, &text[sent..])?;
     }
     Ok(())
 }

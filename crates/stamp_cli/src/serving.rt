@@ -11,7 +11,7 @@ use crate::answer::line_of_order;
 use crate::faults::ServeFault;
 use crate::line::{Line, Verdict};
 use crate::orders::Order;
-use crate::output::write_line;
+use crate::output::write_text;
 use crate::sinks::Sink;
 use crate::sources::Source;
 use std::alloc::Global;
@@ -55,6 +55,6 @@ pub fn serve<S: Source, K: Sink>(
 {
     let Line { mut text, verdict } = line_of_order(alloc, order, source)?;
     text.push(b'\n')?;
-    write_line(sink, &text)?;
+    write_text(sink, &text)?;
     Ok(verdict)
 }

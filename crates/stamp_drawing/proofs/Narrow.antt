@@ -1,6 +1,6 @@
 -- The lines of a picture in characters.
-use Rattle.std.proofs.Common.{◌≡◌, ◌∙◌, ℕ, ◌≤◌, ◌<◌, ◌-◌, List, [], ◌∷◌, ◌++◌, length, map, take, sym, ap, append_assoc}
-use Rattle.std.proofs.Common.{arith, Bool, true, false, refl, codes, length-append}
+use Rattle.std.proofs.Common.{◌≡◌, ◌∙◌, ℕ, ◌≤◌, ◌<◌, ◌-◌, List, [], ◌∷◌, ◌++◌, length, map, take, sym, ap}
+use Rattle.std.proofs.Common.{append_assoc, arith, Bool, true, false, refl, codes, length-append}
 use Rattle.std.specs.Prelude.{nat_le, ◌==◌, if◌then◌else◌}
 use Rattle.std.specs.List.{concat}
 use Rattle.std.proofs.lemmas.List.{append-nil, length-take}

@@ -10,9 +10,9 @@ use Rattle.std.proofs.lemmas.List.Elements.{filter_more}
 use Rattle.std.proofs.lemmas.List.FromFn.{map-range_with_len_more}
 use Rattle.stamp_picture.specs.declared.bar.Bar.{Bar}
 use Rattle.stamp_picture.specs.declared.state.Moment.{Moment}
-use Rattle.stamp_drawing.specs.declared.sheet.Shape.{Shape}
-use Rattle.stamp_drawing.specs.Places.{ends_in, ends_of, lanes_in, point_x}
-use Rattle.stamp_drawing.specs.Sheet.{Box, box_of, boxes_of, mark_box, mark_boxes, same_content}
+use Rattle.stamp_drawing.specs.declared.sheet.LabelledBox.{LabelledBox}
+use Rattle.stamp_drawing.specs.Frames.{ends_in, ends_of, lanes_in, point_x}
+use Rattle.stamp_drawing.specs.Sheet.{Box, box_of, boxes_of, point_box, point_boxes, same_content}
 use Rattle.stamp_drawing.specs.Sheet.{content_box, change_boxes}
 
 ends_push : (xs : List Bar) (b : Bar) → ends_of (xs ++ b ∷ []) ≡ ends_of xs ++ ends_in b
@@ -32,18 +32,18 @@ few_ends false x y z = omega arith
 pub three_ends : (xs : List Bar) → length (ends_of xs) ≤ 3 * length xs
 three_ends [] = omega arith
 three_ends (x ∷ xs) = rw length-append
-    (omega (arith, few_ends x.marked x.begin x.point x.end, three_ends xs))
+    (omega (arith, few_ends x.point_shown x.begin x.point x.end, three_ends xs))
 
--- the ends of a bar whose point is marked, and of one whose point is not
-pub marked_ends : (b : Bar) (old new : List ℕ) → b.marked ≡ true →
+-- the ends of a bar whose point is shown, and of one whose point is not
+pub shown_ends : (b : Bar) (old new : List ℕ) → b.point_shown ≡ true →
     new ≡ ((old ++ b.begin ∷ []) ++ b.point ∷ []) ++ b.end ∷ [] → new ≡ old ++ ends_in b
-marked_ends b old new on is = is ∙ append_assoc (old ++ b.begin ∷ []) (b.point ∷ []) (b.end ∷ [])
+shown_ends b old new on is = is ∙ append_assoc (old ++ b.begin ∷ []) (b.point ∷ []) (b.end ∷ [])
     ∙ append_assoc old (b.begin ∷ []) (b.point ∷ b.end ∷ [])
     ∙ ap (λ (m : Bool). old ++ b.begin ∷ (if m then b.point ∷ b.end ∷ [] else b.end ∷ [])) (sym on)
 
-pub unmarked_ends : (b : Bar) (old new : List ℕ) → b.marked ≡ false →
+pub unshown_ends : (b : Bar) (old new : List ℕ) → b.point_shown ≡ false →
     new ≡ (old ++ b.begin ∷ []) ++ b.end ∷ [] → new ≡ old ++ ends_in b
-unmarked_ends b old new off is = is ∙ append_assoc old (b.begin ∷ []) (b.end ∷ [])
+unshown_ends b old new off is = is ∙ append_assoc old (b.begin ∷ []) (b.end ∷ [])
     ∙ ap (λ (m : Bool). old ++ b.begin ∷ (if m then b.point ∷ b.end ∷ [] else b.end ∷ [])) (sym off)
 
 lanes_push : (xs : List Bar) (b : Bar) → lanes_in (xs ++ b ∷ []) ≡ max (lanes_in xs) (b.lane + 1)
@@ -55,56 +55,58 @@ pub lanes_more : (xs : List Bar) (i : ℕ) (b : Bar) → i < length xs → b ≡
 lanes_more xs i b lt is = ap (λ (ys : List Bar). lanes_in ys) (take_more xs i b lt) ∙
     ap (λ (x : Bar). lanes_in (take i xs ++ x ∷ [])) (sym is) ∙ lanes_push (take i xs) b
 
--- one shape more, as the box of its item
-pub boxed_more : {X : Type 0} (box : X → Box) (xs : List X) (i : ℕ) (x : X) (old new : List Shape) (shape : Shape)
-    (front : List Box) → i < length xs → x ≡ get_or xs i x → boxes_of old ≡ front ++ map box (take i xs) →
-    new ≡ old ++ shape ∷ [] → box_of shape ≡ box x →
+-- one box more, as that of its item
+pub boxed_more : {X : Type 0} (box : X → Box) (xs : List X) (i : ℕ) (x : X) (old new : List LabelledBox)
+    (labelled : LabelledBox) (front : List Box) →
+    i < length xs → x ≡ get_or xs i x → boxes_of old ≡ front ++ map box (take i xs) →
+    new ≡ old ++ labelled ∷ [] → box_of labelled ≡ box x →
     boxes_of new ≡ front ++ map box (take (i + 1) xs)
-boxed_more {X} box xs i x old new shape front lt is before more at =
+boxed_more {X} box xs i x old new labelled front lt is before more at =
     let first = map box (take i xs) in
-    ap (λ (s : List Shape). boxes_of s) more ∙ map_push box_of old shape
-    ∙ ap (λ (bs : List Box). bs ++ box_of shape ∷ []) before
+    ap (λ (s : List LabelledBox). boxes_of s) more ∙ map_push box_of old labelled
+    ∙ ap (λ (bs : List Box). bs ++ box_of labelled ∷ []) before
     ∙ ap (λ (b : Box). (front ++ first) ++ b ∷ []) (at ∙ ap box is)
     ∙ append_assoc front first (box (get_or xs i x) ∷ [])
     ∙ ap (λ (bs : List Box). front ++ bs) (sym (map_more box xs i x lt))
 
--- one bar more, whose point is marked or not
-abbrev one_mark : List ℕ → Bool → Bar → List Box
-one_mark ends marked b = map (mark_box ends) (cond marked (b ∷ []) [])
+-- one bar more, whose point is shown or not
+abbrev one_point : List ℕ → Bool → Bar → List Box
+one_point ends shown b = map (point_box ends) (cond shown (b ∷ []) [])
 
-marks_more : (ends : List ℕ) (xs : List Bar) (i : ℕ) (b : Bar) → i < length xs → b ≡ get_or xs i b →
-    mark_boxes ends (take (i + 1) xs) ≡ mark_boxes ends (take i xs) ++ one_mark ends b.marked b
-marks_more ends xs i b lt is =
-    ap (λ (bars : List Bar). map (mark_box ends) bars) (filter_more (λ (x : Bar). x.marked) xs i b lt)
-    ∙ map-append (mark_box ends) (filter (λ (x : Bar). x.marked) (take i xs)) _
-    ∙ ap (λ (x : Bar). mark_boxes ends (take i xs) ++ one_mark ends x.marked x) (sym is)
+points_more : (ends : List ℕ) (xs : List Bar) (i : ℕ) (b : Bar) → i < length xs → b ≡ get_or xs i b →
+    point_boxes ends (take (i + 1) xs) ≡ point_boxes ends (take i xs) ++ one_point ends b.point_shown b
+points_more ends xs i b lt is =
+    ap (λ (bars : List Bar). map (point_box ends) bars) (filter_more (λ (x : Bar). x.point_shown) xs i b lt)
+    ∙ map-append (point_box ends) (filter (λ (x : Bar). x.point_shown) (take i xs)) _
+    ∙ ap (λ (x : Bar). point_boxes ends (take i xs) ++ one_point ends x.point_shown x) (sym is)
 
-pub marked_more : (ends : List ℕ) (xs : List Bar) (i : ℕ) (b : Bar) (old new : List Shape) (shape : Shape) →
-    i < length xs → b ≡ get_or xs i b → b.marked ≡ true → boxes_of old ≡ mark_boxes ends (take i xs) →
-    new ≡ old ++ shape ∷ [] → box_of shape ≡ mark_box ends b →
-    boxes_of new ≡ mark_boxes ends (take (i + 1) xs)
-marked_more ends xs i b old new shape lt is on before more at =
-    ap (λ (s : List Shape). boxes_of s) more ∙ map_push box_of old shape
-    ∙ ap (λ (bs : List Box). bs ++ box_of shape ∷ []) before
-    ∙ ap (λ (x : Box). mark_boxes ends (take i xs) ++ x ∷ []) at
-    ∙ ap (λ (m : Bool). mark_boxes ends (take i xs) ++ one_mark ends m b) (sym on)
-    ∙ sym (marks_more ends xs i b lt is)
+pub shown_more : (ends : List ℕ) (xs : List Bar) (i : ℕ) (b : Bar) (old new : List LabelledBox)
+    (labelled : LabelledBox) →
+    i < length xs → b ≡ get_or xs i b → b.point_shown ≡ true → boxes_of old ≡ point_boxes ends (take i xs) →
+    new ≡ old ++ labelled ∷ [] → box_of labelled ≡ point_box ends b →
+    boxes_of new ≡ point_boxes ends (take (i + 1) xs)
+shown_more ends xs i b old new labelled lt is on before more at =
+    ap (λ (s : List LabelledBox). boxes_of s) more ∙ map_push box_of old labelled
+    ∙ ap (λ (bs : List Box). bs ++ box_of labelled ∷ []) before
+    ∙ ap (λ (x : Box). point_boxes ends (take i xs) ++ x ∷ []) at
+    ∙ ap (λ (m : Bool). point_boxes ends (take i xs) ++ one_point ends m b) (sym on)
+    ∙ sym (points_more ends xs i b lt is)
 
-pub unmarked_more : (ends : List ℕ) (xs : List Bar) (i : ℕ) (b : Bar) (old new : List Shape) →
-    i < length xs → b ≡ get_or xs i b → b.marked ≡ false → boxes_of old ≡ mark_boxes ends (take i xs) →
-    new ≡ old → boxes_of new ≡ mark_boxes ends (take (i + 1) xs)
-unmarked_more ends xs i b old new lt is off before same =
-    ap (λ (s : List Shape). boxes_of s) same ∙ before ∙ sym (append-nil (mark_boxes ends (take i xs)))
-    ∙ ap (λ (m : Bool). mark_boxes ends (take i xs) ++ one_mark ends m b) (sym off)
-    ∙ sym (marks_more ends xs i b lt is)
+pub unshown_more : (ends : List ℕ) (xs : List Bar) (i : ℕ) (b : Bar) (old new : List LabelledBox) →
+    i < length xs → b ≡ get_or xs i b → b.point_shown ≡ false → boxes_of old ≡ point_boxes ends (take i xs) →
+    new ≡ old → boxes_of new ≡ point_boxes ends (take (i + 1) xs)
+unshown_more ends xs i b old new lt is off before same =
+    ap (λ (s : List LabelledBox). boxes_of s) same ∙ before ∙ sym (append-nil (point_boxes ends (take i xs)))
+    ∙ ap (λ (m : Bool). point_boxes ends (take i xs) ++ one_point ends m b) (sym off)
+    ∙ sym (points_more ends xs i b lt is)
 
 -- one lane more
-pub laned_more : (box : ℕ → Box) (n : ℕ) (old new : List Shape) (shape : Shape) →
-    boxes_of old ≡ map box (range_with_len 0 n) → new ≡ old ++ shape ∷ [] → box_of shape ≡ box n →
+pub laned_more : (box : ℕ → Box) (n : ℕ) (old new : List LabelledBox) (labelled : LabelledBox) →
+    boxes_of old ≡ map box (range_with_len 0 n) → new ≡ old ++ labelled ∷ [] → box_of labelled ≡ box n →
     boxes_of new ≡ map box (range_with_len 0 (n + 1))
-laned_more box n old new shape before more at =
-    ap (λ (s : List Shape). boxes_of s) more ∙ map_push box_of old shape
-    ∙ ap (λ (bs : List Box). bs ++ box_of shape ∷ []) before
+laned_more box n old new labelled before more at =
+    ap (λ (s : List LabelledBox). boxes_of s) more ∙ map_push box_of old labelled
+    ∙ ap (λ (bs : List Box). bs ++ box_of labelled ∷ []) before
     ∙ ap (λ (b : Box). map box (range_with_len 0 n) ++ b ∷ []) at
     ∙ sym (map-range_with_len_more box 0 n n (omega arith))
 
@@ -132,17 +134,17 @@ kept_more ends held ms i m old all lt is same before =
 
 -- it changed
 pub changed_more : (ends : List ℕ) (held : Option (List ℕ)) (ms : List Moment) (i : ℕ) (m : Moment)
-    (old new : List Shape) (shape : Shape) (all : List Box) →
+    (old new : List LabelledBox) (labelled : LabelledBox) (all : List Box) →
     i < length ms → m ≡ get_or ms i m → same_content held m.state.content ≡ false →
-    new ≡ old ++ shape ∷ [] → box_of shape ≡ content_box ends (point_x ends m.point) m.state.content →
+    new ≡ old ++ labelled ∷ [] → box_of labelled ≡ content_box ends (point_x ends m.point) m.state.content →
     boxes_of old ++ change_boxes ends held (drop i ms) ≡ all →
     boxes_of new ++ change_boxes ends m.state.content (drop (i + 1) ms) ≡ all
-changed_more ends held ms i m old new shape all lt is same more at before =
+changed_more ends held ms i m old new labelled all lt is same more at before =
     let rest = change_boxes ends m.state.content (drop (i + 1) ms) in
     let box = content_box ends (point_x ends m.point) m.state.content in
-    ap (λ (s : List Shape). boxes_of s ++ rest) more
-    ∙ ap (λ (bs : List Box). bs ++ rest) (map_push box_of old shape)
-    ∙ append_assoc (boxes_of old) (box_of shape ∷ []) rest
+    ap (λ (s : List LabelledBox). boxes_of s ++ rest) more
+    ∙ ap (λ (bs : List Box). bs ++ rest) (map_push box_of old labelled)
+    ∙ append_assoc (boxes_of old) (box_of labelled ∷ []) rest
     ∙ ap (λ (b : Box). boxes_of old ++ (b ∷ rest)) at
     ∙ ap (λ (bs : List Box). boxes_of old ++ bs) (sym (change_boxes_at ends held ms i m lt is
     ∙ refused (same_content held m.state.content) _ (box ∷ rest) same)) ∙ before

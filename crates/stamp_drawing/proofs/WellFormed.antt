@@ -1,12 +1,12 @@
 -- What is written is well-formed.
 use Rattle.std.proofs.Common.{◌≡◌, ℕ, List, [], ◌∷◌, ◌++◌, Bool, true, false, refl}
 use Rattle.std.specs.Prelude.{◌==◌, codes, string_bytes, if◌then◌else◌}
-use Rattle.stamp_drawing.specs.declared.sheet.Shape.{Shape}
+use Rattle.stamp_drawing.specs.declared.sheet.LabelledBox.{LabelledBox}
 use Rattle.stamp_drawing.specs.declared.sheet.Sheet.{Sheet}
 use Rattle.stamp_drawing.specs.Markup.{is_plain, IsText, escape, escaped, element_text, IsContent}
 use Rattle.stamp_drawing.specs.Markup.IsText.{nothing, plain, less, greater, ampersand, quote}
 use Rattle.stamp_drawing.specs.Markup.IsContent.{text, element, both}
-use Rattle.stamp_drawing.specs.Svg.{shape_attributes, box_text, line_text, inside_text, shape_text, shapes_text}
+use Rattle.stamp_drawing.specs.Svg.{box_attributes, rect_text, line_text, inside_text, box_text, boxes_text}
 use Rattle.stamp_drawing.specs.Svg.{sheet_text, root_attributes, svg_text}
 use Rattle.stamp_drawing.specs.SvgLaws.{SvgIsWellFormed}
 
@@ -38,27 +38,27 @@ line_content : (y line : List ℕ) → IsContent (line_text y line)
 line_content y line = element (codes "text") ((codes "x", codes "4") ∷ (codes "y", y) ∷ []) (escaped line)
     (refl, refl) (escaped_content line)
 
-box_content : IsContent box_text
-box_content = element (codes "rect") ((codes "width", codes "100%") ∷ (codes "height", codes "100%") ∷ []) []
+rect_content : IsContent rect_text
+rect_content = element (codes "rect") ((codes "width", codes "100%") ∷ (codes "height", codes "100%") ∷ []) []
     (refl, refl) (text [] nothing)
 
-shape_content : (s : Shape) → IsContent (shape_text s)
-unfolding shape_text
-shape_content s = element (codes "svg") (shape_attributes s) (inside_text s) (refl, refl)
+box_content : (s : LabelledBox) → IsContent (box_text s)
+unfolding box_text
+box_content s = element (codes "svg") (box_attributes s) (inside_text s) (refl, refl)
     (both _ _ (element (codes "title") [] (escaped (string_bytes s.title)) (refl, refl)
     (escaped_content (string_bytes s.title)))
-    (both _ _ box_content (both _ _ (line_content (codes "15") (string_bytes s.upper))
+    (both _ _ rect_content (both _ _ (line_content (codes "15") (string_bytes s.upper))
     (line_content (codes "29") (string_bytes s.lower)))))
 
-shapes_content : (shapes : List Shape) → IsContent (shapes_text shapes)
-shapes_content [] = text [] nothing
-shapes_content (s ∷ shapes) = both (shape_text s) (shapes_text shapes) (shape_content s) (shapes_content shapes)
+boxes_content : (boxes : List LabelledBox) → IsContent (boxes_text boxes)
+boxes_content [] = text [] nothing
+boxes_content (s ∷ boxes) = both (box_text s) (boxes_text boxes) (box_content s) (boxes_content boxes)
 
 sheet_content : (s : Sheet) → IsContent (sheet_text s)
 sheet_content s =
-    both _ _ (shapes_content s.lanes.items) (both _ _ (shapes_content s.ribbon.items)
-    (both _ _ (shapes_content s.content.items) (both _ _ (shapes_content s.bars.items)
-    (both _ _ (shapes_content s.marks.items) (shapes_content s.notes.items)))))
+    both _ _ (boxes_content s.lanes.items) (both _ _ (boxes_content s.ribbon.items)
+    (both _ _ (boxes_content s.content.items) (both _ _ (boxes_content s.bars.items)
+    (both _ _ (boxes_content s.points.items) (boxes_content s.notes.items)))))
 
 pub svg_is_well_formed : SvgIsWellFormed
 unfolding svg_text

@@ -103,15 +103,15 @@ abbrev pub callee_text : Call → List ℕ
 callee_text call = if is_lock_call call then codes "the lock" else codes "the record"
 
 -- what an entry with this call breaks, and of a wrong reply what was due
-abbrev pub why_text : Call → Option Reply → Why → List ℕ
-why_text call due why.Interval = codes "its point is not between its first and last"
-why_text call due why.Order = codes "its point is not above the one before"
-why_text call due why.Overlap = codes "it began before its thread's last call ended"
-why_text call due why.Reply =
+abbrev pub reason_text : Call → Option Reply → Why → List ℕ
+reason_text call due why.Interval = codes "its point is not between its first and last"
+reason_text call due why.Order = codes "its point is not above the one before"
+reason_text call due why.Overlap = codes "it began before its thread's last call ended"
+reason_text call due why.Reply =
     callee_text call ++ (codes " would have answered otherwise (" ++ (due_text due ++ codes ")"))
 
 -- how many entries there are, or the first fault with its cause
 abbrev pub verdict_text : Result ℕ Fault → List ℕ
 verdict_text (Ok n) = decimal n ++ codes " entries, in order"
 verdict_text (Err fault) =
-    codes "entry " ++ (decimal fault.bad.entry ++ (codes ": " ++ why_text fault.call fault.due fault.bad.why))
+    codes "entry " ++ (decimal fault.bad.entry ++ (codes ": " ++ reason_text fault.call fault.due fault.bad.why))

@@ -1,6 +1,6 @@
 pub mod Labels
 pub mod Markup
-pub mod Places
+pub mod Frames
 pub mod Sheet
 pub mod Rows
 pub mod Svg

@@ -11,10 +11,10 @@ use Rattle.stamp_picture.specs.declared.picture.Fault.{Fault}
 use Rattle.stamp_picture.specs.declared.state.State.{State}
 use Rattle.stamp_picture.specs.declared.state.Moment.{Moment}
 use Rattle.stamp_picture.specs.Picture.{Drawn}
-use Rattle.stamp_drawing.specs.Places.{ends_of, is_bad, lanes_in}
+use Rattle.stamp_drawing.specs.Frames.{ends_of, is_bad, lanes_in}
 use Rattle.stamp_drawing.specs.Labels.{call_text, reply_text, answered_text, brief_text, verdict_text}
 
--- the positions at which the drawn part of a bar begins or ends, and the points that are marked: each of
+-- the positions at which the drawn part of a bar begins or ends, and the points that are shown: each of
 -- them once, in rising order
 pub record AreTimes (bars : List Bar) (times : List ℕ) : Type 0 where
   pub rising : IsStrictlyIncreasing times

@@ -9,37 +9,37 @@ use Rattle.stamp_picture.specs.declared.picture.Fault.{Fault}
 use Rattle.stamp_picture.specs.declared.state.State.{State}
 use Rattle.stamp_picture.specs.declared.state.Moment.{Moment}
 use Rattle.stamp_picture.specs.Picture.{Drawn}
-use Rattle.stamp_drawing.specs.declared.places.Class.{Class}
-use Rattle.stamp_drawing.specs.declared.places.Class.TheVariants as class
-use Rattle.stamp_drawing.specs.declared.places.Place.{Place}
-use Rattle.stamp_drawing.specs.declared.sheet.Shape.{Shape}
+use Rattle.stamp_drawing.specs.declared.frames.Class.{Class}
+use Rattle.stamp_drawing.specs.declared.frames.Class.TheVariants as class
+use Rattle.stamp_drawing.specs.declared.frames.Frame.{Frame}
+use Rattle.stamp_drawing.specs.declared.sheet.LabelledBox.{LabelledBox}
 use Rattle.stamp_drawing.specs.declared.sheet.Sheet.{Sheet}
-use Rattle.stamp_drawing.specs.Places.{ends_of, lanes_in, right_of, border, point_x, bar_place, mark_place}
-use Rattle.stamp_drawing.specs.Places.{moment_place, opening_place, content_place, lane_place, foot_of}
+use Rattle.stamp_drawing.specs.Frames.{ends_of, lanes_in, right_of, border, point_x, bar_frame, point_frame}
+use Rattle.stamp_drawing.specs.Frames.{moment_frame, opening_frame, content_frame, lane_frame, foot_of}
 use Rattle.stamp_drawing.specs.Labels.{call_text, reply_text, answered_text, state_text, short_mode_text, content_text}
 use Rattle.stamp_drawing.specs.Labels.{verdict_text}
 
 -- where a box stands, and its label
 pub record Box : Type 0 where
-  pub place : Place
+  pub frame : Frame
   pub title : List ℕ
   pub upper : List ℕ
   pub lower : List ℕ
 
-abbrev pub box_of : Shape → Box
+abbrev pub box_of : LabelledBox → Box
 box_of s = record {
-  place = s.place;
+  frame = s.frame;
   title = string_bytes s.title;
   upper = string_bytes s.upper;
   lower = string_bytes s.lower;
 }
 
-abbrev pub boxes_of : List Shape → List Box
-boxes_of shapes = map box_of shapes
+abbrev pub boxes_of : List LabelledBox → List Box
+boxes_of boxes = map box_of boxes
 
 -- a box that says the same as its title
-abbrev pub plain_box : Place → List ℕ → Box
-plain_box place words = record { place = place; title = words; upper = words; lower = [] }
+abbrev pub plain_box : Frame → List ℕ → Box
+plain_box frame words = record { frame = frame; title = words; upper = words; lower = [] }
 
 -- all of a call: its entry, its thread, its reply and its positions
 unfoldable pub bar_title : Bar → List ℕ
@@ -51,33 +51,33 @@ bar_title bar =
 -- the call above its reply
 abbrev pub bar_box : Result ℕ Fault → List ℕ → Bar → Box
 bar_box verdict ends bar = record {
-  place = bar_place verdict ends bar;
+  frame = bar_frame verdict ends bar;
   title = bar_title bar;
   upper = call_text bar.call;
   lower = codes "= " ++ reply_text bar.reply;
 }
 
-abbrev pub mark_box : List ℕ → Bar → Box
-mark_box ends bar = record { place = mark_place ends bar; title = bar_title bar; upper = []; lower = [] }
+abbrev pub point_box : List ℕ → Bar → Box
+point_box ends bar = record { frame = point_frame ends bar; title = bar_title bar; upper = []; lower = [] }
 
 -- one for each bar whose point is in the window
-abbrev pub mark_boxes : List ℕ → List Bar → List Box
-mark_boxes ends bars = map (mark_box ends) (filter (λ (b : Bar). b.marked) bars)
+abbrev pub point_boxes : List ℕ → List Bar → List Box
+point_boxes ends bars = map (point_box ends) (filter (λ (b : Bar). b.point_shown) bars)
 
 -- who holds the lock above its version
-abbrev pub state_box : Place → State → Box
-state_box place s = record {
-  place = place;
+abbrev pub state_box : Frame → State → Box
+state_box frame s = record {
+  frame = frame;
   title = state_text s;
   upper = short_mode_text s.mode;
   lower = codes "v " ++ decimal s.version;
 }
 
 abbrev pub moment_box : List ℕ → Moment → Box
-moment_box ends moment = state_box (moment_place ends moment) moment.state
+moment_box ends moment = state_box (moment_frame ends moment) moment.state
 
 abbrev pub content_box : List ℕ → ℕ → Option (List ℕ) → Box
-content_box ends x content = plain_box (content_place ends x) (content_text content)
+content_box ends x content = plain_box (content_frame ends x) (content_text content)
 
 abbrev pub same_content : Option (List ℕ) → Option (List ℕ) → Bool
 same_content None None = true
@@ -105,7 +105,7 @@ content_boxes ends (Some words) ribbon =
 -- a lane with its thread's name
 abbrev pub lane_box : List ℕ → ℕ → Box
 lane_box ends lane = record {
-  place = lane_place ends lane;
+  frame = lane_frame ends lane;
   title = codes "thread " ++ decimal lane;
   upper = [];
   lower = codes "thread " ++ decimal lane;
@@ -132,7 +132,7 @@ note_boxes verdict y =
     legend_box y class.Writing 240 60 (codes "writing") ∷
     legend_box y class.Bar 304 60 (codes "call") ∷
     legend_box y class.Bad 368 60 (codes "fault") ∷
-    legend_box y class.Mark 440 6 [] ∷
+    legend_box y class.Point 440 6 [] ∷
     legend_box y class.Note 448 268 (codes "takes effect; v: the version") ∷ []
 
 -- a box for each lane, bar, point in the window and moment, in their order, and the notes; the sheet is as
@@ -142,8 +142,8 @@ pub record IsSheet (p : Drawn) (sheet : Sheet) : Type 0 where
   pub height : sheet.height ≡ foot_of p.bars + 32
   pub lanes : boxes_of sheet.lanes.items ≡ map (lane_box (ends_of p.bars)) (range_with_len 0 (lanes_in p.bars))
   pub ribbon : boxes_of sheet.ribbon.items ≡
-      state_box (opening_place (ends_of p.bars) p.opening) p.opening ∷ map (moment_box (ends_of p.bars)) p.ribbon
+      state_box (opening_frame (ends_of p.bars) p.opening) p.opening ∷ map (moment_box (ends_of p.bars)) p.ribbon
   pub content : boxes_of sheet.content.items ≡ content_boxes (ends_of p.bars) p.opening.content p.ribbon
   pub bars : boxes_of sheet.bars.items ≡ map (bar_box p.verdict (ends_of p.bars)) p.bars
-  pub marks : boxes_of sheet.marks.items ≡ mark_boxes (ends_of p.bars) p.bars
+  pub points : boxes_of sheet.points.items ≡ point_boxes (ends_of p.bars) p.bars
   pub notes : boxes_of sheet.notes.items ≡ note_boxes p.verdict (foot_of p.bars)

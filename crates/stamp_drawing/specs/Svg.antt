@@ -1,10 +1,10 @@
 -- The text of a sheet as SVG.
 use Rattle.std.specs.Prelude.{ℕ, List, [], ◌∷◌, ◌++◌, map, codes, decimal, string_bytes}
 use Rattle.std.specs.List.{concat}
-use Rattle.stamp_drawing.specs.declared.places.Class.{Class}
-use Rattle.stamp_drawing.specs.declared.places.Class.TheVariants.{Free, Reading, Writing, Content}
-use Rattle.stamp_drawing.specs.declared.places.Class.TheVariants.{Lane, Bar, Bad, Mark, Note}
-use Rattle.stamp_drawing.specs.declared.sheet.Shape.{Shape}
+use Rattle.stamp_drawing.specs.declared.frames.Class.{Class}
+use Rattle.stamp_drawing.specs.declared.frames.Class.TheVariants.{Free, Reading, Writing, Content}
+use Rattle.stamp_drawing.specs.declared.frames.Class.TheVariants.{Lane, Bar, Bad, Point, Note}
+use Rattle.stamp_drawing.specs.declared.sheet.LabelledBox.{LabelledBox}
 use Rattle.stamp_drawing.specs.declared.sheet.Sheet.{Sheet}
 use Rattle.stamp_drawing.specs.Markup.{Attribute, escaped, element_text}
 
@@ -16,37 +16,37 @@ class_name Content = codes "content"
 class_name Lane = codes "lane"
 class_name Bar = codes "bar"
 class_name Bad = codes "bad"
-class_name Mark = codes "mark"
+class_name Point = codes "mark"
 class_name Note = codes "note"
 
-abbrev pub shape_attributes : Shape → List Attribute
-shape_attributes s =
-    (codes "class", class_name s.place.class) ∷ (codes "x", decimal s.place.x) ∷ (codes "y", decimal s.place.y) ∷
-    (codes "width", decimal s.place.width) ∷ (codes "height", decimal s.place.height) ∷ []
+abbrev pub box_attributes : LabelledBox → List Attribute
+box_attributes s =
+    (codes "class", class_name s.frame.class) ∷ (codes "x", decimal s.frame.x) ∷ (codes "y", decimal s.frame.y) ∷
+    (codes "width", decimal s.frame.width) ∷ (codes "height", decimal s.frame.height) ∷ []
 
 -- the box fills its element
-abbrev pub box_text : List ℕ
-box_text = element_text (codes "rect") ((codes "width", codes "100%") ∷ (codes "height", codes "100%") ∷ []) []
+abbrev pub rect_text : List ℕ
+rect_text = element_text (codes "rect") ((codes "width", codes "100%") ∷ (codes "height", codes "100%") ∷ []) []
 
 abbrev pub line_text : List ℕ → List ℕ → List ℕ
 line_text y line = element_text (codes "text") ((codes "x", codes "4") ∷ (codes "y", y) ∷ []) (escaped line)
 
 -- a title, a box and two lines
-abbrev pub inside_text : Shape → List ℕ
+abbrev pub inside_text : LabelledBox → List ℕ
 inside_text s =
-    element_text (codes "title") [] (escaped (string_bytes s.title)) ++ (box_text ++
+    element_text (codes "title") [] (escaped (string_bytes s.title)) ++ (rect_text ++
     (line_text (codes "15") (string_bytes s.upper) ++ line_text (codes "29") (string_bytes s.lower)))
 
-unfoldable pub shape_text : Shape → List ℕ
-shape_text s = element_text (codes "svg") (shape_attributes s) (inside_text s)
+unfoldable pub box_text : LabelledBox → List ℕ
+box_text s = element_text (codes "svg") (box_attributes s) (inside_text s)
 
-abbrev pub shapes_text : List Shape → List ℕ
-shapes_text shapes = concat (map shape_text shapes)
+abbrev pub boxes_text : List LabelledBox → List ℕ
+boxes_text boxes = concat (map box_text boxes)
 
 abbrev pub sheet_text : Sheet → List ℕ
 sheet_text s =
-    shapes_text s.lanes.items ++ (shapes_text s.ribbon.items ++ (shapes_text s.content.items ++
-    (shapes_text s.bars.items ++ (shapes_text s.marks.items ++ shapes_text s.notes.items))))
+    boxes_text s.lanes.items ++ (boxes_text s.ribbon.items ++ (boxes_text s.content.items ++
+    (boxes_text s.bars.items ++ (boxes_text s.points.items ++ boxes_text s.notes.items))))
 
 abbrev pub view_text : ℕ → ℕ → List ℕ
 view_text width height = codes "0 0 " ++ (decimal width ++ (codes " " ++ decimal height))

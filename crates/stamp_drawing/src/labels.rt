@@ -2,7 +2,7 @@
 ghost use Rattle.std.specs.Prelude.{Some};
 ghost use Rattle.stamp_drawing.specs.Labels.{words_text, call_text, reply_text, answered_text, mode_text};
 ghost use Rattle.stamp_drawing.specs.Labels.{short_mode_text, content_text, state_text};
-ghost use Rattle.stamp_drawing.specs.Labels.{brief_text, callee_text, why_text, due_text, verdict_text};
+ghost use Rattle.stamp_drawing.specs.Labels.{brief_text, callee_text, reason_text, due_text, verdict_text};
 
 use stamp_check::Why;
 use stamp_core::{Call, Reply, Words};
@@ -21,7 +21,7 @@ impl fmt::Display for WordsLabel {
     }
 }
 
-/// A call, with what it takes.
+/// Shows a call by `{}` as a picture has it, with what it takes.
 #[derive(Drop)]
 pub struct CallLabel(pub Call);
 
@@ -56,7 +56,7 @@ impl fmt::Display for CallLabel {
     }
 }
 
-/// A reply.
+/// Shows a reply by `{}` as a picture has it.
 #[derive(Drop)]
 pub struct ReplyLabel(pub Reply);
 
@@ -206,10 +206,10 @@ impl fmt::Display for CalleeLabel {
 
 /// What an entry breaks, and of a wrong reply what was due.
 #[derive(Drop)]
-struct WhyLabel(Fault);
+struct ReasonLabel(Fault);
 
-impl fmt::Display for WhyLabel {
-    ghost output = { λ label. Some (why_text label.0.call label.0.due label.0.bad.why) };
+impl fmt::Display for ReasonLabel {
+    ghost output = { λ label. Some (reason_text label.0.call label.0.due label.0.bad.why) };
 
     fn fmt<W: fmt::Write>(&self, f: &mut fmt::Formatter<W>) -> fmt::Result {
         match self.0.bad.why {
@@ -235,8 +235,8 @@ impl fmt::Display for VerdictLabel {
         match self.0 {
             Ok(count) => write!(f, "{count} entries, in order"),
             Err(fault) => {
-                let (entry, why) = (fault.bad.entry, WhyLabel(fault));
-                write!(f, "entry {entry}: {why}")
+                let (entry, reason) = (fault.bad.entry, ReasonLabel(fault));
+                write!(f, "entry {entry}: {reason}")
             }
         }
     }

@@ -2,16 +2,16 @@
 //! characters.
 #![tactic(auto)]
 
+mod frames;
 mod labels;
 mod markup;
-mod places;
 mod rows;
 mod sheet;
 mod svg;
 pub mod svg_laws;
 
+pub use frames::{Class, Frame};
 pub use labels::{CallLabel, ReplyLabel};
-pub use places::{Class, Place};
 pub use rows::text_of;
-pub use sheet::{Shape, Sheet, sheet_of};
+pub use sheet::{LabelledBox, Sheet, sheet_of};
 pub use svg::svg_of;

@@ -1,15 +1,15 @@
 //! A picture in characters, in which time goes down.
 ghost use Rattle.std.specs.Prelude.{◌≡◌, ◌<◌, ◌==◌, ◌++◌, map, reverse, option_map, OnOk, IfOk, All, string_bytes};
 ghost use Rattle.std.specs.List.{concat, find};
-ghost use Rattle.stamp_drawing.specs.Places.{lanes_in};
+ghost use Rattle.stamp_drawing.specs.Frames.{lanes_in};
 ghost use Rattle.stamp_drawing.specs.Rows as rows;
 ghost use Rattle.stamp_drawing.specs.Rows.{AreTimes, IsRows, AreNarrow};
 ghost use Rattle.stamp_drawing.specs.Rows.{sign_text, lane_text, lanes_text, time_text, told_text, left_text};
 ghost use Rattle.stamp_drawing.specs.Rows.{row_text, number_text, heading_text, at_first_text, cut_text};
 
+use crate::frames::{ends_of, is_bad, lanes_in};
 use crate::labels::{AnsweredLabel, BriefLabel, CallLabel, ReplyLabel, VerdictLabel};
 use crate::markup::push_text;
-use crate::places::{ends_of, is_bad, lanes_in};
 use stamp_picture::{Bar, Fault, Moment, Picture, State};
 use std::alloc::{AllocError, Global};
 
@@ -17,7 +17,7 @@ const LEGEND: &str = ", begins  | goes on  * takes effect  ' ends; the faulty en
 
 const HEADING: &str = "    at  thread: call = reply -> what the lock was then (v: its version)";
 
-/// The positions at which the drawn part of a bar begins or ends, and the points that are marked.
+/// The positions at which the drawn part of a bar begins or ends, and the points that are shown.
 fn times_of(alloc: Global, bars: &[Bar]) -> Result<Vec<u64>, AllocError>
     ensures { IfOk result (λ times. AreTimes bars.now times.items) }
 {
@@ -224,7 +224,8 @@ fn push_rows(
 }
 
 /// The picture in characters, in lines of at most so many: the lanes of the threads side by side, a line
-/// for each position at which a call begins, takes effect or ends in the window, and the verdict last.
+/// for each position at which a call begins, takes effect or ends in the window, and the verdict last. The
+/// lanes are below 64, as in each picture of `picture_of`. It refuses only for want of memory.
 pub fn text_of(alloc: Global, picture: &Picture, width: usize) -> Result<Vec<u8>, AllocError>
     requires { All (λ bar. bar.lane < 64) picture.now.bars }
     ensures rows { IfOk result (λ text. IsRows width picture.now text.items) }

@@ -2,18 +2,18 @@
 ghost use Rattle.std.specs.Prelude.{◌≡◌, ◌≤◌, ◌<◌, ◌∷◌, [], map, length, IfOk, All, string_bytes, codes, decimal, Some};
 ghost use Rattle.std.specs.List.{range_with_len};
 ghost use Rattle.stamp_picture.specs.Picture.{most_bars};
-ghost use Rattle.stamp_drawing.specs.Places.{ends_of, opening_place};
+ghost use Rattle.stamp_drawing.specs.Frames.{ends_of, opening_frame};
 ghost use Rattle.stamp_drawing.specs.Sheet as spec;
-ghost use Rattle.stamp_drawing.specs.Sheet.{IsSheet, box_of, boxes_of, bar_box, mark_box, mark_boxes};
+ghost use Rattle.stamp_drawing.specs.Sheet.{IsSheet, box_of, boxes_of, bar_box, point_box, point_boxes};
 ghost use Rattle.stamp_drawing.specs.Sheet.{state_box, moment_box};
 ghost use Rattle.stamp_drawing.specs.Sheet.{plain_box, content_box, content_boxes, lane_box, legend_box, note_boxes};
 
+use crate::frames::{
+    BORDER, Class, Frame, bar_frame, class_of, content_frame, ends_of, foot_of, lane_frame,
+    lanes_in, moment_frame, opening_frame, point_frame, point_x, right_of,
+};
 use crate::labels::{
     AnsweredLabel, CallLabel, ContentLabel, ReplyLabel, ShortModeLabel, StateLabel, VerdictLabel,
-};
-use crate::places::{
-    BORDER, Class, Place, bar_place, class_of, content_place, ends_of, foot_of, lane_place,
-    lanes_in, mark_place, moment_place, opening_place, point_x, right_of,
 };
 use stamp_core::Words;
 use stamp_picture::{Bar, Fault, Mode, Moment, Picture, State};
@@ -21,9 +21,9 @@ use std::alloc::{AllocError, Global};
 
 /// A box with its labels.
 #[derive(Drop)]
-pub struct Shape {
+pub struct LabelledBox {
     /// Where it stands.
-    pub place: Place,
+    pub frame: Frame,
     /// What is told of it where a reader points at it.
     pub title: String,
     /// Its upper line.
@@ -40,17 +40,17 @@ pub struct Sheet {
     /// In pixels.
     pub height: u64,
     /// The lanes of the threads.
-    pub lanes: Vec<Shape>,
+    pub lanes: Vec<LabelledBox>,
     /// What the lock was at first, and after each point.
-    pub ribbon: Vec<Shape>,
+    pub ribbon: Vec<LabelledBox>,
     /// What the record holds, at first and where it changes, behind its name.
-    pub content: Vec<Shape>,
+    pub content: Vec<LabelledBox>,
     /// The calls.
-    pub bars: Vec<Shape>,
+    pub bars: Vec<LabelledBox>,
     /// Where the calls take effect, in the window.
-    pub marks: Vec<Shape>,
+    pub points: Vec<LabelledBox>,
     /// The verdict and the legend.
-    pub notes: Vec<Shape>,
+    pub notes: Vec<LabelledBox>,
 }
 
 fn bar_title(alloc: Global, bar: &Bar) -> Result<String, AllocError>
@@ -61,135 +61,135 @@ fn bar_title(alloc: Global, bar: &Bar) -> Result<String, AllocError>
     format!(in alloc; "entry {entry}, thread {lane}: {answered}, {first} to {last}, point {point}")
 }
 
-fn bar_shape(
+fn bar_box(
     alloc: Global,
     verdict: &Result<u64, Fault>,
     ends: &[u64],
     bar: &Bar,
-) -> Result<Shape, AllocError>
+) -> Result<LabelledBox, AllocError>
     requires few { length ends.now ≤ 6000 }
     requires lane { bar.now.lane < 64 }
-    ensures { IfOk result (λ shape. box_of shape ≡ bar_box verdict.now ends.now bar.now) }
+    ensures { IfOk result (λ labelled. box_of labelled ≡ bar_box verdict.now ends.now bar.now) }
 {
-    Ok(Shape {
-        place: bar_place(verdict, ends, bar),
+    Ok(LabelledBox {
+        frame: bar_frame(verdict, ends, bar),
         title: bar_title(alloc, bar)?,
         upper: CallLabel(bar.call).to_string(alloc)?,
         lower: format!(in alloc; "= {}", ReplyLabel(bar.reply))?,
     })
 }
 
-fn bar_shapes(
+fn bar_boxes(
     alloc: Global,
     verdict: &Result<u64, Fault>,
     bars: &[Bar],
     ends: &[u64],
-) -> Result<Vec<Shape>, AllocError>
+) -> Result<Vec<LabelledBox>, AllocError>
     requires few { length ends.now ≤ 6000 }
     requires lanes { All (λ bar. bar.lane < 64) bars.now }
-    ensures { IfOk result (λ shapes. boxes_of shapes.items ≡ map (bar_box verdict.now ends.now) bars.now) }
+    ensures { IfOk result (λ boxes. boxes_of boxes.items ≡ map (bar_box verdict.now ends.now) bars.now) }
 {
-    let mut shapes = Vec::new(alloc);
+    let mut boxes = Vec::new(alloc);
     for bar in bars {
-        shapes.push(bar_shape(alloc, verdict, ends, bar)?)?;
+        boxes.push(bar_box(alloc, verdict, ends, bar)?)?;
     }
-    Ok(shapes)
+    Ok(boxes)
 }
 
-fn mark_shape(alloc: Global, ends: &[u64], bar: &Bar) -> Result<Shape, AllocError>
+fn point_box(alloc: Global, ends: &[u64], bar: &Bar) -> Result<LabelledBox, AllocError>
     requires few { length ends.now ≤ 6000 }
     requires lane { bar.now.lane < 64 }
-    ensures { IfOk result (λ shape. box_of shape ≡ mark_box ends.now bar.now) }
+    ensures { IfOk result (λ labelled. box_of labelled ≡ point_box ends.now bar.now) }
 {
-    Ok(Shape {
-        place: mark_place(ends, bar),
+    Ok(LabelledBox {
+        frame: point_frame(ends, bar),
         title: bar_title(alloc, bar)?,
         upper: String::new(alloc),
         lower: String::new(alloc),
     })
 }
 
-/// A mark for each point in the window.
-fn mark_shapes(alloc: Global, bars: &[Bar], ends: &[u64]) -> Result<Vec<Shape>, AllocError>
+/// A box for each point in the window.
+fn point_boxes(alloc: Global, bars: &[Bar], ends: &[u64]) -> Result<Vec<LabelledBox>, AllocError>
     requires few { length ends.now ≤ 6000 }
     requires lanes { All (λ bar. bar.lane < 64) bars.now }
-    ensures { IfOk result (λ shapes. boxes_of shapes.items ≡ mark_boxes ends.now bars.now) }
+    ensures { IfOk result (λ boxes. boxes_of boxes.items ≡ point_boxes ends.now bars.now) }
 {
-    let mut shapes = Vec::new(alloc);
+    let mut boxes = Vec::new(alloc);
     for bar in bars {
-        if bar.marked {
-            shapes.push(mark_shape(alloc, ends, bar)?)?;
+        if bar.point_shown {
+            boxes.push(point_box(alloc, ends, bar)?)?;
         }
     }
-    Ok(shapes)
+    Ok(boxes)
 }
 
-fn state_shape(alloc: Global, place: Place, state: &State) -> Result<Shape, AllocError>
-    ensures { IfOk result (λ shape. box_of shape ≡ state_box place state.now) }
+fn state_box(alloc: Global, frame: Frame, state: &State) -> Result<LabelledBox, AllocError>
+    ensures { IfOk result (λ labelled. box_of labelled ≡ state_box frame state.now) }
 {
     let version = state.version;
-    Ok(Shape {
-        place,
+    Ok(LabelledBox {
+        frame,
         title: StateLabel(*state).to_string(alloc)?,
         upper: ShortModeLabel(state.mode).to_string(alloc)?,
         lower: format!(in alloc; "v {version}")?,
     })
 }
 
-fn ribbon_shapes(
+fn ribbon_boxes(
     alloc: Global,
     opening: &State,
     ribbon: &[Moment],
     ends: &[u64],
-) -> Result<Vec<Shape>, AllocError>
+) -> Result<Vec<LabelledBox>, AllocError>
     requires { length ends.now ≤ 6000 }
-    ensures { IfOk result (λ shapes. boxes_of shapes.items
-        ≡ state_box (opening_place ends.now opening.now) opening.now ∷ map (moment_box ends.now) ribbon.now) }
+    ensures { IfOk result (λ boxes. boxes_of boxes.items
+        ≡ state_box (opening_frame ends.now opening.now) opening.now ∷ map (moment_box ends.now) ribbon.now) }
 {
-    let mut shapes = Vec::new(alloc);
-    shapes.push(state_shape(alloc, opening_place(ends, opening), opening)?)?;
+    let mut boxes = Vec::new(alloc);
+    boxes.push(state_box(alloc, opening_frame(ends, opening), opening)?)?;
     for moment in ribbon {
-        shapes.push(state_shape(alloc, moment_place(ends, moment), &moment.state)?)?;
+        boxes.push(state_box(alloc, moment_frame(ends, moment), &moment.state)?)?;
     }
-    Ok(shapes)
+    Ok(boxes)
 }
 
 /// A box that says the same as its title.
-fn plain_shape(alloc: Global, place: Place, words: &str) -> Result<Shape, AllocError>
-    ensures { IfOk result (λ shape. box_of shape ≡ plain_box place words.now) }
+fn plain_box(alloc: Global, frame: Frame, words: &str) -> Result<LabelledBox, AllocError>
+    ensures { IfOk result (λ labelled. box_of labelled ≡ plain_box frame words.now) }
 {
-    Ok(Shape {
-        place,
+    Ok(LabelledBox {
+        frame,
         title: String::from_str(alloc, words)?,
         upper: String::from_str(alloc, words)?,
         lower: String::new(alloc),
     })
 }
 
-fn name_shape(alloc: Global, y: u64, name: &str) -> Result<Shape, AllocError>
-    ensures { IfOk result (λ shape. box_of shape ≡ spec.name_box y name.now) }
+fn name_box(alloc: Global, y: u64, name: &str) -> Result<LabelledBox, AllocError>
+    ensures { IfOk result (λ labelled. box_of labelled ≡ spec.name_box y name.now) }
 {
-    let place = Place {
+    let frame = Frame {
         class: Class::Note,
         x: 4,
         y,
         width: 90,
         height: 22,
     };
-    plain_shape(alloc, place, name)
+    plain_box(alloc, frame, name)
 }
 
-fn content_shape(
+fn content_box(
     alloc: Global,
     ends: &[u64],
     x: u64,
     content: Option<Words>,
-) -> Result<Shape, AllocError>
+) -> Result<LabelledBox, AllocError>
     requires { length ends.now ≤ 6000 }
-    ensures { IfOk result (λ shape. box_of shape ≡ content_box ends.now x content) }
+    ensures { IfOk result (λ labelled. box_of labelled ≡ content_box ends.now x content) }
 {
     let words = ContentLabel(content).to_string(alloc)?;
-    plain_shape(alloc, content_place(ends, x), &words)
+    plain_box(alloc, content_frame(ends, x), &words)
 }
 
 fn same_content(one: &Option<Words>, other: &Option<Words>) -> bool
@@ -203,107 +203,107 @@ fn same_content(one: &Option<Words>, other: &Option<Words>) -> bool
 }
 
 /// What the record holds at first, and where it changes.
-fn content_shapes(
+fn content_boxes(
     alloc: Global,
     opening: &State,
     ribbon: &[Moment],
     ends: &[u64],
-) -> Result<Vec<Shape>, AllocError>
+) -> Result<Vec<LabelledBox>, AllocError>
     requires { length ends.now ≤ 6000 }
-    ensures { IfOk result (λ shapes. boxes_of shapes.items
+    ensures { IfOk result (λ boxes. boxes_of boxes.items
         ≡ content_boxes ends.now opening.now.content ribbon.now) }
 {
-    let mut shapes = Vec::new(alloc);
+    let mut boxes = Vec::new(alloc);
     if opening.content.is_none() {
-        return Ok(shapes);
+        return Ok(boxes);
     }
-    shapes.push(name_shape(alloc, 72, "record")?)?;
-    shapes.push(content_shape(alloc, ends, BORDER, opening.content)?)?;
+    boxes.push(name_box(alloc, 72, "record")?)?;
+    boxes.push(content_box(alloc, ends, BORDER, opening.content)?)?;
     let mut held = opening.content;
     for moment in ribbon {
         let content = moment.state.content;
         if !same_content(&held, &content) {
-            shapes.push(content_shape(alloc, ends, point_x(ends, moment.point), content)?)?;
+            boxes.push(content_box(alloc, ends, point_x(ends, moment.point), content)?)?;
             held = content;
         }
     }
-    Ok(shapes)
+    Ok(boxes)
 }
 
-fn lane_shape(alloc: Global, ends: &[u64], lane: u64) -> Result<Shape, AllocError>
+fn lane_box(alloc: Global, ends: &[u64], lane: u64) -> Result<LabelledBox, AllocError>
     requires few { length ends.now ≤ 6000 }
     requires lane { lane ≤ 64 }
-    ensures { IfOk result (λ shape. box_of shape ≡ lane_box ends.now lane) }
+    ensures { IfOk result (λ labelled. box_of labelled ≡ lane_box ends.now lane) }
 {
-    Ok(Shape {
-        place: lane_place(ends, lane),
+    Ok(LabelledBox {
+        frame: lane_frame(ends, lane),
         title: format!(in alloc; "thread {lane}")?,
         upper: String::new(alloc),
         lower: format!(in alloc; "thread {lane}")?,
     })
 }
 
-fn lane_shapes(alloc: Global, lanes: u64, ends: &[u64]) -> Result<Vec<Shape>, AllocError>
+fn lane_boxes(alloc: Global, lanes: u64, ends: &[u64]) -> Result<Vec<LabelledBox>, AllocError>
     requires few { length ends.now ≤ 6000 }
     requires lanes { lanes ≤ 64 }
-    ensures { IfOk result (λ shapes. boxes_of shapes.items ≡ map (lane_box ends.now) (range_with_len 0 lanes)) }
+    ensures { IfOk result (λ boxes. boxes_of boxes.items ≡ map (lane_box ends.now) (range_with_len 0 lanes)) }
 {
-    let mut shapes = Vec::new(alloc);
+    let mut boxes = Vec::new(alloc);
     for lane in 0..lanes {
-        shapes.push(lane_shape(alloc, ends, lane)?)?;
+        boxes.push(lane_box(alloc, ends, lane)?)?;
     }
-    Ok(shapes)
+    Ok(boxes)
 }
 
-/// A box of the legend, at a place and of a width.
-fn legend_shape(
+/// A box of the legend, from a left side on and so wide.
+fn legend_box(
     alloc: Global,
     y: u64,
     class: Class,
     at: (u64, u64),
     words: &str,
-) -> Result<Shape, AllocError>
-    ensures { IfOk result (λ shape. box_of shape ≡ legend_box y class at.0 at.1 words.now) }
+) -> Result<LabelledBox, AllocError>
+    ensures { IfOk result (λ labelled. box_of labelled ≡ legend_box y class at.0 at.1 words.now) }
 {
     let (x, width) = at;
-    let place = Place {
+    let frame = Frame {
         class,
         x,
         y,
         width,
         height: 22,
     };
-    plain_shape(alloc, place, words)
+    plain_box(alloc, frame, words)
 }
 
-fn verdict_shape(alloc: Global, verdict: &Result<u64, Fault>) -> Result<Shape, AllocError>
-    ensures { IfOk result (λ shape. box_of shape ≡ spec.verdict_box verdict.now) }
+fn verdict_box(alloc: Global, verdict: &Result<u64, Fault>) -> Result<LabelledBox, AllocError>
+    ensures { IfOk result (λ labelled. box_of labelled ≡ spec.verdict_box verdict.now) }
 {
     let class = match verdict {
         Ok(_) => Class::Note,
         Err(_) => Class::Bad,
     };
     let words = VerdictLabel(*verdict).to_string(alloc)?;
-    legend_shape(alloc, 4, class, (BORDER, 620), &words)
+    legend_box(alloc, 4, class, (BORDER, 620), &words)
 }
 
 /// The verdict above the picture, and the legend below it.
-fn note_shapes(
+fn note_boxes(
     alloc: Global,
     verdict: &Result<u64, Fault>,
     y: u64,
-) -> Result<Vec<Shape>, AllocError>
-    ensures { IfOk result (λ shapes. boxes_of shapes.items ≡ note_boxes verdict.now y) }
+) -> Result<Vec<LabelledBox>, AllocError>
+    ensures { IfOk result (λ boxes. boxes_of boxes.items ≡ note_boxes verdict.now y) }
 {
-    let verdict = verdict_shape(alloc, verdict)?;
-    let lock = name_shape(alloc, 40, "lock")?;
-    let free = legend_shape(alloc, y, Class::Free, (96, 60), "free")?;
-    let reading = legend_shape(alloc, y, Class::Reading, (160, 76), "n readers")?;
-    let writing = legend_shape(alloc, y, Class::Writing, (240, 60), "writing")?;
-    let call = legend_shape(alloc, y, Class::Bar, (304, 60), "call")?;
-    let fault = legend_shape(alloc, y, Class::Bad, (368, 60), "fault")?;
-    let mark = legend_shape(alloc, y, Class::Mark, (440, 6), "")?;
-    let words = legend_shape(
+    let verdict = verdict_box(alloc, verdict)?;
+    let lock = name_box(alloc, 40, "lock")?;
+    let free = legend_box(alloc, y, Class::Free, (96, 60), "free")?;
+    let reading = legend_box(alloc, y, Class::Reading, (160, 76), "n readers")?;
+    let writing = legend_box(alloc, y, Class::Writing, (240, 60), "writing")?;
+    let call = legend_box(alloc, y, Class::Bar, (304, 60), "call")?;
+    let fault = legend_box(alloc, y, Class::Bad, (368, 60), "fault")?;
+    let point = legend_box(alloc, y, Class::Point, (440, 6), "")?;
+    let words = legend_box(
         alloc,
         y,
         Class::Note,
@@ -311,12 +311,13 @@ fn note_shapes(
         "takes effect; v: the version",
     )?;
     Ok(vec![in alloc;
-        verdict, lock, free, reading, writing, call, fault, mark, words,
+        verdict, lock, free, reading, writing, call, fault, point, words,
     ]?)
 }
 
 /// The picture as boxes: each call in its thread's lane, from its first position to its last as far as
-/// the window has them, and in the ribbon what the lock was from each point on.
+/// the window has them, and in the ribbon what the lock was from each point on. The picture has at most
+/// 2,000 bars, in lanes below 64, as each of `picture_of` has. It refuses only for want of memory.
 pub fn sheet_of(alloc: Global, picture: &Picture) -> Result<Sheet, AllocError>
     requires few { length picture.now.bars ≤ most_bars }
     requires lanes { All (λ bar. bar.lane < 64) picture.now.bars }
@@ -329,11 +330,11 @@ pub fn sheet_of(alloc: Global, picture: &Picture) -> Result<Sheet, AllocError>
     Ok(Sheet {
         width: right_of(&ends).max(716) + 12,
         height: foot + 32,
-        lanes: lane_shapes(alloc, lanes_in(bars), &ends)?,
-        ribbon: ribbon_shapes(alloc, &opening, ribbon, &ends)?,
-        content: content_shapes(alloc, &opening, ribbon, &ends)?,
-        bars: bar_shapes(alloc, picture.verdict(), bars, &ends)?,
-        marks: mark_shapes(alloc, bars, &ends)?,
-        notes: note_shapes(alloc, picture.verdict(), foot)?,
+        lanes: lane_boxes(alloc, lanes_in(bars), &ends)?,
+        ribbon: ribbon_boxes(alloc, &opening, ribbon, &ends)?,
+        content: content_boxes(alloc, &opening, ribbon, &ends)?,
+        bars: bar_boxes(alloc, picture.verdict(), bars, &ends)?,
+        points: point_boxes(alloc, bars, &ends)?,
+        notes: note_boxes(alloc, picture.verdict(), foot)?,
     })
 }

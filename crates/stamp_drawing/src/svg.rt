@@ -1,12 +1,12 @@
 //! The text of a sheet as SVG.
 ghost use Rattle.std.specs.Prelude.{◌≡◌, ◌++◌, ◌∷◌, [], codes, OnOk, IfOk, string_bytes};
 ghost use Rattle.stamp_drawing.specs.Markup.{escaped, element_text, IsDocument};
-ghost use Rattle.stamp_drawing.specs.Svg.{class_name, inside_text, shape_text, shapes_text, sheet_text, svg_text};
+ghost use Rattle.stamp_drawing.specs.Svg.{class_name, inside_text, box_text, boxes_text, sheet_text, svg_text};
 ghost use Rattle.stamp_drawing.specs.Svg as spec;
 
+use crate::frames::Class;
 use crate::markup::{push_attribute, push_escaped, push_number, push_plain, push_text};
-use crate::places::Class;
-use crate::sheet::{Shape, Sheet};
+use crate::sheet::{LabelledBox, Sheet};
 use std::alloc::{AllocError, Global};
 
 fn class_name(class: Class) -> &'static str
@@ -20,13 +20,13 @@ fn class_name(class: Class) -> &'static str
         Class::Lane => "lane",
         Class::Bar => "bar",
         Class::Bad => "bad",
-        Class::Mark => "mark",
+        Class::Point => "mark",
         Class::Note => "note",
     }
 }
 
-fn push_box(text: &mut Vec<u8>) -> Result<(), AllocError>
-    ensures { OnOk result (text.new.items ≡ text.old.items ++ spec.box_text) }
+fn push_rect(text: &mut Vec<u8>) -> Result<(), AllocError>
+    ensures { OnOk result (text.new.items ≡ text.old.items ++ spec.rect_text) }
 {
     push_text(text, "<rect width=\"100%\" height=\"100%\"></rect>")
 }
@@ -42,36 +42,36 @@ fn push_line(text: &mut Vec<u8>, y: &str, line: &str) -> Result<(), AllocError>
     Ok(())
 }
 
-fn push_inside(text: &mut Vec<u8>, shape: &Shape) -> Result<(), AllocError>
-    ensures { OnOk result (text.new.items ≡ text.old.items ++ inside_text shape.now) }
+fn push_inside(text: &mut Vec<u8>, labelled: &LabelledBox) -> Result<(), AllocError>
+    ensures { OnOk result (text.new.items ≡ text.old.items ++ inside_text labelled.now) }
 {
-    push_plain(text, "title", &shape.title)?;
-    push_box(text)?;
-    push_line(text, "15", &shape.upper)?;
-    push_line(text, "29", &shape.lower)?;
+    push_plain(text, "title", &labelled.title)?;
+    push_rect(text)?;
+    push_line(text, "15", &labelled.upper)?;
+    push_line(text, "29", &labelled.lower)?;
     Ok(())
 }
 
-fn push_shape(text: &mut Vec<u8>, shape: &Shape) -> Result<(), AllocError>
-    ensures { OnOk result (text.new.items ≡ text.old.items ++ shape_text shape.now) }
+fn push_box(text: &mut Vec<u8>, labelled: &LabelledBox) -> Result<(), AllocError>
+    ensures { OnOk result (text.new.items ≡ text.old.items ++ box_text labelled.now) }
 {
     push_text(text, "<svg")?;
-    push_attribute(text, "class", class_name(shape.place.class))?;
-    push_number(text, "x", shape.place.x)?;
-    push_number(text, "y", shape.place.y)?;
-    push_number(text, "width", shape.place.width)?;
-    push_number(text, "height", shape.place.height)?;
+    push_attribute(text, "class", class_name(labelled.frame.class))?;
+    push_number(text, "x", labelled.frame.x)?;
+    push_number(text, "y", labelled.frame.y)?;
+    push_number(text, "width", labelled.frame.width)?;
+    push_number(text, "height", labelled.frame.height)?;
     push_text(text, ">")?;
-    push_inside(text, shape)?;
+    push_inside(text, labelled)?;
     push_text(text, "</svg>")?;
     Ok(())
 }
 
-fn push_shapes(text: &mut Vec<u8>, shapes: &[Shape]) -> Result<(), AllocError>
-    ensures { OnOk result (text.new.items ≡ text.old.items ++ shapes_text shapes.now) }
+fn push_boxes(text: &mut Vec<u8>, boxes: &[LabelledBox]) -> Result<(), AllocError>
+    ensures { OnOk result (text.new.items ≡ text.old.items ++ boxes_text boxes.now) }
 {
-    for shape in shapes {
-        push_shape(text, shape)?;
+    for labelled in boxes {
+        push_box(text, labelled)?;
     }
     Ok(())
 }
@@ -79,12 +79,12 @@ fn push_shapes(text: &mut Vec<u8>, shapes: &[Shape]) -> Result<(), AllocError>
 fn push_sheet(text: &mut Vec<u8>, sheet: &Sheet) -> Result<(), AllocError>
     ensures { OnOk result (text.new.items ≡ text.old.items ++ sheet_text sheet.now) }
 {
-    push_shapes(text, &sheet.lanes)?;
-    push_shapes(text, &sheet.ribbon)?;
-    push_shapes(text, &sheet.content)?;
-    push_shapes(text, &sheet.bars)?;
-    push_shapes(text, &sheet.marks)?;
-    push_shapes(text, &sheet.notes)?;
+    push_boxes(text, &sheet.lanes)?;
+    push_boxes(text, &sheet.ribbon)?;
+    push_boxes(text, &sheet.content)?;
+    push_boxes(text, &sheet.bars)?;
+    push_boxes(text, &sheet.points)?;
+    push_boxes(text, &sheet.notes)?;
     Ok(())
 }
 
@@ -95,7 +95,7 @@ fn view_of(alloc: Global, width: u64, height: u64) -> Result<String, AllocError>
 }
 
 /// The sheet as one SVG document under a style (CSS), which is escaped as any text is: write no
-/// markup in it.
+/// markup in it. It refuses only for want of memory.
 pub fn svg_of(alloc: Global, style: &str, sheet: &Sheet) -> Result<Vec<u8>, AllocError>
     ensures text { IfOk result (λ text. text.items ≡ svg_text style.now sheet.now) }
     ensures document { IfOk result (λ text. IsDocument text.items) }

@@ -3,23 +3,23 @@ use Rattle.std.specs.Prelude.{ℕ, List, ◌++◌, codes, decimal}
 use Rattle.stamp_cli.specs.declared.line.Verdict.{Verdict}
 use Rattle.stamp_cli.specs.declared.line.Verdict.TheVariants.{Accepted, Bad}
 use Rattle.stamp_history.specs.HistoryText.{history_text}
-use Rattle.stamp_observed.specs.declared.judging.Cause.{Cause}
-use Rattle.stamp_observed.specs.declared.judging.Cause.TheVariants.{Interval, Overlap}
+use Rattle.stamp_observed.specs.declared.judging.ObservedWhy.{ObservedWhy}
+use Rattle.stamp_observed.specs.declared.judging.ObservedWhy.TheVariants.{Interval, Overlap}
 use Rattle.stamp_observed.specs.declared.judging.ObservedFault.{ObservedFault}
 use Rattle.stamp_explain_cli.specs.declared.finding.Finding.{Finding}
 use Rattle.stamp_explain_cli.specs.declared.finding.Finding.TheVariants.{Unseen, Explained, Stuck, Unexplained}
 use Rattle.stamp_explain_cli.specs.declared.finding.Finding.TheVariants.{Undecided}
 
-abbrev pub cause_text : Cause → List ℕ
-cause_text Interval = codes "interval"
-cause_text Overlap = codes "overlap"
+abbrev pub why_text : ObservedWhy → List ℕ
+why_text Interval = codes "interval"
+why_text Overlap = codes "overlap"
 
-abbrev pub fault_text : ObservedFault → List ℕ
-fault_text fault = codes "bad " ++ decimal fault.entry ++ codes " " ++ cause_text fault.cause
+abbrev pub bad_text : ObservedFault → List ℕ
+bad_text fault = codes "bad " ++ decimal fault.entry ++ codes " " ++ why_text fault.why
 
--- a record as its history
+-- a recorded history as its text
 abbrev pub finding_text : Finding → List ℕ
-finding_text (Unseen fault) = fault_text fault
+finding_text (Unseen fault) = bad_text fault
 finding_text (Explained made) = history_text made
 finding_text (Stuck i) = codes "stuck " ++ decimal i
 finding_text (Unexplained i) = codes "undecided " ++ decimal i

@@ -20,8 +20,8 @@ use std::alloc::{AllocError, Global};
 pub struct Explanation {
     /// What the line that was written says: `Bad` unless it is a history.
     pub verdict: Verdict,
-    /// The line for standard error, without its line feed; `None` unless the history is stuck. Where memory
-    /// is refused for it, it isn't said.
+    /// The line for standard error, without its line feed; `None` unless no order explains the history. Where
+    /// memory is refused for it, it isn't said.
     pub note: Result<Option<String>, AllocError>,
 }
 

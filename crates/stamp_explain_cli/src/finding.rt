@@ -15,7 +15,7 @@ use std::alloc::{AllocError, Global};
 pub(crate) enum Finding {
     /// An observer can't have seen it, for this fault.
     Unseen(ObservedFault),
-    /// A record that explains it.
+    /// A recorded history that explains it.
     Explained(Record),
     /// It is explained until this entry returns, and no longer.
     Stuck(usize),

@@ -1,37 +1,37 @@
 //! What is found, as a line.
 
 ghost use Rattle.std.specs.Prelude.{◌≡◌, Some, IfOk, IfErr, string_bytes};
-ghost use Rattle.stamp_explain_cli.specs.FindingText.{cause_text, fault_text, finding_text, finding_verdict};
+ghost use Rattle.stamp_explain_cli.specs.FindingText.{why_text, bad_text, finding_text, finding_verdict};
 
 use crate::finding::Finding;
 use stamp_cli::{Line, ServeFault, Verdict, accepted};
 use stamp_history::write_history;
-use stamp_observed::{Cause, ObservedFault};
+use stamp_observed::{ObservedFault, ObservedWhy};
 use std::alloc::Global;
 use std::fmt;
 
 #[derive(Drop)]
-struct CauseText(Cause);
+struct WhyText(ObservedWhy);
 
-impl fmt::Display for CauseText {
-    ghost output = { λ text. Some (cause_text text.0) };
+impl fmt::Display for WhyText {
+    ghost output = { λ text. Some (why_text text.0) };
 
     fn fmt<W: fmt::Write>(&self, f: &mut fmt::Formatter<W>) -> fmt::Result {
         match self.0 {
-            Cause::Interval => write!(f, "interval"),
-            Cause::Overlap => write!(f, "overlap"),
+            ObservedWhy::Interval => write!(f, "interval"),
+            ObservedWhy::Overlap => write!(f, "overlap"),
         }
     }
 }
 
 #[derive(Drop)]
-struct FaultText(ObservedFault);
+struct BadText(ObservedFault);
 
-impl fmt::Display for FaultText {
-    ghost output = { λ text. Some (fault_text text.0) };
+impl fmt::Display for BadText {
+    ghost output = { λ text. Some (bad_text text.0) };
 
     fn fmt<W: fmt::Write>(&self, f: &mut fmt::Formatter<W>) -> fmt::Result {
-        write!(f, "bad {} {}", self.0.entry, CauseText(self.0.cause))
+        write!(f, "bad {} {}", self.0.entry, WhyText(self.0.why))
     }
 }
 
@@ -54,7 +54,7 @@ pub(crate) fn line_of_finding(alloc: Global, finding: &Finding) -> Result<Line, 
 {
     match finding {
         Finding::Explained(record) => Ok(accepted(write_history(alloc, record)?)),
-        Finding::Unseen(fault) => Ok(refused(FaultText(*fault).to_string(alloc)?)),
+        Finding::Unseen(fault) => Ok(refused(BadText(*fault).to_string(alloc)?)),
         Finding::Stuck(entry) => Ok(refused(format!(in alloc; "stuck {entry}")?)),
         Finding::Unexplained(entry) | Finding::Undecided(entry) => {
             Ok(refused(format!(in alloc; "undecided {entry}")?))

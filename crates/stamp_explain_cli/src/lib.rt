@@ -1,5 +1,5 @@
 //! The engine of the program `stamped_explain`: its command line, the line that answers an observed history,
-//! and what is said of one that is stuck.
+//! and what is said of one that no order explains.
 #![tactic(auto)]
 
 mod answer;

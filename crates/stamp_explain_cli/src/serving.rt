@@ -9,12 +9,12 @@ ghost use Rattle.stamp_cli.specs.Source.{most_reads, most_taken};
 ghost use Rattle.stamp_explain_cli.specs.Answer.{ToldView, AnswersSource};
 
 use crate::answer::{Explanation, Told, told_of};
-use stamp_cli::{Line, ServeFault, Sink, Source, write_line};
+use stamp_cli::{Line, ServeFault, Sink, Source, write_text};
 use std::alloc::Global;
 
 /// Reads an observed history of the source, looks for an order that explains it, and writes one line: the
-/// record found, as a history; or the first fault of what can't have been observed; or the return at which
-/// no order explains it, or at which that isn't known. Or it says why there is no line. Of a history that no
+/// recorded history found; or the first fault of what can't have been observed; or the return at which no
+/// order explains it, or at which that isn't known. Or it says why there is no line. Of a history that no
 /// order explains it answers a line for standard error: where it is stuck, what the call answered, and all
 /// that it could have answered, or that this is undecided; elsewhere, that none explains it. A search gives
 /// up once it has looked at more than `most` configurations. What was read of the source is gone also after
@@ -30,7 +30,7 @@ pub fn serve_explanation<S: Source, K: Sink>(
         (S.reads source.old) (S.reads source.new) most_reads most_taken result }
 
     // The answer to all that was read is written with a line feed, and nothing else; the verdict and what is
-    // said of a history that is stuck are its.
+    // said of a history that no order explains are its.
     ensures ok { IfOk result (λ found. (told : ToldView)
         × AnswersSource most (S.left source.old) (S.left source.new)
         (taken_since (S.reads source.old) (S.reads source.new)) (Ok told)
@@ -56,6 +56,6 @@ pub fn serve_explanation<S: Source, K: Sink>(
     let Told { line, note } = told_of(alloc, most, source)?;
     let Line { mut text, verdict } = line;
     text.push(b'\n')?;
-    write_line(sink, &text)?;
+    write_text(sink, &text)?;
     Ok(Explanation { verdict, note })
 }

@@ -166,7 +166,8 @@ told_by es spans sorted low intervals threads are in_order = record {
       (subst (All IsOfThread) (sym are) (spans_of_threads es threads));
   rising = rise;
   follow = λ pairs. calls_of_apart es low (moved sorted (spans_of es) back (apart_all sorted pairs));
-  apart = λ apart. follows_all sorted in_order.rising rise (moved (spans_of es) sorted there (apart_of_calls es apart));
+  apart = λ apart. follows_all sorted in_order.rising rise
+      (moved (spans_of es) sorted there (apart_of_calls es apart));
 }
   where
     rise : All IsRising sorted

@@ -8,8 +8,8 @@ use Rattle.std.proofs.lemmas.List.Elements.{All-take}
 use Rattle.std.proofs.lemmas.Option.{slice_get_within}
 use Rattle.stamp_explain.specs.declared.observed.Observation.{Observation}
 use Rattle.stamp_explain.specs.Observed.{ObservedHistory, IsInterval, DoNotOverlap}
-use Rattle.stamp_observed.specs.declared.judging.Cause.{Cause}
-use Rattle.stamp_observed.specs.declared.judging.Cause.TheVariants.{Interval, Overlap}
+use Rattle.stamp_observed.specs.declared.judging.ObservedWhy.{ObservedWhy}
+use Rattle.stamp_observed.specs.declared.judging.ObservedWhy.TheVariants.{Interval, Overlap}
 use Rattle.stamp_observed.specs.declared.judging.ObservedFault.{ObservedFault}
 use Rattle.stamp_observed.specs.ObservedFault.{AreSeen, Breaks, IsFirstFault}
 use Rattle.stamp_observed.specs.ObservedLaws.{ObservedFaultsAreExact, OneObservedVerdict}
@@ -26,7 +26,7 @@ seen_take es n le seen = record {
 }
 
 -- with a call that breaks something, those before it can't be seen
-unseen : (before : List Observation) (e : Observation) (cause : Cause) → Breaks before e cause →
+unseen : (before : List Observation) (e : Observation) (why : ObservedWhy) → Breaks before e why →
     ¬ AreSeen (before ++ e ∷ [])
 unseen before e Interval breaks seen =
     let lt : length before < length (before ++ e ∷ []) = omega (arith, length-append before (e ∷ [])) in
@@ -37,21 +37,21 @@ unseen before e Overlap breaks seen =
     (subst (λ (x : Observation). DoNotOverlap (get_or (before ++ e ∷ []) k d) x) (get_or-append_seam before e [] d)
     (seen.apart k (length before) d below lt)))
 
-not_with : (h : ObservedHistory) (i : ℕ) (cause : Cause) → IsFirstFault h i cause →
+not_with : (h : ObservedHistory) (i : ℕ) (why : ObservedWhy) → IsFirstFault h i why →
     ¬ AreSeen (take (i + 1) h.entries)
-not_with h i cause fault seen =
-    unseen (take i h.entries) fault.entry cause fault.breaks
+not_with h i why fault seen =
+    unseen (take i h.entries) fault.entry why fault.breaks
     (subst AreSeen (more h.entries i fault.entry fault.is_entry) seen)
 
-within : (h : ObservedHistory) (i : ℕ) (cause : Cause) → IsFirstFault h i cause → i < length h.entries
-within h i cause fault = slice_get_within h.entries i fault.entry fault.is_entry
+within : (h : ObservedHistory) (i : ℕ) (why : ObservedWhy) → IsFirstFault h i why → i < length h.entries
+within h i why fault = slice_get_within h.entries i fault.entry fault.is_entry
 
 pub faults_are_exact : ObservedFaultsAreExact
-faults_are_exact h i cause fault observed =
-    not_with h i cause fault (seen_take h.entries (i + 1) (omega (arith, within h i cause fault))
+faults_are_exact h i why fault observed =
+    not_with h i why fault (seen_take h.entries (i + 1) (omega (arith, within h i why fault))
     (record { intervals = observed.intervals; apart = observed.apart }))
 
-not_before : (h : ObservedHistory) (i j : ℕ) (a b : Cause) → IsFirstFault h i a → IsFirstFault h j b → i < j → ⊥
+not_before : (h : ObservedHistory) (i j : ℕ) (a b : ObservedWhy) → IsFirstFault h i a → IsFirstFault h j b → i < j → ⊥
 not_before h i j a b x y lt =
     let shorter : i + 1 ≤ j = omega arith in
     let inside : i + 1 ≤ length (take j h.entries) = omega (
@@ -62,16 +62,17 @@ not_before h i j a b x y lt =
     not_with h i a x (subst AreSeen (take-take (i + 1) j h.entries shorter)
     (seen_take (take j h.entries) (i + 1) inside y.before))
 
-same_cause : (before : List Observation) (e : Observation) (a b : Cause) → Breaks before e a → Breaks before e b →
+same_why : (before : List Observation) (e : Observation) (a b : ObservedWhy) → Breaks before e a → Breaks before e b →
     a ≡ b
-same_cause before e Interval Interval x y = refl
-same_cause before e Interval Overlap x y = absurd (x y.0)
-same_cause before e Overlap Interval x y = absurd (y x.0)
-same_cause before e Overlap Overlap x y = refl
+same_why before e Interval Interval x y = refl
+same_why before e Interval Overlap x y = absurd (x y.0)
+same_why before e Overlap Interval x y = absurd (y x.0)
+same_why before e Overlap Overlap x y = refl
 
-same_place : (h : ObservedHistory) (i j : ℕ) (a b : Cause) → IsFirstFault h i a → IsFirstFault h j b → i ≡ j → a ≡ b
+same_place : (h : ObservedHistory) (i j : ℕ) (a b : ObservedWhy) → IsFirstFault h i a → IsFirstFault h j b → i ≡ j →
+    a ≡ b
 same_place h i j a b x y same =
-    same_cause (take i h.entries) x.entry a b x.breaks
+    same_why (take i h.entries) x.entry a b x.breaks
     (subst (λ (e : Observation). Breaks (take i h.entries) e b) entry
     (subst (λ (k : ℕ). Breaks (take k h.entries) y.entry b) (sym same) y.breaks))
   where
@@ -79,24 +80,24 @@ same_place h i j a b x y same =
     entry = let at : slice_get h.entries i ≡ Some y.entry = ap (λ (k : ℕ). slice_get h.entries k) same ∙ y.is_entry in
         let here = x.is_entry in cc
 
-one_fault : (h : ObservedHistory) (a b : ObservedFault) → IsFirstFault h a.entry a.cause →
-    IsFirstFault h b.entry b.cause → a ≡ b
+one_fault : (h : ObservedHistory) (a b : ObservedFault) → IsFirstFault h a.entry a.why →
+    IsFirstFault h b.entry b.why → a ≡ b
 one_fault h a b x y = by (order a.entry b.entry)
   where
     order : (n m : ℕ) → (n < m) ⊎ (m < n) ⊎ (n ≡ m)
     order n m = grind arith
 
-    same : (x y : ObservedFault) → x.entry ≡ y.entry → x.cause ≡ y.cause → x ≡ y
-    same x y e w = let parts : record { entry = x.entry; cause = x.cause } ≡
-        record { entry = y.entry; cause = y.cause } = cc in parts
+    same : (x y : ObservedFault) → x.entry ≡ y.entry → x.why ≡ y.why → x ≡ y
+    same x y e w = let parts : record { entry = x.entry; why = x.why } ≡
+        record { entry = y.entry; why = y.why } = cc in parts
 
     by : (a.entry < b.entry) ⊎ (b.entry < a.entry) ⊎ (a.entry ≡ b.entry) → a ≡ b
-    by (inl lt) = absurd (not_before h a.entry b.entry a.cause b.cause x y lt)
-    by (inr (inl gt)) = absurd (not_before h b.entry a.entry b.cause a.cause y x gt)
-    by (inr (inr e)) = same a b e (same_place h a.entry b.entry a.cause b.cause x y e)
+    by (inl lt) = absurd (not_before h a.entry b.entry a.why b.why x y lt)
+    by (inr (inl gt)) = absurd (not_before h b.entry a.entry b.why a.why y x gt)
+    by (inr (inr e)) = same a b e (same_place h a.entry b.entry a.why b.why x y e)
 
 pub one_verdict : OneObservedVerdict
 one_verdict h None None x y = refl
-one_verdict h None (Some b) x y = absurd (faults_are_exact h b.entry b.cause y x)
-one_verdict h (Some a) None x y = absurd (faults_are_exact h a.entry a.cause x y)
+one_verdict h None (Some b) x y = absurd (faults_are_exact h b.entry b.why y x)
+one_verdict h (Some a) None x y = absurd (faults_are_exact h a.entry a.why x y)
 one_verdict h (Some a) (Some b) x y = ap (λ (fault : ObservedFault). Some fault) (one_fault h a b x y)

@@ -77,8 +77,8 @@ top_found : (l : Layout) (readers versions w : ℕ) (d : Data) → top (with_ent
 top_found One readers versions w d = refl
 top_found Two readers versions w d = refl
 
-observed_found : (h : ObservedHistory) → AreInRange h.limits → IsSmall h → AreSuited h → All ObservationFits h.entries →
-    observed_in (observed_data h) ≡ Ok h
+observed_found : (h : ObservedHistory) → AreInRange h.limits → IsSmall h → AreSuited h →
+    All ObservationFits h.entries → observed_in (observed_data h) ≡ Ok h
 unfolding observed_in entries
 observed_found h range known suited fits =
     let l = h.limits.layout in

@@ -10,7 +10,7 @@ use Rattle.std.proofs.lemmas.Option.{get_or_from_slice_get, slice_get_within, sl
 use Rattle.stamp_explain.specs.declared.observed.Observation.{Observation}
 use Rattle.stamp_explain.specs.Observed.{ObservedHistory, IsInterval, DoNotOverlap, IsObserved}
 use Rattle.stamp_explain.proofs.Lists.{pairs_none}
-use Rattle.stamp_observed.specs.declared.judging.Cause.TheVariants.{Interval, Overlap}
+use Rattle.stamp_observed.specs.declared.judging.ObservedWhy.TheVariants.{Interval, Overlap}
 use Rattle.stamp_observed.specs.ObservedFault.{AreSeen, IsFirstFault, AreIntervalsTo, IsFirstOverlap}
 use Rattle.stamp_observed.specs.Suited.{AreSuited}
 

@@ -12,7 +12,7 @@ use std::alloc::{AllocError, Global};
 
 /// What a call of an observed history breaks.
 #[derive(Clone, Copy, Debug, PartialEq, Eq)]
-pub enum Cause {
+pub enum ObservedWhy {
     /// 1: it was over before it began.
     Interval,
     /// 2: it overlaps a call of its thread that is listed before it. A call that is under way overlaps
@@ -26,7 +26,7 @@ pub struct ObservedFault {
     /// The first entry that breaks something beside those listed before it, counted from 0.
     pub entry: u64,
     /// The first thing that it breaks.
-    pub cause: Cause,
+    pub why: ObservedWhy,
 }
 
 /// How many calls come before the first that is over before it began.
@@ -78,11 +78,11 @@ pub fn fault_of(alloc: Global, observed: &Observed) -> Result<Option<ObservedFau
     match first_overlap(alloc, &entries[..count])? {
         Some(i) => Ok(Some(ObservedFault {
             entry: i as u64,
-            cause: Cause::Overlap,
+            why: ObservedWhy::Overlap,
         })),
         None if count < entries.len() => Ok(Some(ObservedFault {
             entry: count as u64,
-            cause: Cause::Interval,
+            why: ObservedWhy::Interval,
         })),
         None => Ok(None),
     }

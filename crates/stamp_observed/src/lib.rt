@@ -9,6 +9,6 @@ mod observed_reading;
 mod observed_writing;
 mod spans;
 
-pub use judging::{Cause, ObservedFault, fault_of};
+pub use judging::{ObservedFault, ObservedWhy, fault_of};
 pub use observed_reading::read_observed;
 pub use observed_writing::write_observed;

@@ -1,4 +1,4 @@
-use stamp_observed::{Cause, ObservedFault, fault_of, read_observed};
+use stamp_observed::{ObservedFault, ObservedWhy, fault_of, read_observed};
 use std::alloc::{AllocError, Global};
 use std::test::Fail;
 
@@ -30,15 +30,15 @@ fn fault_in(alloc: Global, calls: Calls) -> Result<Option<ObservedFault>, Fail> 
     Ok(fault_of(alloc, &observed)?)
 }
 
-fn bad(entry: u64, cause: Cause) -> Option<ObservedFault> {
-    Some(ObservedFault { entry, cause })
+fn bad(entry: u64, why: ObservedWhy) -> Option<ObservedFault> {
+    Some(ObservedFault { entry, why })
 }
 
 #[test]
 fn the_first_call_that_cannot_have_been_seen_is_named(rt: HostRuntime) -> Result<(), Fail> {
     let last = 288_230_376_151_711_743;
-    let overlap = |entry| bad(entry, Cause::Overlap);
-    let interval = |entry| bad(entry, Cause::Interval);
+    let overlap = |entry| bad(entry, ObservedWhy::Overlap);
+    let interval = |entry| bad(entry, ObservedWhy::Interval);
     let table: [(Calls, Option<ObservedFault>); 15] = [
         (&[], None),
         (&[(0, 0, Some(0))], None),

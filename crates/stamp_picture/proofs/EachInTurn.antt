@@ -14,7 +14,8 @@ use Rattle.stamp_picture.specs.declared.state.State.{State}
 use Rattle.stamp_picture.specs.declared.window.Window.{Window}
 use Rattle.stamp_picture.specs.Window.{meets, contains, precedes}
 use Rattle.stamp_picture.specs.Bars.{bar_of, bars_from, bars_of}
-use Rattle.stamp_picture.specs.Moment.{moment_after, moments_from, moments_of, opening_from, opening_state, state_after}
+use Rattle.stamp_picture.specs.Moment.{moment_after, moments_from, moments_of, opening_from, opening_state}
+use Rattle.stamp_picture.specs.Moment.{state_after}
 
 pub taken_more : (xs : List Entry) (i : ℕ) (e : Entry) → i < length xs → e ≡ get_or xs i e →
     take (i + 1) xs ≡ take i xs ++ e ∷ []
@@ -98,7 +99,7 @@ opening_more l n w xs i e lt is =
     ∙ ap (λ (ys : List Entry). if precedes e.point w then state_after l n ys else opening_state l n w (take i xs))
     (sym more)
 
--- the lanes are those of a record's threads
+-- the lanes are those of a recorded history's threads
 pub if_all : {X : Type 0} (P : X → Type 0) (b : Bool) (x : X) (xs : List X) → P x → All P xs →
     All P (if b then x ∷ xs else xs)
 if_all P true x xs here all = All-cons P x xs here all

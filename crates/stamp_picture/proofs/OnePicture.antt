@@ -24,7 +24,7 @@ use Rattle.stamp_picture.specs.declared.window.Window.{Window}
 use Rattle.stamp_picture.specs.Window.{meets}
 use Rattle.stamp_picture.specs.Bars.{bar_of, bars_from, bars_of}
 use Rattle.stamp_picture.specs.Moment.{moments_of, opening_state}
-use Rattle.stamp_picture.specs.Due.{DueAfter, IsDue}
+use Rattle.stamp_picture.specs.Due.{DueAfter, IsReplyDue}
 use Rattle.stamp_picture.specs.Picture.{Drawn, IsJudged, right_in, drawn_in}
 use Rattle.stamp_picture.specs.PictureLaws.{OnePicture, CrowdedIsCounted}
 
@@ -68,7 +68,7 @@ same_fault r a b x y =
     let e = x.0.entry in
     let before = take a.bad.entry r.entries in
     let due_there = λ (i : ℕ). (e : Entry) → slice_get r.entries i ≡ Some e →
-    (b.call ≡ e.call) × IsDue r.limits r.width (take i r.entries) e.call b.due in
+    (b.call ≡ e.call) × IsReplyDue r.limits r.width (take i r.entries) e.call b.due in
     let there : due_there a.bad.entry = subst (λ (k : Bad). due_there k.entry) (sym bad) y.1 in
     let one = x.1 e x.0.is_entry in
     let other = there e x.0.is_entry in

@@ -26,7 +26,7 @@ use Rattle.stamp_picture.specs.declared.state.Mode.{Mode}
 use Rattle.stamp_picture.specs.declared.state.State.{State}
 use Rattle.stamp_picture.specs.declared.track.Track.{Track}
 use Rattle.stamp_picture.specs.Moment.{mode_in, mode_of, state_after}
-use Rattle.stamp_picture.specs.Due.{DueAfter, IsDue, ContentAnswers}
+use Rattle.stamp_picture.specs.Due.{DueAfter, IsReplyDue, ContentAnswers}
 use Rattle.stamp_picture.specs.Track.{IsTrack, TracksOneMore, Shows, TellsDue}
 
 -- one entry more, whose call leaves this word
@@ -116,7 +116,7 @@ pub due_at : (r : Recorded) (limits : Bounds) (width : ℕ) (entries : List Entr
     (due : Option Reply) → limits ≡ r.limits → width ≡ r.width → entries ≡ r.entries →
     All (SuitsRecord r.width) r.entries → IsTrack limits width (take i entries) track → e ≡ get_or entries i e →
     TellsDue limits track e.call due → (f : Entry) → slice_get r.entries i ≡ Some f →
-    (e.call ≡ f.call) × IsDue r.limits r.width (take i r.entries) f.call due
+    (e.call ≡ f.call) × IsReplyDue r.limits r.width (take i r.entries) f.call due
 due_at r limits width entries i track e due l w es suit behind is answers f at =
     let lt : i < length r.entries = slice_get_within r.entries i f at in
     let is_f : get_or r.entries i f ≡ f = get_or_from_slice_get r.entries i f f at in

@@ -16,12 +16,13 @@ abbrev pub ContentAnswers : List ℕ → Call → Option Reply → Type 0
 ContentAnswers content call None = is_lock_call call ≡ true
 ContentAnswers content call (Some reply) = RecordReplies content call reply
 
--- the reply to a call after events and with this content; none where the lock has no transition, so that the call waits
+-- the reply to a call after events and with this content; none where the lock has no transition, so that the call
+-- waits
 abbrev pub DueAfter : Bounds → List LockEvent → List ℕ → Call → Option Reply → Type 0
 DueAfter limits events content call None = (is_lock_call call ≡ true) × (transition limits events call ≡ None)
 DueAfter limits events content call (Some reply) = IsReply limits events content call reply
 
 -- the reply that is due to a call after these entries
-abbrev pub IsDue : Bounds → ℕ → List Entry → Call → Option Reply → Type 0
-IsDue limits width before call due =
+abbrev pub IsReplyDue : Bounds → ℕ → List Entry → Call → Option Reply → Type 0
+IsReplyDue limits width before call due =
     DueAfter limits (events_of limits (history_of before)) (content_after width (history_of before)) call due

@@ -12,7 +12,7 @@ use Rattle.stamp_picture.specs.declared.state.State.{State}
 use Rattle.stamp_picture.specs.declared.state.Moment.{Moment}
 use Rattle.stamp_picture.specs.declared.window.Window.{Window}
 use Rattle.stamp_picture.specs.Bars.{bars_of}
-use Rattle.stamp_picture.specs.Due.{IsDue}
+use Rattle.stamp_picture.specs.Due.{IsReplyDue}
 use Rattle.stamp_picture.specs.Moment.{moments_of, opening_state}
 use Rattle.stamp_picture.specs.Window.{meets}
 
@@ -23,12 +23,13 @@ pub record Drawn : Type 0 where
   pub opening : State
   pub ribbon : List Moment
 
--- the verdict is the one that a check finds; of a bad history, also the call of its first fault, and what was due to it
+-- the verdict is the one that a check finds; of a bad history, also the call of its first fault, and what was due
+-- to it
 abbrev pub IsJudged : Recorded → Result ℕ Fault → Type 0
 IsJudged r (Ok n) = IsVerdict r (Ok n)
 IsJudged r (Err fault) = IsVerdict r (Err fault.bad) ×
     ((e : Entry) → slice_get r.entries fault.bad.entry ≡ Some e →
-    (fault.call ≡ e.call) × IsDue r.limits r.width (take fault.bad.entry r.entries) e.call fault.due)
+    (fault.call ≡ e.call) × IsReplyDue r.limits r.width (take fault.bad.entry r.entries) e.call fault.due)
 
 -- how many entries have no fault before or at them
 abbrev pub right_in : Result ℕ Fault → ℕ

@@ -11,7 +11,7 @@ use Rattle.stamp_core.specs.declared.reply.Reply.{Reply}
 use Rattle.stamp_picture.specs.declared.track.Track.{Track}
 use Rattle.stamp_picture.specs.declared.state.State.{State}
 use Rattle.stamp_picture.specs.Moment.{state_after}
-use Rattle.stamp_picture.specs.Due.{IsDue}
+use Rattle.stamp_picture.specs.Due.{IsReplyDue}
 
 -- the track is behind these entries
 pub record IsTrack (limits : Bounds) (width : ℕ) (before : List Entry) (track : Track) : Type 0 where
@@ -31,4 +31,4 @@ pub record Shows (limits : Bounds) (width : ℕ) (track : Track) (state : State)
 -- the reply that is due after them, to a call that suits the width
 pub record TellsDue (limits : Bounds) (track : Track) (call : Call) (due : Option Reply) : Type 0 where
   pub is : (width : ℕ) (before : List Entry) → IsTrack limits width before track → IsTrue (call_suits width call) →
-      IsDue limits width before call due
+      IsReplyDue limits width before call due

@@ -28,7 +28,7 @@ pub struct Bar {
     /// Where the part that is drawn ends.
     pub end: u64,
     /// Whether the point is in the window.
-    pub marked: bool,
+    pub point_shown: bool,
 }
 
 impl Bar {
@@ -46,7 +46,7 @@ impl Bar {
             reply: entry.reply,
             begin: window.nearest(entry.first.min(entry.last)),
             end: window.nearest(entry.first.max(entry.last)),
-            marked: window.contains(entry.point),
+            point_shown: window.contains(entry.point),
         }
     }
 }

@@ -21,7 +21,7 @@ use std::marker::Model;
 /// The most bars of a picture.
 pub const MOST_BARS: usize = 2_000;
 
-/// The first fault of a history.
+/// A bad verdict, with the call of that entry and what was due to it.
 #[derive(Clone, Copy, Debug, PartialEq, Eq)]
 pub struct Fault {
     /// The entry, and what it breaks.

@@ -6,7 +6,7 @@ pub fn one_picture()
     ensures { OnePicture }
 {}
 
-/// What is drawn of a bar lies in the window, and so does a point that is marked.
+/// What is drawn of a bar lies in the window, and so does a point that is shown.
 pub fn window_is_kept()
     ensures { WindowIsKept }
 {}

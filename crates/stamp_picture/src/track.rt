@@ -5,7 +5,7 @@ ghost use Rattle.stamp_core.specs.Call.{is_lock_call, call_suits};
 ghost use Rattle.stamp_core.specs.Word.{IsAdmitted};
 ghost use Rattle.stamp_core.specs.declared.entry.Entry.{Entry};
 ghost use Rattle.stamp_picture.specs.Moment.{state_after, mode_in};
-ghost use Rattle.stamp_picture.specs.Due.{IsDue, ContentAnswers};
+ghost use Rattle.stamp_picture.specs.Due.{IsReplyDue, ContentAnswers};
 ghost use Rattle.stamp_picture.specs.Track.{IsTrack, TracksOneMore, Shows, TellsDue};
 
 use crate::state::{Mode, State};

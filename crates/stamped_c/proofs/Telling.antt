@@ -13,10 +13,10 @@ use Rattle.stamp_core.specs.declared.layout.Layout.TheVariants.{One, Two}
 use Rattle.stamp_core.specs.declared.call.Call.{Call}
 use Rattle.stamp_core.specs.declared.lock_decision.LockDecision.{LockDecision}
 use Rattle.stamp_core.specs.declared.lock_decision.LockDecision.TheVariants.{Answer, Change, Wait}
-use Rattle.stamped_c.specs.declared.fault.Fault.{Fault}
-use Rattle.stamped_c.specs.declared.fault.Fault.TheVariants.{UnknownLayout, LimitsOutOfRange, NoWord}
-use Rattle.stamped_c.specs.declared.fault.Fault.TheVariants.{BeyondLimits, UnknownCall}
-use Rattle.stamped_c.specs.declared.found.CLimits.{CLimits}
+use Rattle.stamped_c.specs.declared.error.CError.{CError}
+use Rattle.stamped_c.specs.declared.error.CError.TheVariants.{UnknownLayout, LimitsOutOfRange, NoWord}
+use Rattle.stamped_c.specs.declared.error.CError.TheVariants.{BeyondLimits, UnknownCall}
+use Rattle.stamped_c.specs.declared.structs.CLimits.{CLimits}
 use Rattle.stamped_c.specs.Codes.{decision_in_c}
 use Rattle.stamped_c.specs.Checks.{Then, IsLayoutOf, AreLimitsIn, IsWordUnder, IsCallOf}
 use Rattle.stamped_c.specs.Answers.{IsDecided, IsDecidedIn, IsDecidedUnder, IsDecidedOn, IsDecision, IsToldByWord}
@@ -44,17 +44,17 @@ other_number layout a b x y other e = other
     (ap (λ l. word_in l a.bits) (x ∙ sym y) ∙ ap (λ n. word_in b.layout n) e)
 
 -- the first fact has a value where the whole has one
-record First {A : Type 0} (Holds : Result A Fault → Type 0) (Second : A → Type 0) : Type 0 where
+record First {A : Type 0} (Holds : Result A CError → Type 0) (Second : A → Type 0) : Type 0 where
   value : A
   holds : Holds (Ok value)
   second : Second value
 
-no_fault : {A B : Type 0} {a : A} {b : B} → Ok a ≡ Err b → ⊥
-no_fault e = cc
+no_error : {A B : Type 0} {a : A} {b : B} → Ok a ≡ Err b → ⊥
+no_error e = cc
 
-past : {A B : Type 0} (Holds : Result A Fault → Type 0) (Second : A → Result B Fault → Type 0) (b : B) →
+past : {A B : Type 0} (Holds : Result A CError → Type 0) (Second : A → Result B CError → Type 0) (b : B) →
     Then Holds Second (Ok b) → First Holds (λ a. Second a (Ok b))
-past Holds Second b (inl x) = absurd (no_fault x.2)
+past Holds Second b (inl x) = absurd (no_error x.2)
 past Holds Second b (inr x) = record { value = x.0; holds = x.1; second = x.2 }
 
 -- a decision's word and the one that it is on
@@ -83,7 +83,7 @@ on given number code stamp decision decided =
       decides = c.second;
     }
 
-pub told : (given : CLimits) (number code stamp : ℕ) (decided : Result LockDecision Fault) →
+pub told : (given : CLimits) (number code stamp : ℕ) (decided : Result LockDecision CError) →
     IsDecided given number code stamp decided → IsToldByWord number decided (decision_in_c number decided).word
 told given number code stamp (Ok (Answer reply)) decided =
     let o = on given number code stamp (Answer reply) decided in

@@ -11,46 +11,46 @@ use Rattle.stamp_core.specs.declared.call.Call.{Call}
 use Rattle.stamp_core.specs.declared.lock_decision.LockDecision.{LockDecision}
 use Rattle.stamp_core.specs.declared.lock_decision.LockDecision.TheVariants.{Answer, Change, Wait}
 use Rattle.stamp_core.specs.declared.stamps.StampKind.{StampKind}
-use Rattle.stamped_c.specs.declared.fault.Fault.{Fault}
-use Rattle.stamped_c.specs.declared.found.CLimits.{CLimits}
-use Rattle.stamped_c.specs.declared.found.CDecision.{CDecision}
-use Rattle.stamped_c.specs.declared.found.CKind.{CKind}
-use Rattle.stamped_c.specs.Codes.{layout_of, fault_in_c, decision_in_c, kind_in_c}
+use Rattle.stamped_c.specs.declared.error.CError.{CError}
+use Rattle.stamped_c.specs.declared.structs.CLimits.{CLimits}
+use Rattle.stamped_c.specs.declared.structs.CDecision.{CDecision}
+use Rattle.stamped_c.specs.declared.structs.CKind.{CKind}
+use Rattle.stamped_c.specs.Codes.{layout_of, error_in_c, decision_in_c, kind_in_c}
 use Rattle.stamped_c.specs.Checks.{Then, IsLayoutOf, AreLimitsIn, AreLimitsOf, IsWordOf, IsWordUnder, IsCallOf}
 
--- the core's decision, and no fault
-abbrev pub IsDecision : Bounds → LockWord → Call → Result LockDecision Fault → Type 0
+-- the core's decision, and no error
+abbrev pub IsDecision : Bounds → LockWord → Call → Result LockDecision CError → Type 0
 IsDecision limits word call (Ok decision) = Decides limits word call (decision_as decision)
-IsDecision limits word call (Err fault) = ⊥
+IsDecision limits word call (Err error) = ⊥
 
--- what C gets of a decision on the word of this number, or of a fault, of which the fact holds
-abbrev pub InC : (Result LockDecision Fault → Type 0) → ℕ → CDecision → Type 0
-InC Holds number made = (decided : Result LockDecision Fault) × Holds decided × (made ≡ decision_in_c number decided)
+-- what C gets of a decision on the word of this number, or of an error, of which the fact holds
+abbrev pub InC : (Result LockDecision CError → Type 0) → ℕ → CDecision → Type 0
+InC Holds number made = (decided : Result LockDecision CError) × Holds decided × (made ≡ decision_in_c number decided)
 
 -- first the call, then the decision
-abbrev pub IsDecidedOn : Bounds → LockWord → ℕ → ℕ → Result LockDecision Fault → Type 0
+abbrev pub IsDecidedOn : Bounds → LockWord → ℕ → ℕ → Result LockDecision CError → Type 0
 IsDecidedOn limits word code stamp = Then (IsCallOf code stamp) (λ call. IsDecision limits word call)
 
 -- first the word, then the call
-abbrev pub IsDecidedUnder : Bounds → ℕ → ℕ → ℕ → Result LockDecision Fault → Type 0
+abbrev pub IsDecidedUnder : Bounds → ℕ → ℕ → ℕ → Result LockDecision CError → Type 0
 IsDecidedUnder limits number code stamp = Then (IsWordUnder limits number) (λ word. IsDecidedOn limits word code stamp)
 
 -- first the limits, then the word
-abbrev pub IsDecidedIn : Layout → CLimits → ℕ → ℕ → ℕ → Result LockDecision Fault → Type 0
+abbrev pub IsDecidedIn : Layout → CLimits → ℕ → ℕ → ℕ → Result LockDecision CError → Type 0
 IsDecidedIn layout given number code stamp = Then (AreLimitsIn layout given.readers given.versions)
     (λ limits. IsDecidedUnder limits number code stamp)
 
 -- first the layout
-abbrev pub IsDecided : CLimits → ℕ → ℕ → ℕ → Result LockDecision Fault → Type 0
+abbrev pub IsDecided : CLimits → ℕ → ℕ → ℕ → Result LockDecision CError → Type 0
 IsDecided given number code stamp = Then (IsLayoutOf given.layout) (λ layout.
     IsDecidedIn layout given number code stamp)
 
--- the core's kind, and no fault
-abbrev pub IsKind : Layout → ℕ → Result StampKind Fault → Type 0
+-- the core's kind, and no error
+abbrev pub IsKind : Layout → ℕ → Result StampKind CError → Type 0
 IsKind layout stamp (Ok kind) = HasKind (units_of layout) stamp kind
-IsKind layout stamp (Err fault) = ⊥
+IsKind layout stamp (Err error) = ⊥
 
-abbrev pub IsKindOf : ℕ → ℕ → Result StampKind Fault → Type 0
+abbrev pub IsKindOf : ℕ → ℕ → Result StampKind CError → Type 0
 IsKindOf number stamp = Then (IsLayoutOf number) (λ layout. IsKind layout stamp)
 
 -- the word that represents no events, under all limits of the layout
@@ -64,24 +64,24 @@ AnswersOpening number opening =
 
 -- the facts above, as C gets them
 abbrev pub AnswersLimits : CLimits → ℕ → Type 0
-AnswersLimits given code = (limits : Result Bounds Fault) × AreLimitsOf given limits × (code ≡ fault_in_c limits)
+AnswersLimits given code = (limits : Result Bounds CError) × AreLimitsOf given limits × (code ≡ error_in_c limits)
 
 abbrev pub AnswersWord : CLimits → ℕ → ℕ → Type 0
-AnswersWord given number code = (word : Result LockWord Fault) × IsWordOf given number word × (code ≡ fault_in_c word)
+AnswersWord given number code = (word : Result LockWord CError) × IsWordOf given number word × (code ≡ error_in_c word)
 
--- by the word alone one tells what to do: below 256 it is a wait or a fault, and from 256 on the same
+-- by the word alone one tells what to do: below 256 it is a wait or an error, and from 256 on the same
 -- number where there is nothing to change, and another one where there is
-abbrev pub IsToldByWord : ℕ → Result LockDecision Fault → ℕ → Type 0
+abbrev pub IsToldByWord : ℕ → Result LockDecision CError → ℕ → Type 0
 IsToldByWord number (Ok (Answer reply)) word = (256 ≤ word) × (word ≡ number)
 IsToldByWord number (Ok (Change next reply)) word = (256 ≤ word) × (word ≢ number)
 IsToldByWord number (Ok Wait) word = word < 256
-IsToldByWord number (Err fault) word = word < 256
+IsToldByWord number (Err error) word = word < 256
 
 abbrev pub AnswersDecision : CLimits → ℕ → ℕ → ℕ → CDecision → Type 0
-AnswersDecision given number code stamp made = (decided : Result LockDecision Fault) ×
+AnswersDecision given number code stamp made = (decided : Result LockDecision CError) ×
     IsDecided given number code stamp decided × (made ≡ decision_in_c number decided) ×
     IsToldByWord number decided made.word
 
 abbrev pub AnswersKind : ℕ → ℕ → CKind → Type 0
-AnswersKind number stamp found = (kind : Result StampKind Fault) × IsKindOf number stamp kind ×
+AnswersKind number stamp found = (kind : Result StampKind CError) × IsKindOf number stamp kind ×
     (found ≡ kind_in_c kind)

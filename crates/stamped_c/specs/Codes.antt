@@ -1,4 +1,4 @@
--- The numbers by which C programs name layouts, calls, faults, effects, replies and kinds of stamps.
+-- The numbers by which C programs name layouts, calls, errors, effects, replies and kinds of stamps.
 use Rattle.std.specs.Prelude.{ℕ, ◌==◌, Option, Some, None, Result, Ok, Err, if◌then◌else◌}
 use Rattle.stamp_core.specs.declared.layout.Layout.{Layout}
 use Rattle.stamp_core.specs.declared.layout.Layout.TheVariants.{One, Two}
@@ -15,11 +15,11 @@ use Rattle.stamp_core.specs.declared.lock_decision.LockDecision.{LockDecision}
 use Rattle.stamp_core.specs.declared.lock_decision.LockDecision.TheVariants.{Answer, Change, Wait}
 use Rattle.stamp_core.specs.declared.stamps.StampKind.{StampKind}
 use Rattle.stamp_core.specs.declared.stamps.StampKind.TheVariants as kind
-use Rattle.stamped_c.specs.declared.fault.Fault.{Fault}
-use Rattle.stamped_c.specs.declared.fault.Fault.TheVariants.{UnknownLayout, LimitsOutOfRange, NoWord}
-use Rattle.stamped_c.specs.declared.fault.Fault.TheVariants.{BeyondLimits, UnknownCall}
-use Rattle.stamped_c.specs.declared.found.CDecision.{CDecision}
-use Rattle.stamped_c.specs.declared.found.CKind.{CKind}
+use Rattle.stamped_c.specs.declared.error.CError.{CError}
+use Rattle.stamped_c.specs.declared.error.CError.TheVariants.{UnknownLayout, LimitsOutOfRange, NoWord}
+use Rattle.stamped_c.specs.declared.error.CError.TheVariants.{BeyondLimits, UnknownCall}
+use Rattle.stamped_c.specs.declared.structs.CDecision.{CDecision}
+use Rattle.stamped_c.specs.declared.structs.CKind.{CKind}
 
 abbrev pub layout_of : ℕ → Option Layout
 layout_of n = if n == 1 then Some One else if n == 2 then Some Two else None
@@ -46,13 +46,13 @@ call_of n s =
     else if n == 17 then Some ReadCount
     else None
 
--- 0 is no fault, and what is no fault has a number from 16 on
-abbrev pub fault_code : Fault → ℕ
-fault_code UnknownLayout = 1
-fault_code LimitsOutOfRange = 2
-fault_code NoWord = 3
-fault_code BeyondLimits = 4
-fault_code UnknownCall = 5
+-- 0 is no error, and what is no error has a number from 16 on
+abbrev pub error_code : CError → ℕ
+error_code UnknownLayout = 1
+error_code LimitsOutOfRange = 2
+error_code NoWord = 3
+error_code BeyondLimits = 4
+error_code UnknownCall = 5
 
 -- a reply as a number: 0 where it is no, or a mismatch, or no stamp
 abbrev pub reply_number : LockReply → ℕ
@@ -75,20 +75,20 @@ made_in_c word (Answer reply) = replied_in_c word reply
 made_in_c word (Change next reply) = replied_in_c next.bits reply
 made_in_c word Wait = unreplied_in_c 16
 
--- the same, or a fault
-abbrev pub decision_in_c : ℕ → Result LockDecision Fault → CDecision
+-- the same, or an error
+abbrev pub decision_in_c : ℕ → Result LockDecision CError → CDecision
 decision_in_c word (Ok decision) = made_in_c word decision
-decision_in_c word (Err fault) = unreplied_in_c (fault_code fault)
+decision_in_c word (Err error) = unreplied_in_c (error_code error)
 
--- a kind of stamp, or a fault, as C gets it
-abbrev pub kind_in_c : Result StampKind Fault → CKind
+-- a kind of stamp, or an error, as C gets it
+abbrev pub kind_in_c : Result StampKind CError → CKind
 kind_in_c (Ok kind.Neither) = record { kind = 16; version = 0; readers = 0 }
 kind_in_c (Ok (kind.Write k)) = record { kind = 17; version = k; readers = 0 }
 kind_in_c (Ok (kind.Read k c)) = record { kind = 18; version = k; readers = c }
 kind_in_c (Ok (kind.Optimistic k)) = record { kind = 19; version = k; readers = 0 }
-kind_in_c (Err fault) = record { kind = fault_code fault; version = 0; readers = 0 }
+kind_in_c (Err error) = record { kind = error_code error; version = 0; readers = 0 }
 
--- 0, or the fault
-abbrev pub fault_in_c : {A : Type 0} → Result A Fault → ℕ
-fault_in_c (Ok _) = 0
-fault_in_c (Err fault) = fault_code fault
+-- 0, or the error
+abbrev pub error_in_c : {A : Type 0} → Result A CError → ℕ
+error_in_c (Ok _) = 0
+error_in_c (Err error) = error_code error

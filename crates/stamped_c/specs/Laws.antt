@@ -1,6 +1,6 @@
 -- Laws of the exported functions: for each input one answer alone is due.
 use Rattle.std.specs.Prelude.{ℕ, ◌≡◌}
-use Rattle.stamped_c.specs.declared.found.CLimits.{CLimits}
+use Rattle.stamped_c.specs.declared.structs.CLimits.{CLimits}
 use Rattle.stamped_c.specs.Answers.{AnswersOpening, AnswersLimits, AnswersWord, AnswersDecision, AnswersKind}
 
 -- no two answers have the fact

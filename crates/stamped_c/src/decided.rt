@@ -7,8 +7,8 @@ ghost use Rattle.stamped_c.specs.Codes.{call_of};
 ghost use Rattle.stamped_c.specs.Answers.{InC, IsDecidedOn, IsDecidedUnder, IsDecidedIn, IsDecided};
 
 use crate::checks::{checked_layout, checked_word, limits_in};
-use crate::fault::Fault;
-use crate::found::{CDecision, CLimits};
+use crate::error::CError;
+use crate::structs::{CDecision, CLimits};
 use stamp_core::{Call, Layout, Limits, Word, decide_lock};
 
 /// What this call does with a word that the limits admit.
@@ -47,7 +47,7 @@ fn decided_on<const LAYOUT: u32>(limits: Limits, word: Word, code: u32, stamp: u
         15 => called(limits, word, Call::IsWriteLocked),
         16 => called(limits, word, Call::IsReadLocked),
         17 => called(limits, word, Call::ReadCount),
-        _ => CDecision::fault(Fault::UnknownCall),
+        _ => CDecision::error(CError::UnknownCall),
     }
 }
 
@@ -58,7 +58,7 @@ fn decided_under<const LAYOUT: u32>(limits: Limits, number: u64, code: u32, stam
 {
     match checked_word(limits, number) {
         Ok(word) => decided_on::<LAYOUT>(limits, word, code, stamp),
-        Err(fault) => CDecision::fault(fault),
+        Err(error) => CDecision::error(error),
     }
 }
 
@@ -75,17 +75,17 @@ fn decided_in<const LAYOUT: u32>(
 {
     match limits_in(layout, given.readers, given.versions) {
         Ok(limits) => decided_under::<LAYOUT>(limits, number, code, stamp),
-        Err(fault) => CDecision::fault(fault),
+        Err(error) => CDecision::error(error),
     }
 }
 
-/// What the call of this code does with the word of this number, or the first fault of what was given.
+/// What the call of this code does with the word of this number, or the first error of what was given.
 pub(crate) fn decided(given: CLimits, number: u64, code: u32, stamp: u64) -> CDecision
     ensures { InC (IsDecided given number code stamp) number result }
 {
     match checked_layout(given.layout) {
         Ok(Layout::One) => decided_in::<1>(Layout::One, given, number, code, stamp),
         Ok(Layout::Two) => decided_in::<2>(Layout::Two, given, number, code, stamp),
-        Err(fault) => CDecision::fault(fault),
+        Err(error) => CDecision::error(error),
     }
 }

@@ -4,8 +4,8 @@ ghost use Rattle.stamped_c.specs.Answers.{IsKindOf, AnswersOpening, AnswersLimit
 
 use crate::checks::{checked_layout, checked_limits, checked_word};
 use crate::decided::decided;
-use crate::fault::Fault;
-use crate::found::{CDecision, CKind, CLimits};
+use crate::error::CError;
+use crate::structs::{CDecision, CKind, CLimits};
 use stamp_core::{StampKind, Word, stamp_kind_in};
 
 /// The word of a new lock; 0, which is no word, where the number names no layout.
@@ -26,11 +26,11 @@ pub extern "C" fn stamped_check_limits(limits: CLimits) -> u32
 {
     match checked_limits(limits) {
         Ok(_) => 0,
-        Err(fault) => fault.code(),
+        Err(error) => error.code(),
     }
 }
 
-fn word_of(given: CLimits, number: u64) -> Result<Word, Fault>
+fn word_of(given: CLimits, number: u64) -> Result<Word, CError>
     ensures { IsWordOf given number result }
 {
     let limits = checked_limits(given)?;
@@ -45,11 +45,11 @@ pub extern "C" fn stamped_check_word(limits: CLimits, word: u64) -> u32
 {
     match word_of(limits, word) {
         Ok(_) => 0,
-        Err(fault) => fault.code(),
+        Err(error) => error.code(),
     }
 }
 
-/// What a call is to do with the word that it finds; or the first fault, as `stamped_check_word`, or
+/// What a call is to do with the word that it finds; or the first error, as `stamped_check_word`, or
 /// 5 `UnknownCall`.
 #[unsafe(no_mangle)]
 pub extern "C" fn stamped_decide(limits: CLimits, word: u64, call: u32, stamp: u64) -> CDecision
@@ -58,7 +58,7 @@ pub extern "C" fn stamped_decide(limits: CLimits, word: u64, call: u32, stamp: u
     decided(limits, word, call, stamp)
 }
 
-fn kind_of(layout: u32, stamp: u64) -> Result<StampKind, Fault>
+fn kind_of(layout: u32, stamp: u64) -> Result<StampKind, CError>
     ensures { IsKindOf layout stamp result }
 {
     let known = checked_layout(layout)?;

@@ -5,13 +5,13 @@
 mod checks;
 mod codes;
 mod decided;
+mod error;
 mod exports;
-mod fault;
-mod found;
 pub mod laws;
+mod structs;
 
+pub use error::CError;
 pub use exports::{
     stamped_check_limits, stamped_check_word, stamped_decide, stamped_kind_of, stamped_opening,
 };
-pub use fault::Fault;
-pub use found::{CDecision, CKind, CLimits};
+pub use structs::{CDecision, CKind, CLimits};

@@ -15,8 +15,8 @@ use Rattle.stamp_drawing.specs.Markup.{IsDocument}
 use Rattle.stamp_drawing.specs.Sheet.{IsSheet}
 use Rattle.stamp_drawing.specs.Svg.{svg_text}
 use Rattle.stamp_drawing.specs.Rows.{IsRows, AreNarrow}
-use Rattle.stamped_picture.specs.declared.orders.Form.{Form}
-use Rattle.stamped_picture.specs.declared.orders.Form.TheVariants.{Svg, Text}
+use Rattle.stamped_picture.specs.declared.orders.PictureFormat.{PictureFormat}
+use Rattle.stamped_picture.specs.declared.orders.PictureFormat.TheVariants.{Svg, Text}
 use Rattle.stamped_picture.specs.declared.orders.PictureOrder.{PictureOrder}
 use Rattle.stamped_picture.specs.declared.answer.Drawing as made
 use Rattle.stamped_picture.specs.declared.faults.PictureFault.{PictureFault}
@@ -42,7 +42,7 @@ pub record IsSvg (style : List ℕ) (picture : Drawn) (text : List ℕ) : Type 0
   pub document : IsDocument text
 
 -- the picture is drawn so: as SVG, or as lines of at most so many characters
-unfoldable pub IsDrawnAs : Form → List ℕ → Drawn → List ℕ → Type 0
+unfoldable pub IsDrawnAs : PictureFormat → List ℕ → Drawn → List ℕ → Type 0
 IsDrawnAs Svg style picture text = IsSvg style picture text
 IsDrawnAs (Text width) style picture text = IsRows width picture text × AreNarrow width text
 
@@ -51,7 +51,7 @@ pub record IsDrawnText (style : List ℕ) (order : PictureOrder) (history : Reco
     Type 0 where
   pub picture : Drawn
   pub is_picture : IsPicture history order.window picture
-  pub drawn : IsDrawnAs order.form style picture drawing.text
+  pub drawn : IsDrawnAs order.format style picture drawing.text
   pub verdict : drawing.verdict ≡ verdict_in picture.verdict
 
 -- the bars are too many, and the fault says how many

@@ -8,8 +8,8 @@ use Rattle.stamp_cli.specs.Order.{number_in}
 use Rattle.stamp_cli.specs.declared.orders.CommandFault.{CommandFault}
 use Rattle.stamp_cli.specs.declared.orders.CommandFault.TheVariants.{Bad}
 use Rattle.stamp_picture.specs.declared.window.Window.{Window}
-use Rattle.stamped_picture.specs.declared.orders.Form.{Form}
-use Rattle.stamped_picture.specs.declared.orders.Form.TheVariants.{Svg, Text}
+use Rattle.stamped_picture.specs.declared.orders.PictureFormat.{PictureFormat}
+use Rattle.stamped_picture.specs.declared.orders.PictureFormat.TheVariants.{Svg, Text}
 use Rattle.stamped_picture.specs.declared.orders.PictureOrder.{PictureOrder}
 
 -- a number that is not 0
@@ -17,12 +17,12 @@ abbrev pub width_in : List ℕ → Option ℕ
 width_in text = option_and_then (λ (n : ℕ). if n == 0 then None else Some n) (number_in text)
 
 -- --text, which is lines of 80 characters
-abbrev pub text_form : List ℕ → Option Form
-text_form text = if bytes_eq text (codes "--text") then Some (Text 80) else None
+abbrev pub text_format : List ℕ → Option PictureFormat
+text_format text = if bytes_eq text (codes "--text") then Some (Text 80) else None
 
 -- --text --width N, which is lines of N characters
-abbrev pub wide_form : List ℕ → List ℕ → List ℕ → Option Form
-wide_form text option width =
+abbrev pub wide_format : List ℕ → List ℕ → List ℕ → Option PictureFormat
+wide_format text option width =
     if bytes_eq text (codes "--text") && bytes_eq option (codes "--width")
     then option_map Text (width_in width) else None
 
@@ -43,25 +43,25 @@ window_in option from other to =
 abbrev pub all : Option Window
 all = Some (window 0 18446744073709551615)
 
-abbrev pub order : Form → Window → PictureOrder
-order form w = record { form = form; window = w }
+abbrev pub order : PictureFormat → Window → PictureOrder
+order format w = record { format = format; window = w }
 
-abbrev pub both : Option Form → Option Window → Option PictureOrder
-both form w = option_and_then (λ (f : Form). option_map (λ (found : Window). order f found) w) form
+abbrev pub both : Option PictureFormat → Option Window → Option PictureOrder
+both format w = option_and_then (λ (f : PictureFormat). option_map (λ (found : Window). order f found) w) format
 
 -- the forms with --from A --to B: of SVG, of --text and of --text --width N
 abbrev pub form_within : List (List ℕ) → Option PictureOrder
 form_within (option ∷ from ∷ other ∷ to ∷ []) = both (Some Svg) (window_in option from other to)
-form_within (text ∷ option ∷ from ∷ other ∷ to ∷ []) = both (text_form text) (window_in option from other to)
+form_within (text ∷ option ∷ from ∷ other ∷ to ∷ []) = both (text_format text) (window_in option from other to)
 form_within (text ∷ wide ∷ width ∷ option ∷ from ∷ other ∷ to ∷ []) =
-    both (wide_form text wide width) (window_in option from other to)
+    both (wide_format text wide width) (window_in option from other to)
 form_within _ = None
 
 -- the forms of the command line: no argument, --text, --text --width N, or one of these with --from A --to B behind
 abbrev pub form_of : List (List ℕ) → Option PictureOrder
 form_of [] = both (Some Svg) all
-form_of (text ∷ []) = both (text_form text) all
-form_of (text ∷ option ∷ width ∷ []) = both (wide_form text option width) all
+form_of (text ∷ []) = both (text_format text) all
+form_of (text ∷ option ∷ width ∷ []) = both (wide_format text option width) all
 form_of args = form_within args
 
 -- the order that arguments give

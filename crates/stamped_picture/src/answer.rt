@@ -11,7 +11,7 @@ ghost use Rattle.stamped_picture.specs.Answer.{IsSvg, IsDrawnAs, IsDrawnText, Is
 ghost use Rattle.stamped_picture.specs.Answer.{AnswersSource, IsPictureAnswer, IsRefused, drawing_in, is_of_end, verdict_in};
 
 use crate::faults::PictureFault;
-use crate::orders::{Form, PictureOrder};
+use crate::orders::{PictureFormat, PictureOrder};
 use stamp_cli::{MOST_BYTES, ServeFault, Source, Verdict, read_input};
 use stamp_core::Record;
 use stamp_drawing::{sheet_of, svg_of, text_of};
@@ -52,17 +52,17 @@ fn svg_drawn(alloc: Global, style: &str, picture: &Picture) -> Result<Vec<u8>, A
 #[tactic(auto, unfolding(crate::specs::Answer::IsDrawnAs))]
 fn drawn_as(
     alloc: Global,
-    form: Form,
+    format: PictureFormat,
     style: &str,
     picture: &Picture,
 ) -> Result<Vec<u8>, AllocError>
     requires few { length picture.now.bars ≤ most_bars }
     requires lanes { All (λ bar. bar.lane < 64) picture.now.bars }
-    ensures { IfOk result (λ text. IsDrawnAs form style.now picture.now text.items) }
+    ensures { IfOk result (λ text. IsDrawnAs format style.now picture.now text.items) }
 {
-    match form {
-        Form::Svg => svg_drawn(alloc, style, picture),
-        Form::Text(width) => text_of(alloc, picture, width as usize),
+    match format {
+        PictureFormat::Svg => svg_drawn(alloc, style, picture),
+        PictureFormat::Text(width) => text_of(alloc, picture, width as usize),
     }
 }
 
@@ -78,7 +78,7 @@ fn drawing_of(
 {
     let picture = picture_of(alloc, history, order.window)?;
     Ok(Drawing {
-        text: drawn_as(alloc, order.form, style, &picture)?,
+        text: drawn_as(alloc, order.format, style, &picture)?,
         verdict: verdict_of(picture.verdict()),
     })
 }

@@ -1,14 +1,14 @@
 //! The command line.
 
 ghost use Rattle.std.specs.Prelude.{◌≡◌, map, option_and_then, option_map};
-ghost use Rattle.stamped_picture.specs.Order.{width_in, text_form, wide_form, window_of, window_in, both, form_within, form_of, order_in};
+ghost use Rattle.stamped_picture.specs.Order.{width_in, text_format, wide_format, window_of, window_in, both, form_within, form_of, order_in};
 
 use stamp_cli::{CommandFault, number_in};
 use stamp_picture::Window;
 
 /// How a picture is drawn.
 #[derive(Clone, Copy)]
-pub(crate) enum Form {
+pub(crate) enum PictureFormat {
     /// As SVG.
     Svg,
     /// As lines of at most so many characters.
@@ -19,7 +19,7 @@ pub(crate) enum Form {
 #[derive(Clone, Copy)]
 pub(crate) struct PictureOrder {
     /// How.
-    pub(crate) form: Form,
+    pub(crate) format: PictureFormat,
     /// The part of the history.
     pub(crate) window: Window,
 }
@@ -34,21 +34,21 @@ fn width_in(text: &str) -> Option<u64>
 }
 
 /// Lines for a terminal.
-fn text_form(text: &str) -> Option<Form>
-    ensures { result ≡ text_form text.now }
+fn text_format(text: &str) -> Option<PictureFormat>
+    ensures { result ≡ text_format text.now }
 {
     if text == "--text" {
-        Some(Form::Text(80))
+        Some(PictureFormat::Text(80))
     } else {
         None
     }
 }
 
-fn wide_form(text: &str, option: &str, width: &str) -> Option<Form>
-    ensures { result ≡ wide_form text.now option.now width.now }
+fn wide_format(text: &str, option: &str, width: &str) -> Option<PictureFormat>
+    ensures { result ≡ wide_format text.now option.now width.now }
 {
     if text == "--text" && option == "--width" {
-        Some(Form::Text(width_in(width)?))
+        Some(PictureFormat::Text(width_in(width)?))
     } else {
         None
     }
@@ -76,11 +76,11 @@ fn window_in(option: &str, from: &str, other: &str, to: &str) -> Option<Window>
     }
 }
 
-fn both(form: Option<Form>, window: Option<Window>) -> Option<PictureOrder>
-    ensures { result ≡ both form window }
+fn both(format: Option<PictureFormat>, window: Option<Window>) -> Option<PictureOrder>
+    ensures { result ≡ both format window }
 {
     Some(PictureOrder {
-        form: form?,
+        format: format?,
         window: window?,
     })
 }
@@ -90,12 +90,15 @@ fn form_within(args: &[&str]) -> Option<PictureOrder>
     ensures { result ≡ form_within (map (λ arg. arg.now) args.now) }
 {
     match args {
-        [option, from, other, to] => both(Some(Form::Svg), window_in(option, from, other, to)),
+        [option, from, other, to] => both(
+            Some(PictureFormat::Svg),
+            window_in(option, from, other, to),
+        ),
         [text, option, from, other, to] => {
-            both(text_form(text), window_in(option, from, other, to))
+            both(text_format(text), window_in(option, from, other, to))
         }
         [text, wide, width, option, from, other, to] => both(
-            wide_form(text, wide, width),
+            wide_format(text, wide, width),
             window_in(option, from, other, to),
         ),
         _ => None,
@@ -107,9 +110,9 @@ fn form_of(args: &[&str]) -> Option<PictureOrder>
 {
     let all = Some(Window::all());
     match args {
-        [] => both(Some(Form::Svg), all),
-        [text] => both(text_form(text), all),
-        [text, option, width] => both(wide_form(text, option, width), all),
+        [] => both(Some(PictureFormat::Svg), all),
+        [text] => both(text_format(text), all),
+        [text, option, width] => both(wide_format(text, option, width), all),
         _ => form_within(args),
     }
 }

@@ -13,7 +13,7 @@ ghost use Rattle.stamped_picture.specs.Answer.{DrawingView, AnswersSource};
 use crate::answer::drawing_from;
 use crate::faults::PictureFault;
 use crate::orders::PictureOrder;
-use stamp_cli::{Sink, Source, Verdict, write_line};
+use stamp_cli::{Sink, Source, Verdict, write_text};
 use std::alloc::Global;
 
 /// Answers the order: reads all of the source and writes one picture, or says why not.
@@ -50,6 +50,6 @@ pub(crate) fn serve<S: Source, K: Sink>(
         × MakesAtMost (K.writes sink.old) (K.writes sink.new) (length drawing.text) (length drawing.text)) }
 {
     let drawing = drawing_from(alloc, order, style, source)?;
-    write_line(sink, &drawing.text)?;
+    write_text(sink, &drawing.text)?;
     Ok(drawing.verdict)
 }

@@ -6,8 +6,8 @@ returns-in_err-text-clause-refused g c =
     same_fault c.from_residual.result c.in_err-text.field-0.0 _ c.from_residual.ensures.1
     (λ read write memory. c.in_err-text.ensures.err read memory)
 
-pub returns-in_err-write_line-clause-refused : goal.returns-in_err-write_line-clause-refused
-returns-in_err-write_line-clause-refused g c =
-    same_fault c.from_residual-in_err-write_line.result c.in_err-write_line.field-0.0 _
-    c.from_residual-in_err-write_line.ensures.1
-    (λ read write memory. absurd (write c.in_err-write_line.ensures.err))
+pub returns-in_err-write_text-clause-refused : goal.returns-in_err-write_text-clause-refused
+returns-in_err-write_text-clause-refused g c =
+    same_fault c.from_residual-in_err-write_text.result c.in_err-write_text.field-0.0 _
+    c.from_residual-in_err-write_text.ensures.1
+    (λ read write memory. absurd (write c.in_err-write_text.ensures.err))

@@ -1,7 +1,7 @@
 use Rattle.std.proofs.Common.{◌∙◌, ◌++◌, List, ℕ, ap, map}
 use Rattle.std.specs.List.{concat}
 use Rattle.stamp_picture.specs.declared.bar.Bar.{Bar}
-use Rattle.stamp_drawing.specs.Places.{lanes_in}
+use Rattle.stamp_drawing.specs.Frames.{lanes_in}
 use Rattle.stamp_drawing.specs.Rows.{bars_at, lanes_text, time_text, told_text, left_text, row_text}
 use Rattle.stamp_drawing.proofs.Appending.{onto}
 use Rattle.stamp_drawing.proofs.rows.row_of.Goals as goal

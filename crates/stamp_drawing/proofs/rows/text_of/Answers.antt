@@ -4,7 +4,7 @@ use Rattle.std.specs.List.{concat}
 use Rattle.stamp_picture.specs.declared.bar.Bar.{Bar}
 use Rattle.stamp_picture.specs.declared.picture.Fault.{Fault}
 use Rattle.stamp_picture.specs.declared.state.State.{State}
-use Rattle.stamp_drawing.specs.Places.{lanes_in}
+use Rattle.stamp_drawing.specs.Frames.{lanes_in}
 use Rattle.stamp_drawing.specs.Labels.{verdict_text}
 use Rattle.stamp_drawing.specs.Rows.{row_text, cut_text, legend_text, at_first_text, heading_text, lines_of, AreTimes}
 use Rattle.stamp_drawing.specs.Rows.{AreNarrow}
@@ -25,7 +25,8 @@ returns-clause-rows c =
     let first_is = c.as_bytes-2.ensures.value ∙ c.in_ok-first.ensures
     ∙ ap (λ (s : State). at_first_text s) c.opening.ensures in
     let heading_is = c.deref.ensures.value ∙ c.in_ok-heading.ensures
-    ∙ ap (λ (n : ℕ). heading_text n) (c.lanes_in.ensures.is ∙ ap (λ (bars : List Bar). lanes_in bars) c.bars.ensures) in
+    ∙ ap (λ (n : ℕ). heading_text n)
+    (c.lanes_in.ensures.is ∙ ap (λ (bars : List Bar). lanes_in bars) c.bars.ensures) in
     let last_is = c.as_bytes-3.ensures.value ∙ c.in_ok-verdict.ensures.ok
     ∙ ap (λ (v : Result ℕ Fault). verdict_text v) c.verdict.ensures in
     record {

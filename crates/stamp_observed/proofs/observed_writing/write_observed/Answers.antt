@@ -13,5 +13,5 @@ returns-clause-text c = c.in_ok-push_observed.ensures.text ∙
 pub returns-clause-again : goal.returns-clause-again
 returns-clause-again c = λ suited.
     let written : c.push_observed.new.text.items ≡ observed_text c.args.observed.now = returns-clause-text c in
-    ap observed_of written ∙ reads_again c.args.observed.now c.in_ok-push_observed.ensures.range c.entries.ensures.small
-    suited c.in_ok-push_observed.ensures.fits
+    ap observed_of written ∙ reads_again c.args.observed.now c.in_ok-push_observed.ensures.range
+    c.entries.ensures.small suited c.in_ok-push_observed.ensures.fits

@@ -11,8 +11,8 @@ returns-clause-judged c = (
   λ f at.
       let due = due_at c.args.history.now c.limits-limits.result c.width.result c.entries-entries.result.now
       c.in-Err.bad.entry c.track_after-track.result c.index-entries-at.result c.answer.result c.limits-limits.ensures
-      c.width.ensures c.entries-entries.ensures.entries c.entries-entries.ensures.known.suit c.track_after-track.ensures
-      c.index-entries-at.is
+      c.width.ensures c.entries-entries.ensures.entries c.entries-entries.ensures.known.suit
+      c.track_after-track.ensures c.index-entries-at.is
       (subst (λ (e : Entry). TellsDue c.limits-limits.result c.track_after-track.result e.call c.answer.result)
       (sym c.index-entries-at.is) c.answer.ensures) f at in
       (ap (λ (e : Entry). e.call) (sym c.index-entries-at.is) ∙ due.0, due.1),

@@ -1,10 +1,10 @@
 use Rattle.std.proofs.Common.{rules, ◌≡◌, refl}
 use Rattle.std.specs.Prelude.{None}
-use Rattle.stamped_c.specs.declared.fault.Fault.TheVariants.{UnknownCall}
+use Rattle.stamped_c.specs.declared.error.CError.TheVariants.{UnknownCall}
 use Rattle.stamped_c.specs.Codes.{call_of}
 use Rattle.stamped_c.specs.Checks.{IsCallOf}
 use Rattle.stamped_c.specs.Answers.{IsDecision}
-use Rattle.stamped_c.proofs.Steps.{at_fault}
+use Rattle.stamped_c.proofs.Steps.{at_error}
 use Rattle.stamped_c.proofs.decided.decided_on.Goals as goal
 
 pub returns-in-1 : goal.returns-in-1
@@ -62,5 +62,5 @@ pub returns-in_default : goal.returns-in_default
 returns-in_default g c =
     let a = c.args in
     let none : call_of a.code a.stamp ≡ None = search rules in
-    at_fault (IsCallOf a.code a.stamp) (λ call. IsDecision a.limits a.word call) _ UnknownCall _ none
-    c.fault.ensures
+    at_error (IsCallOf a.code a.stamp) (λ call. IsDecision a.limits a.word call) _ UnknownCall _ none
+    c.error.ensures

@@ -2,7 +2,7 @@ use Rattle.std.proofs.Common.{◌≡◌, ap, ◌∙◌}
 use Rattle.stamped_c.specs.Codes.{decision_in_c}
 use Rattle.stamped_c.specs.Checks.{IsWordUnder}
 use Rattle.stamped_c.specs.Answers.{IsDecidedOn}
-use Rattle.stamped_c.proofs.Steps.{at_fault, after}
+use Rattle.stamped_c.proofs.Steps.{at_error, after}
 use Rattle.stamped_c.proofs.decided.decided_under.Goals as goal
 
 pub returns-in-Ok : goal.returns-in-Ok
@@ -16,5 +16,5 @@ returns-in-Ok g c =
 pub returns-in-Err : goal.returns-in-Err
 returns-in-Err g c =
     let a = c.args in
-    at_fault (IsWordUnder a.limits a.number) (λ word. IsDecidedOn a.limits word a.code a.stamp) _ _ _
-    c.in-Err.ensures c.fault.ensures
+    at_error (IsWordUnder a.limits a.number) (λ word. IsDecidedOn a.limits word a.code a.stamp) _ _ _
+    c.in-Err.ensures c.error.ensures

@@ -3,8 +3,8 @@ use Rattle.stamp_cli.proofs.HandedOn.{same_fault}
 use Rattle.stamped_picture.specs.declared.faults.PictureFault.TheVariants.{Serve}
 use Rattle.stamped_picture.proofs.serving.serve.Goals as goal
 
-pub returns-in_err-write_line-clause-refused : goal.returns-in_err-write_line-clause-refused
-returns-in_err-write_line-clause-refused g c =
-    same_fault c.from_residual-in_err-write_line.result (Serve c.in_err-write_line.field-0.0) _
-    c.from_residual-in_err-write_line.ensures.1
-    (λ read write memory. absurd (write (ap Serve c.in_err-write_line.ensures.err)))
+pub returns-in_err-write_text-clause-refused : goal.returns-in_err-write_text-clause-refused
+returns-in_err-write_text-clause-refused g c =
+    same_fault c.from_residual-in_err-write_text.result (Serve c.in_err-write_text.field-0.0) _
+    c.from_residual-in_err-write_text.ensures.1
+    (λ read write memory. absurd (write (ap Serve c.in_err-write_text.ensures.err)))

@@ -1,6 +1,0 @@
-use Rattle.std.proofs.Common.{◌≡◌, take}
-use Rattle.stamp_drawing.specs.Sheet.{boxes_of, mark_boxes}
-use Rattle.stamp_drawing.proofs.sheet.mark_shapes.Given as goal
-
-abbrev pub invariant-loop-bar : goal.invariant-loop-bar
-invariant-loop-bar l = boxes_of l.shapes.items ≡ mark_boxes l.ends (take l.bar-index l.bars)

@@ -1,0 +1,8 @@
+use Rattle.std.proofs.Common.{◌≡◌, ◌∷◌, map, take}
+use Rattle.stamp_drawing.specs.Frames.{opening_frame}
+use Rattle.stamp_drawing.specs.Sheet.{boxes_of, state_box, moment_box}
+use Rattle.stamp_drawing.proofs.sheet.ribbon_boxes.Given as goal
+
+abbrev pub invariant-loop-moment : goal.invariant-loop-moment
+invariant-loop-moment l = boxes_of l.boxes.items ≡
+    state_box (opening_frame l.ends l.opening) l.opening ∷ map (moment_box l.ends) (take l.moment-index l.ribbon)

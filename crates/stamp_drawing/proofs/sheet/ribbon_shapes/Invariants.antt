@@ -1,8 +1,0 @@
-use Rattle.std.proofs.Common.{◌≡◌, ◌∷◌, map, take}
-use Rattle.stamp_drawing.specs.Places.{opening_place}
-use Rattle.stamp_drawing.specs.Sheet.{boxes_of, state_box, moment_box}
-use Rattle.stamp_drawing.proofs.sheet.ribbon_shapes.Given as goal
-
-abbrev pub invariant-loop-moment : goal.invariant-loop-moment
-invariant-loop-moment l = boxes_of l.shapes.items ≡
-    state_box (opening_place l.ends l.opening) l.opening ∷ map (moment_box l.ends) (take l.moment-index l.ribbon)
