@@ -20,7 +20,7 @@ use Rattle.stamp_cli.specs.declared.orders.Order.{Order}
 use Rattle.stamp_cli.specs.declared.orders.Order.TheVariants as order
 use Rattle.stamp_cli.specs.Answer.{LineView, IsWaitFault, IsReplayAnswer, IsInputAnswer, IsCheckAnswer, IsMigrateAnswer}
 use Rattle.stamp_cli.specs.Answer.{AnswersReplay, AnswersRun, AnswersReportedRun, AnswersCheck, AnswersMigrate}
-use Rattle.stamp_cli.specs.Answer.{IsStampAnswer, IsAccepted, IsOrderAnswer}
+use Rattle.stamp_cli.specs.Answer.{IsStampAnswer, IsAccepted, AnswersOrder, IsOrderAnswer}
 use Rattle.stamp_cli.specs.CheckText.{check_verdict_text, verdict_of}
 use Rattle.stamp_cli.specs.Source.{most_bytes}
 use Rattle.stamp_cli.specs.StampText.{kind_text}
@@ -141,19 +141,17 @@ one_migration (Err e) a b x y = x ∙ sym y
 one_to_migrate : IsOnce AnswersMigrate
 one_to_migrate input a b x y = one_migration (recorded_of input) a b x y
 
--- of an input's accepted text
-one_text : (IsSo : List ℕ → Result (List ℕ) ServeFault → Type 0) → IsOnce IsSo →
-    (input : List ℕ) (a b : Result LineView ServeFault) → IsAccepted (IsInputAnswer IsSo input) a →
-    IsAccepted (IsInputAnswer IsSo input) b → a ≡ b
-one_text IsSo once input a b x y = one_accepted (IsInputAnswer IsSo input) (one_to_input IsSo once input) a b x y
+one_to_order : (o : Order) → IsOnce (AnswersOrder o)
+one_to_order order.Replay input a b x y = one_accepted (AnswersReplay input) (one_to_replay input) a b x y
+one_to_order order.Run input a b x y = one_accepted (AnswersRun input) (one_to_run input) a b x y
+one_to_order order.RunReported input a b x y =
+    one_accepted (AnswersReportedRun input) (one_to_reported_run input) a b x y
+one_to_order order.Check input a b x y = one_to_check input a b x y
+one_to_order order.Migrate input a b x y = one_accepted (AnswersMigrate input) (one_to_migrate input) a b x y
+one_to_order (order.Stamp n) input a b x y = one_accepted (IsStampAnswer One n) (one_to_stamp One n) a b x y
+one_to_order (order.StampIn layout n) input a b x y =
+    one_accepted (IsStampAnswer layout n) (one_to_stamp layout n) a b x y
 
 pub one_answer : (o : Order) (input : List ℕ) (a b : Result LineView ServeFault) → IsOrderAnswer o input a →
     IsOrderAnswer o input b → a ≡ b
-one_answer order.Replay input a b x y = one_text AnswersReplay one_to_replay input a b x y
-one_answer order.Run input a b x y = one_text AnswersRun one_to_run input a b x y
-one_answer order.RunReported input a b x y = one_text AnswersReportedRun one_to_reported_run input a b x y
-one_answer order.Check input a b x y = one_to_input AnswersCheck one_to_check input a b x y
-one_answer order.Migrate input a b x y = one_text AnswersMigrate one_to_migrate input a b x y
-one_answer (order.Stamp n) input a b x y = one_accepted (IsStampAnswer One n) (one_to_stamp One n) a b x y
-one_answer (order.StampIn layout n) input a b x y =
-    one_accepted (IsStampAnswer layout n) (one_to_stamp layout n) a b x y
+one_answer o input a b x y = one_to_input (AnswersOrder o) (one_to_order o) input a b x y

@@ -111,15 +111,19 @@ abbrev pub IsAccepted : (Result (List ℕ) ServeFault → Type 0) → Result Lin
 IsAccepted IsSo (Ok line) = IsSo (Ok line.text) × (line.verdict ≡ Accepted)
 IsAccepted IsSo (Err fault) = IsSo (Err fault)
 
--- the answer to an order, without the line feed
+-- the answer to an order by an input that is not too long, without the line feed
+abbrev pub AnswersOrder : Order → List ℕ → Result LineView ServeFault → Type 0
+AnswersOrder order.Replay input answer = IsAccepted (AnswersReplay input) answer
+AnswersOrder order.Run input answer = IsAccepted (AnswersRun input) answer
+AnswersOrder order.RunReported input answer = IsAccepted (AnswersReportedRun input) answer
+AnswersOrder order.Check input answer = AnswersCheck input answer
+AnswersOrder order.Migrate input answer = IsAccepted (AnswersMigrate input) answer
+AnswersOrder (order.Stamp n) input answer = IsAccepted (IsStampAnswer One n) answer
+AnswersOrder (order.StampIn layout n) input answer = IsAccepted (IsStampAnswer layout n) answer
+
+-- the answer to an order by any input; that of a stamp is empty, and so never too long
 abbrev pub IsOrderAnswer : Order → List ℕ → Result LineView ServeFault → Type 0
-IsOrderAnswer order.Replay input answer = IsAccepted (IsInputAnswer AnswersReplay input) answer
-IsOrderAnswer order.Run input answer = IsAccepted (IsInputAnswer AnswersRun input) answer
-IsOrderAnswer order.RunReported input answer = IsAccepted (IsInputAnswer AnswersReportedRun input) answer
-IsOrderAnswer order.Check input answer = IsInputAnswer AnswersCheck input answer
-IsOrderAnswer order.Migrate input answer = IsAccepted (IsInputAnswer AnswersMigrate input) answer
-IsOrderAnswer (order.Stamp n) input answer = IsAccepted (IsStampAnswer One n) answer
-IsOrderAnswer (order.StampIn layout n) input answer = IsAccepted (IsStampAnswer layout n) answer
+IsOrderAnswer order input answer = IsInputAnswer (AnswersOrder order) input answer
 
 -- input is what an order reads of a source
 abbrev pub OrderReads : Order → Option (List ℕ) → Option (List ℕ) → List ℕ → Type 0

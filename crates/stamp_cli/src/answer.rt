@@ -6,16 +6,16 @@ ghost use Rattle.stamp_cli.specs.Refusal.{is_of_end};
 ghost use Rattle.stamp_cli.specs.Serving.{HasRead};
 ghost use Rattle.stamp_cli.specs.Results.{FailsWithARead, GivesAllTaken, IsReadOrMemoryFault, MakesAtMost, ReadsToTheEnd, taken_since};
 ghost use Rattle.stamp_cli.specs.Source.{TakesAtMost, most_bytes};
-ghost use Rattle.stamp_cli.specs.Answer.{AnswersSource, AnswersCheck, AnswersMigrate, AnswersReplay, AnswersReportedRun, AnswersRun};
-ghost use Rattle.stamp_cli.specs.Answer.{IsOrderAnswer, IsInputAnswer, OrderReads, LineUnlessMemory, UnlessMemory, line_in, most_reads_of, most_taken_of};
+ghost use Rattle.stamp_cli.specs.Answer.{AnswersSource, AnswersOrder, AnswersCheck, AnswersMigrate, AnswersReplay, AnswersReportedRun, AnswersRun};
+ghost use Rattle.stamp_cli.specs.Answer.{OrderReads, LineUnlessMemory, UnlessMemory, line_in, most_reads_of, most_taken_of};
 
-use crate::check_text::verdict_line;
+use crate::check_text::line_of_verdict;
 use crate::faults::ServeFault;
 use crate::input::{MOST_BYTES, read_input};
 use crate::line::{Line, accepted};
 use crate::orders::Order;
 use crate::sources::Source;
-use crate::stamp_text::stamp_line;
+use crate::stamp_text::text_of_stamp;
 use stamp_core::Layout;
 use stamp_history::{
     check, migrate, read_history, read_script, replay_text, write_history, write_run,
@@ -34,32 +34,32 @@ pub fn within(input: &[u8]) -> Result<&[u8], ServeFault>
     Ok(input)
 }
 
-/// What the calls of a replay are replied.
+/// The replies to the calls of a replay, and the word that they leave.
 #[tactic(auto, using(crate::proofs::Refusals::inner))]
-fn line_of_replay(alloc: Global, input: &[u8]) -> Result<Vec<u8>, ServeFault>
-    ensures answer { UnlessMemory (IsInputAnswer AnswersReplay input.now) result }
+fn text_of_replay(alloc: Global, input: &[u8]) -> Result<Vec<u8>, ServeFault>
+    ensures answer { UnlessMemory (AnswersReplay input.now) result }
     ensures inner { IfErr result (λ e. is_of_end e ≡ false) }
 {
-    Ok(replay_text(alloc, within(input)?)?)
+    Ok(replay_text(alloc, input)?)
 }
 
 /// The history of the calls that a script finishes.
 #[tactic(auto, using(crate::proofs::Refusals::inner))]
-fn line_of_run(alloc: Global, input: &[u8]) -> Result<Vec<u8>, ServeFault>
-    ensures answer { UnlessMemory (IsInputAnswer AnswersRun input.now) result }
+fn text_of_run(alloc: Global, input: &[u8]) -> Result<Vec<u8>, ServeFault>
+    ensures answer { UnlessMemory (AnswersRun input.now) result }
     ensures inner { IfErr result (λ e. is_of_end e ≡ false) }
 {
-    let script = read_script(alloc, within(input)?)?;
+    let script = read_script(alloc, input)?;
     Ok(write_run(alloc, &script)?)
 }
 
 /// That history, with a report.
 #[tactic(auto, using(crate::proofs::Refusals::inner))]
-fn line_of_reported_run(alloc: Global, input: &[u8]) -> Result<Vec<u8>, ServeFault>
-    ensures answer { UnlessMemory (IsInputAnswer AnswersReportedRun input.now) result }
+fn text_of_reported_run(alloc: Global, input: &[u8]) -> Result<Vec<u8>, ServeFault>
+    ensures answer { UnlessMemory (AnswersReportedRun input.now) result }
     ensures inner { IfErr result (λ e. is_of_end e ≡ false) }
 {
-    let script = read_script(alloc, within(input)?)?;
+    let script = read_script(alloc, input)?;
     // A script has no more steps than a run can make, so that memory alone ends one early.
     let Ok(record) = run_reported(alloc, &script) else {
         return Err(ServeFault::Memory);
@@ -70,20 +70,20 @@ fn line_of_reported_run(alloc: Global, input: &[u8]) -> Result<Vec<u8>, ServeFau
 /// The verdict on a history.
 #[tactic(auto, using(crate::proofs::Refusals::inner))]
 fn line_of_check(alloc: Global, input: &[u8]) -> Result<Line, ServeFault>
-    ensures answer { LineUnlessMemory (IsInputAnswer AnswersCheck input.now) result }
+    ensures answer { LineUnlessMemory (AnswersCheck input.now) result }
     ensures inner { IfErr result (λ e. is_of_end e ≡ false) }
 {
-    let history = read_history(alloc, within(input)?)?;
-    Ok(verdict_line(alloc, check(&history))?)
+    let history = read_history(alloc, input)?;
+    Ok(line_of_verdict(alloc, check(&history))?)
 }
 
-/// The history in layout 2.
+/// A history in layout 2.
 #[tactic(auto, using(crate::proofs::Refusals::inner))]
-fn line_of_migrate(alloc: Global, input: &[u8]) -> Result<Vec<u8>, ServeFault>
-    ensures answer { UnlessMemory (IsInputAnswer AnswersMigrate input.now) result }
+fn text_of_migration(alloc: Global, input: &[u8]) -> Result<Vec<u8>, ServeFault>
+    ensures answer { UnlessMemory (AnswersMigrate input.now) result }
     ensures inner { IfErr result (λ e. is_of_end e ≡ false) }
 {
-    match migrate(read_history(alloc, within(input)?)?) {
+    match migrate(read_history(alloc, input)?) {
         Ok(migrated) => Ok(write_history(alloc, &migrated)?),
         Err(bad) => Err(ServeFault::BadReply(bad.entry)),
     }
@@ -107,24 +107,25 @@ fn input_of<S: Source>(alloc: Global, order: Order, source: &mut S) -> Result<Ve
     }
 }
 
-/// The line that answers the order on what it read.
-fn line_on(alloc: Global, order: Order, input: &[u8]) -> Result<Line, ServeFault>
-    ensures answer { LineUnlessMemory (IsOrderAnswer order input.now) result }
+/// The line that answers the order on this input, whose length is not tested.
+fn line_of_input(alloc: Global, order: Order, input: &[u8]) -> Result<Line, ServeFault>
+    ensures answer { LineUnlessMemory (AnswersOrder order input.now) result }
     ensures inner { IfErr result (λ e. is_of_end e ≡ false) }
 {
-    match order {
-        Order::Replay => Ok(accepted(line_of_replay(alloc, input)?)),
-        Order::Run => Ok(accepted(line_of_run(alloc, input)?)),
-        Order::RunReported => Ok(accepted(line_of_reported_run(alloc, input)?)),
-        Order::Check => line_of_check(alloc, input),
-        Order::Migrate => Ok(accepted(line_of_migrate(alloc, input)?)),
-        Order::Stamp(stamp) => Ok(accepted(stamp_line(alloc, Layout::One, stamp)?)),
-        Order::StampIn(layout, stamp) => Ok(accepted(stamp_line(alloc, layout, stamp)?)),
-    }
+    let text = match order {
+        Order::Replay => text_of_replay(alloc, input)?,
+        Order::Run => text_of_run(alloc, input)?,
+        Order::RunReported => text_of_reported_run(alloc, input)?,
+        Order::Check => return line_of_check(alloc, input),
+        Order::Migrate => text_of_migration(alloc, input)?,
+        Order::Stamp(stamp) => text_of_stamp(alloc, Layout::One, stamp)?,
+        Order::StampIn(layout, stamp) => text_of_stamp(alloc, layout, stamp)?,
+    };
+    Ok(accepted(text))
 }
 
-/// The line that answers the order, without its line feed.
-pub(crate) fn line_of<S: Source>(
+/// The line that answers the order on what it reads of the source, without its line feed.
+pub(crate) fn line_of_order<S: Source>(
     alloc: Global,
     order: Order,
     source: &mut S,
@@ -139,5 +140,5 @@ pub(crate) fn line_of<S: Source>(
     ensures not_written { result ≢ Err ServeFault.WriteFault }
 {
     let input = input_of(alloc, order, source)?;
-    line_on(alloc, order, &input)
+    line_of_input(alloc, order, within(&input)?)
 }

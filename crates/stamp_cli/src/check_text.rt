@@ -47,7 +47,7 @@ impl fmt::Display for BadText {
 }
 
 /// The line of a verdict.
-pub(crate) fn verdict_line(alloc: Global, found: Result<u64, Bad>) -> Result<Line, AllocError>
+pub(crate) fn line_of_verdict(alloc: Global, found: Result<u64, Bad>) -> Result<Line, AllocError>
     ensures text { IfOk result (λ line. line.text.items ≡ check_verdict_text found) }
     ensures verdict { IfOk result (λ line. line.verdict ≡ verdict_of found) }
 {

@@ -7,7 +7,7 @@ ghost use Rattle.stamp_cli.specs.Results.{Makes, MakesAtMost, taken_since};
 ghost use Rattle.stamp_cli.specs.Serving.{HasRead, HasWritten};
 ghost use Rattle.stamp_cli.specs.Answer.{LineView, AnswersSource, most_reads_of, most_taken_of};
 
-use crate::answer::line_of;
+use crate::answer::line_of_order;
 use crate::faults::ServeFault;
 use crate::line::{Line, Verdict};
 use crate::orders::Order;
@@ -51,7 +51,7 @@ pub fn serve<S: Source, K: Sink>(
         × AppendsFront (K.sent sink.old) (K.sent sink.new) (line.text ++ 10 ∷ [])
         × MakesAtMost (K.writes sink.old) (K.writes sink.new) (length line.text + 1) (length line.text + 1)) }
 {
-    let Line { mut text, verdict } = line_of(alloc, order, source)?;
+    let Line { mut text, verdict } = line_of_order(alloc, order, source)?;
     text.push(b'\n')?;
     write_line(sink, &text)?;
     Ok(verdict)
