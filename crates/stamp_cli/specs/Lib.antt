@@ -1,5 +1,5 @@
 pub mod TakesNone
-pub mod Log
+pub mod KeptResults
 pub mod Results
 pub mod Source
 pub mod Sink

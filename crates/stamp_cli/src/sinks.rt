@@ -4,9 +4,9 @@ ghost use Rattle.std.specs.Prelude.{◌≡◌, ◌++◌, ◌∷◌, [], ◌<◌,
 ghost use Rattle.std.specs.Io.{WritesAtMost};
 ghost use Rattle.std.specs.Io.KnownBytes.{WriteAppends};
 ghost use Rattle.std.specs.declared.io.Error.{Error};
-ghost use Rattle.stamp_cli.specs.Log.{results_in};
+ghost use Rattle.stamp_cli.specs.KeptResults.{results_in};
 
-use crate::log::Log;
+use crate::kept_results::KeptResults;
 use std::io;
 use std::io::Write;
 
@@ -22,7 +22,7 @@ pub trait Sink {
     /// a write that takes none has failed.
     fn write(&mut self, bytes: &[u8]) -> io::Result<usize>
         requires { 0 < length bytes.now }
-        ensures logged { writes self.new ≡ writes self.old ++ result ∷ [] }
+        ensures kept { writes self.new ≡ writes self.old ++ result ∷ [] }
         ensures bound { WritesAtMost result bytes.now }
         ensures bytes { WriteAppends (sent self.old) (sent self.new) result bytes.now };
 }
@@ -31,17 +31,17 @@ pub trait Sink {
 #[derive(Drop)]
 pub struct WriteSink<W> {
     writer: W,
-    writes: Log,
+    writes: KeptResults,
 }
 
 impl<W: Write> WriteSink<W> {
     /// A sink that has made no write yet.
     pub fn new(writer: W) -> Self
-        ensures { result ≡ record { writer = writer; writes = Log.Empty } }
+        ensures { result ≡ record { writer = writer; writes = KeptResults.Empty } }
     {
         WriteSink {
             writer,
-            writes: Log::Empty,
+            writes: KeptResults::Empty,
         }
     }
 }

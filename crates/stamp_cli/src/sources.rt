@@ -4,9 +4,9 @@ ghost use Rattle.std.specs.Prelude.{◌≡◌, ◌++◌, ◌∷◌, [], ℕ, Lis
 ghost use Rattle.std.specs.Io.{ReadsAtMost};
 ghost use Rattle.std.specs.Io.KnownBytes.{ReadConsumes};
 ghost use Rattle.std.specs.declared.io.Error.{Error};
-ghost use Rattle.stamp_cli.specs.Log.{results_in};
+ghost use Rattle.stamp_cli.specs.KeptResults.{results_in};
 
-use crate::log::Log;
+use crate::kept_results::KeptResults;
 use std::io;
 use std::io::Read;
 
@@ -20,7 +20,7 @@ pub trait Source {
 
     /// Reads bytes into the front of the buffer, and tells how many; 0 at the end.
     fn read(&mut self, buffer: &mut [u8]) -> io::Result<usize>
-        ensures logged { reads self.new ≡ reads self.old ++ result ∷ [] }
+        ensures kept { reads self.new ≡ reads self.old ++ result ∷ [] }
         ensures bound { ReadsAtMost result buffer.new }
         ensures bytes { ReadConsumes (left self.old) (left self.new) result buffer.new };
 }
@@ -29,17 +29,17 @@ pub trait Source {
 #[derive(Drop)]
 pub struct ReadSource<R> {
     reader: R,
-    reads: Log,
+    reads: KeptResults,
 }
 
 impl<R: Read> ReadSource<R> {
     /// A source that has made no read yet.
     pub fn new(reader: R) -> Self
-        ensures { result ≡ record { reader = reader; reads = Log.Empty } }
+        ensures { result ≡ record { reader = reader; reads = KeptResults.Empty } }
     {
         ReadSource {
             reader,
-            reads: Log::Empty,
+            reads: KeptResults::Empty,
         }
     }
 }
