@@ -60,7 +60,7 @@ fn print_history(rt: &(impl Print + AllocGlobal), history: &Observed) -> Result<
     Ok(())
 }
 
-/// The number that an argument is.
+/// Reads a number from an argument; `None` where it is none.
 fn number_in(arg: Option<String>) -> Option<u64> {
     arg?.parse().ok()
 }

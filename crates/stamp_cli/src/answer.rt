@@ -23,7 +23,7 @@ use stamp_history::{
 use stamp_machines::run_reported;
 use std::alloc::Global;
 
-/// The input, unless it is longer than the most: `TooLong` then.
+/// The input, where it has at most 16,777,216 bytes. Errors: 2 `TooLong` where it has more.
 pub fn within(input: &[u8]) -> Result<&[u8], ServeFault>
     ensures ok { IfOk result (λ bytes. (bytes.now ≡ input.now) × (length input.now ≤ most_bytes)) }
     ensures err { IfErr result (λ e. (e ≡ ServeFault.TooLong) × (most_bytes < length input.now)) }

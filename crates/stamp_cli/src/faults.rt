@@ -26,7 +26,7 @@ pub enum ServeFault {
     /// 4: this call of the replay, counted from 0, would wait.
     #[error("call {0} waits")]
     Waits(u64),
-    /// 5: a growth was refused.
+    /// 5: an allocation was refused.
     #[error("out of memory")]
     Memory,
     /// 6: a write answered an error or took no byte. A front of the line may have gone out.

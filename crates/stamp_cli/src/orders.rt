@@ -12,7 +12,7 @@ use std::fmt;
 /// What the program is asked to do.
 #[derive(Clone, Copy, Debug, PartialEq, Eq)]
 pub enum Order {
-    /// Reads a replay and answers what its calls are replied.
+    /// Reads a replay and answers the replies to its calls.
     Replay,
     /// Reads a script, runs it and answers the history of its finished calls.
     Run,
@@ -51,7 +51,7 @@ fn is_digits(text: &str) -> bool
     text.bytes().all(|byte| byte.is_ascii_digit())
 }
 
-/// The number below 2^64 that the text is in decimal digits alone.
+/// Reads a number below 2^64 from a text of decimal digits alone; `None` where the text is none.
 #[tactic(auto, using(crate::proofs::Digits::number_parsed))]
 pub fn number_in(text: &str) -> Option<u64>
     ensures { result ≡ order.number_in text.now }
@@ -117,7 +117,7 @@ fn form_of(args: &[&str]) -> Option<Order>
     }
 }
 
-/// The order that the program's arguments give.
+/// The order that the program's arguments give. Errors: 1 `Bad` where they are no form of the command line.
 pub fn order_of(args: &[&str]) -> Result<Order, CommandFault>
     ensures { result ≡ order.order_in (map (λ arg. arg.now) args.now) }
 {

@@ -16,8 +16,10 @@ use crate::sinks::Sink;
 use crate::sources::Source;
 use std::alloc::Global;
 
-/// Answers the order: reads what it needs of the source and writes one line, or says why not. What
-/// was read of the source is gone also after a refusal. An input has at most 16,777,216 bytes (one
+/// Answers the order: reads what it needs of the source and writes one line, or says why not. What it
+/// returns is `Verdict::Bad` where the line says that a history is bad, and else `Verdict::Accepted`. Where
+/// a write fails, 6 `WriteFault`, a beginning of the line may be out; any other refusal writes nothing.
+/// What was read of the source is gone also after a refusal. An input has at most 16,777,216 bytes (one
 /// more may be taken, which shows that it is too long); the readings of `stamp_history` by themselves
 /// have no such limit.
 pub fn serve<S: Source, K: Sink>(

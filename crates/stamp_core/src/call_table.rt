@@ -35,6 +35,7 @@ pub(crate) fn decided(limits: Limits, word: Word, call: &Call) -> LockDecision
         Call::IsWriteLocked => yes_where(word.has_writer()),
         Call::IsReadLocked => yes_where(word.reader_count() > 0),
         Call::ReadCount => LockDecision::Answer(LockReply::Count(word.reader_count())),
+        // Never reached, since `decide_lock` is given calls of the lock alone.
         Call::Get | Call::Put(_) | Call::PutIf(_, _) => LockDecision::Wait,
     }
 }

@@ -22,7 +22,7 @@ pub enum Decision {
     Wait,
 }
 
-/// Decides a call of the lock by the word found.
+/// Decides a call of the lock by the word found, which is one that the limits admit.
 #[inline(always)]
 pub fn decide(limits: Limits, word: Word, call: Call) -> Decision
     requires admitted { IsAdmitted limits word }
@@ -36,7 +36,8 @@ pub fn decide(limits: Limits, word: Word, call: Call) -> Decision
     decide_lock(limits, word, &call).as_decision()
 }
 
-/// The word after a call of the lock and its reply; nothing where the call waits.
+/// The word after a call of the lock on a word that the limits admit, and the reply; `None` where the call
+/// waits.
 pub fn transition(limits: Limits, word: Word, call: Call) -> Option<(Word, Reply)>
     requires admitted { IsAdmitted limits word }
     requires lock_call { IsTrue (is_lock_call call) }

@@ -99,8 +99,8 @@ impl Layout {
         }
     }
 
-    /// The number of the word that a writer leaves behind, for the stamp that it had: one writer's
-    /// unit more.
+    /// The number of the word that a writer leaves behind, for the stamp that it had, which is below 2^63:
+    /// one writer's unit more.
     #[inline(always)]
     pub fn released(self, stamp: u64) -> u64
         requires { stamp < 2 ^ 63 }

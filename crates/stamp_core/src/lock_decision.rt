@@ -74,7 +74,7 @@ impl LockDecision {
     }
 }
 
-/// Decides a call of the lock by the word found, as `decide` does.
+/// Decides a call of the lock by the word found, which is one that the limits admit, as `decide` does.
 #[inline(always)]
 pub fn decide_lock(limits: Limits, word: Word, call: &Call) -> LockDecision
     requires admitted { IsAdmitted limits word }

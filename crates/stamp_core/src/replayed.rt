@@ -27,7 +27,7 @@ pub struct Replayed {
 pub enum ReplayError {
     /// 1: this call, counted from 0, would wait.
     Waits(u64),
-    /// 2: a growth was refused.
+    /// 2: an allocation was refused.
     Memory,
 }
 
@@ -63,7 +63,7 @@ impl<T: Drop> From<AllocFailed<T>> for ReplayError {
 }
 
 /// Takes calls of the lock one after the other, from the opening word. It refuses as 1 `Waits` or
-/// 2 `Memory`, the second perhaps before the first, and keeps nothing then. No calls take no memory.
+/// 2 `Memory`, the second perhaps before the first, and keeps nothing then. An empty list takes no memory.
 pub fn replay(alloc: Global, limits: Limits, calls: &[Call]) -> Result<Replayed, ReplayError>
     requires { All (λ call. IsTrue (is_lock_call call)) calls.now }
     ensures replays { Replays limits calls.now result }

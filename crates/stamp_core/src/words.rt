@@ -57,7 +57,7 @@ impl Words {
         })
     }
 
-    /// The first `len` words of a row in which zeros stand behind them.
+    /// The first `len` words of a row, 1 to 16, in which zeros stand behind them.
     #[inline(always)]
     pub fn of_row(row: [u64; MOST_WORDS], len: usize) -> Words
         requires some { 1 ≤ len }
@@ -68,7 +68,7 @@ impl Words {
         Words { len, words: row }
     }
 
-    /// Zeros: what a record of this width holds at first.
+    /// One to sixteen zeros: what a record of this width holds at first.
     pub fn zeros(len: usize) -> Words
         requires some { 1 ≤ len }
         requires few { len ≤ 16 }

@@ -47,7 +47,7 @@ fn as_call(call: ScriptCall) -> Option<Call>
     }
 }
 
-/// The call that the value is, if it is one of the twenty and its stamp is a number.
+/// Reads a call from a JSON value; `None` where it is none of the twenty, or its stamp is no number.
 pub fn history_call_of(value: &Value) -> Option<Call>
     ensures { result ≡ spec.history_call (view value.now) }
 {

@@ -33,7 +33,7 @@ fn counted(value: &Value) -> Option<Reply>
     }
 }
 
-/// The reply that the value is: a stamp, a name, a count or words.
+/// Reads a reply from a JSON value: a stamp, a name, a count or words; `None` where it is none.
 pub fn reply_of(value: &Value) -> Option<Reply>
     ensures { result ≡ reply.reply (view value.now) }
 {
@@ -45,7 +45,7 @@ pub fn reply_of(value: &Value) -> Option<Reply>
     }
 }
 
-/// The entry that the value is.
+/// Reads an entry from a JSON value; `None` where it is none.
 #[tactic(auto, unfolding(crate::specs::EntryValue::entry))]
 pub(crate) fn entry_of(value: &Value) -> Option<Entry>
     ensures { result ≡ spec.entry (view value.now) }

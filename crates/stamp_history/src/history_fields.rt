@@ -71,8 +71,8 @@ fn is_number(found: Option<u64>, number: u64) -> bool
     }
 }
 
-/// Errors: `NotHistory`, unless the key `format` has the number 2 beside the key `layout`, and 1
-/// without it.
+/// Tests that the key `format` suits the key `layout`: that it has the number 2 beside it, and 1 without
+/// it. Errors: 2 `NotHistory` where it has another.
 pub fn check_format(value: &Value) -> Result<(), ReadError>
     ensures { result ≡ field.format (view value.now) }
 {
@@ -84,8 +84,8 @@ pub fn check_format(value: &Value) -> Result<(), ReadError>
     }
 }
 
-/// The words of the guarded record, 0 where there is none. Errors: `NotHistory` where the key `width`
-/// has no whole number, and `Limit` where that is over 16.
+/// How many words the guarded record has, 0 where there is none. Errors: 2 `NotHistory` where the key
+/// `width` has no whole number, and 3 `Limit` where that is over 16.
 pub fn read_width(value: &Value) -> Result<u64, ReadError>
     ensures { result ≡ field.width (view value.now) }
 {
@@ -96,8 +96,8 @@ pub fn read_width(value: &Value) -> Result<u64, ReadError>
     }
 }
 
-/// The items under the key `entries`. Errors: `NotHistory` where there is no list, and `Limit` where it
-/// has over 640,000.
+/// The items under the key `entries`. Errors: 2 `NotHistory` where there is no list, and 3 `Limit` where
+/// it has over 640,000.
 #[tactic(auto, using(crate::proofs::ItemLengths::lengths))]
 pub fn listed_entries(value: &Value) -> Result<&[Value], ReadError>
     ensures { Gives ReadError.Memory (λ list. items_view list.now) result
@@ -124,6 +124,7 @@ fn suited_entry(width: u64, value: &Value) -> Option<Entry>
     ensures { result ≡ option_and_then (field.suited width) (entry.entry (view value.now)) }
 {
     let entry = entry_of(value)?;
+    // The types that an entry holds have to be named where one is dropped.
     let (_call, _reply): (Call, Reply) = (entry.call, entry.reply);
     suited(width, entry)
 }
@@ -150,6 +151,7 @@ fn entries_in(alloc: Global, width: u64, list: &[Value]) -> Result<Vec<Entry>, R
     let mut entries = Vec::with_capacity(alloc, list.len())?;
     for (index, value) in list.iter().enumerate() {
         let entry = entry_at(width, index as u64, value)?;
+        // The types that an entry holds have to be named where one is dropped.
         let (_call, _reply): (Call, Reply) = (entry.call, entry.reply);
         entries.push(entry)?;
     }

@@ -98,7 +98,7 @@ fn push_arguments(text: &mut Vec<u8>, call: &Call) -> Result<(), AllocError>
     }
 }
 
-/// Appends a call.
+/// Appends a call as JSON. Only want of memory refuses.
 pub fn push_call(text: &mut Vec<u8>, call: &Call) -> Result<(), AllocError>
     ensures text { OnOk result (text.new.items
         ≡ text.old.items ++ compact_text (call_data call.now)) }
@@ -196,7 +196,8 @@ fn push_report(text: &mut Vec<u8>, report: &[(u64, u64)]) -> Result<(), AllocErr
     Ok(())
 }
 
-/// Appends what comes after the entries in the text of a history, and the end of the object.
+/// Appends what comes after the entries in the text of a history, and the end of the object. Only want of
+/// memory refuses.
 pub fn push_after_entries(
     text: &mut Vec<u8>,
     limits: &Limits,

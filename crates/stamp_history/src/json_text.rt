@@ -11,7 +11,7 @@ use itoa::Buffer;
 use stamp_core::{Reply, Words};
 use std::alloc::AllocError;
 
-/// Appends a piece of text as it is.
+/// Appends a piece of text as it is. Only want of memory refuses.
 pub fn push_text(text: &mut Vec<u8>, piece: &str) -> Result<(), AllocError>
     ensures { OnOk result (text.new.items ≡ text.old.items ++ piece.now) }
 {
@@ -28,7 +28,7 @@ pub(crate) fn push_number(text: &mut Vec<u8>, number: u64) -> Result<(), AllocEr
     push_text(text, digits.format(number))
 }
 
-/// Appends what stands before the number, and the number.
+/// Appends what stands before the number, and the number. Only want of memory refuses.
 pub fn push_numbered(text: &mut Vec<u8>, before: &str, number: u64) -> Result<(), AllocError>
     ensures text { OnOk result (text.new.items
         ≡ text.old.items ++ (before.now ++ compact_text (number_data number))) }
@@ -48,7 +48,7 @@ pub(crate) fn push_comma_if(text: &mut Vec<u8>, is_later: bool) -> Result<(), Al
     Ok(())
 }
 
-/// Appends the comma before an item that is not the first.
+/// Appends the comma before an item that is not the first. Only want of memory refuses.
 pub fn push_comma(text: &mut Vec<u8>, index: usize) -> Result<(), AllocError>
     ensures { OnOk result (text.new.items ≡ text.old.items ++ comma_if (nat_lt 0 index)) }
 {
@@ -77,6 +77,7 @@ pub(crate) fn push_words(text: &mut Vec<u8>, words: &Words) -> Result<(), AllocE
     ensures some { 1 ≤ length words.now }
     ensures few { length words.now ≤ 16 }
 {
+    // Asks how many there are, by which the prover knows that these are 1 to 16.
     let _count = words.len();
     push_numbers(text, words.as_slice())
 }
@@ -91,7 +92,7 @@ fn push_count(text: &mut Vec<u8>, count: u64) -> Result<(), AllocError>
     push_text(text, "}")
 }
 
-/// Appends the reply.
+/// Appends the reply as JSON. Only want of memory refuses.
 #[tactic(auto, unfolding(serde_json::proofs::OnLiterals::serde_json_on_literals))]
 pub fn push_reply(text: &mut Vec<u8>, reply: &Reply) -> Result<(), AllocError>
     ensures text { OnOk result (text.new.items

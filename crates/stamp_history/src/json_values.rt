@@ -12,7 +12,7 @@ use crate::read_error::ReadError;
 use serde_json::{Map, Value};
 use std::alloc::Global;
 
-/// The JSON value that the bytes are. Errors: `NotJson`, and `Memory`, never of no bytes.
+/// Reads a JSON value from bytes. Errors: 1 `NotJson`, and 4 `Memory`, but not where there are no bytes.
 pub fn json(alloc: Global, bytes: &[u8]) -> Result<Value, ReadError>
     ensures read { Gives ReadError.Memory view result (json_of bytes.now) }
     ensures some { IfOk result (λ _. 0 < length bytes.now) }
@@ -71,7 +71,7 @@ pub(crate) fn list_under<'v>(value: &'v Value, key: &str) -> Option<&'v Vec<Valu
     value.get(key)?.as_array()
 }
 
-/// The list that the value is.
+/// Takes the list from a JSON value; `None` where it is none.
 pub(crate) fn as_list(value: Value) -> Option<Vec<Value>>
     ensures { option_map (λ list. items_view list.items) result ≡ as_array (view value) }
 {

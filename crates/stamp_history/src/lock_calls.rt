@@ -38,7 +38,8 @@ fn small_call(call: ScriptCall) -> Option<SmallCall>
     }
 }
 
-/// The call that the value is, if it is one of the lock's seventeen and its stamp is a number.
+/// Reads a call of the lock from a JSON value; `None` where it is none of the seventeen, or its stamp is no
+/// number.
 pub(crate) fn lock_call_of(value: &Value) -> Option<SmallCall>
     ensures { option_map call_of result ≡ spec.lock_call (view value.now) }
 {

@@ -21,7 +21,7 @@ pub enum ReadError {
     /// 3: a value of the right kind outside its range.
     #[error("over a limit: {0}")]
     Limit(Field),
-    /// 4: a growth was refused. It may come before each of the others.
+    /// 4: an allocation was refused. It may come before each of the others.
     #[error("memory")]
     Memory,
     /// 5: JSON that is no replay or script, at this field. Its text says script of both.

@@ -35,9 +35,10 @@ fn push_replies_to(
     Ok(word)
 }
 
-/// The compact text of what the replay that the bytes are is answered, as `write_replay` writes
-/// it. Unlike `read_replay`, `replay` and `write_replay` together it keeps no list of `Call` or of
-/// `Reply`, each of which has room for the words of a record.
+/// Answers the text of a replay by the compact text of the replies and of the word, as `write_replay`
+/// writes it. Errors: 1 `Refused`, with what `read_replay` refuses or `Memory`, and 2 `Waits`, with the
+/// first call, counted from 0, that would wait. Unlike `read_replay`, `replay` and `write_replay` together
+/// it keeps no list of `Call` or of `Reply`, each of which has room for the words of a record.
 pub fn replay_text(alloc: Global, bytes: &[u8]) -> Result<Vec<u8>, AnswerError>
     ensures answers { AnswersReplayText bytes.now result }
     ensures memory { IfErr result (λ e. e ≡ AnswerError.Refused ReadError.Memory

@@ -91,7 +91,7 @@ fn listed_call(list: &[Value]) -> Option<ScriptCall>
     }
 }
 
-/// The call that the value is, if it is one of the twenty.
+/// Reads a call of a script from a JSON value; `None` where it is none of the twenty.
 pub(crate) fn script_call_of(value: &Value) -> Option<ScriptCall>
     ensures { result ≡ spec.script_call (view value.now) }
 {

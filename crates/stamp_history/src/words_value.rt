@@ -20,7 +20,7 @@ fn listed_words(list: &[Value]) -> Option<Words>
     Words::new(&held[..list.len()])
 }
 
-/// The words that the value is, if it is a list of 1 to 16 whole numbers.
+/// Reads words from a JSON value; `None` where it is no list of 1 to 16 whole numbers.
 pub(crate) fn words_of(value: &Value) -> Option<Words>
     ensures { result ≡ spec.words (view value.now) }
 {

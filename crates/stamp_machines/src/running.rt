@@ -30,7 +30,7 @@ pub enum Stepped {
 pub enum RunError {
     /// 3: the run has made 1,000,000 steps.
     TooManySteps,
-    /// 6: a growth was refused.
+    /// 6: an allocation was refused.
     Memory,
 }
 

@@ -31,7 +31,7 @@ fn end_of(value: &Value) -> Option<Option<Returned>>
     }
 }
 
-/// The observed call that the value is.
+/// Reads an observed call from a JSON value; `None` where it is none.
 #[tactic(auto, unfolding(crate::specs::ObservationValue::observation))]
 pub(crate) fn observation_of(value: &Value) -> Option<Observation>
     ensures { result ≡ spec.observation (view value.now) }

@@ -36,7 +36,7 @@ pub struct Fault {
 /// Why there is no picture.
 #[derive(Clone, Copy, Debug, PartialEq, Eq)]
 pub enum PictureError {
-    /// 1: a growth was refused.
+    /// 1: an allocation was refused.
     Memory,
     /// 2: there would be so many bars, more than 2,000.
     TooMany(u64),

@@ -12,7 +12,7 @@ pub enum BookError {
     /// 1: the call can be made, and the book has as many entries as it may have. It stays so: a call
     /// that releases is refused, too.
     Full,
-    /// 2: a growth was refused. The call can be made again.
+    /// 2: an allocation was refused. The call can be made again.
     Memory,
     /// 3: the call waits for others, whether the book is full or not.
     Waits,

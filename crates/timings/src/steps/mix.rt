@@ -9,7 +9,7 @@ use std::alloc::{AllocError, Global};
 /// Why there is no such script.
 #[derive(Clone, Copy)]
 pub enum MixError {
-    /// 1: a growth was refused.
+    /// 1: an allocation was refused.
     Memory,
     /// 2: more than 1,000,000 steps, or a record of more than 16 words.
     Script,
