@@ -13,7 +13,7 @@ use Rattle.stamp_check.specs.Migration.{respelling, migrated, CanMigrate}
 abbrev pub RespellingIsOfStamps : Type 0
 RespellingIsOfStamps = (s : ℕ) → IsRespelled s (respelling s)
 
--- A record that can be migrated is linearized exactly where the migrated one is.
+-- A recorded history that can be migrated is linearized exactly where the migrated one is.
 abbrev pub MigrationKeepsLinearized : Type 0
 MigrationKeepsLinearized =
     (r : Recorded) → IsRecorded r → AreInRange r.limits → CanMigrate r →

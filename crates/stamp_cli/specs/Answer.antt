@@ -48,7 +48,7 @@ IsReplayAnswer (Ok replay) (Ok line) = IsReplayedText replay line
 IsReplayAnswer (Ok replay) (Err fault) = IsWaitFault replay fault
 IsReplayAnswer (Err e) answer = answer ≡ Err (refusal e)
 
--- and if that is a script: the text of the record that it is run to
+-- and if that is a script: the text of the recorded history that it is run to
 abbrev pub script_answer : (Scripted → Recorded) → Result Scripted ReadError → Result (List ℕ) ServeFault
 script_answer record_of (Ok script) = Ok (history_text (record_of script))
 script_answer record_of (Err e) = Err (refusal e)

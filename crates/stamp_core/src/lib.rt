@@ -1,5 +1,5 @@
-//! The sequential lock on one packed word: its words and stamps, what each call does, and the
-//! records of what was called.
+//! The sequential lock on one packed word: its words and stamps, what each call does, and recorded
+//! histories.
 #![tactic(auto)]
 
 mod call;

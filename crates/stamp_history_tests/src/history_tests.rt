@@ -15,7 +15,7 @@ fn entry(thread: u64, call: Call, reply: Reply) -> Entry {
     }
 }
 
-/// A record for two readers and three write acquisitions.
+/// A recorded history for two readers and three write acquisitions.
 fn record(
     alloc: Global,
     layout: Layout,
