@@ -18,7 +18,8 @@ use Rattle.stamp_cli.specs.declared.faults.ServeFault.{ServeFault}
 use Rattle.stamp_cli.specs.declared.faults.ServeFault.TheVariants.{Waits, BadReply}
 use Rattle.stamp_cli.specs.declared.orders.Order.{Order}
 use Rattle.stamp_cli.specs.declared.orders.Order.TheVariants as order
-use Rattle.stamp_cli.specs.Answer.{LineView, IsWaitFault, IsReplayAnswer, IsInputAnswer, IsCheckAnswer, IsMigrateAnswer}
+use Rattle.stamp_cli.specs.Answer.{LineView, IsWaitFault, IsReplayAnswer, IsInputAnswer, IsCheckAnswer}
+use Rattle.stamp_cli.specs.Answer.{IsMigrateAnswer}
 use Rattle.stamp_cli.specs.Answer.{AnswersReplay, AnswersRun, AnswersReportedRun, AnswersCheck, AnswersMigrate}
 use Rattle.stamp_cli.specs.Answer.{IsStampAnswer, IsAccepted, AnswersOrder, IsOrderAnswer}
 use Rattle.stamp_cli.specs.CheckText.{check_verdict_text, verdict_of}

@@ -25,7 +25,8 @@ of_fault (Err e) f is = ap (λ (g : AnswerError). Err (unanswered g)) is
 
 -- a fault that was passed on
 pub handed_on : (input : List ℕ) (r : Result (Vec ℕ Global) ServeFault) (f : AnswerError) →
-    IsErrAnd r (λ e. e ≡ unanswered f) → (f ≢ Refused read.Memory → text.IsReplayTextAnswer (replay_of input) (Err f)) →
+    IsErrAnd r (λ e. e ≡ unanswered f) →
+    (f ≢ Refused read.Memory → text.IsReplayTextAnswer (replay_of input) (Err f)) →
     UnlessMemory (AnswersReplay input) r
 handed_on input (Ok line) f handed is = absurd handed
 handed_on input (Err e) f handed is = λ other.

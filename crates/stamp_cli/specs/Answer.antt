@@ -155,9 +155,10 @@ most_taken_of order.Migrate = most_taken
 most_taken_of (order.Stamp n) = 0
 most_taken_of (order.StampIn layout n) = 0
 
--- a source was read as far as the order asks, by reads that took this many bytes, and this is the answer to all of them
-pub record AnswersSource (order : Order) (old new : Option (List ℕ)) (taken : ℕ) (answer : Result LineView ServeFault) :
-    Type 0 where
+-- a source was read as far as the order asks, by reads that took this many bytes, and this is the answer to all
+-- of them
+pub record AnswersSource (order : Order) (old new : Option (List ℕ)) (taken : ℕ)
+    (answer : Result LineView ServeFault) : Type 0 where
   pub input : List ℕ
   pub reads : OrderReads order old new input
   pub whole : length input ≡ taken

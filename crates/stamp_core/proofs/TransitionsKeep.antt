@@ -110,7 +110,8 @@ row_keeps l c some within (UnlockRead s) =
     keeps_if l c (is_held_read (units l) c s) (λ h. moves (end_read l c within (reader_of l c s h))) (λ _. stays)
 row_keeps l c some within (Unlock s) =
     keeps_if l c (is_held_write (units l) c s) (λ h. moves (end_write l c within (writer_of l c s h)))
-    (λ _. keeps_if l c (is_held_read (units l) c s) (λ h. moves (end_read l c within (reader_of l c s h))) (λ _. stays))
+    (λ _. keeps_if l c (is_held_read (units l) c s) (λ h. moves (end_read l c within (reader_of l c s h)))
+    (λ _. stays))
 row_keeps l c some within (ToWrite s) =
     keeps_if l c (is_held_write (units l) c s) (λ _. stays)
     (λ _. keeps_if l c (is_held_read (units l) c s && (c.readers == 1) && nat_lt c.write_count l.versions)
@@ -125,7 +126,8 @@ row_keeps l c some within (ToRead s) =
 row_keeps l c some within (ToOptimistic s) =
     keeps_if l c (is_held_write (units l) c s) (λ h. moves (end_write l c within (writer_of l c s h)))
     (λ _. keeps_if l c (is_held_read (units l) c s) (λ h. moves (end_read l c within (reader_of l c s h)))
-    (λ _. keeps_if l c ((s == optimistic_stamp (units l) c.write_count) && (c.writers == 0)) (λ _. stays) (λ _. stays)))
+    (λ _. keeps_if l c ((s == optimistic_stamp (units l) c.write_count) && (c.writers == 0)) (λ _. stays)
+    (λ _. stays)))
 row_keeps l c some within TryUnlockWrite =
     keeps_if l c (c.writers == 1) (λ h. moves (end_write l c within (is_one l c h))) (λ _. stays)
 row_keeps l c some within TryUnlockRead =

@@ -39,7 +39,8 @@ numbers_found (w ∷ ws) = rw (numbers_found ws) refl
 words_found : (ws : List ℕ) → 1 ≤ length ws → length ws ≤ 16 → words (words_data ws) ≡ Some ws
 words_found ws some few = rw (numbers_found ws, le-leb 1 (length ws) some, le-leb (length ws) 16 few) refl
 
-of_width : (w : ℕ) (ws : List ℕ) → w ≤ 16 → (nat_lt 0 w && (length ws == w)) ≡ true → (1 ≤ length ws) × (length ws ≤ 16)
+of_width : (w : ℕ) (ws : List ℕ) → w ≤ 16 → (nat_lt 0 w && (length ws == w)) ≡ true →
+    (1 ≤ length ws) × (length ws ≤ 16)
 of_width w ws most t = (grind (arith, nat_tests), grind (arith, nat_tests))
 
 of_width_both : (w : ℕ) (es ws : List ℕ) → w ≤ 16 → (nat_lt 0 w && (length es == w) && (length ws == w)) ≡ true →

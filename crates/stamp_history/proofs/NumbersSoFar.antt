@@ -62,7 +62,8 @@ none vs i held v at is before =
     ap (λ (w : Option ℕ). option_and_then as_words
     (with_numbers (take i held) (option_and_then
     (λ m. option_map (λ ms. m ∷ ms) (numbers (items_view (drop (i + 1) vs)))) w))) (sym is)
-    ∙ ap (λ (us : List Value). option_and_then as_words (with_numbers (take i held) (numbers (items_view us)))) (sym at)
+    ∙ ap (λ (us : List Value). option_and_then as_words (with_numbers (take i held) (numbers (items_view us))))
+    (sym at)
     ∙ ap (λ (found : Option (List ℕ)). option_and_then as_words found) before
 
 made_of : (made : Option (List ℕ)) (ns : List ℕ) (b : Bool) → (nat_le 1 (length ns) && nat_le (length ns) 16) ≡ b →

@@ -32,7 +32,8 @@ abbrev pub first_unknown : ℕ → List ℕ → Option ℕ
 first_unknown threads steps = position (λ thread. nat_le threads thread) steps
 
 abbrev pub width_fault : Scripted → Option ScriptError
-width_fault script = if nat_le script.width 16 && are_suited script.width script.threads then None else Some RecordWidth
+width_fault script =
+    if nat_le script.width 16 && are_suited script.width script.threads then None else Some RecordWidth
 
 -- more than 64 threads, 10,000 calls of one or 1,000,000 steps; then a step of no thread; then the width
 unfoldable pub first_fault : Scripted → Option ScriptError

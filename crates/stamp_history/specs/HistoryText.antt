@@ -100,7 +100,8 @@ after_entries limits width report =
 
 -- an object of entries and of what comes after them
 abbrev pub with_entries : Data → Bounds → ℕ → List (ℕ × ℕ) → Data
-with_entries entries limits width report = object (member (codes "entries") entries (after_entries limits width report))
+with_entries entries limits width report =
+    object (member (codes "entries") entries (after_entries limits width report))
 
 abbrev pub history_data : Recorded → Data
 history_data r = with_entries (entries_data r.entries) r.limits r.width r.report

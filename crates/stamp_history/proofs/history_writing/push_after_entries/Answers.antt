@@ -14,7 +14,8 @@ unfolding serde_json_on_literals
 returns-clause-text c =
     let l : Bounds = bounds c.layout.result c.readers.result c.versions.result in
     let same : l ≡ c.args.limits.now =
-    same_limits c.args.limits.now _ _ _ c.layout.ensures.layout c.readers.ensures.readers c.versions.ensures.versions in
+    same_limits c.args.limits.now _ _ _ c.layout.ensures.layout c.readers.ensures.readers
+    c.versions.ensures.versions in
     let report = c.args.report.now in
     let width = member (codes "width") (number_data c.args.width) no_members in
     let versions = member (codes "versions") (number_data l.versions) width in
