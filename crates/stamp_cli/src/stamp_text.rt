@@ -26,7 +26,11 @@ impl fmt::Display for KindText {
 }
 
 /// What a number is as a stamp of the layout, as a text.
-pub(crate) fn text_of_stamp(alloc: Global, layout: Layout, stamp: u64) -> Result<Vec<u8>, AllocError>
+pub(crate) fn text_of_stamp(
+    alloc: Global,
+    layout: Layout,
+    stamp: u64,
+) -> Result<Vec<u8>, AllocError>
     ensures { IfOk result (λ line. IsStampText layout stamp line.items) }
 {
     let kind = stamp_kind_in(layout, stamp);
