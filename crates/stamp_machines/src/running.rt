@@ -6,7 +6,7 @@ use crate::access::LOCK;
 use crate::script::Script;
 use crate::state::{State, StepKind};
 use crate::tally::Tally;
-use stamp_core::{Call, Entry, Record, Word};
+use stamp_core::{Entry, Record, Word};
 use std::alloc::{AllocError, Global};
 use std::error::Error;
 use std::fmt;
@@ -160,7 +160,6 @@ impl<'a> Run<'a> {
         let before = self.word().bits();
         match self.step(thread) {
             Ok(stepped) => {
-                let _ = ended_call(&stepped);
                 let is_changed = self.word().bits() != before;
                 tally.count(thread as usize, is_changed, &stepped)?;
                 Ok(())
@@ -227,13 +226,5 @@ impl<'a> Run<'a> {
             report,
         )
         .unwrap()
-    }
-}
-
-/// The call that ended, if one did.
-fn ended_call(stepped: &Stepped) -> Option<Call> {
-    match stepped {
-        Stepped::Ended(entry) => Some(entry.call),
-        _ => None,
     }
 }

@@ -99,23 +99,18 @@ impl Tally {
             (tally_of self.new ≡ tally_after (tally_of self.old) thread (if is_changed then 1
             else 0) stepped.now) }
     {
-        let change = if is_changed { 1 } else { 0 };
-        match stepped {
-            Stepped::Idle => Ok(()),
-            Stepped::Going => {
-                let meter = self.meters[thread].stepped(self.changes, change);
-                set_meter(&mut self.meters, thread, meter);
-                self.changes += change;
-                Ok(())
-            }
-            Stepped::Ended(_) => {
-                let meter = self.meters[thread].stepped(self.changes, change);
-                self.changes += change;
-                self.report
-                    .push((meter.steps, self.changes - meter.before))?;
-                set_meter(&mut self.meters, thread, Meter::idle());
-                Ok(())
-            }
+        if let Stepped::Idle = stepped {
+            return Ok(());
         }
+        let change = if is_changed { 1 } else { 0 };
+        let mut meter = self.meters[thread].stepped(self.changes, change);
+        self.changes += change;
+        if let Stepped::Ended(_) = stepped {
+            self.report
+                .push((meter.steps, self.changes - meter.before))?;
+            meter = Meter::idle();
+        }
+        set_meter(&mut self.meters, thread, meter);
+        Ok(())
     }
 }
