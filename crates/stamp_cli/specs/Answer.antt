@@ -155,14 +155,17 @@ most_taken_of order.Migrate = most_taken
 most_taken_of (order.Stamp n) = 0
 most_taken_of (order.StampIn layout n) = 0
 
--- a source was read as far as the order asks, by reads that took this many bytes, and this is the answer to all
--- of them
-pub record AnswersSource (order : Order) (old new : Option (List ℕ)) (taken : ℕ)
-    (answer : Result LineView ServeFault) : Type 0 where
+-- input was read so, by reads that took this many bytes, and all of them are answered so
+pub record AnswersRead {A : Type 0} (WasRead : List ℕ → Type 0) (IsAnswer : List ℕ → A → Type 0) (taken : ℕ)
+    (answer : A) : Type 0 where
   pub input : List ℕ
-  pub reads : OrderReads order old new input
+  pub reads : WasRead input
   pub whole : length input ≡ taken
-  pub is : IsOrderAnswer order input answer
+  pub is : IsAnswer input answer
+
+-- a source was read as far as the order asks, and this is the answer
+abbrev pub AnswersSource : Order → Option (List ℕ) → Option (List ℕ) → ℕ → Result LineView ServeFault → Type 0
+AnswersSource order old new taken answer = AnswersRead (OrderReads order old new) (IsOrderAnswer order) taken answer
 
 -- memory aside, the fact holds of what a function returned
 abbrev pub UnlessMemory : (Result (List ℕ) ServeFault → Type 0) → Result (Vec ℕ Global) ServeFault → Type 0

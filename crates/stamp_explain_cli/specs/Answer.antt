@@ -1,8 +1,8 @@
 -- The line that answers an observed history, with what is said of it, or why there is none.
-use Rattle.std.specs.Prelude.{◌≡◌, ◌≢◌, ℕ, List, length, Option, Result, Ok, Err, String}
+use Rattle.std.specs.Prelude.{◌≡◌, ◌≢◌, ℕ, List, Option, Result, Ok, Err, String}
 use Rattle.std.specs.declared.alloc.AllocError.{AllocError}
 use Rattle.std.specs.declared.alloc.Global.{Global}
-use Rattle.stamp_cli.specs.Answer.{LineView, IsInputAnswer, line_in}
+use Rattle.stamp_cli.specs.Answer.{LineView, IsInputAnswer, AnswersRead, line_in}
 use Rattle.stamp_cli.specs.Refusal.{refusal}
 use Rattle.stamp_cli.specs.Source.{Reads}
 use Rattle.stamp_cli.specs.declared.faults.ServeFault.{ServeFault}
@@ -42,13 +42,10 @@ IsExplainAnswer most (Err e) answer = answer ≡ Err (refusal e)
 abbrev pub AnswersExplain : ℕ → List ℕ → Result ToldView ServeFault → Type 0
 AnswersExplain most input answer = IsExplainAnswer most (observed_of input) answer
 
--- a source was read as input, by reads that took this many bytes, and this is the answer to all of them
-pub record AnswersSource (most : ℕ) (old new : Option (List ℕ)) (taken : ℕ) (answer : Result ToldView ServeFault) :
-    Type 0 where
-  pub input : List ℕ
-  pub reads : Reads old new input
-  pub whole : length input ≡ taken
-  pub is : IsInputAnswer (AnswersExplain most) input answer
+-- a source was read as input, and this is the answer
+abbrev pub AnswersSource : ℕ → Option (List ℕ) → Option (List ℕ) → ℕ → Result ToldView ServeFault → Type 0
+AnswersSource most old new taken answer =
+    AnswersRead (Reads old new) (IsInputAnswer (AnswersExplain most)) taken answer
 
 -- memory aside, the fact holds of what a function returned
 abbrev pub ToldUnlessMemory : (Result ToldView ServeFault → Type 0) → Result made.Told ServeFault → Type 0

@@ -2,7 +2,7 @@
 use Rattle.std.specs.Prelude.{ℕ, ◌≡◌, ◌≤◌, Bool, false, length, List, Option, Result, Ok, Err}
 use Rattle.stamp_core.specs.Record.{Recorded}
 use Rattle.stamp_history.specs.History.{recorded_of}
-use Rattle.stamp_cli.specs.Answer.{IsInputAnswer, AnswersCheck}
+use Rattle.stamp_cli.specs.Answer.{IsInputAnswer, AnswersCheck, AnswersRead}
 use Rattle.stamp_cli.specs.Refusal as refusal
 use Rattle.stamp_cli.specs.Source.{Reads, most_bytes}
 use Rattle.stamp_cli.specs.declared.line.Verdict.{Verdict}
@@ -84,13 +84,10 @@ abbrev pub AnswersPicture : List ℕ → PictureOrder → List ℕ → Result Dr
 AnswersPicture style order input (Ok drawing) = IsPictureAnswer style order input drawing
 AnswersPicture style order input (Err fault) = IsRefused order.window input fault
 
--- a source was read as input, by reads that took this many bytes, and this is the answer to all of them
-pub record AnswersSource (style : List ℕ) (order : PictureOrder) (old new : Option (List ℕ)) (taken : ℕ)
-    (answer : Result DrawingView PictureFault) : Type 0 where
-  pub input : List ℕ
-  pub reads : Reads old new input
-  pub whole : length input ≡ taken
-  pub is : AnswersPicture style order input answer
+-- a source was read as input, and this is the answer
+abbrev pub AnswersSource : List ℕ → PictureOrder → Option (List ℕ) → Option (List ℕ) → ℕ →
+    Result DrawingView PictureFault → Type 0
+AnswersSource style order old new taken answer = AnswersRead (Reads old new) (AnswersPicture style order) taken answer
 
 -- an end of the command failed, and not what was read
 abbrev pub is_of_end : PictureFault → Bool
