@@ -1,5 +1,5 @@
 -- A call of two accesses: a load, which went on, and an exchange.
-use Rattle.std.proofs.Common.{◌≢◌, ℕ, [], ◌∷◌, ◌∙◌}
+use Rattle.std.proofs.Common.{◌≢◌, ℕ, [], ◌∷◌}
 use Rattle.stamp_core.specs.Limits.{Bounds}
 use Rattle.stamp_core.specs.Word.{LockWord, word_at}
 use Rattle.stamp_core.specs.Decision.{Answers, Changes, Moves}

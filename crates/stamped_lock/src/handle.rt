@@ -63,9 +63,11 @@ impl<'a> LockHandle<'a> {
         ensures made { Made call result self.old self.new }
         ensures reply { MayReply call result }
     {
+        // A copy, since the borrow checker covers no struct that is passed by value and used again.
+        let again = call;
         match self.make_once(call) {
             Ok(reply) => reply,
-            Err(_) => self.make_until_done(rt, call),
+            Err(_) => self.make_until_done(rt, again),
         }
     }
 

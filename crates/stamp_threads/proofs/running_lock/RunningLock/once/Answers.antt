@@ -2,7 +2,7 @@ use Rattle.std.proofs.Common.{◌≡◌, ◌==◌, false, ◌∙◌, ap, sym, in
 use Rattle.stamp_core.specs.LockDecision.{reply_as}
 use Rattle.stamp_machines.proofs.LockCallSteps.{by_number}
 use Rattle.stamp_threads.specs.LockPass.{LockView, LockToken, first_of}
-use Rattle.stamp_threads.specs.LockRule.{Loaded}
+use Rattle.stamp_threads.specs.LockRule.{Loaded, Won}
 use Rattle.stamp_threads.specs.Underway.{Underway}
 use Rattle.stamp_threads.proofs.CallSteps.{exchange_won, exchange_lost, never_waits}
 use Rattle.stamp_threads.proofs.Underway.{begins, is_answered, ends_by_answer, is_made}
@@ -26,36 +26,39 @@ returns-in-Answer-clause-machine c =
     rw (← c.try_form-call.ensures.form, c.as_reply.ensures)
     (ends_by_answer _ _ _ _ _ begun _ c.in-Answer.ensures.number)
 
+-- the exchange found the word loaded
+module _ (c : goal.After-as_reply-then-found-loaded) where
+  loaded : Loaded c.args.self.now.limits c.try_form-call.result c.args.pass.now.view
+      c.load-loaded.result (first_of c.load-loaded.new.seat.me.0)
+  loaded =
+      let limits = c.self.invariant.0 ∙ ap (λ (l : LockView). l.limits) c.self.view_is in
+      let view = ap (λ (p : LockToken). p.view) c.pass.view_is in
+      rw (limits, view) at c.load-loaded.ensures.told
+
+  begun : Underway c.args.self.now.limits c.try_form-call.result c.args.pass.now.view
+      c.load-loaded.result (first_of c.load-loaded.new.seat.me.0)
+  begun = begins _ _ _ _ _ (c.try_form-call.ensures.lock_call c.requires.lock_call) loaded
+
+  won : Won c.args.self.now.limits c.try_form-call.result (first_of c.load-loaded.new.seat.me.0)
+      c.load-loaded.result (first_of c.exchange-found.new.seat.me.0)
+  won =
+      let limits = c.self.invariant.0 ∙ ap (λ (l : LockView). l.limits) c.self.view_is in
+      exchange_won _ _ _ _ _ _ c.if-found-loaded.true (rw limits at c.exchange-found.ensures.told)
+
 pub returns-then-found-loaded-clause-ok : goal.returns-then-found-loaded-clause-ok
 returns-then-found-loaded-clause-ok c =
-    let limits = c.self.invariant.0 ∙ ap (λ (l : LockView). l.limits) c.self.view_is in
-    let view = ap (λ (p : LockToken). p.view) c.pass.view_is in
-    let told = rw (limits, view) at c.load-loaded.ensures.told in
-    let found = rw limits at c.exchange-found.ensures.told in
-    let won = exchange_won _ _ _ _ _ _ c.if-found-loaded.true found in
-    let begun = begins _ _ _ _ _ (c.try_form-call.ensures.lock_call c.requires.lock_call) told in
     rw (← c.try_form-call.ensures.form, c.as_reply-then-found-loaded.ensures)
-    (is_made _ _ _ _ _ begun _ _ c.in-Change.ensures.decides c.in-Change.ensures.number _ won)
+    (is_made _ _ _ _ _ (begun c) _ _ c.in-Change.ensures.decides c.in-Change.ensures.number _ (won c))
 
 pub returns-then-found-loaded-clause-looks : goal.returns-then-found-loaded-clause-looks
 returns-then-found-loaded-clause-looks c =
-    let limits = c.self.invariant.0 ∙ ap (λ (l : LockView). l.limits) c.self.view_is in
-    let view = ap (λ (p : LockToken). p.view) c.pass.view_is in
-    let told = rw (limits, view) at c.load-loaded.ensures.told in
-    let found = rw limits at c.exchange-found.ensures.told in
-    let won = exchange_won _ _ _ _ _ _ c.if-found-loaded.true found in
-    inr (twice_by_win _ _ _ _ _ _ _ told c.in-Change.ensures.decides _ won)
+    inr (twice_by_win _ _ _ _ _ _ _ (loaded c) c.in-Change.ensures.decides _ (won c))
 
 pub returns-then-found-loaded-clause-machine : goal.returns-then-found-loaded-clause-machine
 returns-then-found-loaded-clause-machine c =
-    let limits = c.self.invariant.0 ∙ ap (λ (l : LockView). l.limits) c.self.view_is in
-    let view = ap (λ (p : LockToken). p.view) c.pass.view_is in
-    let told = rw (limits, view) at c.load-loaded.ensures.told in
-    let found = rw limits at c.exchange-found.ensures.told in
-    let won = exchange_won _ _ _ _ _ _ c.if-found-loaded.true found in
-    let begun = begins _ _ _ _ _ (c.try_form-call.ensures.lock_call c.requires.lock_call) told in
     rw (← c.try_form-call.ensures.form, c.as_reply-then-found-loaded.ensures)
-    (ends_by_change _ _ _ _ _ begun _ _ c.in-Change.ensures.decides c.in-Change.ensures.number _ won)
+    (ends_by_change _ _ _ _ _ (begun c) _ _ c.in-Change.ensures.decides c.in-Change.ensures.number _
+    (won c))
 
 pub unreachable-requires : goal.unreachable-requires
 unreachable-requires c =
