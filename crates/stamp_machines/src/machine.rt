@@ -83,10 +83,8 @@ fn after_public(
         (λ p. LeadsIn p found (turn_in shape.now call.now loaded.now answer.new result)) }
 {
     let (_, next) = decide_on(shape.limits, call, seen, found, answer);
-    match next {
-        ControlFlow::Continue(seen) => ControlFlow::Continue(Stage::Public { seen }),
-        ControlFlow::Break(()) => ControlFlow::Break(()),
-    }
+    let seen = next?;
+    ControlFlow::Continue(Stage::Public { seen })
 }
 
 /// Where a call of the record goes on from a lock call on the record's own lock, after an access

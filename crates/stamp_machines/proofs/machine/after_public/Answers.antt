@@ -2,22 +2,24 @@ use Rattle.std.proofs.Common.{refl}
 use Rattle.stamp_machines.specs.LockPhase.{Still, Ended}
 use Rattle.stamp_machines.proofs.machine.after_public.Goals as goal
 
-pub returns-in-Continue-clause-leads : goal.returns-in-Continue-clause-leads
-returns-in-Continue-clause-leads c = rw c.in-Continue.is at (c.decide_on-next.ensures.leads 0)
+pub returns-in_err-seen-clause-leads : goal.returns-in_err-seen-clause-leads
+returns-in_err-seen-clause-leads c = rw c.from_residual.ensures
+    (rw (c.branch-seen.ensures, c.in_err-seen.is) at (c.decide_on-next.ensures.leads 0))
 
-pub returns-in-Break-clause-leads : goal.returns-in-Break-clause-leads
-returns-in-Break-clause-leads c = rw c.in-Break.is at (c.decide_on-next.ensures.leads 0)
+pub returns-clause-leads : goal.returns-clause-leads
+returns-clause-leads c =
+    rw (c.branch-seen.ensures, c.in_ok-seen.is) at (c.decide_on-next.ensures.leads 0)
 
-pub returns-in-Continue-clause-phase : goal.returns-in-Continue-clause-phase
-returns-in-Continue-clause-phase c = (
-  Still c.in-Continue.seen,
-  rw c.in-Continue.is at (c.decide_on-next.ensures.leads 0),
+pub returns-in_err-seen-clause-phase : goal.returns-in_err-seen-clause-phase
+returns-in_err-seen-clause-phase c = rw c.from_residual.ensures (
+  Ended c.decide_on-next.new.answer,
+  rw (c.branch-seen.ensures, c.in_err-seen.is) at (c.decide_on-next.ensures.leads 0),
   refl,
 )
 
-pub returns-in-Break-clause-phase : goal.returns-in-Break-clause-phase
-returns-in-Break-clause-phase c = (
-  Ended c.decide_on-next.new.answer,
-  rw c.in-Break.is at (c.decide_on-next.ensures.leads 0),
+pub returns-clause-phase : goal.returns-clause-phase
+returns-clause-phase c = (
+  Still c.in_ok-seen.seen,
+  rw (c.branch-seen.ensures, c.in_ok-seen.is) at (c.decide_on-next.ensures.leads 0),
   refl,
 )
