@@ -7,8 +7,8 @@ use Rattle.std.proofs.lemmas.List.{append_assoc, append_cancel_right, length-app
 use Rattle.std.proofs.lemmas.List.Elements.{All-cons, All-contains, All-drop, All-push, All-weaker}
 use Rattle.std.proofs.lemmas.List.Elements.{Contains-append_right, Contains-get_or}
 use Rattle.std.proofs.lemmas.Option.{slice_get_within}
-use Rattle.stamp_explain.specs.Observed.{ObservedHistory}
-use Rattle.stamp_explain.specs.Search.{IsReturnAt, LockState, first_state}
+use Rattle.stamp_explain.specs.Observed.{ObservedHistory, IsReturnAt}
+use Rattle.stamp_explain.specs.Search.{LockState, first_state}
 use Rattle.stamp_explain.specs.Configuration.{AreOne, AwaitsNext, Configuration, GoesOnFrom}
 use Rattle.stamp_explain.specs.Configuration.{Reaches, number_after}
 use Rattle.stamp_explain.specs.Configuration.Reaches.{begins, goes_past, goes_on_by}

@@ -10,7 +10,7 @@ use Rattle.stamp_explain.specs.declared.observed.Observation.{Observation}
 use Rattle.stamp_explain.specs.declared.observed.Returned.{Returned}
 use Rattle.stamp_explain.specs.declared.timeline.Timeline.{Timeline}
 use Rattle.stamp_explain.specs.declared.asking.Asking.{Asking}
-use Rattle.stamp_explain.specs.Observed.{ObservedHistory, IsObserved, IsInterval}
+use Rattle.stamp_explain.specs.Observed.{ObservedHistory, IsObserved, IsInterval, IsReturnAt}
 use Rattle.stamp_explain.specs.Explained.{IsExplained}
 use Rattle.stamp_explain.specs.Cut.{returned_by, cut_entry, cut_entries, begun_by, seen_at, place_then}
 use Rattle.stamp_explain.specs.Possible.{ArePossible, AreAllPossible, GetsBeside, IsUndecidedAtGotten}
@@ -153,12 +153,14 @@ pub asked_at : (h seen before : ObservedHistory) (timeline : Timeline) (i place 
 asked_at h seen before timeline i place e r read observed at returned same is_place is_seen is_before timelines =
     record {
       is = record {
-        entry = e;
-        return = r;
+        at = record {
+          entry = e;
+          return = r;
+          is_entry = asked_as_seen h seen i place e r read observed at returned same is_place is_seen;
+          returned = returned;
+        };
         observed = subst IsObserved (sym is_seen) (seen_explains_as_much h r.last (i + 1) observed).0;
         timeline = timelines;
-        is_entry = asked_as_seen h seen i place e r read observed at returned same is_place is_seen;
-        returned = returned;
         before = is_before;
       };
       seen = is_seen;
@@ -174,7 +176,7 @@ pub all_possible : (h : ObservedHistory) (i : ℕ) (e : Observation) (r : Return
 all_possible h i e r asking tried found at returned le observed is replies possible = record {
   each = λ k d lt. ((possible.each (get_or found k d)).0 (Contains-get_or found k d lt)).1;
   whole = λ reply misses may. replies.whole reply (with_reply asking.place e r reply asking.seen)
-      (record { entry = e; return = r; is_entry = is.is_entry; returned = returned; is = refl })
+      (record { at = record { entry = e; return = r; is_entry = is.is_entry; returned = returned }; is = refl })
       (λ has. misses ((possible.each reply).1 (has, may)))
       (subst IsExplained (seen_answered h i e r reply at returned le ∙
       ap (λ (k : ℕ). with_reply k e r reply (seen_at r.last (i + 1) h)) (sym is.place) ∙
@@ -190,9 +192,10 @@ pub undecided_by : (h : ObservedHistory) (i most : ℕ) (e : Observation) (r : R
 undecided_by h i most e r asking replies at returned asks are some =
     let one : IsUndecidedAtReply h i most some.0 = some.1.1 in
     let gets : Gets asking some.0 = are.gets some.0 some.1.0 in
-    let is_entry : e ≡ one.entry = same_Some e one.entry (sym at ∙ one.is_entry) in
-    let is_return : r ≡ one.return = same_Some r one.return (sym returned ∙
-    ap (λ (o : Observation). o.returned) is_entry ∙ one.returned) in
+    let own : IsReturnAt h.entries i = one.at in
+    let is_entry : e ≡ own.entry = same_Some e own.entry (sym at ∙ own.is_entry) in
+    let is_return : r ≡ own.return = same_Some r own.return (sym returned ∙
+    ap (λ (o : Observation). o.returned) is_entry ∙ own.returned) in
     let is_asked : gets.entry ≡ e = same_Some gets.entry e (sym gets.is_entry ∙ asks.is_entry) in
     let seen : GetsBeside (seen_at r.last (i + 1) h) (place_then r.last i h.entries) e some.0 =
     subst (λ (o : Observation). GetsBeside (seen_at r.last (i + 1) h) (place_then r.last i h.entries) o some.0) is_asked
@@ -201,8 +204,8 @@ undecided_by h i most e r asking replies at returned asks are some =
     record {
       reply = some.0;
       undecided = one;
-      gets = subst (λ (o : Observation). GetsBeside (seen_at one.return.last (i + 1) h)
-          (place_then one.return.last i h.entries) o some.0) is_entry
+      gets = subst (λ (o : Observation). GetsBeside (seen_at own.return.last (i + 1) h)
+          (place_then own.return.last i h.entries) o some.0) is_entry
           (subst (λ (q : Returned). GetsBeside (seen_at q.last (i + 1) h) (place_then q.last i h.entries) e some.0)
           is_return seen);
     }

@@ -18,9 +18,9 @@ use Rattle.stamp_explain.specs.declared.observed.Returned.{Returned}
 use Rattle.stamp_explain.specs.declared.node.Node.{Node}
 use Rattle.stamp_explain.specs.declared.node.Next.{Next}
 use Rattle.stamp_explain.specs.declared.timeline.Timeline.{Timeline}
-use Rattle.stamp_explain.specs.Observed.{ObservedHistory, HasReturned}
+use Rattle.stamp_explain.specs.Observed.{ObservedHistory, HasReturned, IsReturnAt}
 use Rattle.stamp_explain.specs.Explained.{Effect}
-use Rattle.stamp_explain.specs.Search.{LockState, LockSteps, MayTake, IsReturnAt, AreReturns, ReturnsNoLater}
+use Rattle.stamp_explain.specs.Search.{LockState, LockSteps, MayTake, AreReturns, ReturnsNoLater}
 use Rattle.stamp_explain.specs.Node.{IsNext, HasNext, AreTaken, IsStateBy, StandsFor, words_put, words_put_at}
 use Rattle.stamp_explain.specs.Node.{content_by}
 use Rattle.stamp_explain.specs.Node.{IsFirstNode}
@@ -297,7 +297,8 @@ returns_alike h g i returns is are = record {
   each = All-weaker (IsReturnAt h.entries) (IsReturnAt g.entries) (λ k r.
       let f : (f : Observation) × ((slice_get g.entries k ≡ Some f) × IsAlike r.entry f) =
       there h g i k r.entry is r.is_entry in
-      record { entry = f.0; is_entry = f.1.0; returned = returned_alike r.entry f.0 f.1.1 r.returned })
+      let has : HasReturned f.0 = returned_alike r.entry f.0 f.1.1 (r.return, r.returned) in
+      record { entry = f.0; return = has.0; is_entry = f.1.0; returned = has.1 })
       returns are.each;
   whole = λ k f at returned.
       let e : (e : Observation) × ((slice_get h.entries k ≡ Some e) × IsAlike f e) =

@@ -117,7 +117,7 @@ beside_inside asking node asks is = which (cases node.past (length asking.timeli
     which (inl lt) = lt
     which (inr le) = absurd (is.still (is.reached.stands.in_effect.all_past asking.place
         (subst (λ (xs : List ℕ). Contains xs asking.place) (sym (take_all node.past asking.timeline.returns.items le))
-        (asks.timeline.are.whole asking.place asks.entry asks.is_entry (asks.return, asks.returned)))))
+        (asks.timeline.are.whole asking.place asks.at.entry asks.at.is_entry (asks.at.return, asks.at.returned)))))
 
 -- what the search keeps
 pub record AsksSoFar (asking : Asking) (looked : ℕ) (store : Store) (waiting : List ℕ) (replies : List Reply) :

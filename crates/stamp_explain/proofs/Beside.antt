@@ -22,8 +22,9 @@ use Rattle.stamp_explain.specs.declared.node.Next.{Next}
 use Rattle.stamp_explain.specs.declared.node.Step.{Step}
 use Rattle.stamp_explain.specs.declared.asking.Asking.{Asking}
 use Rattle.stamp_explain.specs.Observed.{ObservedHistory, IsObserved, IsBefore, AllowsReply, AreOfOneObject}
+use Rattle.stamp_explain.specs.Observed.{IsReturnAt}
 use Rattle.stamp_explain.specs.Unchanging.{asks_at, asks_in, is_unchanging_at, unchanging_in}
-use Rattle.stamp_explain.specs.Search.{LockState, LockSteps, IsReturnAt, after_call}
+use Rattle.stamp_explain.specs.Search.{LockState, LockSteps, after_call}
 use Rattle.stamp_explain.specs.Node.{IsReached, IsStateBy, HasGone}
 use Rattle.stamp_explain.specs.Timeline.{AreOpen, IsAwaitedAt}
 use Rattle.stamp_explain.specs.Expand.{Suffice, Took, IsNotInEffect, IsTakenTo}
@@ -112,12 +113,13 @@ counted_none last k es e n lt at begun is = record {
 pub alike_of : (asking : Asking) (reply : Reply) (h : ObservedHistory) → IsSeenWith asking reply h →
     AreAlike asking.seen h asking.place
 alike_of asking reply h is = subst (λ (g : ObservedHistory). AreAlike asking.seen g asking.place) (sym is.is)
-    (alike_with_reply asking.seen asking.place is.entry is.return reply is.is_entry is.returned)
+    (alike_with_reply asking.seen asking.place is.at.entry is.at.return reply is.at.is_entry is.at.returned)
 
 pub observed_of : (asking : Asking) (reply : Reply) (h : ObservedHistory) → IsAsking asking →
     IsSeenWith asking reply h → IsObserved h
 observed_of asking reply h asks is = subst IsObserved (sym is.is)
-    (replied_is_observed asking.seen asking.place is.entry is.return reply is.is_entry is.returned asks.observed)
+    (replied_is_observed asking.seen asking.place is.at.entry is.at.return reply is.at.is_entry is.at.returned
+    asks.observed)
 
 -- a node awaits the same return there
 pub record AwaitsToo (asking : Asking) (h : ObservedHistory) (node : Node) (a : Observation) : Type 0 where
@@ -392,7 +394,7 @@ suffice_beside asking node calls k nexts reply h asks inside awaited are all is 
 -- the entry that was asked, with the reply
 asked_entry : (asking : Asking) (reply : Reply) (h : ObservedHistory) (f : Observation) →
     (is : IsSeenWith asking reply h) → slice_get h.entries asking.place ≡ Some f →
-    f ≡ returned_with is.entry is.return reply
+    f ≡ returned_with is.at.entry is.at.return reply
 asked_entry asking reply h f is at = same_Some f y (sym at ∙
     ap (λ (g : ObservedHistory). slice_get g.entries asking.place) is.is ∙
     slice_get-get_or (set asking.seen.entries asking.place y) asking.place y
@@ -400,10 +402,10 @@ asked_entry asking reply h f is at = same_Some f y (sym at ∙
     ap (λ (o : Observation). Some o) (get_or-set_same asking.seen.entries asking.place y y within))
   where
     y : Observation
-    y = returned_with is.entry is.return reply
+    y = returned_with is.at.entry is.at.return reply
 
     within : asking.place < length asking.seen.entries
-    within = slice_get_within asking.seen.entries asking.place is.entry is.is_entry
+    within = slice_get_within asking.seen.entries asking.place is.at.entry is.at.is_entry
 
 -- where the awaited call had returned before it began, it isn't open
 pub not_begun : (asking : Asking) (node : Node) (a e : Observation) (reply : Reply) (h : ObservedHistory) →
@@ -441,14 +443,14 @@ asked_takes asking node found reply h asks is went others = record {
       let alike : AreAlike asking.seen h asking.place = alike_of asking reply h is in
       let at_x : slice_get h.entries asking.place ≡ Some x.entry =
       ap (λ (k : ℕ). slice_get h.entries k) (sym same) ∙ may.effect.is_entry in
-      let is_x : x.entry ≡ returned_with is.entry is.return reply = asked_entry asking reply h x.entry is at_x in
-      let at : IsStateBy (without_return asking.place is.entry asking.seen) node.bits node.writer s =
-      at_same asking.seen (without_return asking.place is.entry asking.seen) node.bits node.writer s
-      (same_calls_before asking.seen asking.place is.entry is.is_entry)
+      let is_x : x.entry ≡ returned_with is.at.entry is.at.return reply = asked_entry asking reply h x.entry is at_x in
+      let at : IsStateBy (without_return asking.place is.at.entry asking.seen) node.bits node.writer s =
+      at_same asking.seen (without_return asking.place is.at.entry asking.seen) node.bits node.writer s
+      (same_calls_before asking.seen asking.place is.at.entry is.at.is_entry)
       (at_alike h asking.seen asking.place node.bits node.writer s (turned asking.seen h asking.place alike)
       stands.at) in
       let replied : reply ≡ x.reply = subst (λ (o : Observation). AllowsReply o x.reply) is_x may.effect.replies in
-      let steps : LockSteps asking.seen.limits s (is.entry.call, x.reply) u =
+      let steps : LockSteps asking.seen.limits s (is.at.entry.call, x.reply) u =
       subst (λ (o : Observation). LockSteps asking.seen.limits s (o.call, x.reply) u) is_x
       (subst (λ (l : Bounds). LockSteps l s (x.entry.call, x.reply) u) alike.limits may.steps) in
       by found refl s u x.reply replied steps
@@ -458,16 +460,16 @@ asked_takes asking node found reply h asks is went others = record {
 }
   where
     y : Observation
-    y = record is.entry { returned = None }
+    y = record is.at.entry { returned = None }
 
-    same_entry : asks.entry ≡ is.entry
-    same_entry = same_Some asks.entry is.entry (sym asks.is_entry ∙ is.is_entry)
+    same_entry : asks.at.entry ≡ is.at.entry
+    same_entry = same_Some asks.at.entry is.at.entry (sym asks.at.is_entry ∙ is.at.is_entry)
 
-    before : asking.before ≡ without_return asking.place is.entry asking.seen
+    before : asking.before ≡ without_return asking.place is.at.entry asking.seen
     before = asks.before ∙ ap (λ (o : Observation). without_return asking.place o asking.seen) same_entry
 
     within : asking.place < length asking.seen.entries
-    within = slice_get_within asking.seen.entries asking.place is.entry is.is_entry
+    within = slice_get_within asking.seen.entries asking.place is.at.entry is.at.is_entry
 
     here : slice_get asking.before.entries asking.place ≡ Some y
     here = ap (λ (g : ObservedHistory). slice_get g.entries asking.place) before ∙
@@ -476,11 +478,11 @@ asked_takes asking node found reply h asks is went others = record {
         ap (λ (o : Observation). Some o) (get_or-set_same asking.seen.entries asking.place y y within)
 
     by : (o : Option Step) → found ≡ o → (s u : LockState) (r : Reply) → reply ≡ r →
-        LockSteps asking.seen.limits s (is.entry.call, r) u →
-        HasGone (without_return asking.place is.entry asking.seen) asking.place y node.writer s o → ⊥
+        LockSteps asking.seen.limits s (is.at.entry.call, r) u →
+        HasGone (without_return asking.place is.at.entry asking.seen) asking.place y node.writer s o → ⊥
     by None at s u r replied steps gone = gone r u tt steps
     by (Some step) at s u r replied steps gone = others step at
-        (one_reply asking.seen.limits s.0 s.1 is.entry.call step.reply r gone.steps.replies steps.replies ∙
+        (one_reply asking.seen.limits s.0 s.1 is.at.entry.call step.reply r gone.steps.replies steps.replies ∙
         sym replied)
 
 pub asked_not_begun : (asking : Asking) (node : Node) (a e : Observation) (replies : List Reply) → IsAsking asking →
@@ -507,8 +509,8 @@ asked_gets : (asking : Asking) (node : Node) (step : Step) (a : Observation) →
     ((e : Observation) → slice_get asking.seen.entries asking.place ≡ Some e → ¬ IsBefore a e) →
     WentBefore asking node (Some step) → Gets asking step.reply
 asked_gets asking node step a asks is awaits begun went = record {
-  entry = asks.entry;
-  is_entry = asks.is_entry;
+  entry = asks.at.entry;
+  is_entry = asks.at.is_entry;
   gets = record {
     returns = asking.timeline.returns.items;
     are = asks.timeline.are;
@@ -521,24 +523,24 @@ asked_gets asking node step a asks is awaits begun went = record {
       are = come asking.timeline.returns.items node.past awaits.inside;
       awaited = a;
       is_awaited = awaits.at;
-      begun = begun asks.entry asks.is_entry;
+      begun = begun asks.at.entry asks.at.is_entry;
     };
-    next = after_call asking.seen.limits is.reached.state (asks.entry.call, step.reply);
+    next = after_call asking.seen.limits is.reached.state (asks.at.entry.call, step.reply);
     steps = (subst (λ (g : ObservedHistory). HasGone g asking.place y node.writer is.reached.state (Some step))
         asks.before
         (went y is.reached.state here (subst (λ (g : ObservedHistory). IsStateBy g node.bits node.writer
         is.reached.state)
-        (sym asks.before) (at_same asking.seen (without_return asking.place asks.entry asking.seen) node.bits
-        node.writer is.reached.state (same_calls_before asking.seen asking.place asks.entry asks.is_entry)
+        (sym asks.before) (at_same asking.seen (without_return asking.place asks.at.entry asking.seen) node.bits
+        node.writer is.reached.state (same_calls_before asking.seen asking.place asks.at.entry asks.at.is_entry)
         is.reached.stands.at)))).steps;
   };
 }
   where
     y : Observation
-    y = record asks.entry { returned = None }
+    y = record asks.at.entry { returned = None }
 
     within : asking.place < length asking.seen.entries
-    within = slice_get_within asking.seen.entries asking.place asks.entry asks.is_entry
+    within = slice_get_within asking.seen.entries asking.place asks.at.entry asks.at.is_entry
 
     here : slice_get asking.before.entries asking.place ≡ Some y
     here = ap (λ (g : ObservedHistory). slice_get g.entries asking.place) asks.before ∙
@@ -565,16 +567,16 @@ asked_replies asking node step a old new asks is awaits begun went adds = record
 pub asked_read : (asking : Asking) (read : List Observation) (d : Observation) → IsAsking asking →
     read ≡ asking.seen.entries →
     slice_get asking.seen.entries asking.place ≡ Some (get_or read asking.place d)
-asked_read asking read d asks same = asks.is_entry ∙ ap (λ (o : Observation). Some o)
-    (sym (get_or_from_slice_get asking.seen.entries asking.place asks.entry d asks.is_entry)) ∙
+asked_read asking read d asks same = asks.at.is_entry ∙ ap (λ (o : Observation). Some o)
+    (sym (get_or_from_slice_get asking.seen.entries asking.place asks.at.entry d asks.at.is_entry)) ∙
     ap (λ (es : List Observation). Some (get_or es asking.place d)) (sym same)
 
 pub asked_inside : (asking : Asking) → IsAsking asking → asking.place < length asking.before.entries
 asked_inside asking asks = omega (
   arith,
-  slice_get_within asking.seen.entries asking.place asks.entry asks.is_entry,
+  slice_get_within asking.seen.entries asking.place asks.at.entry asks.at.is_entry,
   ap (λ (g : ObservedHistory). length g.entries) asks.before,
-  length-set asking.seen.entries asking.place (record asks.entry { returned = None }),
+  length-set asking.seen.entries asking.place (record asks.at.entry { returned = None }),
 )
 
 pub asked_suits : (asking : Asking) → IsAsking asking → (e : Observation) →
@@ -582,13 +584,13 @@ pub asked_suits : (asking : Asking) → IsAsking asking → (e : Observation) �
 asked_suits asking asks e at = subst (λ (g : ObservedHistory). IsTrue (call_suits g.width e.call)) (sym asks.before)
     (subst (λ (o : Observation). IsTrue (call_suits asking.seen.width o.call)) same
     (at_place (λ (o : Observation). IsTrue (call_suits asking.seen.width o.call)) asking.seen.entries asking.place
-    asks.entry asks.observed.suit asks.is_entry))
+    asks.at.entry asks.observed.suit asks.at.is_entry))
   where
     y : Observation
-    y = record asks.entry { returned = None }
+    y = record asks.at.entry { returned = None }
 
     within : asking.place < length asking.seen.entries
-    within = slice_get_within asking.seen.entries asking.place asks.entry asks.is_entry
+    within = slice_get_within asking.seen.entries asking.place asks.at.entry asks.at.is_entry
 
     same : y ≡ e
     same = same_Some y e (sym (slice_get-get_or (set asking.seen.entries asking.place y) asking.place y

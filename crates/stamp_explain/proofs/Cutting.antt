@@ -195,7 +195,8 @@ cuts_stay_explained h last bound explained = less_known h (cut_entries last boun
     (whole_less last bound 0 h.entries) explained
 
 pub explained_is_not_stuck : ExplainedIsNotStuck
-explained_is_not_stuck h i explained stuck = stuck.stuck (cuts_stay_explained h stuck.return.last (i + 1) explained)
+explained_is_not_stuck h i explained stuck =
+    stuck.stuck (cuts_stay_explained h stuck.at.return.last (i + 1) explained)
 
 sooner_explained : (h : ObservedHistory) (l b m c : ℕ) → IsSooner l b m c → IsExplained (cut m c h) →
     IsExplained (cut l b h)
@@ -204,12 +205,14 @@ sooner_explained h l b m c sooner explained = less_known (cut m c h) (cut_entrie
 
 -- a return before one that is stuck isn't
 not_sooner : (h : ObservedHistory) (i j : ℕ) (a : IsStuck h i) (b : IsStuck h j) →
-    ¬ IsSooner a.return.last (i + 1) b.return.last j
-not_sooner h i j a b sooner = a.stuck (sooner_explained h a.return.last (i + 1) b.return.last j sooner b.explained)
+    ¬ IsSooner a.at.return.last (i + 1) b.at.return.last j
+not_sooner h i j a b sooner =
+    a.stuck (sooner_explained h a.at.return.last (i + 1) b.at.return.last j sooner b.explained)
 
 apart_in_time : (l m i j : ℕ) → ¬ IsSooner l (i + 1) m j → ¬ IsSooner m (j + 1) l i → i ≡ j
 unfolding IsSooner
 apart_in_time l m i j one other = grind arith
 
 pub one_stuck : OneStuck
-one_stuck h i j a b = apart_in_time a.return.last b.return.last i j (not_sooner h i j a b) (not_sooner h j i b a)
+one_stuck h i j a b =
+    apart_in_time a.at.return.last b.at.return.last i j (not_sooner h i j a b) (not_sooner h j i b a)

@@ -17,9 +17,9 @@ use Rattle.stamp_core.specs.Content.{zeros}
 use Rattle.stamp_explain.specs.declared.node.Node.{Node}
 use Rattle.stamp_explain.specs.declared.node.Next.{Next}
 use Rattle.stamp_explain.specs.declared.store.Store.{Store}
-use Rattle.stamp_explain.specs.Observed.{ObservedHistory}
+use Rattle.stamp_explain.specs.Observed.{ObservedHistory, IsReturnAt}
 use Rattle.stamp_explain.specs.Explained.{Effect, IsExplained, IsExplainedBy, history_of, indices_of}
-use Rattle.stamp_explain.specs.Search.{LockSteps, IsCompletedBy, AreReturns, IsReturnAt}
+use Rattle.stamp_explain.specs.Search.{LockSteps, IsCompletedBy, AreReturns}
 use Rattle.stamp_explain.specs.Search.{first_state}
 use Rattle.stamp_explain.specs.Configuration.{Reaches}
 use Rattle.stamp_explain.specs.Configuration.Reaches.{begins}
@@ -57,8 +57,8 @@ explained_by h returns are explained =
       once = by.once;
       fresh = λ k d lt. none_in_empty (get_or explained.order k d).index;
       returned = All-weaker (IsReturnAt h.entries) (λ (i : ℕ). Contains [] i ⊎
-          Contains (indices_of explained.order) i) (λ i r. inr (by.returned i r.entry r.is_entry r.returned))
-          returns are.each;
+          Contains (indices_of explained.order) i) (λ i r. inr (by.returned i r.entry r.is_entry
+          (r.return, r.returned))) returns are.each;
       ordered = by.ordered;
       runs = runs_legal h.limits [] (zeros h.width) (history_of explained.order) by.legal;
     }

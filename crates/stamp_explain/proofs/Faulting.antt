@@ -10,7 +10,7 @@ use Rattle.stamp_explain.specs.declared.observed.Observation.{Observation}
 use Rattle.stamp_explain.specs.declared.observed.Returned.{Returned}
 use Rattle.stamp_explain.specs.declared.found.Found.{Found}
 use Rattle.stamp_explain.specs.declared.found.Found.TheVariants.{Order, Nothing, Undecided}
-use Rattle.stamp_explain.specs.Observed.{ObservedHistory, IsObserved, HasReturned}
+use Rattle.stamp_explain.specs.Observed.{ObservedHistory, IsObserved, HasReturned, IsReturnAt}
 use Rattle.stamp_explain.specs.Explained.{IsEffectOf, AreApart, RespectsBefore, IsExplained, IsExplainedBy}
 use Rattle.stamp_explain.specs.Cut.{cut_entry, cut_entries, returned_by, cut, seen_at, IsStuck}
 use Rattle.stamp_explain.specs.TimelineKeys.{IsSooner, AreEnds, EndsAt}
@@ -401,12 +401,9 @@ between_undecided h most unexplained ends low high middle stuck p is le less at 
 
 -- the call whose return is where the two meet
 record IsMet (h : ObservedHistory) (most : ℕ) (unexplained stuck : Bool) (p : ℕ × ℕ) : Type 0 where
-  entry : Observation
-  return : Returned
-  is_entry : slice_get h.entries p.1 ≡ Some entry
-  returned : entry.returned ≡ Some return
-  explained : IsExplained (cut return.last p.1 h)
-  above : IsAbove h most (return.last, p.1) unexplained stuck
+  at : IsReturnAt h.entries p.1
+  explained : IsExplained (cut at.return.last p.1 h)
+  above : IsAbove h most (at.return.last, p.1) unexplained stuck
 
 is_met : (h : ObservedHistory) (most : ℕ) (unexplained stuck : Bool) (ends : List (ℕ × ℕ)) (low high : ℕ) (p : ℕ × ℕ) →
     AreEnds h.entries ends → IsBetween h most unexplained ends low high stuck → high ≤ low →
@@ -417,10 +414,7 @@ is_met h most unexplained stuck ends low high p are is le at =
     let last : found.1.1.0.last ≡ p.0 = found.1.1.1.1 in
     let same : low ≡ high = omega (arith, le, is.order) in
     record {
-      entry = found.0;
-      return = found.1.1.0;
-      is_entry = found.1.0;
-      returned = found.1.1.1.0;
+      at = record { entry = found.0; return = found.1.1.0; is_entry = found.1.0; returned = found.1.1.1.0 };
       explained = subst (λ (n : ℕ). IsExplained (cut n p.1 h)) (sym last) (is.below p at);
       above = subst (λ (n : ℕ). IsAbove h most (n, p.1) unexplained stuck) (sym last)
           (is.above p (subst (λ (n : ℕ). slice_get ends n ≡ Some p) same at));
@@ -432,10 +426,7 @@ pub stuck_between : (h : ObservedHistory) (most : ℕ) (unexplained : Bool) (end
 stuck_between h most unexplained ends low high p are is le at =
     let met : IsMet h most unexplained true p = is_met h most unexplained true ends low high p are is le at in
     record {
-      entry = met.entry;
-      return = met.return;
-      is_entry = met.is_entry;
-      returned = met.returned;
+      at = met.at;
       explained = met.explained;
       stuck = met.above;
     }
@@ -446,10 +437,7 @@ pub undecided_between : (h : ObservedHistory) (most : ℕ) (ends : List (ℕ × 
 undecided_between h most ends low high p are is le at =
     let met : IsMet h most false false p = is_met h most false false ends low high p are is le at in
     record {
-      entry = met.entry;
-      return = met.return;
-      is_entry = met.is_entry;
-      returned = met.returned;
+      at = met.at;
       explained = met.explained;
       whole = is.whole;
       undecided = met.above;
@@ -461,10 +449,7 @@ pub unexplained_between : (h : ObservedHistory) (most : ℕ) (ends : List (ℕ �
 unexplained_between h most ends low high p are is le at =
     let met : IsMet h most true false p = is_met h most true false ends low high p are is le at in
     record {
-      entry = met.entry;
-      return = met.return;
-      is_entry = met.is_entry;
-      returned = met.returned;
+      at = met.at;
       explained = met.explained;
       unexplained = is.whole;
       gives_up = met.above;

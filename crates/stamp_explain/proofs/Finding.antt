@@ -14,10 +14,10 @@ use Rattle.stamp_core.specs.declared.call.Call.{Call}
 use Rattle.stamp_core.specs.declared.reply.Reply.{Reply}
 use Rattle.stamp_explain.specs.declared.observed.Observation.{Observation}
 use Rattle.stamp_explain.specs.declared.observed.Returned.{Returned}
-use Rattle.stamp_explain.specs.Observed.{ObservedHistory, IsBefore, HasReturned, IsInterval, IsObserved}
+use Rattle.stamp_explain.specs.Observed.{ObservedHistory, IsBefore, HasReturned, IsInterval, IsObserved, IsReturnAt}
 use Rattle.stamp_explain.specs.Explained.{Effect, history_of, indices_of, IsExplained}
 use Rattle.stamp_explain.specs.Search.{Runs, IsCompletedBy, CanComplete, FindsOrder, ReturnsNoLater, AreInOrder}
-use Rattle.stamp_explain.specs.Search.{IsReturnAt, IsFirstReturn, LockState, first_state, after_call, LockSteps}
+use Rattle.stamp_explain.specs.Search.{IsFirstReturn, LockState, first_state, after_call, LockSteps}
 use Rattle.stamp_explain.specs.Search.FindsOrder.{at_end, returns, takes}
 use Rattle.stamp_explain.specs.ExplainLaws.{JustInTime}
 use Rattle.stamp_explain.proofs.Lists.{none_in_empty, contains_cases, contains_rest, pairs_head, pairs_tail, either_in}
@@ -200,8 +200,8 @@ just_in_time h to_come observed are = (there, back)
           once = by.once;
           fresh = λ k d lt. none_in_empty (get_or explained.order k d).index;
           returned = All-weaker (IsReturnAt h.entries) (λ (i : ℕ). Contains [] i ⊎
-              Contains (indices_of explained.order) i) (λ i r. inr (by.returned i r.entry r.is_entry r.returned))
-              to_come are.each;
+              Contains (indices_of explained.order) i) (λ i r. inr (by.returned i r.entry r.is_entry
+              (r.return, r.returned))) to_come are.each;
           ordered = by.ordered;
           runs = runs_legal h.limits [] (zeros h.width) (history_of explained.order) by.legal;
         })

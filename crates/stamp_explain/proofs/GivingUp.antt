@@ -12,9 +12,9 @@ use Rattle.stamp_explain.specs.declared.node.Node.{Node}
 use Rattle.stamp_explain.specs.declared.node.Next.{Next}
 use Rattle.stamp_explain.specs.declared.node.Waiting.{Waiting}
 use Rattle.stamp_explain.specs.declared.store.Store.{Store}
-use Rattle.stamp_explain.specs.Observed.{IsObserved, ObservedHistory}
+use Rattle.stamp_explain.specs.Observed.{IsObserved, ObservedHistory, IsReturnAt}
 use Rattle.stamp_explain.specs.Explained.{IsExplained}
-use Rattle.stamp_explain.specs.Search.{LockSteps, IsCompletedBy, IsReturnAt, AreReturns, first_state}
+use Rattle.stamp_explain.specs.Search.{LockSteps, IsCompletedBy, AreReturns, first_state}
 use Rattle.stamp_explain.specs.Configuration.{AreOne, AwaitsNext, Configuration, GoesOnFrom, IsAlive, LookedAtMore}
 use Rattle.stamp_explain.specs.Configuration.{MovesFromOne}
 use Rattle.stamp_explain.specs.Node.{IsFirstNode, IsNext}

@@ -13,8 +13,8 @@ use Rattle.std.proofs.lemmas.Option.{same_Some, slice_get-get_or, get_or_from_sl
 use Rattle.stamp_explain.specs.declared.observed.Observation.{Observation}
 use Rattle.stamp_explain.specs.declared.observed.Returned.{Returned}
 use Rattle.stamp_explain.specs.declared.timeline.Timeline.{Timeline}
-use Rattle.stamp_explain.specs.Observed.{ObservedHistory, IsBefore}
-use Rattle.stamp_explain.specs.Search.{AreReturns, AreInOrder, ReturnsNoLater, IsReturnAt, StandsBefore}
+use Rattle.stamp_explain.specs.Observed.{ObservedHistory, IsBefore, IsReturnAt}
+use Rattle.stamp_explain.specs.Search.{AreReturns, AreInOrder, ReturnsNoLater, StandsBefore}
 use Rattle.stamp_explain.specs.Timeline.{IsOpenAt, AreOpen, IsTimeline}
 use Rattle.stamp_explain.specs.TimelineKeys.{AreKeys, AreRising, AreRanked, AreRanks, AreTimelineKeys, AreOpens}
 use Rattle.stamp_explain.specs.TimelineKeys.{IsKeptOpen, AreKept}
@@ -43,7 +43,7 @@ returns_in_order h keys sorted are rises = record {
     return_at : (i : ℕ) → (n : ℕ) × Contains sorted (n, i) → IsReturnAt h.entries i
     return_at i (n, has) =
         let found : (e : Observation) × ((slice_get h.entries i ≡ Some e) × EndsAt e n) = ends (n, i) has in
-        record { entry = found.0; is_entry = found.1.0; returned = (found.1.1.0, found.1.1.1.0) }
+        record { entry = found.0; return = found.1.1.0; is_entry = found.1.0; returned = found.1.1.1.0 }
 
     no_later : (q r : Returned) (a b : Option Returned) → a ≡ Some q → b ≡ Some r → q.last ≤ r.last →
         MatchOption a ⊥ (λ (x : Returned). MatchOption b (Unit {0}) (λ (y : Returned). x.last ≤ y.last))

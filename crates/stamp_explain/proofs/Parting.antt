@@ -206,7 +206,8 @@ completes step h p lock returns s is are pass runs = record {
     once = is.by.once;
     fresh = λ k d lt. none_in_empty (get_or is.order k d).index;
     returned = All-weaker (IsReturnOf h.entries lock) (λ (i : ℕ). Contains [] i ⊎ Contains (indices_of is.order) i)
-        (λ i r. inr (is.returned i r.entry r.is_entry r.returned (pass r.entry r.kind))) returns are.each;
+        (λ i r. inr (is.returned i r.at.entry r.at.is_entry (r.at.return, r.at.returned) (pass r.at.entry r.kind)))
+        returns are.each;
     ordered = is.by.ordered;
     runs = runs;
   };

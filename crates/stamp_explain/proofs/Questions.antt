@@ -16,8 +16,9 @@ use Rattle.stamp_explain.specs.declared.observed.Observation.{Observation}
 use Rattle.stamp_explain.specs.declared.observed.Returned.{Returned}
 use Rattle.stamp_explain.specs.Unchanging.{changes_nothing, is_question, asks_by, is_open_question}
 use Rattle.stamp_explain.specs.Explained.{Effect, IsEffectOf, history_of, indices_of}
-use Rattle.stamp_explain.specs.Search.{IsReturnAt, LockState, LockSteps, Runs}
+use Rattle.stamp_explain.specs.Search.{LockState, LockSteps, Runs}
 use Rattle.stamp_explain.specs.ExplainLaws.{OpenQuestionsAreNotNeeded}
+use Rattle.stamp_explain.specs.Observed.{IsReturnAt}
 use Rattle.stamp_explain.proofs.Lists.{contains_cases, contains_rest}
 use Rattle.stamp_explain.proofs.Searching.{CompletesIn}
 use Rattle.stamp_explain.proofs.Staying.{unchanging_calls_change_nothing}
@@ -90,9 +91,9 @@ without_question limits entries returns s u taken x left are effect steps asks c
         (question_changes_nothing x.entry.call x.reply question.1) steps
 
     apart : (i : ℕ) → IsReturnAt entries i → x.index ≢ i
-    apart i at is = none_some at.returned.0 (sym question.0 ∙
+    apart i at is = none_some at.return (sym question.0 ∙
         ap (λ (o : Observation). o.returned) (same_Some x.entry at.entry (sym effect.is_entry ∙
-        ap (λ (k : ℕ). slice_get entries k) is ∙ at.is_entry)) ∙ at.returned.1)
+        ap (λ (k : ℕ). slice_get entries k) is ∙ at.is_entry)) ∙ at.returned)
       where
         none_some : (r : Returned) → None ≡ Some r → ⊥
         none_some r h = cc

@@ -10,12 +10,11 @@ use Rattle.stamp_core.specs.declared.call.Call.{Call}
 use Rattle.stamp_core.specs.declared.reply.Reply.{Reply}
 use Rattle.stamp_explain.specs.declared.observed.Observation.{Observation}
 use Rattle.stamp_explain.specs.declared.observed.Returned.{Returned}
-use Rattle.stamp_explain.specs.Observed.{ObservedHistory, IsObserved, IsInterval, IsBefore, DoNotOverlap}
+use Rattle.stamp_explain.specs.Observed.{ObservedHistory, IsObserved, IsInterval, IsBefore, DoNotOverlap, IsReturnAt}
 use Rattle.stamp_explain.specs.Explained.{IsExplained}
 use Rattle.stamp_explain.specs.Cut.{cut_after, seen_at}
 use Rattle.stamp_explain.specs.declared.found.Found.{Found}
 use Rattle.stamp_explain.specs.declared.found.Found.TheVariants.{Order, Nothing, Undecided}
-use Rattle.stamp_explain.specs.Search.{IsReturnAt}
 use Rattle.stamp_explain.specs.Configuration.{IsGivenUp}
 use Rattle.stamp_explain.specs.Expand.{IsFoundApart}
 use Rattle.stamp_explain.specs.Possible.{IsPossible, IsUndecidedAtReply, returned_with, with_reply}
@@ -134,10 +133,7 @@ pub seen_is_possible : (h : ObservedHistory) (i : ℕ) (e : Observation) (r : Re
     slice_get h.entries i ≡ Some e → e.returned ≡ Some r → IsObserved h →
     IsExplained (seen_at r.last (i + 1) (with_reply i e r reply h)) → IsPossible h i reply
 seen_is_possible h i e r reply at returned is seen = record {
-  entry = e;
-  return = r;
-  is_entry = at;
-  returned = returned;
+  at = record { entry = e; return = r; is_entry = at; returned = returned };
   explained = (seen_explains_as_much (with_reply i e r reply h) r.last (i + 1)
       (replied_is_observed h i e r reply at returned is)).1.1 seen;
 }
@@ -149,14 +145,17 @@ possible_is_seen h i e r reply at returned is possible =
     (seen_explains_as_much (with_reply i e r reply h) r.last (i + 1)
     (replied_is_observed h i e r reply at returned is)).1.0
     (subst (λ (q : Returned). IsExplained (cut_after q i (with_reply i e q reply h))) same_return
-    (subst (λ (o : Observation). IsExplained (cut_after possible.return i (with_reply i o possible.return reply h)))
+    (subst (λ (o : Observation). IsExplained (cut_after own.return i (with_reply i o own.return reply h)))
     same_entry possible.explained))
   where
-    same_entry : possible.entry ≡ e
-    same_entry = same_Some possible.entry e (sym possible.is_entry ∙ at)
+    own : IsReturnAt h.entries i
+    own = possible.at
 
-    same_return : possible.return ≡ r
-    same_return = same_Some possible.return r (sym possible.returned ∙
+    same_entry : own.entry ≡ e
+    same_entry = same_Some own.entry e (sym own.is_entry ∙ at)
+
+    same_return : own.return ≡ r
+    same_return = same_Some own.return r (sym own.returned ∙
         ap (λ (o : Observation). o.returned) same_entry ∙ returned)
 
 -- the entry that is read
@@ -176,10 +175,7 @@ found_tells h seen i most e r reply at returned is (Order order) same found =
 found_tells h seen i most e r reply at returned is Nothing same found = λ possible.
     found (subst IsExplained (sym same) (possible_is_seen h i e r reply at returned is possible))
 found_tells h seen i most e r reply at returned is Undecided same found = record {
-  entry = e;
-  return = r;
-  is_entry = at;
-  returned = returned;
+  at = record { entry = e; return = r; is_entry = at; returned = returned };
   gives_up = subst (λ (o : ObservedHistory). IsGivenUp o most) same found;
 }
 
@@ -188,8 +184,9 @@ pub return_here : (es read : List Observation) (i : ℕ) (o : Observation) (r : 
     slice_get read i ≡ Some o → o.returned ≡ Some r → IsReturnAt es i
 return_here es read i o r same at is = record {
   entry = o;
+  return = r;
   is_entry = subst (λ (xs : List Observation). slice_get xs i ≡ Some o) same at;
-  returned = (r, is);
+  returned = is;
 }
 
 pub no_return_here : (es read : List Observation) (i : ℕ) (o : Observation) → read ≡ es →
@@ -197,7 +194,7 @@ pub no_return_here : (es read : List Observation) (i : ℕ) (o : Observation) �
 no_return_here es read i o same at none is =
     let e : is.entry ≡ o = same_Some is.entry o (sym is.is_entry ∙
     ap (λ (xs : List Observation). slice_get xs i) (sym same) ∙ at) in
-    none-some is.returned.0 (sym none ∙ ap (λ (x : Observation). x.returned) (sym e) ∙ is.returned.1)
+    none-some is.return (sym none ∙ ap (λ (x : Observation). x.returned) (sym e) ∙ is.returned)
 
 pub no_entry_here : (es read : List Observation) (i : ℕ) → read ≡ es → slice_get read i ≡ None → ¬ IsReturnAt es i
 no_entry_here es read i same none is = none-some is.entry (sym none ∙

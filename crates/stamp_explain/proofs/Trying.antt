@@ -12,11 +12,11 @@ use Rattle.stamp_explain.specs.declared.observed.Returned.{Returned}
 use Rattle.stamp_explain.specs.declared.node.Node.{Node}
 use Rattle.stamp_explain.specs.declared.node.Next.{Next}
 use Rattle.stamp_explain.specs.declared.timeline.Timeline.{Timeline}
-use Rattle.stamp_explain.specs.Observed.{ObservedHistory, IsObserved, IsBefore}
+use Rattle.stamp_explain.specs.Observed.{ObservedHistory, IsObserved, IsBefore, IsReturnAt}
 use Rattle.stamp_explain.specs.Observed.{AreOfOneObject}
 use Rattle.stamp_explain.specs.Explained.{Effect}
 use Rattle.stamp_explain.specs.Unchanging.{asks_by, asks_in, is_open_question}
-use Rattle.stamp_explain.specs.Search.{IsAlikeSooner, LockState, LockSteps, MayTake, IsReturnAt}
+use Rattle.stamp_explain.specs.Search.{IsAlikeSooner, LockState, LockSteps, MayTake}
 use Rattle.stamp_explain.specs.Ahead.{IsAhead, GivesWay}
 use Rattle.stamp_core.specs.Call.{is_lock_call}
 use Rattle.stamp_explain.specs.Node.{StandsFor}

@@ -7,7 +7,7 @@ use Rattle.stamp_explain.specs.declared.observed.Returned.{Returned}
 use Rattle.stamp_explain.specs.declared.node.Node.{Node}
 use Rattle.stamp_explain.specs.declared.node.Next.{Next}
 use Rattle.stamp_explain.specs.declared.asking.Asking.{Asking}
-use Rattle.stamp_explain.specs.Observed.{ObservedHistory, IsObserved}
+use Rattle.stamp_explain.specs.Observed.{ObservedHistory, IsObserved, IsReturnAt}
 use Rattle.stamp_explain.specs.Explained.{IsExplained}
 use Rattle.stamp_explain.specs.Cut.{place_then, seen_at}
 use Rattle.stamp_explain.specs.Node.{IsReached}
@@ -17,13 +17,10 @@ use Rattle.stamp_explain.specs.Possible.{GetsBeside, with_reply, without_return}
 
 -- a search for the replies of a returned call: what is seen then, with its timeline, and the same without the return
 pub record IsAsking (asking : Asking) : Type 0 where
-  pub entry : Observation
-  pub return : Returned
+  pub at : IsReturnAt asking.seen.entries asking.place
   pub observed : IsObserved asking.seen
   pub timeline : IsTimeline asking.seen asking.timeline
-  pub is_entry : slice_get asking.seen.entries asking.place ≡ Some entry
-  pub returned : entry.returned ≡ Some return
-  pub before : asking.before ≡ without_return asking.place entry asking.seen
+  pub before : asking.before ≡ without_return asking.place at.entry asking.seen
 
 -- a node that it reached, where the call that is asked takes no effect, and the awaited one has not
 pub record IsReachedBeside (asking : Asking) (node : Node) : Type 0 where
@@ -46,11 +43,8 @@ pub record IsAskingAt (h : ObservedHistory) (i : ℕ) (e : Observation) (r : Ret
 
 -- what is seen, with this reply of the call
 pub record IsSeenWith (asking : Asking) (reply : Reply) (h : ObservedHistory) : Type 0 where
-  pub entry : Observation
-  pub return : Returned
-  pub is_entry : slice_get asking.seen.entries asking.place ≡ Some entry
-  pub returned : entry.returned ≡ Some return
-  pub is : h ≡ with_reply asking.place entry return reply asking.seen
+  pub at : IsReturnAt asking.seen.entries asking.place
+  pub is : h ≡ with_reply asking.place at.entry at.return reply asking.seen
 
 -- this node comes next, and the call that was asked takes no effect there
 pub record ComesNextBeside (asking : Asking) (node : Node) (next : Next) : Type 0 where

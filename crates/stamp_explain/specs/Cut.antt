@@ -1,10 +1,9 @@
 -- A history up to one of its returns, and the first return at which it is no longer explained.
-use Rattle.std.specs.Prelude.{ℕ, ◌≡◌, ◌+◌, ◌==◌, ◌&&◌, ◌||◌, nat_lt, Bool, false, List, [], ◌∷◌, length, take}
-use Rattle.std.specs.Prelude.{slice_get}
+use Rattle.std.specs.Prelude.{ℕ, ◌+◌, ◌==◌, ◌&&◌, ◌||◌, nat_lt, Bool, false, List, [], ◌∷◌, length, take}
 use Rattle.std.specs.Prelude.{Option, Some, None, if◌then◌else◌, filter, not}
 use Rattle.stamp_explain.specs.declared.observed.Observation.{Observation}
 use Rattle.stamp_explain.specs.declared.observed.Returned.{Returned}
-use Rattle.stamp_explain.specs.Observed.{ObservedHistory}
+use Rattle.stamp_explain.specs.Observed.{ObservedHistory, IsReturnAt}
 use Rattle.stamp_explain.specs.Explained.{IsExplained}
 
 -- entry i returned before this position, or at it and i is below the bound
@@ -46,9 +45,6 @@ seen_at last bound h = record h { entries = begun_by last (cut_entries last boun
 
 -- the history is explained until this entry returns, and no longer
 pub record IsStuck (h : ObservedHistory) (i : ℕ) : Type 0 where
-  pub entry : Observation
-  pub return : Returned
-  pub is_entry : slice_get h.entries i ≡ Some entry
-  pub returned : entry.returned ≡ Some return
-  pub explained : IsExplained (cut_before return i h)
-  pub stuck : ¬ IsExplained (cut_after return i h)
+  pub at : IsReturnAt h.entries i
+  pub explained : IsExplained (cut_before at.return i h)
+  pub stuck : ¬ IsExplained (cut_after at.return i h)

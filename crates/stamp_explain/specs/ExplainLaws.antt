@@ -7,7 +7,7 @@ use Rattle.stamp_core.specs.declared.call.Call.{Call}
 use Rattle.stamp_core.specs.declared.reply.Reply.{Reply}
 use Rattle.stamp_explain.specs.declared.observed.Observation.{Observation}
 use Rattle.stamp_explain.specs.Observed.{ObservedHistory, IsObserved, HasReturned, IsInterval, IsBefore, AreOfOneObject}
-use Rattle.stamp_explain.specs.Observed.{of_lock, of_record}
+use Rattle.stamp_explain.specs.Observed.{of_lock, of_record, IsReturnAt}
 use Rattle.stamp_explain.specs.Explained.{Effect, IsEffectOf, IsExplained}
 use Rattle.stamp_core.specs.Record.{Recorded}
 use Rattle.stamp_core.specs.Linearized.{IsLinearized}
@@ -15,7 +15,6 @@ use Rattle.stamp_explain.specs.Points.{IsRecordOfObserved}
 use Rattle.stamp_explain.specs.Cut.{cut, seen_at, IsStuck}
 use Rattle.stamp_explain.specs.Search.{LockState, FindsOrder, CanComplete, MayTake, AreReturns, AreReturnsOf}
 use Rattle.stamp_explain.specs.Search.{LockSteps, LockAlone, RecordAlone, first_state, IsFirstReturn, IsAlikeSooner}
-use Rattle.stamp_explain.specs.Search.{IsReturnAt}
 use Rattle.stamp_explain.specs.Configuration.{Configuration, IsAlive, GivesUp}
 use Rattle.stamp_core.specs.Content.{zeros}
 use Rattle.stamp_explain.specs.Unchanging.{changes_nothing, is_open_question}

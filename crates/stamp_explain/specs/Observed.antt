@@ -1,5 +1,5 @@
 -- Observed histories: what each call was, when it began and, unless it is under way, when it returned and what.
-use Rattle.std.specs.Prelude.{ℕ, ◌≡◌, ◌≤◌, ◌<◌, ◌⊎◌, List, length, Some, MatchOption, IsTrue, Bool}
+use Rattle.std.specs.Prelude.{ℕ, ◌≡◌, ◌≤◌, ◌<◌, ◌⊎◌, List, length, slice_get, Some, MatchOption, IsTrue, Bool}
 use Rattle.std.specs.Prelude.{filter, not}
 use Rattle.std.specs.List.{All, AllPairs}
 use Rattle.stamp_core.specs.Call.{call_suits, is_lock_call}
@@ -37,6 +37,13 @@ AllowsReply e reply = MatchOption e.returned (Unit {0}) (λ (r : Returned). r.re
 
 abbrev pub HasReturned : Observation → Type 0
 HasReturned e = (r : Returned) × (e.returned ≡ Some r)
+
+-- a call that has returned stands at this place
+pub record IsReturnAt (entries : List Observation) (i : ℕ) : Type 0 where
+  pub entry : Observation
+  pub return : Returned
+  pub is_entry : slice_get entries i ≡ Some entry
+  pub returned : entry.returned ≡ Some return
 
 -- the call is of the lock, or of the record
 abbrev pub is_of_lock : Observation → Bool

@@ -6,7 +6,7 @@ use Rattle.stamp_explain.specs.declared.observed.Observation.{Observation}
 use Rattle.stamp_explain.specs.declared.observed.Returned.{Returned}
 use Rattle.stamp_explain.specs.declared.possible.PossibleError.{PossibleError}
 use Rattle.stamp_explain.specs.declared.possible.PossibleError.TheVariants.{Undecided, Memory}
-use Rattle.stamp_explain.specs.Observed.{ObservedHistory, IsBefore}
+use Rattle.stamp_explain.specs.Observed.{ObservedHistory, IsBefore, IsReturnAt}
 use Rattle.stamp_explain.specs.Explained.{IsExplained}
 use Rattle.stamp_explain.specs.Cut.{cut_after, place_then, seen_at}
 use Rattle.stamp_explain.specs.Search.{AreReturns, LockState, LockSteps}
@@ -26,11 +26,8 @@ without_return i e h = record h { entries = slice_set h.entries i (record e { re
 
 -- with this reply in place of its own, the cut with the return of the call at this place is explained
 pub record IsPossible (h : ObservedHistory) (i : ℕ) (reply : Reply) : Type 0 where
-  pub entry : Observation
-  pub return : Returned
-  pub is_entry : slice_get h.entries i ≡ Some entry
-  pub returned : entry.returned ≡ Some return
-  pub explained : IsExplained (cut_after return i (with_reply i entry return reply h))
+  pub at : IsReturnAt h.entries i
+  pub explained : IsExplained (cut_after at.return i (with_reply i at.entry at.return reply h))
 
 -- of the replies that were tried these are the possible ones, all different if those are
 pub record ArePossible (h : ObservedHistory) (i : ℕ) (tried found : List Reply) : Type 0 where
@@ -39,11 +36,8 @@ pub record ArePossible (h : ObservedHistory) (i : ℕ) (tried found : List Reply
 
 -- with this reply a search of what is seen when the call at this place has returned gives up
 pub record IsUndecidedAtReply (h : ObservedHistory) (i most : ℕ) (reply : Reply) : Type 0 where
-  pub entry : Observation
-  pub return : Returned
-  pub is_entry : slice_get h.entries i ≡ Some entry
-  pub returned : entry.returned ≡ Some return
-  pub gives_up : IsGivenUp (seen_at return.last (i + 1) (with_reply i entry return reply h)) most
+  pub at : IsReturnAt h.entries i
+  pub gives_up : IsGivenUp (seen_at at.return.last (i + 1) (with_reply i at.entry at.return reply h)) most
 
 abbrev pub IsUndecidedAtSome : ObservedHistory → ℕ → ℕ → List Reply → Type 0
 IsUndecidedAtSome h i most tried = (reply : Reply) × (Contains tried reply × IsUndecidedAtReply h i most reply)
@@ -77,18 +71,15 @@ pub record GetsBeside (h : ObservedHistory) (i : ℕ) (e : Observation) (reply :
 
 -- a search of what is seen when the call at this place has returned reaches more than so many configurations without it
 pub record IsUndecidedWithout (h : ObservedHistory) (i most : ℕ) : Type 0 where
-  pub entry : Observation
-  pub return : Returned
-  pub is_entry : slice_get h.entries i ≡ Some entry
-  pub returned : entry.returned ≡ Some return
-  pub many : ReachesMoreBeside (seen_at return.last (i + 1) h) (place_then return.last i h.entries) most
+  pub at : IsReturnAt h.entries i
+  pub many : ReachesMoreBeside (seen_at at.return.last (i + 1) h) (place_then at.return.last i h.entries) most
 
 -- a search of what is seen then gives up with a reply that the call gets beside what the others do
 pub record IsUndecidedAtGotten (h : ObservedHistory) (i most : ℕ) : Type 0 where
   pub reply : Reply
   pub undecided : IsUndecidedAtReply h i most reply
-  pub gets : GetsBeside (seen_at undecided.return.last (i + 1) h) (place_then undecided.return.last i h.entries)
-      undecided.entry reply
+  pub gets : GetsBeside (seen_at undecided.at.return.last (i + 1) h) (place_then undecided.at.return.last i h.entries)
+      undecided.at.entry reply
 
 abbrev pub IsUndecidedAtAny : ObservedHistory → ℕ → ℕ → Type 0
 IsUndecidedAtAny h i most = IsUndecidedWithout h i most ⊎ IsUndecidedAtGotten h i most

@@ -12,7 +12,7 @@ use Rattle.stamp_core.specs.declared.call.Call.{Call}
 use Rattle.stamp_core.specs.declared.reply.Reply.{Reply}
 use Rattle.stamp_explain.specs.declared.observed.Observation.{Observation}
 use Rattle.stamp_explain.specs.declared.observed.Returned.{Returned}
-use Rattle.stamp_explain.specs.Observed.{IsBefore, HasReturned}
+use Rattle.stamp_explain.specs.Observed.{IsBefore, HasReturned, IsReturnAt}
 use Rattle.stamp_explain.specs.Explained.{Effect, IsEffectOf, history_of, indices_of, AreApart, RespectsBefore}
 
 -- the calls have these replies, one after the other from this state on
@@ -81,12 +81,6 @@ abbrev pub AreInOrder : List Observation → ℕ → ℕ → Type 0
 AreInOrder entries i j = (a b : Observation) → slice_get entries i ≡ Some a → slice_get entries j ≡ Some b →
     ReturnsNoLater a b
 
--- a returned call stands at this place
-pub record IsReturnAt (entries : List Observation) (i : ℕ) : Type 0 where
-  pub entry : Observation
-  pub is_entry : slice_get entries i ≡ Some entry
-  pub returned : HasReturned entry
-
 -- the returned calls, in the order of their returns
 pub record AreReturns (entries : List Observation) (returns : List ℕ) : Type 0 where
   pub each : All (IsReturnAt entries) returns
@@ -127,10 +121,8 @@ pub record RecordAlone (content : List ℕ) (x : Call × Reply) (next : List ℕ
 
 -- the returned calls of the lock, or of the record, in the order of their returns
 pub record IsReturnOf (entries : List Observation) (lock : Bool) (i : ℕ) : Type 0 where
-  pub entry : Observation
-  pub is_entry : slice_get entries i ≡ Some entry
-  pub returned : HasReturned entry
-  pub kind : is_lock_call entry.call ≡ lock
+  pub at : IsReturnAt entries i
+  pub kind : is_lock_call at.entry.call ≡ lock
 
 pub record AreReturnsOf (entries : List Observation) (lock : Bool) (returns : List ℕ) : Type 0 where
   pub each : All (IsReturnOf entries lock) returns

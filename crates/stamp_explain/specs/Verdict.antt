@@ -1,12 +1,10 @@
 -- What is answered of an observed history.
-use Rattle.std.specs.Prelude.{ℕ, ◌≡◌, ◌+◌, ◌⊎◌, ◌++◌, Bool, true, false, List, slice_get, Result, Ok, Err, Some}
+use Rattle.std.specs.Prelude.{ℕ, ◌≡◌, ◌+◌, ◌⊎◌, ◌++◌, Bool, true, false, List, Result, Ok, Err}
 use Rattle.std.specs.Prelude.{codes, decimal}
 use Rattle.stamp_core.specs.Record.{Recorded}
-use Rattle.stamp_explain.specs.declared.observed.Observation.{Observation}
-use Rattle.stamp_explain.specs.declared.observed.Returned.{Returned}
 use Rattle.stamp_explain.specs.declared.explaining.ExplainError.{ExplainError}
 use Rattle.stamp_explain.specs.declared.explaining.ExplainError.TheVariants.{Stuck, Unexplained, Undecided, Memory}
-use Rattle.stamp_explain.specs.Observed.{ObservedHistory}
+use Rattle.stamp_explain.specs.Observed.{ObservedHistory, IsReturnAt}
 use Rattle.stamp_explain.specs.Explained.{IsExplained}
 use Rattle.stamp_explain.specs.Cut.{IsStuck, cut, cut_before, seen_at}
 use Rattle.stamp_explain.specs.Points.{HasPoints}
@@ -18,23 +16,17 @@ IsLastOrGivesUp h most last bound = (cut last bound h ≡ h) ⊎ IsGivenUp (seen
 
 -- it is explained until this entry returns; the search of the whole gives up, and so does one of what is seen then
 pub record IsUndecided (h : ObservedHistory) (most i : ℕ) : Type 0 where
-  pub entry : Observation
-  pub return : Returned
-  pub is_entry : slice_get h.entries i ≡ Some entry
-  pub returned : entry.returned ≡ Some return
-  pub explained : IsExplained (cut_before return i h)
+  pub at : IsReturnAt h.entries i
+  pub explained : IsExplained (cut_before at.return i h)
   pub whole : IsGivenUp h most
-  pub undecided : IsLastOrGivesUp h most return.last (i + 1)
+  pub undecided : IsLastOrGivesUp h most at.return.last (i + 1)
 
 -- no order explains it; it is explained until this entry returns, and a search of what is seen then gives up
 pub record IsUnexplained (h : ObservedHistory) (most i : ℕ) : Type 0 where
-  pub entry : Observation
-  pub return : Returned
-  pub is_entry : slice_get h.entries i ≡ Some entry
-  pub returned : entry.returned ≡ Some return
-  pub explained : IsExplained (cut_before return i h)
+  pub at : IsReturnAt h.entries i
+  pub explained : IsExplained (cut_before at.return i h)
   pub unexplained : ¬ IsExplained h
-  pub gives_up : IsGivenUp (seen_at return.last (i + 1) h) most
+  pub gives_up : IsGivenUp (seen_at at.return.last (i + 1) h) most
 
 -- no order was found: since none explains it, or since the search gave up
 abbrev pub IsNotFound : ObservedHistory → ℕ → Bool → Type 0

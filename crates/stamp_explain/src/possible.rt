@@ -1,7 +1,6 @@
 //! The replies that a call of an observed history could have had.
 ghost use Rattle.std.specs.Prelude.{◌≡◌, ◌↔◌, ◌++◌, ◌∷◌, [], IsTrue, IfOk, OnOk, Err, Some, slice_get};
-ghost use Rattle.stamp_explain.specs.Observed.{IsObserved};
-ghost use Rattle.stamp_explain.specs.Search.{IsReturnAt};
+ghost use Rattle.stamp_explain.specs.Observed.{IsObserved, IsReturnAt};
 ghost use Rattle.stamp_explain.specs.Possible.{AreAllPossible, ArePossible, IsPossible, IsUndecidedAtAny, IsUndecidedAtReply, IsUndecidedAtSome, with_reply};
 
 use crate::asking::{asking_of, replies_of};

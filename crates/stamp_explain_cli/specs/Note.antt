@@ -1,5 +1,5 @@
 -- What is said of a history that no order explains.
-use Rattle.std.specs.Prelude.{ℕ, ◌≡◌, ◌++◌, List, [], ◌∷◌, slice_get, Option, Some, None, Result, Ok, Err, Vec, String}
+use Rattle.std.specs.Prelude.{ℕ, ◌≡◌, ◌++◌, List, [], ◌∷◌, Option, Some, None, Result, Ok, Err, Vec, String}
 use Rattle.std.specs.Prelude.{codes, decimal, string_bytes}
 use Rattle.std.specs.List.{flat_map}
 use Rattle.std.specs.declared.alloc.AllocError.{AllocError}
@@ -8,8 +8,7 @@ use Rattle.stamp_core.specs.declared.call.Call.{Call}
 use Rattle.stamp_core.specs.declared.reply.Reply.{Reply}
 use Rattle.stamp_drawing.specs.Labels.{call_text, reply_text}
 use Rattle.stamp_explain.specs.declared.observed.Observation.{Observation}
-use Rattle.stamp_explain.specs.declared.observed.Returned.{Returned}
-use Rattle.stamp_explain.specs.Observed.{ObservedHistory}
+use Rattle.stamp_explain.specs.Observed.{ObservedHistory, IsReturnAt}
 use Rattle.stamp_explain.specs.Possible.{AreAllPossible, IsUndecidedAtAny}
 use Rattle.stamp_explain_cli.specs.declared.finding.Finding.{Finding}
 use Rattle.stamp_explain_cli.specs.declared.finding.Finding.TheVariants.{Stuck, Unexplained}
@@ -45,13 +44,10 @@ abbrev pub stuck_text : ℕ → Observation → Reply → Option (List Reply) �
 stuck_text i e reply replies = place_text i e.thread ++ answer_text e.call reply ++ possibilities_text replies
 
 pub record IsStuckNote (h : ObservedHistory) (most i : ℕ) (text : List ℕ) : Type 0 where
-  pub entry : Observation
-  pub return : Returned
-  pub is_entry : slice_get h.entries i ≡ Some entry
-  pub returned : entry.returned ≡ Some return
+  pub at : IsReturnAt h.entries i
   pub replies : Option (List Reply)
   pub possible : ArePossibleAt h most i replies
-  pub says : text ≡ stuck_text i entry return.reply replies
+  pub says : text ≡ stuck_text i at.entry at.return.reply replies
 
 -- what is said where it is undecided from which return on
 abbrev pub unexplained_text : List ℕ

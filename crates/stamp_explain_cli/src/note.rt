@@ -2,8 +2,7 @@
 //! could have answered.
 
 ghost use Rattle.std.specs.Prelude.{◌≡◌, ◌++◌, IfOk, Some, slice_get, string_bytes};
-ghost use Rattle.stamp_explain.specs.Observed.{IsObserved};
-ghost use Rattle.stamp_explain.specs.Search.{IsReturnAt};
+ghost use Rattle.stamp_explain.specs.Observed.{IsObserved, IsReturnAt};
 ghost use Rattle.stamp_explain_cli.specs.Finding.{IsFinding};
 ghost use Rattle.stamp_explain_cli.specs.Note.{IsNote, IsStuckNote, ArePossibleAt, answer_text, others_text, place_text, possible_text, possibilities_text, stuck_text, replies_in, unexplained_text};
 

@@ -14,11 +14,13 @@ use Rattle.stamp_explain.proofs.possible.possible_at.Goals as goal
 
 pub returns-in_default-2-clause-undecided : goal.returns-in_default-2-clause-undecided
 returns-in_default-2-clause-undecided c = λ _. inl (record {
-  entry = c.index-entries-entry.result;
-  return = c.in-Some.returned;
-  is_entry = read_at c.args.observed.now c.args.entry c.index-entries-entry.result c.entries.result.now
-      c.requires.returned c.index-entries-entry.is c.entries.ensures.entries;
-  returned = c.in-Some.is;
+  at = record {
+    entry = c.index-entries-entry.result;
+    return = c.in-Some.returned;
+    is_entry = read_at c.args.observed.now c.args.entry c.index-entries-entry.result c.entries.result.now
+        c.requires.returned c.index-entries-entry.is c.entries.ensures.entries;
+    returned = c.in-Some.is;
+  };
   many = subst (λ (k : ℕ). ReachesMoreBeside (seen_at c.in-Some.returned.last (c.args.entry + 1) c.args.observed.now) k
       c.args.most) c.in_ok-asking.ensures.place
       (subst (λ (g : ObservedHistory). ReachesMoreBeside g c.in_ok-asking.asking.place c.args.most)

@@ -11,11 +11,13 @@ returns c = IfOk-weaker c.stuck_text.result
     c.in-Some.returned.reply (replies_in c.in_ok-replies.replies))
     (λ (text : String Global). IsStuckNote c.args.observed.now c.args.most c.args.entry (string_bytes text))
     (λ text says. record {
-      entry = c.index-entries-entry.result;
-      return = c.in-Some.returned;
-      is_entry = read_at c.args.observed.now c.args.entry c.index-entries-entry.result c.entries.result.now
-          c.requires.returned c.index-entries-entry.is c.entries.ensures.entries;
-      returned = c.in-Some.is;
+      at = record {
+        entry = c.index-entries-entry.result;
+        return = c.in-Some.returned;
+        is_entry = read_at c.args.observed.now c.args.entry c.index-entries-entry.result c.entries.result.now
+            c.requires.returned c.index-entries-entry.is c.entries.ensures.entries;
+        returned = c.in-Some.is;
+      };
       replies = replies_in c.in_ok-replies.replies;
       possible = c.in_ok-replies.ensures;
       says = says;
