@@ -108,12 +108,13 @@ replaced x k (y ∷ ys) has = by (contains_cases y.index (indices_of ys) k has) 
 -- what had not returned before, if the one that returned sooner had not
 not_sooner : (e f z : Observation) → IsAlikeSooner e f → ¬ IsBefore e z → ¬ IsBefore f z
 not_sooner e f z alike not before = not (subst (λ (o : Option Returned). MatchOption o ⊥
-    (λ (r : Returned). r.last < z.first)) (sym alike.at_first) less)
+    (λ (r : Returned). r.last < z.first)) (sym alike.calls.at_first) less)
   where
-    later : alike.later.last < z.first
-    later = subst (λ (o : Option Returned). MatchOption o ⊥ (λ (r : Returned). r.last < z.first)) alike.at_later before
+    later : alike.calls.second.last < z.first
+    later = subst (λ (o : Option Returned). MatchOption o ⊥ (λ (r : Returned). r.last < z.first))
+        alike.calls.at_second before
 
-    less : alike.first.last < z.first
+    less : alike.calls.first.last < z.first
     less = omega (arith, later, alike.sooner)
 
 one_reply_of : (e : Observation) (r : Returned) (reply : Reply) → e.returned ≡ Some r → AllowsReply e reply →
@@ -122,8 +123,8 @@ one_reply_of e r reply at may = MatchOption-at_some (Unit {0}) (λ (q : Returned
 
 may_reply_alike : (e f : Observation) (reply : Reply) → IsAlikeSooner e f → AllowsReply f reply → AllowsReply e reply
 may_reply_alike e f reply alike may =
-    subst (λ (o : Option Returned). MatchOption o (Unit {0}) (λ (r : Returned). r.reply ≡ reply)) (sym alike.at_first)
-    (alike.reply ∙ one_reply_of f alike.later reply alike.at_later may)
+    subst (λ (o : Option Returned). MatchOption o (Unit {0}) (λ (r : Returned). r.reply ≡ reply))
+    (sym alike.calls.at_first) (alike.calls.reply ∙ one_reply_of f alike.calls.second reply alike.calls.at_second may)
 
 -- with the other in its place an order completes what that leaves
 replaced_completes : (limits : Bounds) (entries : List Observation) (a : Observation) (to_come : List ℕ)
@@ -147,7 +148,7 @@ replaced_completes limits entries a to_come s t taken x k e xs first may by at a
       (λ j d lt respects. not_sooner e x.entry (get_or xs j d).entry alike
       (subst (λ (o : Observation). ¬ IsBefore o (get_or xs j d).entry) entry respects)) by.ordered;
   runs = subst (λ (h : History). Runs (LockSteps limits) t h)
-      (replaced_history x r.old r.replaces (ap (λ (o : Observation). o.call) entry ∙ alike.call) reply) by.runs;
+      (replaced_history x r.old r.replaces (ap (λ (o : Observation). o.call) entry ∙ alike.calls.call) reply) by.runs;
 }
   where
     is : IsEffectOf entries r.old
@@ -157,9 +158,10 @@ replaced_completes limits entries a to_come s t taken x k e xs first may by at a
     entry = same_entry entries r.old k e is r.index at
 
     reply : r.old.reply ≡ x.reply
-    reply = sym (one_reply_of e alike.first r.old.reply alike.at_first
+    reply = sym (one_reply_of e alike.calls.first r.old.reply alike.calls.at_first
         (subst (λ (o : Observation). AllowsReply o r.old.reply) entry is.replies)) ∙
-        one_reply_of e alike.first x.reply alike.at_first (may_reply_alike e x.entry x.reply alike may.effect.replies)
+        one_reply_of e alike.calls.first x.reply alike.calls.at_first
+        (may_reply_alike e x.entry x.reply alike may.effect.replies)
 
     apart : All (AreApart r.old) r.others
     apart = replaced_apart x r.old r.replaces (λ same. other (sym r.index ∙ same)) by.once
@@ -203,7 +205,7 @@ may_take_alike limits entries a s t taken x k e may at alike fresh begun = recor
   effect = record { is_entry = at; replies = may_reply_alike e x.entry x.reply alike may.effect.replies };
   fresh = fresh;
   begun = begun;
-  steps = subst (λ (c : Call). LockSteps limits s (c, x.reply) t) (sym alike.call) may.steps;
+  steps = subst (λ (c : Call). LockSteps limits s (c, x.reply) t) (sym alike.calls.call) may.steps;
 }
 
 -- it is in the rest of an order

@@ -189,21 +189,13 @@ bound None = 0
 bound (Some r) = suc r.last
 
 pub alike_ahead : (e f : Observation) → IsAhead e f → IsAlikeSooner e f
-alike_ahead e f ahead = record {
-  call = ahead.call;
-  first = ahead.first;
-  at_first = ahead.at_first;
-  later = ahead.later;
-  at_later = ahead.at_later;
-  reply = ahead.reply;
-  sooner = omega (arith, ahead.sooner);
-}
+alike_ahead e f ahead = record { calls = ahead.calls; sooner = omega (arith, ahead.sooner) }
 
 pub bound_ahead : (e f : Observation) → IsAhead e f → suc (bound e.returned) ≤ bound f.returned
 bound_ahead e f ahead =
-    let first : bound e.returned ≡ suc ahead.first.last = ap bound ahead.at_first in
-    let later : bound f.returned ≡ suc ahead.later.last = ap bound ahead.at_later in
-    omega (arith, first, later, ahead.sooner)
+    let first : bound e.returned ≡ suc ahead.calls.first.last = ap bound ahead.calls.at_first in
+    let second : bound f.returned ≡ suc ahead.calls.second.last = ap bound ahead.calls.at_second in
+    omega (arith, first, second, ahead.sooner)
 
 -- a call of the awaited one's object may take effect, and then what is left is completed
 pub record Completes (h : ObservedHistory) (timeline : Timeline) (node : Node) (a : Observation) (s : LockState)
@@ -223,8 +215,8 @@ pub completes_ahead : (h : ObservedHistory) (asked : Option ℕ) (timeline : Tim
     Completes h timeline node a s taken u left
     (record { index = out.first; entry = out.goes.entry; reply = x.reply })
 completes_ahead h asked timeline node a calls s taken u left x is are stands it out same = record {
-  object = it.object ∙ ap is_lock_call (sym ahead.call);
-  asks_not = ap (asks_by out.goes.entry.call) ahead.at_first;
+  object = it.object ∙ ap is_lock_call (sym ahead.calls.call);
+  asks_not = ap (asks_by out.goes.entry.call) ahead.calls.at_first;
   may = may_take_alike h.limits h.entries a s u taken x out.first out.goes.entry it.may out.goes.is_entry sooner fresh
       begun;
   rest = alike_in_as_many h.limits h.entries a (i ∷ drop (suc node.past) returns) s u taken x out.first
@@ -233,7 +225,7 @@ completes_ahead h asked timeline node a calls s taken u left x is are stands it 
       (pending h timeline node s taken is.timeline_is stands))) it.may it.rest out.goes.is_entry sooner another fresh
       (subst (λ (to_come : List ℕ). Contains to_come out.first) (left_of h timeline node a is)
       (due h timeline node s taken out.first out.goes.entry is.timeline_is stands out.goes.is_entry
-      (out.goes.ahead.first, out.goes.ahead.at_first) fresh));
+      (out.goes.ahead.calls.first, out.goes.ahead.calls.at_first) fresh));
 }
   where
     returns : List ℕ

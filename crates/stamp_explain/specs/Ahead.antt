@@ -3,21 +3,15 @@ use Rattle.std.specs.Prelude.{ℕ, ◌≡◌, ◌≢◌, ◌<◌, List, slice_ge
 use Rattle.std.specs.List.{Contains}
 use Rattle.std.specs.Int.{bit_at}
 use Rattle.stamp_explain.specs.declared.observed.Observation.{Observation}
-use Rattle.stamp_explain.specs.declared.observed.Returned.{Returned}
 use Rattle.stamp_explain.specs.declared.node.Node.{Node}
-use Rattle.stamp_explain.specs.Observed.{ObservedHistory}
+use Rattle.stamp_explain.specs.Observed.{AreAlikeCalls, ObservedHistory}
 
--- both returned, with one call and one reply, and the first sooner
+-- they are alike, and the first returned sooner
 pub record IsAhead (e f : Observation) : Type 0 where
-  pub call : e.call ≡ f.call
-  pub first : Returned
-  pub at_first : e.returned ≡ Some first
-  pub later : Returned
-  pub at_later : f.returned ≡ Some later
-  pub reply : first.reply ≡ later.reply
-  pub sooner : first.last < later.last
+  pub calls : AreAlikeCalls e f
+  pub sooner : calls.first.last < calls.second.last
 
--- so do these, and the first is not in effect
+-- so are the calls at these places, and the first is not in effect
 pub record GoesAhead (h : ObservedHistory) (node : Node) (first later : ℕ) : Type 0 where
   pub entry : Observation
   pub is_entry : slice_get h.entries first ≡ Some entry

@@ -12,7 +12,7 @@ use Rattle.stamp_core.specs.declared.call.Call.{Call}
 use Rattle.stamp_core.specs.declared.reply.Reply.{Reply}
 use Rattle.stamp_explain.specs.declared.observed.Observation.{Observation}
 use Rattle.stamp_explain.specs.declared.observed.Returned.{Returned}
-use Rattle.stamp_explain.specs.Observed.{IsBefore, HasReturned, IsReturnAt}
+use Rattle.stamp_explain.specs.Observed.{AreAlikeCalls, IsBefore, HasReturned, IsReturnAt}
 use Rattle.stamp_explain.specs.Explained.{Effect, IsEffectOf, history_of, indices_of, AreApart, RespectsBefore}
 
 -- the calls have these replies, one after the other from this state on
@@ -51,15 +51,10 @@ abbrev pub IsFirstReturn : List Observation → List ℕ → Observation → Typ
 IsFirstReturn entries taken a = (j : ℕ) (e x : Observation) → slice_get entries j ≡ Some e → ¬ Contains taken j →
     IsBefore e x → IsBefore a x
 
--- both returned, with one call and one reply, and the first no later than the second
+-- they are alike, and the first returned no later than the second
 pub record IsAlikeSooner (e f : Observation) : Type 0 where
-  pub call : e.call ≡ f.call
-  pub first : Returned
-  pub at_first : e.returned ≡ Some first
-  pub later : Returned
-  pub at_later : f.returned ≡ Some later
-  pub reply : first.reply ≡ later.reply
-  pub sooner : first.last ≤ later.last
+  pub calls : AreAlikeCalls e f
+  pub sooner : calls.first.last ≤ calls.second.last
 
 -- a way to the end: a call in effect may return; where one that is not in effect is to return, an open call
 -- takes effect
