@@ -17,7 +17,7 @@ use Rattle.stamp_explain.specs.TimelineKeys.{IsSooner, AreEnds, EndsAt}
 use Rattle.stamp_explain.specs.Configuration.{IsGivenUp}
 use Rattle.stamp_explain.specs.Order.{IsOrderOf}
 use Rattle.stamp_explain.specs.Expand.{IsFoundApart}
-use Rattle.stamp_explain.specs.Verdict.{IsUndecided, IsLastOrGivesUp, IsUnexplained, IsNotFound}
+use Rattle.stamp_explain.specs.Answer.{IsUndecided, IsLastOrGivesUp, IsUnexplained, IsNotFound}
 use Rattle.stamp_explain.proofs.Lists.{pairs_none, none_in_empty}
 use Rattle.stamp_explain.proofs.Cutting.{IsLessKnown, cuts_stay_explained, less_known, back}
 use Rattle.stamp_explain.proofs.Seeing.{seen_explains_as_much}

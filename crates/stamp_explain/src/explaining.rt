@@ -1,7 +1,7 @@
 //! The recorded history of an order that explains an observed history, or the return at which none does.
 ghost use Rattle.std.specs.Prelude.{◌≡◌};
 ghost use Rattle.stamp_explain.specs.Observed.{IsObserved};
-ghost use Rattle.stamp_explain.specs.Verdict.{IsAnswer, IsNotFound};
+ghost use Rattle.stamp_explain.specs.Answer.{IsAnswer, IsNotFound};
 
 use crate::first_fault::first_fault;
 use crate::found::{Found, find};
@@ -30,7 +30,7 @@ pub enum ExplainError {
 
 impl fmt::Display for ExplainError {
     ghost use Rattle.std.specs.Prelude.{Some};
-    ghost use Rattle.stamp_explain.specs.Verdict.{explain_error_text};
+    ghost use Rattle.stamp_explain.specs.Answer.{explain_error_text};
 
     ghost output = { λ e. Some (explain_error_text e) };
 

@@ -4,7 +4,7 @@ ghost use Rattle.stamp_explain.specs.Cut.{seen_at};
 ghost use Rattle.stamp_explain.specs.Observed.{IsObserved};
 ghost use Rattle.stamp_explain.specs.TimelineKeys.{AreEnds};
 ghost use Rattle.stamp_explain.specs.Expand.{IsFoundApart};
-ghost use Rattle.stamp_explain.specs.Verdict.{IsNotFound, IsFault};
+ghost use Rattle.stamp_explain.specs.Answer.{IsNotFound, IsFault};
 
 use crate::cut::seen_at;
 use crate::explaining::ExplainError;

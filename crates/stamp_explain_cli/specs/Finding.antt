@@ -3,7 +3,7 @@ use Rattle.std.specs.Prelude.{ℕ}
 use Rattle.stamp_explain.specs.Cut.{IsStuck}
 use Rattle.stamp_explain.specs.Observed.{ObservedHistory, IsObserved}
 use Rattle.stamp_explain.specs.Points.{HasPoints}
-use Rattle.stamp_explain.specs.Verdict.{IsUndecided, IsUnexplained}
+use Rattle.stamp_explain.specs.Answer.{IsUndecided, IsUnexplained}
 use Rattle.stamp_observed.specs.ObservedFault.{IsFirstFault}
 use Rattle.stamp_explain_cli.specs.declared.finding.Finding.{Finding}
 use Rattle.stamp_explain_cli.specs.declared.finding.Finding.TheVariants.{Unseen, Explained, Stuck, Unexplained}
