@@ -19,7 +19,7 @@ use Rattle.stamp_core.specs.declared.reply.Reply.{Reply}
 use Rattle.stamp_explain.specs.declared.observed.Observation.{Observation}
 use Rattle.stamp_explain.specs.declared.node.Node.{Node}
 use Rattle.stamp_explain.specs.declared.node.Next.{Next}
-use Rattle.stamp_explain.specs.declared.node.Step.{Step}
+use Rattle.stamp_explain.specs.declared.node.CallTransition.{CallTransition}
 use Rattle.stamp_explain.specs.declared.asking.Asking.{Asking}
 use Rattle.stamp_explain.specs.Observed.{ObservedHistory, IsObserved, IsBefore, AllowsReply, AreOfOneObject}
 use Rattle.stamp_explain.specs.Observed.{IsReturnAt}
@@ -428,15 +428,15 @@ not_begun asking node a e reply h asks is awaits at before = record {
 }
 
 -- what was found of the call while it is under way
-abbrev pub WentBefore : Asking → Node → Option Step → Type 0
+abbrev pub WentBefore : Asking → Node → Option CallTransition → Type 0
 WentBefore asking node found = (e : Observation) (s : LockState) →
     slice_get asking.before.entries asking.place ≡ Some e → IsStateBy asking.before node.bits node.writer s →
     HasGone asking.before asking.place e node.writer s found
 
 -- it gets no other reply
-pub asked_takes : (asking : Asking) (node : Node) (found : Option Step) (reply : Reply) (h : ObservedHistory) →
-    IsAsking asking → IsSeenWith asking reply h → WentBefore asking node found →
-    ((step : Step) → found ≡ Some step → step.reply ≢ reply) → Took h asking.timeline.returns.items node
+pub asked_takes : (asking : Asking) (node : Node) (found : Option CallTransition) (reply : Reply)
+    (h : ObservedHistory) → IsAsking asking → IsSeenWith asking reply h → WentBefore asking node found →
+    ((did : CallTransition) → found ≡ Some did → did.reply ≢ reply) → Took h asking.timeline.returns.items node
     asking.place None
 asked_takes asking node found reply h asks is went others = record {
   takes = λ b s taken awaited stands x u may same.
@@ -477,12 +477,12 @@ asked_takes asking node found reply h asks is went others = record {
         (omega (arith, within, length-set asking.seen.entries asking.place y)) ∙
         ap (λ (o : Observation). Some o) (get_or-set_same asking.seen.entries asking.place y y within)
 
-    by : (o : Option Step) → found ≡ o → (s u : LockState) (r : Reply) → reply ≡ r →
+    by : (o : Option CallTransition) → found ≡ o → (s u : LockState) (r : Reply) → reply ≡ r →
         LockSteps asking.seen.limits s (is.at.entry.call, r) u →
         HasGone (without_return asking.place is.at.entry asking.seen) asking.place y node.writer s o → ⊥
     by None at s u r replied steps gone = gone r u tt steps
-    by (Some step) at s u r replied steps gone = others step at
-        (one_reply asking.seen.limits s.0 s.1 is.at.entry.call step.reply r gone.steps.replies steps.replies ∙
+    by (Some did) at s u r replied steps gone = others did at
+        (one_reply asking.seen.limits s.0 s.1 is.at.entry.call did.reply r gone.steps.replies steps.replies ∙
         sym replied)
 
 pub asked_not_begun : (asking : Asking) (node : Node) (a e : Observation) (replies : List Reply) → IsAsking asking →
@@ -500,15 +500,15 @@ asked_waits asking node replies asks went = record {
   more = no_more replies;
   gets = λ reply has. inl has;
   asked = λ reply h is misses. asked_takes asking node None reply h asks is went
-      (λ step at. absurd (none-some step at));
+      (λ did at. absurd (none-some did at));
 }
 
 -- the reply that it gets at a node
-asked_gets : (asking : Asking) (node : Node) (step : Step) (a : Observation) → IsAsking asking →
+asked_gets : (asking : Asking) (node : Node) (did : CallTransition) (a : Observation) → IsAsking asking →
     IsReachedBeside asking node → Awaits asking.seen asking.timeline node a →
     ((e : Observation) → slice_get asking.seen.entries asking.place ≡ Some e → ¬ IsBefore a e) →
-    WentBefore asking node (Some step) → Gets asking step.reply
-asked_gets asking node step a asks is awaits begun went = record {
+    WentBefore asking node (Some did) → Gets asking did.reply
+asked_gets asking node did a asks is awaits begun went = record {
   entry = asks.at.entry;
   is_entry = asks.at.is_entry;
   gets = record {
@@ -525,8 +525,8 @@ asked_gets asking node step a asks is awaits begun went = record {
       is_awaited = awaits.at;
       begun = begun asks.at.entry asks.at.is_entry;
     };
-    next = after_call asking.seen.limits is.reached.state (asks.at.entry.call, step.reply);
-    steps = (subst (λ (g : ObservedHistory). HasGone g asking.place y node.writer is.reached.state (Some step))
+    next = after_call asking.seen.limits is.reached.state (asks.at.entry.call, did.reply);
+    steps = (subst (λ (g : ObservedHistory). HasGone g asking.place y node.writer is.reached.state (Some did))
         asks.before
         (went y is.reached.state here (subst (λ (g : ObservedHistory). IsStateBy g node.bits node.writer
         is.reached.state)
@@ -548,20 +548,20 @@ asked_gets asking node step a asks is awaits begun went = record {
         (omega (arith, within, length-set asking.seen.entries asking.place y)) ∙
         ap (λ (o : Observation). Some o) (get_or-set_same asking.seen.entries asking.place y y within)
 
-pub asked_replies : (asking : Asking) (node : Node) (step : Step) (a : Observation) (old new : List Reply) →
+pub asked_replies : (asking : Asking) (node : Node) (did : CallTransition) (a : Observation) (old new : List Reply) →
     IsAsking asking → IsReachedBeside asking node → Awaits asking.seen asking.timeline node a →
     ((e : Observation) → slice_get asking.seen.entries asking.place ≡ Some e → ¬ IsBefore a e) →
-    WentBefore asking node (Some step) → Adds old step.reply new → AreAsked asking node old new
-asked_replies asking node step a old new asks is awaits begun went adds = record {
+    WentBefore asking node (Some did) → Adds old did.reply new → AreAsked asking node old new
+asked_replies asking node did a old new asks is awaits begun went adds = record {
   more = adds.more;
   gets = λ reply has. new_one reply (adds.only reply has);
-  asked = λ reply h is misses. asked_takes asking node (Some step) reply h asks is went (λ other at same.
-      misses (subst (Contains new) (ap (λ (t : Step). t.reply) (same_Some step other at) ∙ same) adds.added));
+  asked = λ reply h is misses. asked_takes asking node (Some did) reply h asks is went (λ other at same.
+      misses (subst (Contains new) (ap (λ (t : CallTransition). t.reply) (same_Some did other at) ∙ same) adds.added));
 }
   where
-    new_one : (reply : Reply) → Contains old reply ⊎ (step.reply ≡ reply) → Contains old reply ⊎ Gets asking reply
+    new_one : (reply : Reply) → Contains old reply ⊎ (did.reply ≡ reply) → Contains old reply ⊎ Gets asking reply
     new_one reply (inl has) = inl has
-    new_one reply (inr same) = inr (subst (Gets asking) same (asked_gets asking node step a asks is awaits begun went))
+    new_one reply (inr same) = inr (subst (Gets asking) same (asked_gets asking node did a asks is awaits begun went))
 
 -- the entry that is asked, as it is read, and with its call under way
 pub asked_read : (asking : Asking) (read : List Observation) (d : Observation) → IsAsking asking →

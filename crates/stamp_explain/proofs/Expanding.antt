@@ -20,7 +20,7 @@ use Rattle.stamp_core.specs.declared.call.Call.TheVariants.{Get, Put, PutIf}
 use Rattle.stamp_core.specs.declared.reply.Reply.{Reply}
 use Rattle.stamp_explain.specs.declared.observed.Observation.{Observation}
 use Rattle.stamp_explain.specs.declared.node.Node.{Node}
-use Rattle.stamp_explain.specs.declared.node.Step.{Step}
+use Rattle.stamp_explain.specs.declared.node.CallTransition.{CallTransition}
 use Rattle.stamp_explain.specs.Observed.{ObservedHistory, IsObserved, IsBefore, IsInterval, DoNotOverlap}
 use Rattle.stamp_explain.specs.Explained.{Effect}
 use Rattle.stamp_explain.specs.Search.{LockState, LockSteps, MayTake, AreReturns, after_call}
@@ -229,20 +229,20 @@ none_by_reply h returns node a i s taken is gone x u may same =
 
 -- it takes effect
 pub taken_to : (h : ObservedHistory) (returns : List ℕ) (node : Node) (a : Observation) (i : ℕ) (s : LockState)
-    (taken : List ℕ) (threads : ℕ) (step : Step) → (is : Trying h returns node a i s taken) →
+    (taken : List ℕ) (threads : ℕ) (did : CallTransition) → (is : Trying h returns node a i s taken) →
     bit_at node.threads is.it.entry.thread ≢ 1 →
-    ((e : Observation) → slice_get h.entries i ≡ Some e → HasGone h i e node.writer s (Some step)) →
+    ((e : Observation) → slice_get h.entries i ≡ Some e → HasGone h i e node.writer s (Some did)) →
     SetsBit node.threads threads is.it.entry.thread → Takes h returns node a i s taken
     (Some (record {
-      node = record { past = node.past; bits = step.bits; writer = step.writer; threads = threads };
+      node = record { past = node.past; bits = did.bits; writer = did.writer; threads = threads };
       took = Some i;
     }))
-taken_to h returns node a i s taken threads step is bit gone sets = record {
+taken_to h returns node a i s taken threads did is bit gone sets = record {
   past = refl;
   effect = effect;
   index = refl;
   took = refl;
-  state = after_call h.limits s (e.call, step.reply);
+  state = after_call h.limits s (e.call, did.reply);
   may = record {
     effect = record { is_entry = is.it.is_entry; replies = went.may };
     fresh = λ has. bit (taken_by_bit h.entries (take node.past returns) node.threads taken i e is.stands.in_effect
@@ -257,28 +257,28 @@ taken_to h returns node a i s taken threads step is bit gone sets = record {
       ap (λ (k : ℕ). slice_get h.entries k) same ∙ is.it.is_entry) in
       let steps : LockSteps h.limits s (e.call, x.reply) u =
       subst (λ (o : Observation). LockSteps h.limits s (o.call, x.reply) u) entry may.steps in
-      let reply : step.reply ≡ x.reply = one_reply h.limits s.0 s.1 e.call step.reply x.reply went.steps.replies
+      let reply : did.reply ≡ x.reply = one_reply h.limits s.0 s.1 e.call did.reply x.reply went.steps.replies
       steps.replies in
-      let state : after_call h.limits s (e.call, step.reply) ≡ u =
+      let state : after_call h.limits s (e.call, did.reply) ≡ u =
       ap (λ (r : Reply). after_call h.limits s (e.call, r)) reply ∙ sym steps.next in
       subst (λ (t : LockState). StandsFor h returns made t (x.index ∷ taken)) state
-      (subst (λ (k : ℕ). StandsFor h returns made (after_call h.limits s (e.call, step.reply)) (k ∷ taken))
+      (subst (λ (k : ℕ). StandsFor h returns made (after_call h.limits s (e.call, did.reply)) (k ∷ taken))
       (sym same) stands);
 }
   where
     e : Observation
     e = is.it.entry
 
-    went : Does h i e node.writer s step
+    went : Does h i e node.writer s did
     went = gone e is.it.is_entry
 
     effect : Effect
-    effect = record { index = i; entry = e; reply = step.reply }
+    effect = record { index = i; entry = e; reply = did.reply }
 
     made : Node
-    made = record { past = node.past; bits = step.bits; writer = step.writer; threads = threads }
+    made = record { past = node.past; bits = did.bits; writer = did.writer; threads = threads }
 
-    stands : StandsFor h returns made (after_call h.limits s (e.call, step.reply)) (i ∷ taken)
+    stands : StandsFor h returns made (after_call h.limits s (e.call, did.reply)) (i ∷ taken)
     stands = record {
       at = went.at;
       in_effect = taken_more h.entries (take node.past returns) node.threads threads taken i e

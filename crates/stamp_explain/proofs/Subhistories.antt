@@ -16,7 +16,7 @@ use Rattle.std.proofs.lemmas.Option.{slice_get_within}
 use Rattle.stamp_explain.specs.Apart.{is_of_object, of_object, places_where, IsSubhistoryOf}
 use Rattle.stamp_explain.proofs.Lists.{pairs_none, pairs_cons}
 use Rattle.stamp_explain.proofs.Parting.{part_observed}
-use Rattle.stamp_explain.proofs.Stepped.{suits_some}
+use Rattle.stamp_explain.proofs.Transitions.{suits_some}
 use Rattle.stamp_explain.proofs.Seeing.{kept, IsKeptAt, rank_gives, place_gives, places_at, filter_no_longer}
 
 -- those of the first i calls that pass, with their places, and those of the others

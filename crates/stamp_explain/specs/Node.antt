@@ -10,7 +10,7 @@ use Rattle.stamp_core.specs.declared.call.Call.TheVariants.{Put, PutIf}
 use Rattle.stamp_core.specs.declared.reply.Reply.{Reply}
 use Rattle.stamp_explain.specs.declared.observed.Observation.{Observation}
 use Rattle.stamp_explain.specs.declared.node.Node.{Node}
-use Rattle.stamp_explain.specs.declared.node.Step.{Step}
+use Rattle.stamp_explain.specs.declared.node.CallTransition.{CallTransition}
 use Rattle.stamp_explain.specs.Observed.{ObservedHistory, IsBefore, AllowsReply}
 use Rattle.stamp_explain.specs.Search.{LockState, LockSteps, first_state, after_call}
 use Rattle.stamp_explain.specs.Configuration.{Reaches, put_after}
@@ -74,19 +74,19 @@ pub record IsFirstNode (h : ObservedHistory) (node : Node) : Type 0 where
 -- what the call of this place does in a state, with the words of this put in the record, which its observation
 -- allows: the state afterwards and the reply
 pub record Does (h : ObservedHistory) (i : ℕ) (e : Observation) (put : Option ℕ) (s : LockState)
-    (step : Step) : Type 0 where
-  pub may : AllowsReply e step.reply
-  pub steps : LockSteps h.limits s (e.call, step.reply) (after_call h.limits s (e.call, step.reply))
-  pub at : IsStateBy h step.bits step.writer (after_call h.limits s (e.call, step.reply))
-  pub writer : step.writer ≡ put_after put i e.call step.reply
+    (transition : CallTransition) : Type 0 where
+  pub may : AllowsReply e transition.reply
+  pub steps : LockSteps h.limits s (e.call, transition.reply) (after_call h.limits s (e.call, transition.reply))
+  pub at : IsStateBy h transition.bits transition.writer (after_call h.limits s (e.call, transition.reply))
+  pub writer : transition.writer ≡ put_after put i e.call transition.reply
 
 -- what was found of a call in the state: what it does, or that no reply that its observation allows is given
-abbrev pub HasGone : ObservedHistory → ℕ → Observation → Option ℕ → LockState → Option Step → Type 0
+abbrev pub HasGone : ObservedHistory → ℕ → Observation → Option ℕ → LockState → Option CallTransition → Type 0
 HasGone h i e put s None = (reply : Reply) (t : LockState) → AllowsReply e reply → ¬ LockSteps h.limits s (
   e.call,
   reply,
 ) t
-HasGone h i e put s (Some step) = Does h i e put s step
+HasGone h i e put s (Some transition) = Does h i e put s transition
 
 -- the node stands for what a way through the search reaches, with the words of its writer in the record
 pub record IsReached (h : ObservedHistory) (asked : Option ℕ) (returns : List ℕ) (node : Node) : Type 0 where

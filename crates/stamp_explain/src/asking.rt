@@ -18,9 +18,9 @@ use crate::node::{Next, Node, Origin};
 use crate::observed::{Observation, Observed, Returned};
 use crate::search::{choice_of, opening, settled, take_of};
 use crate::soundness::is_before;
-use crate::stepping::step_of;
 use crate::store::Store;
 use crate::timeline::{Timeline, timeline_of};
+use crate::transition::transition_of;
 use crate::unchanging::is_unchanging_at;
 use stamp_core::Reply;
 use std::alloc::{AllocError, Global};
@@ -161,8 +161,8 @@ fn ask(asking: &Asking, node: &Node, replies: &mut Vec<Reply>) -> Result<(), All
     if is_before(awaited, &entries[asking.place]) {
         return Ok(());
     }
-    if let Some(step) = step_of(&asking.before, node.bits, node.writer, asking.place) {
-        add(replies, step.reply)?;
+    if let Some(transition) = transition_of(&asking.before, node.bits, node.writer, asking.place) {
+        add(replies, transition.reply)?;
     }
     Ok(())
 }

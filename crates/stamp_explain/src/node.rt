@@ -37,9 +37,9 @@ pub(crate) struct Waiting {
     pub(crate) origin: Origin,
 }
 
-/// What a call does: the number of the word and the writer afterwards, and the reply.
+/// The transition of a call: the number of the word and the writer afterwards, and the reply.
 #[derive(Clone, Copy)]
-pub(crate) struct Step {
+pub(crate) struct CallTransition {
     pub(crate) bits: u64,
     pub(crate) writer: Option<usize>,
     pub(crate) reply: Reply,

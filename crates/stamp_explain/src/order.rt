@@ -8,9 +8,9 @@ ghost use Rattle.stamp_explain.specs.Order.{IsOrderOf, IsTakenAt, IsEnd, Replies
 
 use crate::node::Node;
 use crate::observed::Observed;
-use crate::stepping::step_of;
 use crate::store::Store;
 use crate::timeline::Timeline;
+use crate::transition::transition_of;
 use stamp_core::Reply;
 use std::alloc::{AllocError, Global};
 
@@ -29,10 +29,10 @@ fn reply_at(observed: &Observed, node: &Node, i: usize) -> Reply
     requires led { IsLedBy observed.now node.now i }
     ensures { RepliesAt observed.now node.now (record { entry = i; reply = result }) }
 {
-    let Some(step) = step_of(observed, node.bits, node.writer, i) else {
+    let Some(transition) = transition_of(observed, node.bits, node.writer, i) else {
         unreachable!();
     };
-    step.reply
+    transition.reply
 }
 
 /// The call that took effect when the search left this node, with its reply, which is that of its return

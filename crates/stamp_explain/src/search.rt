@@ -14,9 +14,9 @@ use crate::found::Found;
 use crate::node::{Next, Node, Origin, Waiting, has_bit, with_bit, without_bit};
 use crate::observed::{Observed, are_of_one_object};
 use crate::order::order_to;
-use crate::stepping::step_of;
 use crate::store::Store;
 use crate::timeline::Timeline;
+use crate::transition::transition_of;
 use crate::unchanging::{asks_at, is_unchanging_at};
 use stamp_core::Word;
 use std::alloc::{AllocError, Global};
@@ -66,13 +66,13 @@ pub(crate) fn take_of(observed: &Observed, node: &Node, i: usize) -> Option<Next
     if has_bit(node.threads, thread) {
         return None;
     }
-    match step_of(observed, node.bits, node.writer, i) {
+    match transition_of(observed, node.bits, node.writer, i) {
         None => None,
-        Some(step) => Some(Next {
+        Some(transition) => Some(Next {
             node: Node {
                 past: node.past,
-                bits: step.bits,
-                writer: step.writer,
+                bits: transition.bits,
+                writer: transition.writer,
                 threads: with_bit(node.threads, thread),
             },
             took: Some(i),

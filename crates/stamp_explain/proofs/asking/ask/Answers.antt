@@ -24,11 +24,11 @@ returns-then-is_before c =
     c.index-entries-index.is (subst (λ (o : Observation). IsBefore c.index-entries-index.result o)
     c.index-entries-asking.is (c.is_before.ensures.0 c.if-is_before.true)))
 
-pub step_of-requires-clause-inside : goal.step_of-requires-clause-inside
-step_of-requires-clause-inside c = asked_inside c.args.asking.now c.requires.asks
+pub transition_of-requires-clause-inside : goal.transition_of-requires-clause-inside
+transition_of-requires-clause-inside c = asked_inside c.args.asking.now c.requires.asks
 
-pub step_of-requires-clause-suits : goal.step_of-requires-clause-suits
-step_of-requires-clause-suits c = asked_suits c.args.asking.now c.requires.asks
+pub transition_of-requires-clause-suits : goal.transition_of-requires-clause-suits
+transition_of-requires-clause-suits c = asked_suits c.args.asking.now c.requires.asks
 
 false_true : false ≡ true → ⊥
 false_true h = cc
@@ -38,7 +38,7 @@ returns-in_ok-add c =
     let a : Observation = get_or c.entries-entries.result.now c.index.result.now c.index-entries-index.result in
     let asked : Observation =
     get_or c.entries-entries.result.now c.args.asking.now.place c.index-entries-asking.result in
-    asked_replies c.args.asking.now c.args.node.now c.in-Some.step a c.args.replies.now.items
+    asked_replies c.args.asking.now c.args.node.now c.in-Some.transition a c.args.replies.now.items
     c.add.new.replies.items c.requires.asks c.requires.reached
     (awaits_of c.args.asking.now.seen c.args.asking.now.timeline c.args.node.now c.index.result.now
     c.entries-entries.result.now c.index-entries-index.result c.requires.asks.observed c.requires.asks.timeline

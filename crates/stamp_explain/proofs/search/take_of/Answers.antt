@@ -19,8 +19,8 @@ returns-then-has_bit c returns are it = record {
       (ap (λ (o : Observation). bit_at c.args.node.now.threads o.thread) same ∙ c.has_bit.ensures.0 c.if-has_bit.true);
 }
 
-pub step_of-requires-clause-suits : goal.step_of-requires-clause-suits
-step_of-requires-clause-suits c e at = at_place (λ (o : Observation). IsTrue
+pub transition_of-requires-clause-suits : goal.transition_of-requires-clause-suits
+transition_of-requires-clause-suits c e at = at_place (λ (o : Observation). IsTrue
     (call_suits c.args.observed.now.width o.call)) c.args.observed.now.entries c.args.i e
     c.requires.observed.suit at
 
@@ -38,7 +38,7 @@ returns-in-Some c returns are it = record {
       let same : it.entry ≡ get_or c.entries.result.now c.args.i c.index-entries-i.result = entry_is
       c.args.observed.now.entries c.entries.result.now
       c.args.i it.entry c.index-entries-i.result it.is_entry c.entries.ensures.entries in
-      taken_to c.args.observed.now returns c.args.node.now a c.args.i s taken c.with_bit.result c.in-Some.step
+      taken_to c.args.observed.now returns c.args.node.now a c.args.i s taken c.with_bit.result c.in-Some.transition
       (trying c.requires.observed are awaited stands it)
       (λ bit. false_true (sym c.if-has_bit.false ∙ c.has_bit.ensures.1
       (ap (λ (o : Observation). bit_at c.args.node.now.threads o.thread) (sym same) ∙ bit)))

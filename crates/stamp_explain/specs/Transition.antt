@@ -1,4 +1,4 @@
--- What lock and record do at one call, each by its number.
+-- The transition that lock or record makes at one call, each by its number.
 use Rattle.std.specs.Prelude.{ℕ, ◌≡◌, ◌++◌, List, Option, Some, None}
 use Rattle.stamp_core.specs.LockEvent.{LockEvent}
 use Rattle.stamp_core.specs.Limits.{Bounds}
@@ -14,10 +14,10 @@ use Rattle.stamp_explain.specs.Observed.{AllowsReply}
 use Rattle.stamp_explain.specs.Configuration.{put_after}
 use Rattle.stamp_explain.specs.Node.{content_by}
 
--- a step of the lock, with its reply as one of lock or record
-abbrev pub step_as : Option (LockWord × LockReply) → Option (LockWord × Reply)
-step_as None = None
-step_as (Some x) = Some (x.0, reply_as x.1)
+-- a transition of the lock, with its reply as one of lock or record
+abbrev pub transition_as : Option (LockWord × LockReply) → Option (LockWord × Reply)
+transition_as None = None
+transition_as (Some x) = Some (x.0, reply_as x.1)
 
 -- after these events the lock gives no reply that the observation allows; or this one, and the word represents
 -- what it leaves

@@ -1,14 +1,14 @@
-//! What lock and record do at one call.
+//! The transition that lock or record makes at one call.
 ghost use Rattle.std.specs.Prelude.{◌≡◌, ◌<◌, ◌≤◌, ◌↔◌, IsTrue, MatchOption, Some, false, slice_get, length};
 ghost use Rattle.stamp_core.specs.Word.{IsAdmitted, word_at};
 ghost use Rattle.stamp_core.specs.Call.{is_lock_call, call_suits};
 ghost use Rattle.stamp_core.specs.Decision.{Steps};
 ghost use Rattle.stamp_explain.specs.Observed.{AllowsReply};
-ghost use Rattle.stamp_explain.specs.Stepping.{LockGoes, RecordGoes, step_as};
+ghost use Rattle.stamp_explain.specs.Transition.{LockGoes, RecordGoes, transition_as};
 ghost use Rattle.stamp_explain.specs.Node.{content_by, HasGone, IsStateBy};
 ghost use Rattle.stamp_explain.specs.Search.{LockState};
 
-use crate::node::Step;
+use crate::node::CallTransition;
 use crate::observed::{Observation, Observed};
 use stamp_core::{Call, Limits, LockDecision, LockReply, Reply, Word, Words, decide_lock};
 
@@ -23,12 +23,13 @@ fn may_reply(entry: &Observation, reply: &Reply) -> bool
     }
 }
 
-/// The word after a call of the lock and its reply; nothing where the call waits.
+/// The transition of the lock's word, by one decision on the lock alone: a search makes many, and this reply
+/// is small, without room for a record's words. Nothing where the call waits.
 #[inline(always)]
-fn lock_after(limits: Limits, word: Word, call: &Call) -> Option<(Word, LockReply)>
+fn small_transition(limits: Limits, word: Word, call: &Call) -> Option<(Word, LockReply)>
     requires admitted { IsAdmitted limits word }
     requires lock_call { IsTrue (is_lock_call call.now) }
-    ensures { Steps limits word call.now (step_as result) }
+    ensures { Steps limits word call.now (transition_as result) }
 {
     match decide_lock(limits, word, call) {
         LockDecision::Answer(reply) => Some((word, reply)),
@@ -39,12 +40,12 @@ fn lock_after(limits: Limits, word: Word, call: &Call) -> Option<(Word, LockRepl
 
 /// The number of the word after a call of the lock, and the reply, where the observation allows it.
 #[inline(always)]
-fn lock_step(limits: Limits, bits: u64, entry: &Observation) -> Option<(u64, Reply)>
+fn lock_transition(limits: Limits, bits: u64, entry: &Observation) -> Option<(u64, Reply)>
     requires admitted { IsAdmitted limits (word_at limits bits) }
     requires lock_call { IsTrue (is_lock_call entry.now.call) }
     ensures { LockGoes limits bits entry.now result }
 {
-    let (next, found) = lock_after(limits, limits.word(bits), &entry.call)?;
+    let (next, found) = small_transition(limits, limits.word(bits), &entry.call)?;
     let reply = found.as_reply();
     if may_reply(entry, &reply) {
         Some((next.bits(), reply))
@@ -74,7 +75,7 @@ fn content_of(observed: &Observed, writer: Option<usize>) -> Words
 
 /// Whose words the record holds after a call of it, and the reply, where the observation allows it.
 #[inline(never)]
-fn record_step(
+fn record_transition(
     observed: &Observed,
     writer: Option<usize>,
     i: usize,
@@ -103,14 +104,14 @@ fn record_step(
     }
 }
 
-/// What the call of entry `i` does, where the observation allows its reply.
+/// The transition of the call of entry `i`, where the observation allows its reply.
 #[inline(always)]
-pub(crate) fn step_of(
+pub(crate) fn transition_of(
     observed: &Observed,
     bits: u64,
     writer: Option<usize>,
     i: usize,
-) -> Option<Step>
+) -> Option<CallTransition>
     requires admitted { IsAdmitted observed.now.limits (word_at observed.now.limits bits) }
     requires inside { i < length observed.now.entries }
     requires suits { (e : Observation) → slice_get observed.now.entries i ≡ Some e
@@ -120,8 +121,8 @@ pub(crate) fn step_of(
 {
     let entry = &observed.entries()[i];
     if entry.call.is_lock_call() {
-        match lock_step(observed.limits(), bits, entry) {
-            Some((next, reply)) => Some(Step {
+        match lock_transition(observed.limits(), bits, entry) {
+            Some((next, reply)) => Some(CallTransition {
                 bits: next,
                 writer,
                 reply,
@@ -129,8 +130,8 @@ pub(crate) fn step_of(
             None => None,
         }
     } else {
-        match record_step(observed, writer, i, entry) {
-            Some((next, reply)) => Some(Step {
+        match record_transition(observed, writer, i, entry) {
+            Some((next, reply)) => Some(CallTransition {
                 bits,
                 writer: next,
                 reply,

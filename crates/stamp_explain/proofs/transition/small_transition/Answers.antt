@@ -1,6 +1,6 @@
 use Rattle.stamp_core.specs.LockDecision.{reply_as}
 use Rattle.stamp_core.proofs.Stepping.{answered, changed, waits}
-use Rattle.stamp_explain.proofs.stepping.lock_after.Goals as goal
+use Rattle.stamp_explain.proofs.transition.small_transition.Goals as goal
 
 pub returns-in-Answer : goal.returns-in-Answer
 returns-in-Answer c = answered c.args.limits c.args.word c.args.call.now (reply_as c.in-Answer.reply)

@@ -1,4 +1,4 @@
--- What a call does, by what was found of lock and record.
+-- The transition of a call, by what was found of lock and record.
 use Rattle.std.proofs.Common.{◌≡◌, ℕ, ◌<◌, Bool, true, false, List, refl, sym, ◌∙◌, ap, subst, arith}
 use Rattle.std.proofs.Common.{Option, None, Some}
 use Rattle.std.specs.Prelude.{IsTrue, slice_get}
@@ -20,7 +20,7 @@ use Rattle.stamp_explain.specs.Observed.{ObservedHistory}
 use Rattle.stamp_explain.specs.Search.{LockState}
 use Rattle.stamp_explain.specs.Configuration.{put_after}
 use Rattle.stamp_explain.specs.Node.{IsStateBy, Does, HasGone, content_by, words_put, words_put_at}
-use Rattle.stamp_explain.specs.Stepping.{LockGoes, RecordGoes}
+use Rattle.stamp_explain.specs.Transition.{LockGoes, RecordGoes}
 use Rattle.stamp_explain.proofs.Merging.{lock_leaves, record_appends}
 
 false_true : false ≡ true → ⊥
