@@ -17,8 +17,8 @@ pub(crate) fn is_before(a: &Observation, b: &Observation) -> bool
     }
 }
 
-/// Whether it isn't over before it began.
-fn is_interval(entry: &Observation) -> bool
+/// Whether a call isn't over before it began, as an observer may tell it; one that is under way isn't over.
+pub fn is_interval(entry: &Observation) -> bool
     ensures { IsTrue result ↔ IsInterval entry.now }
 {
     match &entry.returned {

@@ -1,13 +1,13 @@
 //! The first call of an observed history that an observer can't have seen.
 
-ghost use Rattle.std.specs.Prelude.{◌<◌, ◌↔◌, IsTrue, IfOk, MatchOption};
+ghost use Rattle.std.specs.Prelude.{◌<◌, IfOk, MatchOption};
 ghost use Rattle.std.specs.List.{All, AllPairs};
 ghost use Rattle.stamp_explain.specs.Observed.{IsLow, IsInterval, DoNotOverlap};
 ghost use Rattle.stamp_observed.specs.Suited.{AreSuited};
 ghost use Rattle.stamp_observed.specs.ObservedFault.{IsObservedVerdict, AreIntervalsTo, IsFirstOverlap};
 
 use crate::spans::are_apart;
-use stamp_explain::{Observation, Observed};
+use stamp_explain::{Observation, Observed, is_interval};
 use std::alloc::{AllocError, Global};
 
 /// What a call of an observed history breaks.
@@ -27,16 +27,6 @@ pub struct ObservedFault {
     pub entry: u64,
     /// The first thing that it breaks.
     pub cause: Cause,
-}
-
-/// Whether it isn't over before it began.
-fn is_interval(entry: &Observation) -> bool
-    ensures { IsTrue result ↔ IsInterval entry.now }
-{
-    match &entry.returned {
-        None => true,
-        Some(returned) => entry.first <= returned.last,
-    }
 }
 
 /// How many calls come before the first that is over before it began.
