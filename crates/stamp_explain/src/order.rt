@@ -14,13 +14,11 @@ use crate::transition::transition_of;
 use stamp_core::Reply;
 use std::alloc::{AllocError, Global};
 
-/// A call that took effect: its entry in the history, and its reply.
-#[derive(Clone, Copy, Debug, PartialEq, Eq)]
-pub struct Taken {
-    /// Where it stands among the entries of the history.
-    pub entry: usize,
-    /// What it was answered.
-    pub reply: Reply,
+/// A call that took effect: where it stands among the entries of the history, and its reply.
+#[derive(Clone, Copy)]
+pub(crate) struct Taken {
+    pub(crate) entry: usize,
+    pub(crate) reply: Reply,
 }
 
 /// What a call is answered where it takes effect at this node.
