@@ -1,4 +1,4 @@
--- The record of an order.
+-- The recorded history of an order.
 use Rattle.std.proofs.Common.{◌≡◌, ℕ, ◌+◌, ◌*◌, ◌<◌, ◌≤◌, suc, List, [], ◌∷◌, ◌++◌, length, get_or, refl, sym, ◌∙◌}
 use Rattle.std.proofs.Common.{◌⊎◌, ap, subst, arith, inl, inr, Option, None, Some}
 use Rattle.std.specs.Prelude.{drop, take, map, slice_get, IsTrue, max}
@@ -264,7 +264,7 @@ all_placed h taken end k entries q n observed is_end is all =
     made = sym (append-nil entries) ∙
         ap (λ (xs : List Effect). entries ++ points_from end q n xs) (sym (none_left is.order k over)) ∙ is.points
 
--- it is a record
+-- it is a recorded history
 zip_lengths : {A B : Type 0} (R : A → B → Type 0) (xs : List A) (ys : List B) → AllZip R xs ys →
     length xs ≡ length ys
 zip_lengths R [] [] z = refl

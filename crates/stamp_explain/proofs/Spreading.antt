@@ -454,7 +454,7 @@ ready_of h end order observed by begun = record {
   below = All-nil (λ (a : ℕ). a < 64);
 }
 
--- the record of an order
+-- the recorded history of an order
 pub points_are_of : (h : ObservedHistory) (end : ℕ) (order : List Effect) → IsObserved h → IsExplainedBy h order →
     All (λ (y : Effect). y.entry.first ≤ end) order →
     IsRecordOfObserved h (recorded h.limits h.width (points_from end 0 0 order) [])

@@ -40,8 +40,8 @@ IsFault h most (Unexplained i) = IsUnexplained h most i
 IsFault h most (Undecided i) = IsUndecided h most i
 IsFault h most Memory = ⊥
 
--- a record of it that is linearized by its points; or the entry at whose return it is stuck, or undecided; or
--- an allocation was refused
+-- a recorded history of it that is linearized by its points; or the entry at whose return it is stuck, or
+-- undecided; or an allocation was refused
 abbrev pub IsAnswer : ObservedHistory → ℕ → Result Recorded ExplainError → Type 0
 IsAnswer h most (Ok made) = HasPoints h made
 IsAnswer h most (Err (Stuck i)) = IsStuck h i

@@ -104,11 +104,11 @@ OpenQuestionsAreNotNeeded =
     LockSteps limits s (x.entry.call, x.reply) t → CanComplete (LockSteps limits) entries to_come t (x.index ∷ taken) →
     CanComplete (LockSteps limits) entries to_come s taken
 
--- A record of an observed history that is linearized explains it.
+-- A recorded history of an observed one that is linearized explains it.
 abbrev pub PointsExplain : Type 0
 PointsExplain = (h : ObservedHistory) (r : Recorded) → IsRecordOfObserved h r → IsLinearized r → IsExplained h
 
--- And each one that is explained has such a record.
+-- And each one that is explained has such a recorded history.
 abbrev pub ExplainedHasPoints : Type 0
 ExplainedHasPoints = (h : ObservedHistory) → IsObserved h → IsExplained h →
     (r : Recorded) × (IsRecordOfObserved h r × IsLinearized r)

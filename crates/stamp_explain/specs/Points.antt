@@ -22,7 +22,7 @@ pub record IsEntryOf (entries : List Observation) (i : ℕ) (e : Entry) : Type 0
   pub returned : MatchOption observed.returned (Unit {0}) (λ (r : Returned). (e.reply ≡ r.reply) ×
       (e.last ≡ 64 * r.last + 63))
 
--- a record of the returned calls, and of some under way
+-- a recorded history of the returned calls, and of some under way
 pub record IsRecordOfObserved (h : ObservedHistory) (r : Recorded) : Type 0 where
   pub limits : r.limits ≡ h.limits
   pub width : r.width ≡ h.width
@@ -72,7 +72,7 @@ pub record IsLastTold (entries : List Observation) (end : ℕ) : Type 0 where
 abbrev pub EndsAsTold : List Observation → ℕ → ℕ → Entry → Type 0
 EndsAsTold entries end i e = (o : Observation) → slice_get entries i ≡ Some o → e.last ≡ ends_at o.returned end
 
--- a record of the history, with points that linearize it; a call under way ends in it with the history
+-- a recorded history of the observed one, with points that linearize it; a call under way ends with the history
 pub record HasPoints (h : ObservedHistory) (r : Recorded) : Type 0 where
   pub of : IsRecordOfObserved h r
   pub linearized : IsLinearized r
