@@ -213,8 +213,8 @@ fn enter(
     Ok(())
 }
 
-/// The replies that the call gets, whatever the others do before it: each once. None where more than so
-/// many configurations are reached.
+/// The replies that the call gets, whatever the others do before it, each once. Nothing, where the search
+/// reaches more than `most` configurations.
 pub(crate) fn replies_of(
     alloc: Global,
     asking: &Asking,

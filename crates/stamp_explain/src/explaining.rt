@@ -85,11 +85,12 @@ fn without_order(
     Err(first_fault(alloc, observed, ends.as_slice(), most, unexplained)?)
 }
 
-/// A recorded history of an order that explains this one, with a point for each call. Position p becomes the
-/// positions 64 p to 64 p + 63; a call under way that took effect ends with the history, and one that
-/// didn't is left out. A search gives up once it has looked at more than `most` configurations. Refuses as
-/// 1 `Stuck` or 2 `Unexplained`, where no order explains the history, 3 `Undecided` or 4 `Memory`. Where no
-/// search gives up it is no 2 and no 3.
+/// Explains an observed history: finds an order in which a single-threaded lock and record give its calls these
+/// replies, and makes a recorded history of it, with a point for each call. Position p becomes the positions
+/// 64 p to 64 p + 63; a call under way that took effect ends with the history, and one that didn't is left out.
+/// A search gives up once it has looked at more than `most` configurations. Refuses as 1 `Stuck` or
+/// 2 `Unexplained`, where no order explains the history, 3 `Undecided`, where that isn't known, or 4 `Memory`,
+/// where an allocation was refused. It refuses as 2 or 3 only where a search gives up.
 pub fn explain(alloc: Global, observed: &Observed, most: u64) -> Result<Record, ExplainError>
     requires { IsObserved observed.now }
     ensures { IsAnswer observed.now most result }

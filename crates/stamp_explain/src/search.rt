@@ -80,7 +80,8 @@ pub(crate) fn take_of(observed: &Observed, node: &Node, i: usize) -> Option<Next
     }
 }
 
-/// The same with each return that is next past, as long as its call is in effect.
+/// The node after each return that comes next, as long as the call that returns is in effect; the entry that
+/// took effect on the way stays.
 pub(crate) fn settled(observed: &Observed, timeline: &Timeline, next: &Next) -> Next
     requires observed { IsObserved observed.now }
     requires timeline { IsTimeline observed.now timeline.now }

@@ -52,8 +52,8 @@ fn is_apart_from(others: &[Observation], entry: &Observation) -> bool
     true
 }
 
-/// Whether an observer may tell this: no call is over before it began, calls of one thread don't
-/// overlap, threads are below 64, and the calls suit the width.
+/// Whether an observer may tell this history, so that it can be explained: no call is over before it began,
+/// calls of one thread don't overlap, threads are below 64, and the calls suit the width.
 pub fn is_observed(observed: &Observed) -> bool
     ensures { IsTrue result ↔ IsObserved observed.now }
 {

@@ -29,8 +29,8 @@ fn returns_of(alloc: Global, entries: &[Observation]) -> Result<Vec<(u64, usize)
     Ok(keys)
 }
 
-/// The same, in the order of the positions; of two calls that return at one, that which is listed
-/// first comes first.
+/// Where each returned call returned, and its place, in the order of the positions; of two calls that return
+/// at one, that which is listed first comes first.
 pub(crate) fn ends_of(
     alloc: Global,
     entries: &[Observation],
@@ -53,14 +53,14 @@ fn begins_of(alloc: Global, entries: &[Observation]) -> Result<Vec<(u64, usize)>
     Ok(keys)
 }
 
-/// The places alone.
+/// The places of these keys, without the positions.
 fn places_alone(alloc: Global, keys: &[(u64, usize)]) -> Result<Vec<usize>, AllocError>
     ensures { IfOk result (λ places. places.items ≡ places_of keys.now) }
 {
     keys.iter().map(|key| key.1).collect(alloc)
 }
 
-/// The same in the order of the numbers.
+/// Positions with their places, in the order of the positions.
 fn in_order(keys: Vec<(u64, usize)>) -> Result<Vec<(u64, usize)>, AllocError>
     ensures { IfOk result (λ sorted. AreRising keys.items sorted.items) }
 {
@@ -106,7 +106,7 @@ fn begin_more(
     Ok(begins.len())
 }
 
-/// The calls alone.
+/// The calls of these keys, without their ranks.
 fn calls_alone(alloc: Global, kept: &[(usize, usize)]) -> Result<Vec<usize>, AllocError>
     ensures { IfOk result (λ calls. calls.items ≡ places_of kept.now) }
 {

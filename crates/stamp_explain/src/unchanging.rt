@@ -6,7 +6,7 @@ ghost use Rattle.stamp_explain.specs.Unchanging.{is_this_stamp, changes_nothing,
 use crate::observed::{Observation, Observed};
 use stamp_core::{Call, Reply};
 
-/// Whether it is this stamp.
+/// Whether the reply is this stamp.
 fn is_this_stamp(reply: &Reply, stamp: u64) -> bool
     ensures { result ≡ is_this_stamp reply.now stamp }
 {
@@ -69,7 +69,7 @@ fn is_question(call: &Call) -> bool
     }
 }
 
-/// Whether it is under way, and such a call.
+/// Whether the call is an open question: it is under way, and changes nothing by any reply.
 fn is_open_question(entry: &Observation) -> bool
     ensures { result ≡ is_open_question entry.now }
 {
@@ -79,7 +79,7 @@ fn is_open_question(entry: &Observation) -> bool
     }
 }
 
-/// Whether the call of this entry is such a one.
+/// Whether the call of this entry is an open question: under way, and one that changes nothing by any reply.
 pub(crate) fn asks_at(observed: &Observed, i: usize) -> bool
     ensures { result ≡ asks_at observed.now.entries i }
 {
@@ -99,7 +99,7 @@ fn is_unchanging(entry: &Observation) -> bool
     }
 }
 
-/// Whether the call of this entry is such a one.
+/// Whether the call of this entry has returned, and its reply tells that it changed nothing.
 pub(crate) fn is_unchanging_at(observed: &Observed, i: usize) -> bool
     ensures { result ≡ is_unchanging_at observed.now.entries i }
 {
