@@ -198,8 +198,8 @@ undecided_by h i most e r asking replies at returned asks are some =
     ap (λ (o : Observation). o.returned) is_entry ∙ own.returned) in
     let is_asked : gets.entry ≡ e = same_Some gets.entry e (sym gets.is_entry ∙ asks.is_entry) in
     let seen : GetsBeside (seen_at r.last (i + 1) h) (place_then r.last i h.entries) e some.0 =
-    subst (λ (o : Observation). GetsBeside (seen_at r.last (i + 1) h) (place_then r.last i h.entries) o some.0) is_asked
-    (subst (λ (k : ℕ). GetsBeside (seen_at r.last (i + 1) h) k gets.entry some.0) asks.place
+    subst (λ (o : Observation). GetsBeside (seen_at r.last (i + 1) h) (place_then r.last i h.entries) o some.0)
+    is_asked (subst (λ (k : ℕ). GetsBeside (seen_at r.last (i + 1) h) k gets.entry some.0) asks.place
     (subst (λ (g : ObservedHistory). GetsBeside g asking.place gets.entry some.0) asks.seen gets.gets)) in
     record {
       reply = some.0;

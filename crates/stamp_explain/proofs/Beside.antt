@@ -1,6 +1,6 @@
 -- The search for the replies that one call could get.
-use Rattle.std.proofs.Common.{◌≡◌, ◌≢◌, ◌⊎◌, ℕ, ◌+◌, ◌-◌, ◌<◌, ◌≤◌, List, [], ◌∷◌, ◌++◌, length, get_or, set, refl, sym}
-use Rattle.std.proofs.Common.{◌∙◌, ap, subst, inl, inr, arith, Option, None, Some, Bool, true, false, suc}
+use Rattle.std.proofs.Common.{◌≡◌, ◌≢◌, ◌⊎◌, ℕ, ◌+◌, ◌-◌, ◌<◌, ◌≤◌, List, [], ◌∷◌, ◌++◌, length, get_or, set, refl}
+use Rattle.std.proofs.Common.{sym, ◌∙◌, ap, subst, inl, inr, arith, Option, None, Some, Bool, true, false, suc}
 use Rattle.std.specs.Prelude.{not, nat_lt, cond, IsTrue}
 use Rattle.stamp_core.specs.Call.{call_suits, is_lock_call}
 use Rattle.std.proofs.lemmas.List.Filters.{length-filter_more}
@@ -197,7 +197,8 @@ awaited_inside asking node i asks inside read =
     let there : IsReturnAt asking.seen.entries (get_or asking.timeline.returns.items node.past i) =
     asks.timeline.are.each node.past i inside in
     subst (λ (k : ℕ). k < length asking.seen.entries) (sym read)
-    (slice_get_within asking.seen.entries (get_or asking.timeline.returns.items node.past i) there.entry there.is_entry)
+    (slice_get_within asking.seen.entries (get_or asking.timeline.returns.items node.past i) there.entry
+    there.is_entry)
 
 -- of the last k of these calls, those beside the one asked were tried
 pub record TriesBeside (asking : Asking) (node : Node) (calls : List ℕ) (k : ℕ) (nexts : List Next) : Type 0 where

@@ -44,7 +44,8 @@ is_for_its h asked returns v reached = record {
   stands = reached.stands;
 }
 
--- a thread whose bit is set has a call in effect; if that is in effect in the other configuration, its bit is set there
+-- a thread whose bit is set has a call in effect; if that is in effect in the other configuration, its bit is set
+-- there
 bit_as_well : (h : ObservedHistory) (asked : Option ℕ) (returns : List ℕ) (v w : Node)
     (c d : Configuration h asked returns) →
     IsFor h asked returns v c → IsFor h asked returns w d → v.past ≡ w.past →
@@ -158,9 +159,11 @@ all_differ h asked returns nodes each different i j d lt inside one =
         AreOne h asked returns (get_or (configurations_of h asked returns nodes each) i d)
         (get_or (configurations_of h asked returns nodes each) j d) → ⊥
     differ i j d lt inside one =
-        let v : IsOf h asked returns (get_or nodes i none) (get_or (configurations_of h asked returns nodes each) i d) =
+        let v : IsOf h asked returns (get_or nodes i none)
+        (get_or (configurations_of h asked returns nodes each) i d) =
         at_each h asked returns nodes each i d none (omega (arith, lt, inside)) in
-        let w : IsOf h asked returns (get_or nodes j none) (get_or (configurations_of h asked returns nodes each) j d) =
+        let w : IsOf h asked returns (get_or nodes j none)
+        (get_or (configurations_of h asked returns nodes each) j d) =
         at_each h asked returns nodes each j d none inside in
         different i j none lt inside (one_node h asked returns (get_or nodes i none) (get_or nodes j none)
         (configuration_of h asked returns (get_or nodes i none) v.reached)

@@ -59,9 +59,9 @@ one_effect h a b s taken x y t u put may other same = (state, puts)
         ap (λ (c : Call). put_after put y.index c x.reply) call ∙
         ap (λ (r : Reply). put_after put y.index y.entry.call r) reply
 
-none_decides : (h : ObservedHistory) (asked : Option ℕ) (returns : List ℕ) (s : LockState) {ys : List ℕ} {t : LockState}
-    {other : Option ℕ} {also : List ℕ} → s ≡ first_state h.width → Reaches h asked returns ys t other also → [] ≡ also →
-    IsSame s None t other
+none_decides : (h : ObservedHistory) (asked : Option ℕ) (returns : List ℕ) (s : LockState) {ys : List ℕ}
+    {t : LockState} {other : Option ℕ} {also : List ℕ} → s ≡ first_state h.width →
+    Reaches h asked returns ys t other also → [] ≡ also → IsSame s None t other
 none_decides h asked returns s is begins same = (is, refl)
 none_decides h asked returns s is (goes_past way has) same = none_decides h asked returns s is way same
 none_decides h asked returns s is (goes_on_by way awaited x t is_awaited not_yet tried may) same =
@@ -118,7 +118,8 @@ once h asked returns begins = pairs_none (λ (i j : ℕ). i ≢ j)
 once h asked returns (goes_past way has) = once h asked returns way
 once h asked returns (goes_on_by {i} {to_come} {s} {put} {taken} way awaited x t is_awaited not_yet tried may) =
     pairs_cons (λ (i j : ℕ). i ≢ j) x.index taken
-    (λ k d lt same. may.fresh (k, omega (arith, lt), get_at taken k d x.index lt ∙ sym same)) (once h asked returns way)
+    (λ k d lt same. may.fresh (k, omega (arith, lt), get_at taken k d x.index lt ∙ sym same))
+    (once h asked returns way)
   where
     get_at : (xs : List ℕ) (k d e : ℕ) → k < length xs → get_or xs k e ≡ get_or xs k d
     get_at xs k d e lt = same_read xs k e d lt

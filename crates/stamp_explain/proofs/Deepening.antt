@@ -291,7 +291,8 @@ deepens_expanded h returns store waiting expanded nexts is inside expands = reco
 
     each : (p : ℕ) (u : Node) (c : Configuration h None returns) → slice_get store.nodes.items p ≡ Some u →
         slice_get was.configurations p ≡ Some c → (p < expanded) ⊎ (p ≡ expanded) →
-        IsDead h returns u ⊎ IsOpen h returns was.configurations (waiting ++ waiting_from expanded nexts) None_now p u c
+        IsDead h returns u ⊎
+        IsOpen h returns was.configurations (waiting ++ waiting_from expanded nexts) None_now p u c
     each p u c at here (inl lt) = by (was.each p u c lt at here)
       where
         by : IsDead h returns u ⊎ IsOpen h returns was.configurations waiting (Hope h returns is.last) p u c →

@@ -73,8 +73,8 @@ deepens_no_more h returns store waited expanded are before all seen explained =
 
     by : IsDead h returns first ⊎ IsOpen h returns was.configurations [] None_now 0 first of_first.configuration → ⊥
     by (inl dead) = dead moves hope
-    by (inr going) = all_passed h returns was.configurations [] 0 first of_first.configuration going (omega arith) moves
-        hope
+    by (inr going) = all_passed h returns was.configurations [] 0 first of_first.configuration going (omega arith)
+        moves hope
 
 -- where a search begins no call is in effect
 pub first_settled : (h : ObservedHistory) (returns : List ℕ) (node : Node) → IsFirstNode h node →

@@ -76,7 +76,8 @@ goes_on_through h returns b c d one two = record {
 
 -- a node by which a search goes on, with a configuration that goes on from that of the node before. No
 -- configuration before it is of that node: more calls are in effect, or more returns past
-pub record MovesTo (h : ObservedHistory) (returns : List ℕ) (c : Configuration h None returns) (w : Node) : Type 0 where
+pub record MovesTo (h : ObservedHistory) (returns : List ℕ) (c : Configuration h None returns) (w : Node) :
+    Type 0 where
   pub next : Configuration h None returns
   pub is_for : IsFor h None returns w next
   pub goes_on : GoesOnFrom h returns c next

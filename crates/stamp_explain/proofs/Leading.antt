@@ -85,7 +85,8 @@ reached_by h asked returns node w i is inside l = record {
 
 -- a call that took effect at a node that is reached did so in some state
 pub led_by : (h : ObservedHistory) (returns : List ℕ) (node w : Node) (took : Option ℕ) →
-    IsReached h None returns node → ComesNext h None returns node (record { node = w; took = took }) → IsLed h node took
+    IsReached h None returns node → ComesNext h None returns node (record { node = w; took = took }) →
+    IsLed h node took
 led_by h returns node w None reached leads = tt
 led_by h returns node w (Some i) reached leads =
     let l : ComesByCall h None returns node w reached.state reached.taken i =

@@ -464,18 +464,19 @@ pub all_keys_are : (h : ObservedHistory) (es : List Observation) (end_keys ends 
     (ranks : List ℕ) → es ≡ h.entries → AreKeys EndsAt es (length es) end_keys → AreRising end_keys ends →
     AreKeys BeginsAt es (length es) begin_keys → AreRising begin_keys begins →
     AreRanked (length es) (places_of ends) (length (places_of ends)) ranks → AreTimelineKeys h ends begins ranks
-all_keys_are h es end_keys ends begin_keys begins ranks same ends_are ends_rise begins_are begins_rise ranked = record {
-  end_keys = end_keys;
-  ends_are = subst (λ (xs : List Observation). AreKeys EndsAt xs (length xs) end_keys) same ends_are;
-  ends_rise = ends_rise;
-  begin_keys = begin_keys;
-  begins_are = subst (λ (xs : List Observation). AreKeys BeginsAt xs (length xs) begin_keys) same begins_are;
-  begins_rise = begins_rise;
-  ranked = subst (λ (xs : List Observation). AreRanks xs (places_of ends) ranks) same (record {
-    each = ranked.each;
-    past = λ i k lt le. ranked.known i k lt le;
-  });
-}
+all_keys_are h es end_keys ends begin_keys begins ranks same ends_are ends_rise begins_are begins_rise ranked =
+    record {
+      end_keys = end_keys;
+      ends_are = subst (λ (xs : List Observation). AreKeys EndsAt xs (length xs) end_keys) same ends_are;
+      ends_rise = ends_rise;
+      begin_keys = begin_keys;
+      begins_are = subst (λ (xs : List Observation). AreKeys BeginsAt xs (length xs) begin_keys) same begins_are;
+      begins_rise = begins_rise;
+      ranked = subst (λ (xs : List Observation). AreRanks xs (places_of ends) ranks) same (record {
+        each = ranked.each;
+        past = λ i k lt le. ranked.known i k lt le;
+      });
+    }
 
 -- and all of it is a timeline
 pub timeline_is_made : (h : ObservedHistory) (timeline : Timeline) (keys ends : List (ℕ × ℕ)) (es : List Observation) →

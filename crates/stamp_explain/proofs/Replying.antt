@@ -168,7 +168,8 @@ read_at h i e read is entry same = slice_get_read h.entries (length h.entries) i
 -- what a search found of what is seen
 pub found_tells : (h seen : ObservedHistory) (i most : ℕ) (e : Observation) (r : Returned) (reply : Reply) →
     slice_get h.entries i ≡ Some e → e.returned ≡ Some r → IsObserved h → (found : Found) →
-    seen ≡ seen_at r.last (i + 1) (with_reply i e r reply h) → IsFoundApart seen most found → Tells h i most reply found
+    seen ≡ seen_at r.last (i + 1) (with_reply i e r reply h) → IsFoundApart seen most found →
+    Tells h i most reply found
 found_tells h seen i most e r reply at returned is (Order order) same found =
     seen_is_possible h i e r reply at returned is
     (subst IsExplained same (record { order = found.order; by = found.explains }))

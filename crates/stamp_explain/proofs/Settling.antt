@@ -100,7 +100,8 @@ ends_passes h returns v w left (passes_more {u} before step) after =
     (ends_past h returns u w left (record { inside = step.inside; leads = step.leads }) after)
 
 pub follows_past : (h : ObservedHistory) (returns : List ℕ) (node w : Node) (left : List Taken) →
-    ComesAfter h None returns node (record { node = w; took = None }) → Ends h returns w left → Ends h returns node left
+    ComesAfter h None returns node (record { node = w; took = None }) → Ends h returns w left →
+    Ends h returns node left
 follows_past h returns node w left leads after = ends_past h returns node leads.via left leads.comes
     (ends_passes h returns leads.via w left leads.passes after)
 

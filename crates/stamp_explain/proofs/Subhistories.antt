@@ -1,6 +1,6 @@
 -- A subhistory is read off the calls one by one, and each of its calls stands at its place in the whole.
-use Rattle.std.proofs.Common.{◌≡◌, ℕ, ◌+◌, ◌<◌, ◌≤◌, Bool, true, false, List, [], ◌∷◌, ◌++◌, length, refl, sym, ◌∙◌, ap}
-use Rattle.std.proofs.Common.{subst, arith, Some}
+use Rattle.std.proofs.Common.{◌≡◌, ℕ, ◌+◌, ◌<◌, ◌≤◌, Bool, true, false, List, [], ◌∷◌, ◌++◌, length, refl, sym, ◌∙◌}
+use Rattle.std.proofs.Common.{ap, subst, arith, Some}
 use Rattle.std.specs.Prelude.{slice_get, drop, filter, cond, if◌then◌else◌, IsTrue, not}
 use Rattle.stamp_core.specs.Call.{call_suits, is_lock_call}
 use Rattle.std.specs.List.{All, AllPairs}
@@ -9,8 +9,8 @@ use Rattle.std.proofs.lemmas.List.Elements.{All-nil, All-cons, All-filter, All-h
 use Rattle.std.proofs.Math.ListN.{drop_of_length-le}
 use Rattle.stamp_explain.specs.declared.observed.Observation.{Observation}
 use Rattle.stamp_explain.specs.declared.apart.Subhistory.{Subhistory}
-use Rattle.stamp_explain.specs.Observed.{ObservedHistory, IsObserved, IsSmall, IsLow, is_of_lock, is_of_record, of_lock}
-use Rattle.stamp_explain.specs.Observed.{of_record}
+use Rattle.stamp_explain.specs.Observed.{ObservedHistory, IsObserved, IsSmall, IsLow, is_of_lock, is_of_record}
+use Rattle.stamp_explain.specs.Observed.{of_lock, of_record}
 use Rattle.stamp_explain.specs.Explained.{AreApart, IsEffectOf, IsExplained, RespectsBefore}
 use Rattle.std.proofs.lemmas.Option.{slice_get_within}
 use Rattle.stamp_explain.specs.Apart.{is_of_object, of_object, places_where, IsSubhistoryOf}

@@ -274,7 +274,8 @@ suffices_at_once h timeline node a i w is unchanging takes n hope =
         (x.index ∷ hope.taken) once.left in
         goes_on_to h timeline.returns.items (w ∷ []) w hope.state (x.index ∷ hope.taken) once.left n (alone w)
         once.fewer
-        (subst (λ (t : LockState). StandsFor h timeline.returns.items w.node t (x.index ∷ hope.taken)) same took.stands)
+        (subst (λ (t : LockState). StandsFor h timeline.returns.items w.node t (x.index ∷ hope.taken)) same
+        took.stands)
         (subst P (ap (λ (m : ℕ). drop m timeline.returns.items) (sym took.past)) once.completes)
 
 pub expands_at_once : (h : ObservedHistory) (timeline : Timeline) (node : Node) (a : Observation) (calls : List ℕ)

@@ -55,7 +55,8 @@ lock_went h i e s bits next writer reply lock at goes =
     }
 
 pub lock_did_not : (h : ObservedHistory) (i : ℕ) (e : Observation) (s : LockState) (bits : ℕ) (writer : Option ℕ) →
-    is_lock_call e.call ≡ true → IsStateBy h bits writer s → LockGoes h.limits bits e None → HasGone h i e writer s None
+    is_lock_call e.call ≡ true → IsStateBy h bits writer s → LockGoes h.limits bits e None →
+    HasGone h i e writer s None
 lock_did_not h i e s bits writer lock at goes reply t may steps =
     goes.after s.0 at.word reply may
     (MatchBool-at_true (Replies (transition h.limits s.0 e.call) reply) (RecordReplies s.1 e.call reply) lock

@@ -251,7 +251,8 @@ pub unites_record : (h : ObservedHistory) (of_locks of_records : Subhistory)
     BeganFirst of_records.history.entries of_locks.history.entries t lock_order i →
     UnitesSoFar h lock_order record_order i j found →
     UnitesSoFar h lock_order record_order i (j + 1) (found ++ new ∷ [])
-unites_record h of_locks of_records lock_order record_order found i j t new observed locks records at to reply first u =
+unites_record h of_locks of_records lock_order record_order found i j t new observed locks records at to reply first
+    u =
     record {
       locks = u.locks;
       records = u.records;

@@ -1,6 +1,6 @@
 -- The configurations that a search for an order reaches, and what one has looked at that gives up.
-use Rattle.std.specs.Prelude.{ℕ, ◌≡◌, ◌≢◌, ◌≤◌, ◌<◌, ◌+◌, ◌++◌, ◌⊎◌, ◌↔◌, List, [], ◌∷◌, length, slice_get, true, false}
-use Rattle.std.specs.Prelude.{Option, Some, None}
+use Rattle.std.specs.Prelude.{ℕ, ◌≡◌, ◌≢◌, ◌≤◌, ◌<◌, ◌+◌, ◌++◌, ◌⊎◌, ◌↔◌, List, [], ◌∷◌, length, slice_get, true}
+use Rattle.std.specs.Prelude.{false, Option, Some, None}
 use Rattle.std.specs.List.{All, AllPairs, Contains}
 use Rattle.stamp_core.specs.LockEvent.{LockEvent, counts}
 use Rattle.stamp_core.specs.Limits.{Bounds, units}
@@ -66,7 +66,8 @@ pub data Reaches (h : ObservedHistory) (asked : Option ℕ) (returns : List ℕ)
     List ℕ → Type 0 where
   begins : Reaches h asked returns returns (first_state h.width) None []
   goes_past : {i : ℕ} {to_come : List ℕ} {s : LockState} {put : Option ℕ} {taken : List ℕ} →
-      Reaches h asked returns (i ∷ to_come) s put taken → Contains taken i → Reaches h asked returns to_come s put taken
+      Reaches h asked returns (i ∷ to_come) s put taken → Contains taken i →
+      Reaches h asked returns to_come s put taken
   goes_on_by : {i : ℕ} {to_come : List ℕ} {s : LockState} {put : Option ℕ} {taken : List ℕ} →
       Reaches h asked returns (i ∷ to_come) s put taken → (awaited : Observation) (x : Effect) (t : LockState) →
       slice_get h.entries i ≡ Some awaited → ¬ Contains taken i → IsTried h asked returns awaited s taken x →

@@ -6,8 +6,8 @@ use Rattle.stamp_core.specs.Limits.{Bounds}
 use Rattle.stamp_core.specs.declared.call.Call.{Call}
 use Rattle.stamp_core.specs.declared.reply.Reply.{Reply}
 use Rattle.stamp_explain.specs.declared.observed.Observation.{Observation}
-use Rattle.stamp_explain.specs.Observed.{ObservedHistory, IsObserved, HasReturned, IsInterval, IsBefore, AreOfOneObject}
-use Rattle.stamp_explain.specs.Observed.{of_lock, of_record, IsReturnAt}
+use Rattle.stamp_explain.specs.Observed.{ObservedHistory, IsObserved, HasReturned, IsInterval, IsBefore}
+use Rattle.stamp_explain.specs.Observed.{AreOfOneObject, of_lock, of_record, IsReturnAt}
 use Rattle.stamp_explain.specs.Explained.{Effect, IsEffectOf, IsExplained}
 use Rattle.stamp_core.specs.Record.{Recorded}
 use Rattle.stamp_core.specs.Linearized.{IsLinearized}

@@ -69,7 +69,8 @@ pub record GetsBeside (h : ObservedHistory) (i : ℕ) (e : Observation) (reply :
   pub next : LockState
   pub steps : LockSteps h.limits reached.state (e.call, reply) next
 
--- a search of what is seen when the call at this place has returned reaches more than so many configurations without it
+-- a search of what is seen when the call at this place has returned, in which this call takes no effect, reaches more
+-- than so many configurations
 pub record IsUndecidedWithout (h : ObservedHistory) (i most : ℕ) : Type 0 where
   pub at : IsReturnAt h.entries i
   pub many : ReachesMoreBeside (seen_at at.return.last (i + 1) h) (place_then at.return.last i h.entries) most

@@ -10,5 +10,6 @@ pub returns : goal.returns
 returns c = subst (Adds c.args.replies.now.items c.args.reply) (sym c.in_ok-push.ensures.items)
     (adds_one c.args.replies.now.items c.args.reply (λ has. c.loop-other.invariant
     (subst (λ (xs : List Reply). Contains xs c.args.reply)
-    (sym (take_all c.loop-other.other-index c.as_slice-other-items.result.now (omega (arith, c.loop-other-test.false))))
+    (sym (take_all c.loop-other.other-index c.as_slice-other-items.result.now
+    (omega (arith, c.loop-other-test.false))))
     (subst (λ (xs : List Reply). Contains xs c.args.reply) (sym c.as_slice-other-items.ensures.value) has))))

@@ -6,9 +6,9 @@ use Rattle.stamp_explain.proofs.asking.asking_of.Goals as goal
 
 pub without_return-requires : goal.without_return-requires
 without_return-requires c = record {
-  is_entry = asked_as_seen c.args.observed.now c.in_ok-seen.seen c.args.entry c.place_of-place.result c.args.observation
-      c.args.returned c.entries.result.now c.requires.observed c.requires.is_entry c.requires.returned
-      c.entries.ensures.entries c.place_of-place.ensures c.in_ok-seen.ensures;
+  is_entry = asked_as_seen c.args.observed.now c.in_ok-seen.seen c.args.entry c.place_of-place.result
+      c.args.observation c.args.returned c.entries.result.now c.requires.observed c.requires.is_entry
+      c.requires.returned c.entries.ensures.entries c.place_of-place.ensures c.in_ok-seen.ensures;
 }
 
 pub timeline_of-requires : goal.timeline_of-requires

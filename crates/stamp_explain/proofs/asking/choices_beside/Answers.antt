@@ -77,8 +77,8 @@ loop-k-preserved c =
 
 pub returns-clause-whole : goal.returns-clause-whole
 returns-clause-whole c = λ reply h is none.
-    suffice_beside c.args.asking.now c.args.node.now c.as_slice-calls.result.now c.loop-k.k c.loop-k.nexts.items reply h
-    c.requires.at.asks c.requires.at.past c.requires.at.reached.settled
+    suffice_beside c.args.asking.now c.args.node.now c.as_slice-calls.result.now c.loop-k.k c.loop-k.nexts.items reply
+    h c.requires.at.asks c.requires.at.past c.requires.at.reached.settled
     (opens_read h c.args.asking.now.timeline c.args.node.now.past c.index.result.now c.as_slice-calls.result.now
     (timeline_alike c.args.asking.now.seen h c.args.asking.now.place c.args.asking.now.timeline
     (alike_of c.args.asking.now reply h is) c.requires.at.asks.timeline) c.requires.at.past c.index.ensures

@@ -35,7 +35,8 @@ returns-in-Order-clause-ok c = (
 pub returns-in-Nothing-clause-ok : goal.returns-in-Nothing-clause-ok
 returns-in-Nothing-clause-ok c = (
   λ no. absurd (differ no),
-  λ is. absurd (subst (λ (f : Found). Tells c.args.observed.now c.args.entry c.args.most c.args.reply f) c.in-Nothing.is
+  λ is. absurd (subst (λ (f : Found). Tells c.args.observed.now c.args.entry c.args.most c.args.reply f)
+      c.in-Nothing.is
       (found_tells c.args.observed.now c.in_ok-seen.seen c.args.entry c.args.most c.index-entries-entry.result
       c.in-Some.returned c.args.reply (read_at c.args.observed.now c.args.entry c.index-entries-entry.result
       c.entries.result.now c.requires.returned c.index-entries-entry.is c.entries.ensures.entries) c.in-Some.is
