@@ -1,6 +1,6 @@
 -- Numbers beside the places of calls.
 use Rattle.std.proofs.Common.{◌≡◌, ◌≢◌, ◌⊎◌, ℕ, ◌+◌, ◌<◌, ◌≤◌, suc, List, [], ◌∷◌}
-use Rattle.std.proofs.Common.{◌++◌, get_or, refl, sym, ◌∙◌, ap, subst, inl, inr, arith, Some, None}
+use Rattle.std.proofs.Common.{◌++◌, length, get_or, refl, sym, ◌∙◌, ap, subst, inl, inr, arith, Some, None}
 use Rattle.std.specs.Prelude.{slice_get, nat_eq}
 use Rattle.std.specs.List.{AllPairs, Contains}
 use Rattle.std.specs.List.Sorted.{IsPermutation, IsNonDecreasingBy}
@@ -26,6 +26,12 @@ no_keys Has entries = record {
   below = λ p has. absurd (none_in_empty p has);
   once = pairs_none (λ (i j : ℕ). i ≢ j);
 }
+
+-- the first k calls are all
+pub of_all : (Has : Observation → ℕ → Type 0) (entries : List Observation) (k : ℕ) (keys : List (ℕ × ℕ)) →
+    k ≤ length entries → length entries ≤ k → AreKeys Has entries k keys → AreKeys Has entries (length entries) keys
+of_all Has entries k keys within all are = subst (λ (n : ℕ). AreKeys Has entries n keys)
+    (omega (arith, within, all)) are
 
 map_push : (keys : List (ℕ × ℕ)) (p : ℕ × ℕ) → places_of (keys ++ p ∷ []) ≡ places_of keys ++ p.1 ∷ []
 map_push [] p = refl

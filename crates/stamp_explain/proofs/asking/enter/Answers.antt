@@ -1,6 +1,9 @@
-use Rattle.std.proofs.Common.{Bool, ℕ, [], ◌∷◌, ◌++◌, get_or, ◌∙◌, ap, subst}
+use Rattle.std.proofs.Common.{◌≡◌, Bool, ℕ, List, [], ◌∷◌, ◌++◌, ◌∙◌, ap, subst}
 use Rattle.std.proofs.Common.{None, Vec, Global}
 use Rattle.stamp_explain.specs.declared.node.Next.{Next}
+use Rattle.stamp_explain.specs.declared.node.Node.{Node}
+use Rattle.stamp_explain.specs.declared.node.Origin.{Origin}
+use Rattle.stamp_explain.specs.declared.store.Store.{Store}
 use Rattle.stamp_explain.specs.Store.{IsStored}
 use Rattle.stamp_explain.proofs.Entering.{entered_new, entered_seen}
 use Rattle.stamp_explain.proofs.asking.enter.Goals as goal
@@ -10,28 +13,25 @@ use Rattle.stamp_explain.proofs.asking.enter.Goals.{then-branch+in_ok-push, else
 abbrev blank : Next
 blank = record { node = record { past = 0; bits = 0; writer = None; threads = 0 }; took = None }
 
+-- whether it was added, by the branch
+stored_so : {old new : Store} {node : Node} {origin : Origin} {added b : Bool} → added ≡ b →
+    IsStored old new node origin added → IsStored old new node origin b
+stored_so {old} {new} {node} {origin} is stored = subst (λ (b : Bool). IsStored old new node origin b) is stored
+
 pub loop-next-preserved : goal.loop-next-preserved
 loop-next-preserved c =
+    let old = c.args.store.now in
+    let kept = c.loop-next.store in
+    let before : List ℕ = c.args.waiting.now.items in
+    let waiting : List ℕ = c.loop-next.waiting.items in
     elim c.if-branch.branch [
-      | then-branch+in_ok-push w ↦ entered_new c.args.store.now c.loop-next.store c.add.new.self c.args.from
-          c.args.waiting.now.items
-          c.loop-next.waiting.items c.if-branch.waiting.items c.args.nexts.now c.loop-next.next-index blank
-          c.loop-next-test.true
-          c.loop-next.invariant (subst (λ (b : Bool). IsStored c.loop-next.store c.add.new.self
-          (get_or c.args.nexts.now c.loop-next.next-index blank).node (record {
-            from = c.args.from;
-            took = (get_or c.args.nexts.now c.loop-next.next-index blank).took;
-          }) b) w.if-branch.true c.in_ok-add.ensures)
+      | then-branch+in_ok-push w ↦ entered_new old kept c.add.new.self c.args.from before waiting
+          c.if-branch.waiting.items c.args.nexts.now c.loop-next.next-index blank c.loop-next-test.true
+          c.loop-next.invariant (stored_so w.if-branch.true c.in_ok-add.ensures)
           (ap (λ (v : Vec ℕ Global). v.items) w.waiting-is ∙ w.in_ok-push.ensures.items ∙
-          ap (λ (n : ℕ). c.loop-next.waiting.items ++ n ∷ []) (c.len-place.ensures ∙ c.loop-next.store.nodes.ok.0))
-      | else-branch w ↦ entered_seen c.args.store.now c.loop-next.store c.add.new.self c.args.from
-          c.args.waiting.now.items
-          c.loop-next.waiting.items c.if-branch.waiting.items c.args.nexts.now c.loop-next.next-index blank
-          c.loop-next-test.true
-          c.loop-next.invariant (subst (λ (b : Bool). IsStored c.loop-next.store c.add.new.self
-          (get_or c.args.nexts.now c.loop-next.next-index blank).node (record {
-            from = c.args.from;
-            took = (get_or c.args.nexts.now c.loop-next.next-index blank).took;
-          }) b) w.if-branch.false c.in_ok-add.ensures)
+          ap (λ (n : ℕ). waiting ++ n ∷ []) (c.len-place.ensures ∙ c.loop-next.store.nodes.ok.0))
+      | else-branch w ↦ entered_seen old kept c.add.new.self c.args.from before waiting
+          c.if-branch.waiting.items c.args.nexts.now c.loop-next.next-index blank c.loop-next-test.true
+          c.loop-next.invariant (stored_so w.if-branch.false c.in_ok-add.ensures)
           (ap (λ (v : Vec ℕ Global). v.items) w.waiting-is)
     ]

@@ -1,65 +1,66 @@
 use Rattle.std.proofs.Common.{◌≢◌, Some, get_or, sym, ◌∙◌, arith}
 use Rattle.stamp_explain.specs.Timeline.{IsOpenAt}
+use Rattle.stamp_explain.specs.Expand.{Took}
 use Rattle.stamp_explain.proofs.Awaiting.{AwaitsOne, awaits_one}
 use Rattle.stamp_explain.proofs.Awaiting.{open_read, opens_read}
 use Rattle.stamp_explain.proofs.Succeeding.{none_at_once, none_by_asked, none_by_change}
 use Rattle.stamp_explain.proofs.Succeeding.{none_by_took}
-use Rattle.stamp_explain.proofs.Beside.{at_once_leads, at_once_suffices}
+use Rattle.stamp_explain.proofs.Beside.{Settles, at_once_leads, at_once_suffices}
 use Rattle.stamp_explain.proofs.asking.unchanging_beside.Goals as goal
+use Rattle.stamp_explain.proofs.asking.unchanging_beside.Goals.{After-settled}
 use Rattle.stamp_explain.proofs.asking.unchanging_beside.Goals.{then-i-asking+then-is_unchanging_at+in_default}
 use Rattle.stamp_explain.proofs.asking.unchanging_beside.Goals.{else-i-asking}
 use Rattle.stamp_explain.proofs.asking.unchanging_beside.Goals.{else-i-asking-via-then-i-asking+else-is_unchanging_at}
 use Rattle.stamp_explain.proofs.asking.unchanging_beside.Goals.{else-i-asking-via-else-i-asking}
 
+-- the call that is found isn't the one that is asked
+other : (c : After-settled) → get_or c.as_slice-i-items.result.now c.loop-i.i-index 0 ≢ c.args.asking.now.place
+other c same = omega (arith, same, c.if-i-asking.true)
+
+-- it is open where a return is awaited
+opened : (c : After-settled) → IsOpenAt c.args.asking.now.seen c.args.asking.now.timeline.returns.items
+    c.args.node.now.past (get_or c.as_slice-i-items.result.now c.loop-i.i-index 0)
+opened c = open_read c.args.asking.now.seen c.args.asking.now.timeline c.args.node.now.past c.index.result.now
+    c.as_slice-i-items.result.now c.loop-i.i-index c.requires.asks.timeline c.requires.past c.index.ensures
+    c.as_slice-i-items.ensures.value c.loop-i-test.true
+
+awaits : (c : After-settled) → AwaitsOne c.args.asking.now.seen c.args.asking.now.timeline c.args.node.now
+awaits c = awaits_one c.args.asking.now.seen c.args.asking.now.timeline c.args.node.now c.requires.asks.observed
+    c.requires.asks.timeline c.requires.past c.requires.reached.settled
+
+-- it takes effect, and returns that come next are past
+found : (c : After-settled) → Took c.args.asking.now.seen c.args.asking.now.timeline.returns.items c.args.node.now
+    (get_or c.as_slice-i-items.result.now c.loop-i.i-index 0) (Some c.in-Some.next)
+found c = c.in-Some.ensures c.args.asking.now.timeline.returns.items c.requires.asks.timeline.are (opened c)
+
+settles : (c : After-settled) → Settles c.args.asking.now c.in-Some.next c.settled.result
+settles c = record {
+  passes = c.settled.ensures.passes;
+  took = c.settled.ensures.took;
+  settled = c.settled.ensures.settled;
+}
+
 pub returns-in-Some-clause-leads : goal.returns-in-Some-clause-leads
 returns-in-Some-clause-leads c =
     let asking = c.args.asking.now in
     let node = c.args.node.now in
-    let other : get_or c.as_slice-i-items.result.now c.loop-i.i-index 0 ≢ asking.place =
-    λ same. omega (arith, same, c.if-i-asking.true) in
-    let there : AwaitsOne asking.seen asking.timeline node =
-    awaits_one asking.seen asking.timeline node c.requires.asks.observed c.requires.asks.timeline
-    c.requires.past c.requires.reached.settled in
-    at_once_leads asking node there.entry c.as_slice-i-items.result.now c.loop-i.i-index c.in-Some.next
-    c.settled.result
-    there.awaits c.requires.reached.reached there.bit
+    let at = (goal.at.returns-in-Some-clause-leads c).After-settled in
+    let one = awaits at in
+    at_once_leads asking node one.entry c.as_slice-i-items.result.now c.loop-i.i-index c.in-Some.next
+    c.settled.result one.awaits c.requires.reached.reached one.bit
     (opens_read asking.seen asking.timeline node.past c.index.result.now c.as_slice-i-items.result.now
     c.requires.asks.timeline c.requires.past c.index.ensures c.as_slice-i-items.ensures.value)
-    c.loop-i.invariant c.loop-i-test.true (sym c.is_unchanging_at.ensures ∙ c.if-is_unchanging_at.true)
-    (c.in-Some.ensures asking.timeline.returns.items c.requires.asks.timeline.are
-    (open_read asking.seen asking.timeline node.past c.index.result.now c.as_slice-i-items.result.now
-    c.loop-i.i-index c.requires.asks.timeline c.requires.past c.index.ensures c.as_slice-i-items.ensures.value
-    c.loop-i-test.true)) other
-    (record {
-      passes = c.settled.ensures.passes;
-      took = c.settled.ensures.took;
-      settled = c.settled.ensures.settled;
-    })
+    c.loop-i.invariant c.loop-i-test.true (sym c.is_unchanging_at.ensures ∙ c.if-is_unchanging_at.true) (found at)
+    (other at) (settles at)
 
 pub returns-in-Some-clause-one : goal.returns-in-Some-clause-one
 returns-in-Some-clause-one c =
-    let asking = c.args.asking.now in
-    let node = c.args.node.now in
-    let other : get_or c.as_slice-i-items.result.now c.loop-i.i-index 0 ≢ asking.place =
-    λ same. omega (arith, same, c.if-i-asking.true) in
-    let there : AwaitsOne asking.seen asking.timeline node =
-    awaits_one asking.seen asking.timeline node c.requires.asks.observed c.requires.asks.timeline
-    c.requires.past c.requires.reached.settled in
-    let it : IsOpenAt asking.seen asking.timeline.returns.items node.past
-    (get_or c.as_slice-i-items.result.now c.loop-i.i-index 0) =
-    open_read asking.seen asking.timeline node.past c.index.result.now c.as_slice-i-items.result.now
-    c.loop-i.i-index c.requires.asks.timeline c.requires.past c.index.ensures c.as_slice-i-items.ensures.value
-    c.loop-i-test.true in
-    at_once_suffices asking node there.entry (get_or c.as_slice-i-items.result.now c.loop-i.i-index 0) c.in-Some.next
-    c.settled.result
-    c.requires.asks there.awaits it.entry it.is_entry
-    (sym c.is_unchanging_at.ensures ∙ c.if-is_unchanging_at.true)
-    (c.in-Some.ensures asking.timeline.returns.items c.requires.asks.timeline.are it) other
-    (record {
-      passes = c.settled.ensures.passes;
-      took = c.settled.ensures.took;
-      settled = c.settled.ensures.settled;
-    })
+    let at = (goal.at.returns-in-Some-clause-one c).After-settled in
+    let one = awaits at in
+    at_once_suffices c.args.asking.now c.args.node.now one.entry
+    (get_or c.as_slice-i-items.result.now c.loop-i.i-index 0) c.in-Some.next c.settled.result c.requires.asks
+    one.awaits (opened at).entry (opened at).is_entry
+    (sym c.is_unchanging_at.ensures ∙ c.if-is_unchanging_at.true) (found at) (other at) (settles at)
 
 pub returns-clause-none : goal.returns-clause-none
 returns-clause-none c =

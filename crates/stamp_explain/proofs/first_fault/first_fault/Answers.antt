@@ -3,7 +3,7 @@ use Rattle.stamp_explain.proofs.Faulting.{IsBetween, between_at_first, stuck_bet
 use Rattle.stamp_explain.proofs.Faulting.{unexplained_between}
 use Rattle.stamp_explain.proofs.Faulting.{middle_inside, end_at, end_is_entry, halved, narrows_so}
 use Rattle.stamp_explain.proofs.first_fault.first_fault.Goals as goal
-use Rattle.stamp_explain.proofs.first_fault.first_fault.Goals.{in-Order, in-Nothing, in-Undecided}
+use Rattle.stamp_explain.proofs.first_fault.first_fault.Goals.{Joined-branch-2, in-Order, in-Nothing, in-Undecided}
 use Rattle.stamp_explain.proofs.Faulting.Narrows.{above, below, at_least}
 
 pub loop-low-init : goal.loop-low-init
@@ -18,23 +18,22 @@ found_at-requires-clause-end c =
     (c.loop-low.low + (c.loop-low.high - c.loop-low.low) / 2) c.requires.ends
     (omega (arith, inside, c.loop-low.invariant.inside))
 
-pub loop-low-preserved-after-branch-2 : goal.loop-low-preserved-after-branch-2
-loop-low-preserved-after-branch-2 c = halved c.requires.observed c.requires.ends c.loop-low.invariant
-    c.loop-low-test.true c.in_ok-found_at.ensures
+-- what was found between the two narrows what is between them
+narrower : (c : Joined-branch-2) → IsBetween c.args.observed.now c.args.most c.match-branch-2.unexplained
+    c.args.ends.now c.match-branch-2.low c.match-branch-2.high c.match-branch-2.stuck
+narrower c = halved c.requires.observed c.requires.ends c.loop-low.invariant c.loop-low-test.true
+    c.in_ok-found_at.ensures
     (elim c.match-branch-2.branch [
       | in-Order w ↦ narrows_so w.in-Order.is (above w.low-is w.high-is w.unexplained-is w.stuck-is)
       | in-Nothing w ↦ narrows_so w.in-Nothing.is (below w.low-is w.high-is w.unexplained-is w.stuck-is)
       | in-Undecided w ↦ narrows_so w.in-Undecided.is (at_least w.low-is w.high-is w.unexplained-is w.stuck-is)
     ])
 
+pub loop-low-preserved-after-branch-2 : goal.loop-low-preserved-after-branch-2
+loop-low-preserved-after-branch-2 c = narrower (goal.at.loop-low-preserved-after-branch-2 c).Joined-branch-2
+
 pub loop-low-preserved : goal.loop-low-preserved
-loop-low-preserved c = halved c.requires.observed c.requires.ends c.loop-low.invariant
-    c.loop-low-test.true c.in_ok-found_at.ensures
-    (elim c.match-branch-2.branch [
-      | in-Order w ↦ narrows_so w.in-Order.is (above w.low-is w.high-is w.unexplained-is w.stuck-is)
-      | in-Nothing w ↦ narrows_so w.in-Nothing.is (below w.low-is w.high-is w.unexplained-is w.stuck-is)
-      | in-Undecided w ↦ narrows_so w.in-Undecided.is (at_least w.low-is w.high-is w.unexplained-is w.stuck-is)
-    ])
+loop-low-preserved c = narrower (goal.at.loop-low-preserved c).Joined-branch-2
 
 pub returns-then-stuck : goal.returns-then-stuck
 returns-then-stuck c = stuck_between c.args.observed.now c.args.most c.loop-low.unexplained c.args.ends.now

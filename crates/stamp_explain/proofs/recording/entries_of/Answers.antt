@@ -6,6 +6,7 @@ use Rattle.stamp_explain.specs.Points.{IsLastTold, entry_with_point, position_at
 use Rattle.stamp_explain.proofs.Placing.{PlacesTo, IsPlacedAt, places_first, places_inside, places_at, call_read}
 use Rattle.stamp_explain.proofs.Placing.{all_placed, points_are_recorded, begun_by_end}
 use Rattle.stamp_explain.proofs.recording.entries_of.Goals as goal
+use Rattle.stamp_explain.proofs.recording.entries_of.Goals.{After-place_for-place}
 
 pub loop-taken-init : goal.loop-taken-init
 loop-taken-init c = places_first c.args.observed.now c.args.order.now c.end_of-end.result c.in_ok-placed.placed.items
@@ -31,26 +32,24 @@ offset_bounds-entries-taken c =
     c.loop-taken-test.true c.taken-item.is) in
     omega (arith, inside, c.entries-entries.ensures.small.entries)
 
+-- where this call is placed, after those before it
+placed : (c : After-place_for-place) → IsPlacedAt c.args.observed.now c.args.order.now c.end_of-end.result
+    c.loop-taken.taken-index c.taken-item.result c.loop-taken.placed.items c.loop-taken.at.position
+    c.loop-taken.at.before c.index-entries-taken.result
+placed c = places_at c.args.observed.now c.args.order.now c.end_of-end.result c.loop-taken.taken-index
+    c.taken-item.result c.loop-taken.placed.items c.loop-taken.at.position c.loop-taken.at.before
+    c.index-entries-taken.result c.entries-entries.result.now c.loop-taken.invariant
+    (call_read c.args.order.now c.loop-taken.taken-index c.taken-item.result c.loop-taken-test.true c.taken-item.is)
+    c.entries-entries.ensures.entries c.index-entries-taken.is
+
 pub overflow_mul-point : goal.overflow_mul-point
 overflow_mul-point c =
-    let at : IsPlacedAt c.args.observed.now c.args.order.now c.end_of-end.result c.loop-taken.taken-index
-    c.taken-item.result c.loop-taken.placed.items c.loop-taken.at.position c.loop-taken.at.before
-    c.index-entries-taken.result = places_at c.args.observed.now c.args.order.now c.end_of-end.result
-    c.loop-taken.taken-index c.taken-item.result c.loop-taken.placed.items c.loop-taken.at.position
-    c.loop-taken.at.before c.index-entries-taken.result c.entries-entries.result.now c.loop-taken.invariant
-    (call_read c.args.order.now c.loop-taken.taken-index c.taken-item.result c.loop-taken-test.true c.taken-item.is)
-    c.entries-entries.ensures.entries c.index-entries-taken.is in
+    let at = placed (goal.at.overflow_mul-point c).After-place_for-place in
     omega (arith, at.position, c.place_for-place.ensures.position, c.end_of-end.ensures.low)
 
 pub overflow_add-point : goal.overflow_add-point
 overflow_add-point c =
-    let at : IsPlacedAt c.args.observed.now c.args.order.now c.end_of-end.result c.loop-taken.taken-index
-    c.taken-item.result c.loop-taken.placed.items c.loop-taken.at.position c.loop-taken.at.before
-    c.index-entries-taken.result = places_at c.args.observed.now c.args.order.now c.end_of-end.result
-    c.loop-taken.taken-index c.taken-item.result c.loop-taken.placed.items c.loop-taken.at.position
-    c.loop-taken.at.before c.index-entries-taken.result c.entries-entries.result.now c.loop-taken.invariant
-    (call_read c.args.order.now c.loop-taken.taken-index c.taken-item.result c.loop-taken-test.true c.taken-item.is)
-    c.entries-entries.ensures.entries c.index-entries-taken.is in
+    let at = placed (goal.at.overflow_add-point c).After-place_for-place in
     omega (
       arith,
       at.position,
@@ -73,26 +72,14 @@ entry_of-requires-clause-low c = subst IsLow (sym (c.index-entries-taken.is ∙ 
 
 pub overflow_add-at : goal.overflow_add-at
 overflow_add-at c =
-    let at : IsPlacedAt c.args.observed.now c.args.order.now c.end_of-end.result c.loop-taken.taken-index
-    c.taken-item.result c.loop-taken.placed.items c.loop-taken.at.position c.loop-taken.at.before
-    c.index-entries-taken.result = places_at c.args.observed.now c.args.order.now c.end_of-end.result
-    c.loop-taken.taken-index c.taken-item.result c.loop-taken.placed.items c.loop-taken.at.position
-    c.loop-taken.at.before c.index-entries-taken.result c.entries-entries.result.now c.loop-taken.invariant
-    (call_read c.args.order.now c.loop-taken.taken-index c.taken-item.result c.loop-taken-test.true c.taken-item.is)
-    c.entries-entries.ensures.entries c.index-entries-taken.is in
+    let at = placed (goal.at.overflow_add-at c).After-place_for-place in
     omega (arith, at.few, c.place_for-place.ensures.before)
 
 pub loop-taken-preserved : goal.loop-taken-preserved
 loop-taken-preserved c =
     let h = c.args.observed.now in
     let e = c.index-entries-taken.result in
-    let at : IsPlacedAt h c.args.order.now c.end_of-end.result c.loop-taken.taken-index
-    c.taken-item.result c.loop-taken.placed.items c.loop-taken.at.position c.loop-taken.at.before e =
-    places_at h c.args.order.now c.end_of-end.result
-    c.loop-taken.taken-index c.taken-item.result c.loop-taken.placed.items c.loop-taken.at.position
-    c.loop-taken.at.before e c.entries-entries.result.now c.loop-taken.invariant
-    (call_read c.args.order.now c.loop-taken.taken-index c.taken-item.result c.loop-taken-test.true c.taken-item.is)
-    c.entries-entries.ensures.entries c.index-entries-taken.is in
+    let at = placed (goal.at.loop-taken-preserved c).After-place_for-place in
     let position : c.place_for-place.result.position ≡ position_at c.loop-taken.at.position e.first =
     c.place_for-place.ensures.position in
     let before : c.place_for-place.result.before ≡ there_at c.loop-taken.at.position c.loop-taken.at.before e.first =
@@ -130,8 +117,4 @@ returns-clause-points c = all_placed c.args.observed.now c.args.order.now c.end_
 pub returns-clause-recorded : goal.returns-clause-recorded
 returns-clause-recorded c = points_are_recorded c.args.observed.now c.loop-taken.placed.items c.requires.observed
     c.entries-entries.ensures.small
-    (all_placed c.args.observed.now c.args.order.now c.end_of-end.result c.loop-taken.taken-index
-    c.loop-taken.placed.items c.loop-taken.at.position c.loop-taken.at.before c.requires.observed
-    (subst (λ (es : List Observation). IsLastTold es c.end_of-end.result) c.entries-entries.ensures.entries
-    c.end_of-end.ensures.told)
-    c.loop-taken.invariant (omega (arith, c.loop-taken-test.false)))
+    (returns-clause-points c)

@@ -1,8 +1,8 @@
-use Rattle.std.proofs.Common.{◌≡◌, ◌+◌, ℕ, arith, length, refl, sym, subst, Some}
+use Rattle.std.proofs.Common.{◌≡◌, ◌+◌, length, refl, sym, subst, Some}
 use Rattle.std.specs.Prelude.{slice_get}
 use Rattle.std.proofs.lemmas.Option.{slice_get_read}
 use Rattle.stamp_explain.specs.TimelineKeys.{AreKeys, BeginsAt}
-use Rattle.stamp_explain.proofs.Keyed.{begins_more}
+use Rattle.stamp_explain.proofs.Keyed.{begins_more, of_all}
 use Rattle.stamp_explain.proofs.timeline.begins_of.Goals as goal
 
 pub loop-i-preserved : goal.loop-i-preserved
@@ -15,5 +15,5 @@ loop-i-preserved c =
     (begins_more es c.loop-i.i c.loop-i.keys.items e c.loop-i.invariant at)
 
 pub returns : goal.returns
-returns c = subst (λ (n : ℕ). AreKeys BeginsAt c.args.entries.now n c.loop-i.keys.items)
-    (omega (arith, c.loop-i-test.false, c.loop-i.auto.i-end)) c.loop-i.invariant
+returns c = of_all BeginsAt c.args.entries.now c.loop-i.i c.loop-i.keys.items c.loop-i.auto.i-end c.loop-i-test.false
+    c.loop-i.invariant

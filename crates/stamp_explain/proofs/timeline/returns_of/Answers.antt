@@ -1,9 +1,9 @@
-use Rattle.std.proofs.Common.{◌≡◌, ◌+◌, ℕ, arith, length, refl, sym, ◌∙◌, ap, subst, Some}
+use Rattle.std.proofs.Common.{◌≡◌, ◌+◌, ℕ, length, refl, sym, ◌∙◌, ap, subst, Some}
 use Rattle.std.proofs.Common.{Vec, Global}
 use Rattle.std.specs.Prelude.{slice_get}
 use Rattle.std.proofs.lemmas.Option.{slice_get_read}
 use Rattle.stamp_explain.specs.TimelineKeys.{AreKeys, EndsAt}
-use Rattle.stamp_explain.proofs.Keyed.{ends_more, ends_same}
+use Rattle.stamp_explain.proofs.Keyed.{ends_more, ends_same, of_all}
 use Rattle.stamp_explain.proofs.timeline.returns_of.Goals as goal
 use Rattle.stamp_explain.proofs.timeline.returns_of.Goals.{in-Some+in_ok-push, in_default}
 
@@ -24,5 +24,5 @@ loop-i-preserved c =
     ]
 
 pub returns : goal.returns
-returns c = subst (λ (n : ℕ). AreKeys EndsAt c.args.entries.now n c.loop-i.keys.items)
-    (omega (arith, c.loop-i-test.false, c.loop-i.auto.i-end)) c.loop-i.invariant
+returns c = of_all EndsAt c.args.entries.now c.loop-i.i c.loop-i.keys.items c.loop-i.auto.i-end c.loop-i-test.false
+    c.loop-i.invariant
