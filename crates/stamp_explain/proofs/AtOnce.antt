@@ -11,7 +11,7 @@ use Rattle.stamp_explain.specs.declared.observed.Observation.{Observation}
 use Rattle.stamp_explain.specs.declared.observed.Returned.{Returned}
 use Rattle.stamp_explain.specs.Observed.{AllowsReply, HasReturned}
 use Rattle.stamp_explain.specs.Explained.{Effect, IsEffectOf, history_of, indices_of, AreApart, RespectsBefore}
-use Rattle.stamp_explain.specs.Search.{Runs, IsCompletedBy, LockSteps}
+use Rattle.stamp_explain.specs.Search.{Runs, IsCompletedBy, LockTransition}
 use Rattle.stamp_explain.specs.ExplainLaws.{UnchangingCallsAtOnce}
 use Rattle.stamp_explain.proofs.Lists.{none_in_empty, contains_cases, contains_first, contains_rest, pairs_head}
 use Rattle.stamp_explain.proofs.Lists.{pairs_tail, pairs_cons}
@@ -176,8 +176,8 @@ at_once {S} step entries to_come s taken x rest is returned nothing by = record 
 
 pub unchanging_calls_at_once : UnchangingCallsAtOnce
 unchanging_calls_at_once limits entries awaited to_come s t taken x may returned h can =
-    let now : AtOnce (LockSteps limits) entries to_come s taken x.index can.rest =
-    at_once (LockSteps limits) entries to_come s taken x can.rest may.effect returned
+    let now : AtOnce (LockTransition limits) entries to_come s taken x.index can.rest =
+    at_once (LockTransition limits) entries to_come s taken x can.rest may.effect returned
     (λ s t steps. unchanging_calls_change_nothing limits x.entry.call x.reply s t h steps) can.by in
     record { rest = now.others; by = now.by }
 

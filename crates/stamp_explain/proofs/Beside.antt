@@ -24,7 +24,7 @@ use Rattle.stamp_explain.specs.declared.asking.Asking.{Asking}
 use Rattle.stamp_explain.specs.Observed.{ObservedHistory, IsObserved, IsBefore, AllowsReply, AreOfOneObject}
 use Rattle.stamp_explain.specs.Observed.{IsReturnAt}
 use Rattle.stamp_explain.specs.Unchanging.{asks_at, asks_in, is_unchanging_at, unchanging_in}
-use Rattle.stamp_explain.specs.Search.{LockState, LockSteps, after_call}
+use Rattle.stamp_explain.specs.Search.{LockState, LockTransition, after_call}
 use Rattle.stamp_explain.specs.Node.{IsReached, IsStateBy, HasGone}
 use Rattle.stamp_explain.specs.Timeline.{AreOpen, IsAwaitedAt}
 use Rattle.stamp_explain.specs.Expand.{Suffice, Took, IsNotInEffect, IsTakenTo}
@@ -451,9 +451,9 @@ asked_takes asking node found reply h asks is went others = record {
       (at_alike h asking.seen asking.place node.bits node.writer s (turned asking.seen h asking.place alike)
       stands.at) in
       let replied : reply ≡ x.reply = subst (λ (o : Observation). AllowsReply o x.reply) is_x may.effect.replies in
-      let steps : LockSteps asking.seen.limits s (is.at.entry.call, x.reply) u =
-      subst (λ (o : Observation). LockSteps asking.seen.limits s (o.call, x.reply) u) is_x
-      (subst (λ (l : Bounds). LockSteps l s (x.entry.call, x.reply) u) alike.limits may.steps) in
+      let steps : LockTransition asking.seen.limits s (is.at.entry.call, x.reply) u =
+      subst (λ (o : Observation). LockTransition asking.seen.limits s (o.call, x.reply) u) is_x
+      (subst (λ (l : Bounds). LockTransition l s (x.entry.call, x.reply) u) alike.limits may.steps) in
       by found refl s u x.reply replied steps
       (subst (λ (g : ObservedHistory). HasGone g asking.place y node.writer s found) before (went y s here (subst (λ
       (g : ObservedHistory).
@@ -479,7 +479,7 @@ asked_takes asking node found reply h asks is went others = record {
         ap (λ (o : Observation). Some o) (get_or-set_same asking.seen.entries asking.place y y within)
 
     by : (o : Option CallTransition) → found ≡ o → (s u : LockState) (r : Reply) → reply ≡ r →
-        LockSteps asking.seen.limits s (is.at.entry.call, r) u →
+        LockTransition asking.seen.limits s (is.at.entry.call, r) u →
         HasGone (without_return asking.place is.at.entry asking.seen) asking.place y node.writer s o → ⊥
     by None at s u r replied steps gone = gone r u tt steps
     by (Some did) at s u r replied steps gone = others did at

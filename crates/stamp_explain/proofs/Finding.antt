@@ -17,7 +17,7 @@ use Rattle.stamp_explain.specs.declared.observed.Returned.{Returned}
 use Rattle.stamp_explain.specs.Observed.{ObservedHistory, IsBefore, HasReturned, IsInterval, IsObserved, IsReturnAt}
 use Rattle.stamp_explain.specs.Explained.{Effect, history_of, indices_of, IsExplained}
 use Rattle.stamp_explain.specs.Search.{Runs, IsCompletedBy, CanComplete, FindsOrder, ReturnsNoLater, AreInOrder}
-use Rattle.stamp_explain.specs.Search.{IsFirstReturn, LockState, first_state, after_call, LockSteps}
+use Rattle.stamp_explain.specs.Search.{IsFirstReturn, LockState, first_state, after_call, LockTransition}
 use Rattle.stamp_explain.specs.Search.FindsOrder.{at_end, returns, takes}
 use Rattle.stamp_explain.specs.ExplainLaws.{JustInTime}
 use Rattle.stamp_explain.proofs.Lists.{none_in_empty, contains_cases, contains_rest, pairs_head, pairs_tail, either_in}
@@ -146,7 +146,7 @@ completes step entries (takes {i} {to_come} {s} {taken} a x t at not_yet may fou
 
 -- legal histories are those that lock and record run
 pub runs_legal : (limits : Bounds) (events : List LockEvent) (content : List ℕ) (history : History) →
-    IsLegalFrom limits events content history → Runs (LockSteps limits) (events, content) history
+    IsLegalFrom limits events content history → Runs (LockTransition limits) (events, content) history
 runs_legal limits events content [] legal = tt
 runs_legal limits events content (x ∷ xs) legal = (
   after_call limits (events, content) x,
@@ -157,12 +157,12 @@ runs_legal limits events content (x ∷ xs) legal = (
 )
 
 pub legal_runs : (limits : Bounds) (events : List LockEvent) (content : List ℕ) (history : History) →
-    Runs (LockSteps limits) (events, content) history → IsLegalFrom limits events content history
+    Runs (LockTransition limits) (events, content) history → IsLegalFrom limits events content history
 legal_runs limits events content [] runs = tt
 legal_runs limits events content (x ∷ xs) runs = (
   runs.1.0.replies,
   legal_runs limits (events ++ appended_by (transition limits events x.0))
-      (content_next content x.0 x.1) xs (subst (λ (t : LockState). Runs (LockSteps limits) t xs) runs.1.0.next
+      (content_next content x.0 x.1) xs (subst (λ (t : LockState). Runs (LockTransition limits) t xs) runs.1.0.next
       runs.1.1),
 )
 
@@ -188,10 +188,11 @@ sound_return h i observed r = record {
 pub just_in_time : JustInTime
 just_in_time h to_come observed are = (there, back)
   where
-    there : IsExplained h → FindsOrder (LockSteps h.limits) h.entries to_come (first_state h.width) []
+    there : IsExplained h → FindsOrder (LockTransition h.limits) h.entries to_come (first_state h.width) []
     there explained =
         let by = explained.by in
-        finds (LockSteps h.limits) h.entries (length to_come + length explained.order) to_come (first_state h.width) []
+        finds (LockTransition h.limits) h.entries (length to_come + length explained.order) to_come
+        (first_state h.width) []
         explained.order (omega arith)
         (All-weaker (IsReturnAt h.entries) (IsSoundReturn h.entries) (λ i r. sound_return h i observed r) to_come
         are.each)
@@ -206,10 +207,10 @@ just_in_time h to_come observed are = (there, back)
           runs = runs_legal h.limits [] (zeros h.width) (history_of explained.order) by.legal;
         })
 
-    back : FindsOrder (LockSteps h.limits) h.entries to_come (first_state h.width) [] → IsExplained h
+    back : FindsOrder (LockTransition h.limits) h.entries to_come (first_state h.width) [] → IsExplained h
     back found =
-        let left : CanComplete (LockSteps h.limits) h.entries to_come (first_state h.width) [] =
-        completes (LockSteps h.limits) h.entries found (record {
+        let left : CanComplete (LockTransition h.limits) h.entries to_come (first_state h.width) [] =
+        completes (LockTransition h.limits) h.entries found (record {
           whole =
               λ i e at returned _. are.whole i e at returned;
           in_order = are.in_order;

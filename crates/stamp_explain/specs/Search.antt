@@ -1,4 +1,5 @@
--- A search for an order, return by return. Its objects are given by their steps: state, call and reply, next state.
+-- A search for an order, return by return. Its objects are given by their transitions: state, call and reply, next
+-- state.
 use Rattle.std.specs.Prelude.{ℕ, ◌≡◌, ◌≤◌, ◌⊎◌, ◌++◌, Bool, true, false, List, [], ◌∷◌, take, slice_get, Some}
 use Rattle.std.specs.Prelude.{MatchOption}
 use Rattle.std.specs.List.{All, AllPairs, Contains}
@@ -88,7 +89,7 @@ pub record StandsBefore (xs : List ℕ) (i j : ℕ) : Type 0 where
   pub first : Contains (take place xs) i
   pub later : ¬ Contains (take place xs) j
 
--- lock and record by their steps: the events so far and the content
+-- lock and record by their transitions: the events so far and the content
 abbrev pub LockState : Type 0
 LockState = List LockEvent × List ℕ
 
@@ -98,7 +99,7 @@ first_state width = ([], zeros width)
 abbrev pub after_call : Bounds → LockState → Call × Reply → LockState
 after_call limits s x = (s.0 ++ appended_by (transition limits s.0 x.0), content_next s.1 x.0 x.1)
 
-pub record LockSteps (limits : Bounds) (s : LockState) (x : Call × Reply) (t : LockState) : Type 0 where
+pub record LockTransition (limits : Bounds) (s : LockState) (x : Call × Reply) (t : LockState) : Type 0 where
   pub replies : IsReply limits s.0 s.1 x.0 x.1
   pub next : t ≡ after_call limits s x
 

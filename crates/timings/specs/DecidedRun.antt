@@ -54,4 +54,5 @@ next_run limits run None = run
 -- after this many calls
 unfoldable pub run_after : Bounds → ℕ → Run
 run_after limits zero = run_start limits
-run_after limits (suc n) = let run = run_after limits n in next_run limits run (slice_get (cycle run.stamp) (n % CYCLE))
+run_after limits (suc n) = let run = run_after limits n in next_run limits run
+    (slice_get (cycle run.stamp) (n % CYCLE))
