@@ -1,4 +1,4 @@
--- A respelled record may be recorded where the record may, and its limits are in range.
+-- A respelled history may be recorded where the history may, and its limits are in range.
 use Rattle.std.proofs.Common.{◌≡◌, ◌⊎◌, ℕ, List, length, map, true, false, refl, sym, ◌∙◌, ap, subst, inl, inr, arith}
 use Rattle.std.specs.Prelude.{min, IsTrue}
 use Rattle.std.proofs.lemmas.List.{length-map}

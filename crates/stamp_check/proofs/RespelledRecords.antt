@@ -1,4 +1,4 @@
--- A migrated record is linearized where the old one is, and has the same first fault.
+-- A migrated history is linearized where the old one is, and has the same first fault.
 use Rattle.std.proofs.Common.{◌≡◌, ℕ, ◌+◌, ◌-◌, ◌<◌, ◌≤◌, List, [], length, get_or, take, map, refl}
 use Rattle.std.proofs.Common.{sym, ◌∙◌, ap, subst, arith, true, false, Option, Some, None, Ok, Err}
 use Rattle.std.specs.Prelude.{◌↔◌, slice_get, option_map}

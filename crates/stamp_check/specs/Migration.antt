@@ -1,4 +1,4 @@
--- Records of layout 1, spelled anew in layout 2.
+-- Recorded histories of layout 1, spelled anew in layout 2.
 use Rattle.std.specs.Prelude.{ℕ, ◌≡◌, ◌≤◌, ◌⊎◌, ◌%◌, ◌&&◌, nat_le, min, Bool, List, take, map}
 use Rattle.std.specs.Prelude.{slice_get, Some, if◌then◌else◌}
 use Rattle.std.specs.List.{All}
@@ -62,7 +62,7 @@ abbrev pub migrated_from : Layout → Recorded → Recorded
 migrated_from One r = respelled_record r
 migrated_from Two r = r
 
--- the record in layout 2; one that is of layout 2 stays
+-- the recorded history in layout 2; one that is of layout 2 stays
 abbrev pub migrated : Recorded → Recorded
 migrated r = migrated_from r.limits.layout r
 
@@ -85,7 +85,7 @@ pub record IsFirstForeign (entries : List Entry) (i : ℕ) : Type 0 where
   pub before : AllCanRespell (take i entries)
   pub foreign : ¬ CanRespell entry.reply
 
--- so it is of a record of layout 1
+-- so it is of a recorded history of layout 1
 pub record IsBadReply (r : Recorded) (i : ℕ) : Type 0 where
   pub layout : r.limits.layout ≡ One
   pub first : IsFirstForeign r.entries i

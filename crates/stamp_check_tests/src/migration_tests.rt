@@ -35,7 +35,7 @@ fn narrow() -> Result<Limits, Fail> {
     Ok(limits)
 }
 
-/// The one entry that is left of this one in a migrated record.
+/// The one entry that is left of this one in a migrated history.
 fn migrated_alone(alloc: Global, before: Entry) -> Result<Option<Entry>, Fail> {
     let record = recorded(alloc, narrow()?, &[before])?;
     let after = migrate(record).ok().ok_or("bad reply")?;

@@ -110,7 +110,7 @@ reason_text call due why.Overlap = codes "it began before its thread's last call
 reason_text call due why.Reply =
     callee_text call ++ (codes " would have answered otherwise (" ++ (due_text due ++ codes ")"))
 
--- how many entries there are, or the first fault with its cause
+-- how many entries there are, or the first fault with its reason
 abbrev pub verdict_text : Result ℕ Fault → List ℕ
 verdict_text (Ok n) = decimal n ++ codes " entries, in order"
 verdict_text (Err fault) =

@@ -44,7 +44,7 @@ pub enum Class {
     Note,
 }
 
-/// Where a box stands on the sheet and how large it is, in pixels from the left upper corner.
+/// A box's class, where it stands on the sheet and how large it is, in pixels from the left upper corner.
 #[derive(Clone, Copy, Debug, PartialEq, Eq)]
 pub struct Frame {
     /// What it is.

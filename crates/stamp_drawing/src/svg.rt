@@ -20,6 +20,7 @@ fn class_name(class: Class) -> &'static str
         Class::Lane => "lane",
         Class::Bar => "bar",
         Class::Bad => "bad",
+        // A style names the classes, so this one keeps the name that it was printed with first.
         Class::Point => "mark",
         Class::Note => "note",
     }

@@ -13,7 +13,7 @@ use Rattle.stamp_explain.specs.declared.observed.Observation.{Observation}
 use Rattle.stamp_explain.specs.declared.observed.Returned.{Returned}
 use Rattle.stamp_explain.specs.Observed.{IsBefore, AllowsReply}
 use Rattle.stamp_explain.specs.Explained.{Effect, IsEffectOf, history_of, indices_of, AreApart, RespectsBefore}
-use Rattle.stamp_explain.specs.Search.{Runs, IsCompletedBy, CanComplete, MayTake, LockState, LockTransition}
+use Rattle.stamp_explain.specs.Search.{Runs, IsCompletedBy, CanComplete, MayTake, LockState, StateTransition}
 use Rattle.stamp_explain.specs.Search.{IsFirstReturn, IsAlikeSooner}
 use Rattle.stamp_explain.specs.ExplainLaws.{AlikeByReturn}
 use Rattle.stamp_explain.proofs.Lists.{none_in_empty, contains_cases, contains_first, contains_rest, pairs_head}
@@ -129,10 +129,10 @@ may_reply_alike e f reply alike may =
 -- with the other in its place an order completes what that leaves
 replaced_completes : (limits : Bounds) (entries : List Observation) (a : Observation) (to_come : List ℕ)
     (s t : LockState) (taken : List ℕ) (x : Effect) (k : ℕ) (e : Observation) (xs : List Effect) →
-    IsFirstReturn entries taken a → MayTake (LockTransition limits) entries a s taken x t →
-    IsCompletedBy (LockTransition limits) entries to_come t (x.index ∷ taken) xs → slice_get entries k ≡ Some e →
+    IsFirstReturn entries taken a → MayTake (StateTransition limits) entries a s taken x t →
+    IsCompletedBy (StateTransition limits) entries to_come t (x.index ∷ taken) xs → slice_get entries k ≡ Some e →
     IsAlikeSooner e x.entry → k ≢ x.index → (r : Replaced x k xs) →
-    IsCompletedBy (LockTransition limits) entries to_come t (k ∷ taken) r.others
+    IsCompletedBy (StateTransition limits) entries to_come t (k ∷ taken) r.others
 replaced_completes limits entries a to_come s t taken x k e xs first may by at alike other r = record {
   effects = replaced_all (IsEffectOf entries) x r.old r.replaces may.effect by.effects;
   once = replaced_pairs AreApart x r.old r.replaces
@@ -147,7 +147,7 @@ replaced_completes limits entries a to_come s t taken x k e xs first may by at a
       (λ has. by.fresh j d lt (contains_rest x.index taken (get_or xs j d).index has)) before))
       (λ j d lt respects. not_sooner e x.entry (get_or xs j d).entry alike
       (subst (λ (o : Observation). ¬ IsBefore o (get_or xs j d).entry) entry respects)) by.ordered;
-  runs = subst (λ (h : History). Runs (LockTransition limits) t h)
+  runs = subst (λ (h : History). Runs (StateTransition limits) t h)
       (replaced_history x r.old r.replaces (ap (λ (o : Observation). o.call) entry ∙ alike.calls.call) reply) by.runs;
 }
   where
@@ -198,14 +198,14 @@ replaced_length x y (later {w} {ys} {zs} r) = ap suc (replaced_length x y r)
 
 -- it may take effect, too
 pub may_take_alike : (limits : Bounds) (entries : List Observation) (a : Observation) (s t : LockState)
-    (taken : List ℕ) (x : Effect) (k : ℕ) (e : Observation) → MayTake (LockTransition limits) entries a s taken x t →
+    (taken : List ℕ) (x : Effect) (k : ℕ) (e : Observation) → MayTake (StateTransition limits) entries a s taken x t →
     slice_get entries k ≡ Some e → IsAlikeSooner e x.entry → ¬ Contains taken k → ¬ IsBefore a e →
-    MayTake (LockTransition limits) entries a s taken (record { index = k; entry = e; reply = x.reply }) t
+    MayTake (StateTransition limits) entries a s taken (record { index = k; entry = e; reply = x.reply }) t
 may_take_alike limits entries a s t taken x k e may at alike fresh begun = record {
   effect = record { is_entry = at; replies = may_reply_alike e x.entry x.reply alike may.effect.replies };
   fresh = fresh;
   begun = begun;
-  steps = subst (λ (c : Call). LockTransition limits s (c, x.reply) t) (sym alike.calls.call) may.steps;
+  goes = subst (λ (c : Call). StateTransition limits s (c, x.reply) t) (sym alike.calls.call) may.goes;
 }
 
 -- it is in the rest of an order
@@ -219,7 +219,7 @@ in_rest x k taken rest fresh other (inl has) = absurd (neither (contains_cases x
 in_rest x k taken rest fresh other (inr has) = has
 
 replaced_in : (x : Effect) (k : ℕ) (entries : List Observation) (to_come taken : List ℕ) (limits : Bounds)
-    (t : LockState) (rest : List Effect) → IsCompletedBy (LockTransition limits) entries to_come t (x.index ∷ taken)
+    (t : LockState) (rest : List Effect) → IsCompletedBy (StateTransition limits) entries to_come t (x.index ∷ taken)
     rest →
     ¬ Contains taken k → k ≢ x.index → Contains to_come k → Replaced x k rest
 replaced_in x k entries to_come taken limits t rest by fresh other due =
@@ -229,10 +229,10 @@ replaced_in x k entries to_come taken limits t rest by fresh other due =
 -- and the rest is completed in as many moves
 pub alike_in_as_many : (limits : Bounds) (entries : List Observation) (a : Observation) (to_come : List ℕ)
     (s t : LockState) (taken : List ℕ) (x : Effect) (k : ℕ) (e : Observation) (n : ℕ) →
-    IsFirstReturn entries taken a → MayTake (LockTransition limits) entries a s taken x t →
-    CompletesIn (LockTransition limits) entries to_come t (x.index ∷ taken) n → slice_get entries k ≡ Some e →
+    IsFirstReturn entries taken a → MayTake (StateTransition limits) entries a s taken x t →
+    CompletesIn (StateTransition limits) entries to_come t (x.index ∷ taken) n → slice_get entries k ≡ Some e →
     IsAlikeSooner e x.entry → k ≢ x.index → ¬ Contains taken k → Contains to_come k →
-    CompletesIn (LockTransition limits) entries to_come t (k ∷ taken) n
+    CompletesIn (StateTransition limits) entries to_come t (k ∷ taken) n
 alike_in_as_many limits entries a to_come s t taken x k e n first may can at alike other fresh due =
     let r : Replaced x k can.rest =
     replaced_in x k entries to_come taken limits t can.rest can.by fresh other due in
@@ -251,11 +251,11 @@ alike_by_return limits entries a to_come s t taken x k e first may can at alike 
   can = which (same_or_not k x.index);
 }
   where
-    which : (k ≡ x.index) ⊎ (k ≢ x.index) → CanComplete (LockTransition limits) entries to_come t (k ∷ taken)
-    which (inl same) = subst (λ (j : ℕ). CanComplete (LockTransition limits) entries to_come t (j ∷ taken))
+    which : (k ≡ x.index) ⊎ (k ≢ x.index) → CanComplete (StateTransition limits) entries to_come t (k ∷ taken)
+    which (inl same) = subst (λ (j : ℕ). CanComplete (StateTransition limits) entries to_come t (j ∷ taken))
         (sym same) can
     which (inr other) =
-        let c : CompletesIn (LockTransition limits) entries to_come t (k ∷ taken) (length to_come + length can.rest) =
+        let c : CompletesIn (StateTransition limits) entries to_come t (k ∷ taken) (length to_come + length can.rest) =
         alike_in_as_many limits entries a to_come s t taken x k e (length to_come + length can.rest) first may
         (record { rest = can.rest; by = can.by; moves = refl }) at alike other fresh due in
         record { rest = c.rest; by = c.by }

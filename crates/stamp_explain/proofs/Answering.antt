@@ -20,7 +20,7 @@ use Rattle.stamp_explain.specs.declared.node.Next.{Next}
 use Rattle.stamp_explain.specs.declared.timeline.Timeline.{Timeline}
 use Rattle.stamp_explain.specs.Observed.{ObservedHistory, HasReturned, IsReturnAt}
 use Rattle.stamp_explain.specs.Explained.{Effect}
-use Rattle.stamp_explain.specs.Search.{LockState, LockTransition, MayTake, AreReturns, ReturnsNoLater}
+use Rattle.stamp_explain.specs.Search.{LockState, StateTransition, MayTake, AreReturns, ReturnsNoLater}
 use Rattle.stamp_explain.specs.Node.{IsNext, HasNext, AreTaken, IsStateBy, StandsFor, words_put, words_put_at}
 use Rattle.stamp_explain.specs.Node.{content_by}
 use Rattle.stamp_explain.specs.Node.{IsFirstNode}
@@ -329,8 +329,8 @@ timeline_alike h g i timeline is timelines = record {
 }
 
 may_alike : (h g : ObservedHistory) (i : ℕ) (a b : Observation) (s u : LockState) (taken : List ℕ) (x : Effect) →
-    AreAlike h g i → IsAlike a b → x.index ≢ i → MayTake (LockTransition h.limits) h.entries a s taken x u →
-    MayTake (LockTransition g.limits) g.entries b s taken x u
+    AreAlike h g i → IsAlike a b → x.index ≢ i → MayTake (StateTransition h.limits) h.entries a s taken x u →
+    MayTake (StateTransition g.limits) g.entries b s taken x u
 may_alike h g i a b s u taken x is alike other may = record {
   effect = record {
     is_entry = other_there h g i x.index x.entry is other may.effect.is_entry;
@@ -338,7 +338,7 @@ may_alike h g i a b s u taken x is alike other may = record {
   };
   fresh = may.fresh;
   begun = λ before. may.begun (alike_before b x.entry a x.entry (alike_turned a b alike) (alike_self x.entry) before);
-  steps = subst (λ (l : Bounds). LockTransition l s (x.entry.call, x.reply) u) (sym is.limits) may.steps;
+  goes = subst (λ (l : Bounds). StateTransition l s (x.entry.call, x.reply) u) (sym is.limits) may.goes;
 }
 
 -- what was found of another call

@@ -11,7 +11,7 @@ use Rattle.stamp_explain.specs.declared.observed.Observation.{Observation}
 use Rattle.stamp_explain.specs.declared.observed.Returned.{Returned}
 use Rattle.stamp_explain.specs.Observed.{AllowsReply, HasReturned}
 use Rattle.stamp_explain.specs.Explained.{Effect, IsEffectOf, history_of, indices_of, AreApart, RespectsBefore}
-use Rattle.stamp_explain.specs.Search.{Runs, IsCompletedBy, LockTransition}
+use Rattle.stamp_explain.specs.Search.{Runs, IsCompletedBy, StateTransition}
 use Rattle.stamp_explain.specs.ExplainLaws.{UnchangingCallsAtOnce}
 use Rattle.stamp_explain.proofs.Lists.{none_in_empty, contains_cases, contains_first, contains_rest, pairs_head}
 use Rattle.stamp_explain.proofs.Lists.{pairs_tail, pairs_cons}
@@ -37,22 +37,22 @@ part_pairs R (kept {x} {xs} {ys} part) all = pairs_cons R x ys (part_all (R x) p
     (part_pairs R part (pairs_tail R x xs all))
 
 -- an order without a call that changes nothing
-record Without {S : Type 0} (step : S → Call × Reply → S → Type 0) (i : ℕ) (s : S) (rest : List Effect) : Type 0 where
+record Without {S : Type 0} (Goes : S → Call × Reply → S → Type 0) (i : ℕ) (s : S) (rest : List Effect) : Type 0 where
   others : List Effect
   part : IsPart rest others
   misses : All (λ (y : Effect). y.index ≢ i) others
   whole : (j : ℕ) → j ≢ i → Contains (indices_of rest) j → Contains (indices_of others) j
-  runs : Runs step s (history_of others)
+  runs : Runs Goes s (history_of others)
   no_longer : length others ≤ length rest
   shorter : Contains (indices_of rest) i → suc (length others) ≤ length rest
 
 apart_or_same : (a b : ℕ) → (a ≡ b) ⊎ (a ≢ b)
 apart_or_same a b = grind arith
 
-without : {S : Type 0} (step : S → Call × Reply → S → Type 0) (i : ℕ) (s : S) (rest : List Effect) →
-    All (λ (y : Effect). y.index ≡ i → (s t : S) → step s (y.entry.call, y.reply) t → t ≡ s) rest →
-    Runs step s (history_of rest) → Without step i s rest
-without step i s [] still runs = record {
+without : {S : Type 0} (Goes : S → Call × Reply → S → Type 0) (i : ℕ) (s : S) (rest : List Effect) →
+    All (λ (y : Effect). y.index ≡ i → (s t : S) → Goes s (y.entry.call, y.reply) t → t ≡ s) rest →
+    Runs Goes s (history_of rest) → Without Goes i s rest
+without Goes i s [] still runs = record {
   others = [];
   part = none;
   misses = All-nil (λ (y : Effect). y.index ≢ i);
@@ -61,13 +61,13 @@ without step i s [] still runs = record {
   no_longer = omega arith;
   shorter = λ has. absurd (none_in_empty i has);
 }
-without {S} step i s (x ∷ rest) still runs =
-    by (apart_or_same x.index i) (without step i runs.0 rest (All-tail Still x rest still) runs.1.1)
+without {S} Goes i s (x ∷ rest) still runs =
+    by (apart_or_same x.index i) (without Goes i runs.0 rest (All-tail Still x rest still) runs.1.1)
   where
     Still : Effect → Type 0
-    Still y = y.index ≡ i → (s t : S) → step s (y.entry.call, y.reply) t → t ≡ s
+    Still y = y.index ≡ i → (s t : S) → Goes s (y.entry.call, y.reply) t → t ≡ s
 
-    by : (x.index ≡ i) ⊎ (x.index ≢ i) → Without step i runs.0 rest → Without step i s (x ∷ rest)
+    by : (x.index ≡ i) ⊎ (x.index ≢ i) → Without Goes i runs.0 rest → Without Goes i s (x ∷ rest)
     by (inl same) left =
         let back : runs.0 ≡ s = All-head Still x rest still same s runs.0 runs.1.0 in
         record {
@@ -75,7 +75,7 @@ without {S} step i s (x ∷ rest) still runs =
           part = left_out left.part;
           misses = left.misses;
           whole = λ j other has. rest_only j other (contains_cases x.index (indices_of rest) j has);
-          runs = subst (λ (t : S). Runs step t (history_of left.others)) back left.runs;
+          runs = subst (λ (t : S). Runs Goes t (history_of left.others)) back left.runs;
           no_longer = omega (arith, left.no_longer);
           shorter = λ has. omega (arith, left.no_longer);
         }
@@ -117,17 +117,17 @@ same_effect entries x y x_is y_is returned same =
     (e, sym a ∙ b)
 
 -- the others complete it, and they are fewer where the call was still to return
-record AtOnce {S : Type 0} (step : S → Call × Reply → S → Type 0) (entries : List Observation) (to_come : List ℕ)
+record AtOnce {S : Type 0} (Goes : S → Call × Reply → S → Type 0) (entries : List Observation) (to_come : List ℕ)
     (s : S) (taken : List ℕ) (i : ℕ) (rest : List Effect) : Type 0 where
   others : List Effect
-  by : IsCompletedBy step entries to_come s (i ∷ taken) others
+  by : IsCompletedBy Goes entries to_come s (i ∷ taken) others
   fewer : ¬ Contains taken i → Contains to_come i → suc (length others) ≤ length rest
 
-at_once : {S : Type 0} (step : S → Call × Reply → S → Type 0) (entries : List Observation) (to_come : List ℕ) (s : S)
+at_once : {S : Type 0} (Goes : S → Call × Reply → S → Type 0) (entries : List Observation) (to_come : List ℕ) (s : S)
     (taken : List ℕ) (x : Effect) (rest : List Effect) → IsEffectOf entries x → HasReturned x.entry →
-    ((s t : S) → step s (x.entry.call, x.reply) t → t ≡ s) → IsCompletedBy step entries to_come s taken rest →
-    AtOnce step entries to_come s taken x.index rest
-at_once {S} step entries to_come s taken x rest is returned nothing by = record {
+    ((s t : S) → Goes s (x.entry.call, x.reply) t → t ≡ s) → IsCompletedBy Goes entries to_come s taken rest →
+    AtOnce Goes entries to_come s taken x.index rest
+at_once {S} Goes entries to_come s taken x rest is returned nothing by = record {
   others = left.others;
   by = record {
     effects = part_all (IsEffectOf entries) left.part by.effects;
@@ -148,15 +148,15 @@ at_once {S} step entries to_come s taken x rest is returned nothing by = record 
     still_to_come not_yet (inl has) = absurd (not_yet has)
     still_to_come not_yet (inr has) = has
 
-    still : (y : Effect) → IsEffectOf entries y → y.index ≡ x.index → (s t : S) → step s (y.entry.call, y.reply) t →
+    still : (y : Effect) → IsEffectOf entries y → y.index ≡ x.index → (s t : S) → Goes s (y.entry.call, y.reply) t →
         t ≡ s
     still y y_is same s t steps =
         let both : (y.entry ≡ x.entry) × (y.reply ≡ x.reply) = same_effect entries x y is y_is returned same in
-        nothing s t (subst (λ (r : Reply). step s (x.entry.call, r) t) both.1
-        (subst (λ (o : Observation). step s (o.call, y.reply) t) both.0 steps))
+        nothing s t (subst (λ (r : Reply). Goes s (x.entry.call, r) t) both.1
+        (subst (λ (o : Observation). Goes s (o.call, y.reply) t) both.0 steps))
 
-    left : Without step x.index s rest
-    left = without step x.index s rest (λ k d lt. still (get_or rest k d) (by.effects k d lt)) by.runs
+    left : Without Goes x.index s rest
+    left = without Goes x.index s rest (λ k d lt. still (get_or rest k d) (by.effects k d lt)) by.runs
 
     fresh : (y : Effect) → y.index ≢ x.index → ¬ Contains taken y.index → ¬ Contains (x.index ∷ taken) y.index
     fresh y apart misses has = neither (contains_cases x.index taken y.index has)
@@ -176,26 +176,26 @@ at_once {S} step entries to_come s taken x rest is returned nothing by = record 
 
 pub unchanging_calls_at_once : UnchangingCallsAtOnce
 unchanging_calls_at_once limits entries awaited to_come s t taken x may returned h can =
-    let now : AtOnce (LockTransition limits) entries to_come s taken x.index can.rest =
-    at_once (LockTransition limits) entries to_come s taken x can.rest may.effect returned
+    let now : AtOnce (StateTransition limits) entries to_come s taken x.index can.rest =
+    at_once (StateTransition limits) entries to_come s taken x can.rest may.effect returned
     (λ s t steps. unchanging_calls_change_nothing limits x.entry.call x.reply s t h steps) can.by in
     record { rest = now.others; by = now.by }
 
 -- so it is a move of a search
-pub record TakesAtOnce {S : Type 0} (step : S → Call × Reply → S →
+pub record TakesAtOnce {S : Type 0} (Goes : S → Call × Reply → S →
     Type 0) (entries : List Observation) (to_come : List ℕ) (s : S) (taken : List ℕ) (n : ℕ) : Type 0 where
   pub left : ℕ
   pub fewer : suc left ≤ n
-  pub completes : CompletesIn step entries to_come s taken left
+  pub completes : CompletesIn Goes entries to_come s taken left
 
-pub takes_at_once : {S : Type 0} (step : S → Call × Reply → S →
+pub takes_at_once : {S : Type 0} (Goes : S → Call × Reply → S →
     Type 0) (entries : List Observation) (to_come : List ℕ) (s : S) (taken : List ℕ) (x : Effect) (n : ℕ) →
-    IsEffectOf entries x → HasReturned x.entry → ((s t : S) → step s (x.entry.call, x.reply) t → t ≡ s) →
-    ¬ Contains taken x.index → Contains to_come x.index → CompletesIn step entries to_come s taken n →
-    TakesAtOnce step entries to_come s (x.index ∷ taken) n
-takes_at_once step entries to_come s taken x n is returned nothing not_yet due can =
-    let now : AtOnce step entries to_come s taken x.index can.rest =
-    at_once step entries to_come s taken x can.rest is returned nothing can.by in
+    IsEffectOf entries x → HasReturned x.entry → ((s t : S) → Goes s (x.entry.call, x.reply) t → t ≡ s) →
+    ¬ Contains taken x.index → Contains to_come x.index → CompletesIn Goes entries to_come s taken n →
+    TakesAtOnce Goes entries to_come s (x.index ∷ taken) n
+takes_at_once Goes entries to_come s taken x n is returned nothing not_yet due can =
+    let now : AtOnce Goes entries to_come s taken x.index can.rest =
+    at_once Goes entries to_come s taken x can.rest is returned nothing can.by in
     record {
       left = length to_come + length now.others;
       fewer = omega (arith, now.fewer not_yet due, can.moves);

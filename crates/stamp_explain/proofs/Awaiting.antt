@@ -14,7 +14,7 @@ use Rattle.stamp_explain.specs.declared.node.Node.{Node}
 use Rattle.stamp_explain.specs.declared.node.Next.{Next}
 use Rattle.stamp_explain.specs.declared.timeline.Timeline.{Timeline}
 use Rattle.stamp_explain.specs.Observed.{ObservedHistory, IsObserved, HasReturned, IsReturnAt}
-use Rattle.stamp_explain.specs.Search.{AreInOrder, LockState, LockTransition}
+use Rattle.stamp_explain.specs.Search.{AreInOrder, LockState, StateTransition}
 use Rattle.stamp_explain.specs.Configuration.{IsTried}
 use Rattle.stamp_explain.specs.Node.{IsNext, AreTaken, StandsFor}
 use Rattle.stamp_explain.specs.Timeline.{IsTimeline, IsAwaitedAt, IsOpenAt, AreOpen}
@@ -56,10 +56,10 @@ left_of h timeline node a is = drop-cons timeline.returns.items node.past 0 is.i
 -- a hope at an awaited return, as the search has it
 pub hope_completes : (h : ObservedHistory) (timeline : Timeline) (node : Node) (a : Observation) (n : ℕ) →
     (is : Awaits h timeline node a) → (hope : Hope h timeline.returns.items node n) →
-    CompletesIn (LockTransition h.limits) h.entries (get_or timeline.returns.items node.past 0 ∷ drop (suc node.past)
+    CompletesIn (StateTransition h.limits) h.entries (get_or timeline.returns.items node.past 0 ∷ drop (suc node.past)
     timeline.returns.items) hope.state hope.taken n
 hope_completes h timeline node a n is hope =
-    let P : List ℕ → Type 0 = λ (to_come : List ℕ). CompletesIn (LockTransition h.limits) h.entries to_come hope.state
+    let P : List ℕ → Type 0 = λ (to_come : List ℕ). CompletesIn (StateTransition h.limits) h.entries to_come hope.state
     hope.taken n in
     subst P (left_of h timeline node a is) (record { rest = hope.rest; by = hope.by; moves = hope.moves })
 
@@ -104,7 +104,7 @@ leads_by_call h asked timeline node a i s taken w is bit stands to tried =
 -- one of these stands for what an order completes in fewer moves
 pub goes_on_to : (h : ObservedHistory) (returns : List ℕ) (nexts : List Next) (w : Next) (s : LockState)
     (taken : List ℕ) (left n : ℕ) → Contains nexts w → suc left ≤ n → StandsFor h returns w.node s taken →
-    CompletesIn (LockTransition h.limits) h.entries (drop w.node.past returns) s taken left → GoesOn h returns nexts n
+    CompletesIn (StateTransition h.limits) h.entries (drop w.node.past returns) s taken left → GoesOn h returns nexts n
 goes_on_to h returns nexts w s taken left n among fewer stands completes = record {
   next = w;
   left = left;
@@ -191,12 +191,12 @@ suffices_past h timeline node a threads is bit clears n hope =
     next_left : drop (suc node.past) timeline.returns.items ≡ drop next.node.past timeline.returns.items
     next_left = ap (λ (k : ℕ). drop k timeline.returns.items) (one_more node.past)
 
-    goes : GoesPast (LockTransition h.limits) h.entries i (drop (suc node.past) timeline.returns.items) hope.state
+    goes : GoesPast (StateTransition h.limits) h.entries i (drop (suc node.past) timeline.returns.items) hope.state
         hope.taken n ⊎
         GoesOnBy h.limits h.entries i a (drop (suc node.past) timeline.returns.items) hope.state hope.taken n →
         GoesOn h timeline.returns.items (next ∷ []) n
     goes (inl past) =
-        let P : List ℕ → Type 0 = λ (to_come : List ℕ). CompletesIn (LockTransition h.limits) h.entries to_come
+        let P : List ℕ → Type 0 = λ (to_come : List ℕ). CompletesIn (StateTransition h.limits) h.entries to_come
         hope.state hope.taken past.left in
         goes_on_to h timeline.returns.items (next ∷ []) next hope.state hope.taken past.left n (alone next)
         (omega (arith, past.fewer))

@@ -24,7 +24,7 @@ use Rattle.stamp_explain.specs.declared.asking.Asking.{Asking}
 use Rattle.stamp_explain.specs.Observed.{ObservedHistory, IsObserved, IsBefore, AllowsReply, AreOfOneObject}
 use Rattle.stamp_explain.specs.Observed.{IsReturnAt}
 use Rattle.stamp_explain.specs.Unchanging.{asks_at, asks_in, is_unchanging_at, unchanging_in}
-use Rattle.stamp_explain.specs.Search.{LockState, LockTransition, after_call}
+use Rattle.stamp_explain.specs.Search.{LockState, StateTransition, after_call}
 use Rattle.stamp_explain.specs.Node.{IsReached, IsStateBy, HasGone}
 use Rattle.stamp_explain.specs.Timeline.{AreOpen, IsAwaitedAt}
 use Rattle.stamp_explain.specs.Expand.{Suffice, Took, IsNotInEffect, IsTakenTo}
@@ -451,9 +451,9 @@ asked_takes asking node found reply h asks is went others = record {
       (at_alike h asking.seen asking.place node.bits node.writer s (turned asking.seen h asking.place alike)
       stands.at) in
       let replied : reply ≡ x.reply = subst (λ (o : Observation). AllowsReply o x.reply) is_x may.effect.replies in
-      let steps : LockTransition asking.seen.limits s (is.at.entry.call, x.reply) u =
-      subst (λ (o : Observation). LockTransition asking.seen.limits s (o.call, x.reply) u) is_x
-      (subst (λ (l : Bounds). LockTransition l s (x.entry.call, x.reply) u) alike.limits may.steps) in
+      let steps : StateTransition asking.seen.limits s (is.at.entry.call, x.reply) u =
+      subst (λ (o : Observation). StateTransition asking.seen.limits s (o.call, x.reply) u) is_x
+      (subst (λ (l : Bounds). StateTransition l s (x.entry.call, x.reply) u) alike.limits may.goes) in
       by found refl s u x.reply replied steps
       (subst (λ (g : ObservedHistory). HasGone g asking.place y node.writer s found) before (went y s here (subst (λ
       (g : ObservedHistory).
@@ -479,11 +479,11 @@ asked_takes asking node found reply h asks is went others = record {
         ap (λ (o : Observation). Some o) (get_or-set_same asking.seen.entries asking.place y y within)
 
     by : (o : Option CallTransition) → found ≡ o → (s u : LockState) (r : Reply) → reply ≡ r →
-        LockTransition asking.seen.limits s (is.at.entry.call, r) u →
+        StateTransition asking.seen.limits s (is.at.entry.call, r) u →
         HasGone (without_return asking.place is.at.entry asking.seen) asking.place y node.writer s o → ⊥
     by None at s u r replied steps gone = gone r u tt steps
     by (Some did) at s u r replied steps gone = others did at
-        (one_reply asking.seen.limits s.0 s.1 is.at.entry.call did.reply r gone.steps.replies steps.replies ∙
+        (one_reply asking.seen.limits s.0 s.1 is.at.entry.call did.reply r gone.goes.replies steps.replies ∙
         sym replied)
 
 pub asked_not_begun : (asking : Asking) (node : Node) (a e : Observation) (replies : List Reply) → IsAsking asking →
@@ -527,13 +527,13 @@ asked_gets asking node did a asks is awaits begun went = record {
       begun = begun asks.at.entry asks.at.is_entry;
     };
     next = after_call asking.seen.limits is.reached.state (asks.at.entry.call, did.reply);
-    steps = (subst (λ (g : ObservedHistory). HasGone g asking.place y node.writer is.reached.state (Some did))
+    goes = (subst (λ (g : ObservedHistory). HasGone g asking.place y node.writer is.reached.state (Some did))
         asks.before
         (went y is.reached.state here (subst (λ (g : ObservedHistory). IsStateBy g node.bits node.writer
         is.reached.state)
         (sym asks.before) (at_same asking.seen (without_return asking.place asks.at.entry asking.seen) node.bits
         node.writer is.reached.state (same_calls_before asking.seen asking.place asks.at.entry asks.at.is_entry)
-        is.reached.stands.at)))).steps;
+        is.reached.stands.at)))).goes;
   };
 }
   where

@@ -14,9 +14,9 @@ use Rattle.stamp_explain.proofs.Lists.{none_in_empty, contains_cases, contains_f
 use Rattle.stamp_explain.proofs.Lists.{pairs_tail, pairs_cons, pairs_none}
 
 -- with no return to come nothing is left to do
-pub completed_by_none : {S : Type 0} (step : S → Call × Reply → S →
-    Type 0) (entries : List Observation) (s : S) (taken : List ℕ) → IsCompletedBy step entries [] s taken []
-completed_by_none step entries s taken = record {
+pub completed_by_none : {S : Type 0} (Goes : S → Call × Reply → S →
+    Type 0) (entries : List Observation) (s : S) (taken : List ℕ) → IsCompletedBy Goes entries [] s taken []
+completed_by_none Goes entries s taken = record {
   effects = All-nil (IsEffectOf entries);
   once = pairs_none AreApart;
   fresh = All-nil (λ (x : Effect). ¬ Contains taken x.index);
@@ -26,10 +26,10 @@ completed_by_none step entries s taken = record {
 }
 
 -- a call in effect may return
-pub past_return : {S : Type 0} (step : S → Call × Reply → S →
+pub past_return : {S : Type 0} (Goes : S → Call × Reply → S →
     Type 0) (entries : List Observation) (i : ℕ) (returns : List ℕ) (s : S) (taken : List ℕ) (rest : List Effect) →
-    IsCompletedBy step entries (i ∷ returns) s taken rest → IsCompletedBy step entries returns s taken rest
-past_return step entries i returns s taken rest by = record {
+    IsCompletedBy Goes entries (i ∷ returns) s taken rest → IsCompletedBy Goes entries returns s taken rest
+past_return Goes entries i returns s taken rest by = record {
   effects = by.effects;
   once = by.once;
   fresh = by.fresh;
@@ -38,11 +38,11 @@ past_return step entries i returns s taken rest by = record {
   runs = by.runs;
 }
 
-pub before_return : {S : Type 0} (step : S → Call × Reply → S →
+pub before_return : {S : Type 0} (Goes : S → Call × Reply → S →
     Type 0) (entries : List Observation) (i : ℕ) (returns : List ℕ) (s : S) (taken : List ℕ) (rest : List Effect) →
-    Contains taken i → IsCompletedBy step entries returns s taken rest →
-    IsCompletedBy step entries (i ∷ returns) s taken rest
-before_return step entries i returns s taken rest has by = record {
+    Contains taken i → IsCompletedBy Goes entries returns s taken rest →
+    IsCompletedBy Goes entries (i ∷ returns) s taken rest
+before_return Goes entries i returns s taken rest has by = record {
   effects = by.effects;
   once = by.once;
   fresh = by.fresh;
@@ -159,14 +159,14 @@ awaited_in i returns taken rest not_yet returned =
     by (inr has) = has
 
 -- an effect of an order may be the next, if what stands before it may wait; the others complete what it leaves
-pub takes_next : {S : Type 0} (step : S → Call × Reply → S → Type 0) (entries : List Observation) (i : ℕ)
+pub takes_next : {S : Type 0} (Goes : S → Call × Reply → S → Type 0) (entries : List Observation) (i : ℕ)
     (a : Observation) (returns : List ℕ) (s t : S) (taken : List ℕ) (P : Effect → Type 0) (x : Effect)
     {rest others : List Effect} → IsAwaited entries i a → ¬ Contains taken i →
     ((y : Effect) → IsEffectOf entries y → P y → y.index ≢ i) → IsBehind P x rest others →
-    step s (x.entry.call, x.reply) t → Runs step t (history_of others) →
-    IsCompletedBy step entries (i ∷ returns) s taken rest →
-    MayTake step entries a s taken x t × IsCompletedBy step entries (i ∷ returns) t (x.index ∷ taken) others
-takes_next step entries i a returns s t taken P x {rest} {others} awaited not_yet other b steps runs by = (may, left)
+    Goes s (x.entry.call, x.reply) t → Runs Goes t (history_of others) →
+    IsCompletedBy Goes entries (i ∷ returns) s taken rest →
+    MayTake Goes entries a s taken x t × IsCompletedBy Goes entries (i ∷ returns) t (x.index ∷ taken) others
+takes_next Goes entries i a returns s t taken P x {rest} {others} awaited not_yet other b steps runs by = (may, left)
   where
     effects : IsEffectOf entries x × All (IsEffectOf entries) others
     effects = behind_all P (IsEffectOf entries) x b by.effects
@@ -174,13 +174,13 @@ takes_next step entries i a returns s t taken P x {rest} {others} awaited not_ye
     fresh : (¬ Contains taken x.index) × All (λ (y : Effect). ¬ Contains taken y.index) others
     fresh = behind_all P (λ (y : Effect). ¬ Contains taken y.index) x b by.fresh
 
-    may : MayTake step entries a s taken x t
+    may : MayTake Goes entries a s taken x t
     may = record {
       effect = effects.0;
       fresh = fresh.0;
       begun = behind_begun P entries i a x awaited other b by.effects by.ordered
           (awaited_in i returns taken rest not_yet by.returned);
-      steps = steps;
+      goes = steps;
     }
 
     still_fresh : (y : Effect) → x.index ≢ y.index → ¬ Contains taken y.index → ¬ Contains (x.index ∷ taken) y.index
@@ -200,7 +200,7 @@ takes_next step entries i a returns s t taken P x {rest} {others} awaited not_ye
         which (inl e) = inl (contains_first x.index taken j e)
         which (inr has) = inr has
 
-    left : IsCompletedBy step entries (i ∷ returns) t (x.index ∷ taken) others
+    left : IsCompletedBy Goes entries (i ∷ returns) t (x.index ∷ taken) others
     left = record {
       effects = effects.1;
       once = behind_pairs P AreApart x b by.once;
@@ -212,22 +212,22 @@ takes_next step entries i a returns s t taken P x {rest} {others} awaited not_ye
     }
 
 -- the first call of an order may take effect
-pub takes_first : {S : Type 0} (step : S → Call × Reply → S →
+pub takes_first : {S : Type 0} (Goes : S → Call × Reply → S →
     Type 0) (entries : List Observation) (i : ℕ) (a : Observation) (returns : List ℕ) (s : S) (taken : List ℕ)
     (x : Effect) (rest : List Effect) → IsAwaited entries i a → ¬ Contains taken i →
-    IsCompletedBy step entries (i ∷ returns) s taken (x ∷ rest) →
-    (t : S) × (MayTake step entries a s taken x t × IsCompletedBy step entries (i ∷ returns) t (x.index ∷ taken) rest)
-takes_first step entries i a returns s taken x rest awaited not_yet by = (
+    IsCompletedBy Goes entries (i ∷ returns) s taken (x ∷ rest) →
+    (t : S) × (MayTake Goes entries a s taken x t × IsCompletedBy Goes entries (i ∷ returns) t (x.index ∷ taken) rest)
+takes_first Goes entries i a returns s taken x rest awaited not_yet by = (
   by.runs.0,
-  takes_next step entries i a returns s by.runs.0 taken (λ (y : Effect). ⊥) x awaited not_yet
+  takes_next Goes entries i a returns s by.runs.0 taken (λ (y : Effect). ⊥) x awaited not_yet
       (λ y is none. absurd none) at_first by.runs.1.0 by.runs.1.1 by,
 )
 
 -- nothing is left to take effect only where the return is not awaited
-pub never_empty : {S : Type 0} (step : S → Call × Reply → S →
+pub never_empty : {S : Type 0} (Goes : S → Call × Reply → S →
     Type 0) (entries : List Observation) (i : ℕ) (returns : List ℕ) (s : S) (taken : List ℕ) → ¬ Contains taken i →
-    ¬ IsCompletedBy step entries (i ∷ returns) s taken []
-never_empty step entries i returns s taken not_yet by = neither
+    ¬ IsCompletedBy Goes entries (i ∷ returns) s taken []
+never_empty Goes entries i returns s taken not_yet by = neither
     (All-head (λ (j : ℕ). Contains taken j ⊎ Contains (indices_of []) j) i returns by.returned)
   where
     neither : Contains taken i ⊎ Contains (indices_of []) i → ⊥
@@ -235,11 +235,11 @@ never_empty step entries i returns s taken not_yet by = neither
     neither (inr has) = none_in_empty i has
 
 -- and conversely: a call that may take effect, and an order that completes what it leaves, make an order
-pub puts_first : {S : Type 0} (step : S → Call × Reply → S →
+pub puts_first : {S : Type 0} (Goes : S → Call × Reply → S →
     Type 0) (entries : List Observation) (a : Observation) (returns : List ℕ) (s t : S) (taken : List ℕ) (x : Effect)
-    (rest : List Effect) → IsFirstReturn entries taken a → MayTake step entries a s taken x t →
-    IsCompletedBy step entries returns t (x.index ∷ taken) rest → IsCompletedBy step entries returns s taken (x ∷ rest)
-puts_first {S} step entries a returns s t taken x rest first may by = record {
+    (rest : List Effect) → IsFirstReturn entries taken a → MayTake Goes entries a s taken x t →
+    IsCompletedBy Goes entries returns t (x.index ∷ taken) rest → IsCompletedBy Goes entries returns s taken (x ∷ rest)
+puts_first {S} Goes entries a returns s t taken x rest first may by = record {
   effects = All-cons (IsEffectOf entries) x rest may.effect by.effects;
   once = pairs_cons AreApart x rest (λ k d lt. apart (get_or rest k d) (by.fresh k d lt)) by.once;
   fresh = All-cons (λ (y : Effect). ¬ Contains taken y.index) x rest may.fresh
@@ -248,7 +248,7 @@ puts_first {S} step entries a returns s t taken x rest first may by = record {
       (λ (j : ℕ). Contains taken j ⊎ Contains (x.index ∷ indices_of rest) j) moved returns by.returned;
   ordered = pairs_cons RespectsBefore x rest (λ k d lt. respects (get_or rest k d) (by.effects k d lt)
       (by.fresh k d lt)) by.ordered;
-  runs = (t, (may.steps, by.runs));
+  runs = (t, (may.goes, by.runs));
 }
   where
     apart : (y : Effect) → ¬ Contains (x.index ∷ taken) y.index → x.index ≢ y.index

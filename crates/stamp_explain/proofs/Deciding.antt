@@ -9,7 +9,7 @@ use Rattle.stamp_core.specs.declared.reply.Reply.{Reply}
 use Rattle.stamp_explain.specs.declared.observed.Observation.{Observation}
 use Rattle.stamp_explain.specs.Observed.{ObservedHistory}
 use Rattle.stamp_explain.specs.Explained.{Effect}
-use Rattle.stamp_explain.specs.Search.{LockState, LockTransition, MayTake, after_call, first_state}
+use Rattle.stamp_explain.specs.Search.{LockState, StateTransition, MayTake, after_call, first_state}
 use Rattle.stamp_explain.specs.Configuration.{Reaches, put_after}
 use Rattle.stamp_explain.specs.Configuration.Reaches.{begins, goes_past, goes_on_by}
 use Rattle.stamp_explain.specs.ExplainLaws.{TheOrderDecides}
@@ -33,8 +33,8 @@ cons_rest x y xs ys same = ap (λ (l : List ℕ). drop 1 l) same
 
 -- one call, in one state, does one thing
 one_effect : (h : ObservedHistory) (a b : Observation) (s : LockState) (taken : List ℕ) (x y : Effect)
-    (t u : LockState) (put : Option ℕ) → MayTake (LockTransition h.limits) h.entries a s taken x t →
-    MayTake (LockTransition h.limits) h.entries b s taken y u → x.index ≡ y.index →
+    (t u : LockState) (put : Option ℕ) → MayTake (StateTransition h.limits) h.entries a s taken x t →
+    MayTake (StateTransition h.limits) h.entries b s taken y u → x.index ≡ y.index →
     IsSame t (put_after put x.index x.entry.call x.reply) u (put_after put y.index y.entry.call y.reply)
 one_effect h a b s taken x y t u put may other same = (state, puts)
   where
@@ -47,12 +47,12 @@ one_effect h a b s taken x y t u put may other same = (state, puts)
 
     reply : x.reply ≡ y.reply
     reply = one_reply h.limits s.0 s.1 y.entry.call x.reply y.reply
-        (subst (λ (e : Observation). LockTransition h.limits s (e.call, x.reply) t) entry may.steps).replies
-        other.steps.replies
+        (subst (λ (e : Observation). StateTransition h.limits s (e.call, x.reply) t) entry may.goes).replies
+        other.goes.replies
 
     state : t ≡ u
-    state = may.steps.next ∙ ap (λ (c : Call). after_call h.limits s (c, x.reply)) call ∙
-        ap (λ (r : Reply). after_call h.limits s (y.entry.call, r)) reply ∙ sym other.steps.next
+    state = may.goes.next ∙ ap (λ (c : Call). after_call h.limits s (c, x.reply)) call ∙
+        ap (λ (r : Reply). after_call h.limits s (y.entry.call, r)) reply ∙ sym other.goes.next
 
     puts : put_after put x.index x.entry.call x.reply ≡ put_after put y.index y.entry.call y.reply
     puts = ap (λ (k : ℕ). put_after put k x.entry.call x.reply) same ∙
@@ -69,7 +69,7 @@ none_decides h asked returns s is (goes_on_by way awaited x t is_awaited not_yet
 
 one_decides : (h : ObservedHistory) (asked : Option ℕ) (returns : List ℕ) (a : Observation) (s t : LockState)
     (put : Option ℕ)
-    (taken : List ℕ) (x : Effect) → MayTake (LockTransition h.limits) h.entries a s taken x t →
+    (taken : List ℕ) (x : Effect) → MayTake (StateTransition h.limits) h.entries a s taken x t →
     Decides h asked returns taken s put → {ys : List ℕ} {u : LockState} {other : Option ℕ} {also : List ℕ} →
     Reaches h asked returns ys u other also → x.index ∷ taken ≡ also →
     IsSame t (put_after put x.index x.entry.call x.reply) u other
@@ -82,9 +82,9 @@ one_decides h asked returns a s t put taken x may before
     same =
     let was : IsSame s put v other = before (i ∷ to_come) v other also way (cons_rest x.index y.index taken also
     same) in
-    let then : MayTake (LockTransition h.limits) h.entries awaited s taken y u =
-    subst (λ (w : LockState). MayTake (LockTransition h.limits) h.entries awaited w taken y u) (sym was.0)
-    (subst (λ (l : List ℕ). MayTake (LockTransition h.limits) h.entries awaited v l y u)
+    let then : MayTake (StateTransition h.limits) h.entries awaited s taken y u =
+    subst (λ (w : LockState). MayTake (StateTransition h.limits) h.entries awaited w taken y u) (sym was.0)
+    (subst (λ (l : List ℕ). MayTake (StateTransition h.limits) h.entries awaited v l y u)
     (sym (cons_rest x.index y.index taken also same)) might) in
     let both : IsSame t (put_after put x.index x.entry.call x.reply) u
     (put_after put y.index y.entry.call y.reply) =

@@ -23,7 +23,7 @@ use Rattle.stamp_explain.specs.declared.node.Node.{Node}
 use Rattle.stamp_explain.specs.declared.node.CallTransition.{CallTransition}
 use Rattle.stamp_explain.specs.Observed.{ObservedHistory, IsObserved, IsBefore, IsInterval, DoNotOverlap}
 use Rattle.stamp_explain.specs.Explained.{Effect}
-use Rattle.stamp_explain.specs.Search.{LockState, LockTransition, MayTake, AreReturns, after_call}
+use Rattle.stamp_explain.specs.Search.{LockState, StateTransition, MayTake, AreReturns, after_call}
 use Rattle.stamp_explain.specs.Node.{IsNext, AreTaken, StandsFor, Does, HasGone}
 use Rattle.stamp_explain.specs.Timeline.{IsOpenAt, IsAwaitedAt}
 use Rattle.stamp_explain.specs.Node.{SetsBit}
@@ -104,7 +104,7 @@ sooner_past entries returns past a are lt at j f x at_j before not = by (are.who
 pub open_may : (h : ObservedHistory) (returns : List ℕ) (past threads : ℕ) (a : Observation) (s u : LockState)
     (taken : List ℕ) (x : Effect) → slice_get h.entries (get_or returns past 0) ≡ Some a →
     AreTaken h.entries (take past returns) threads taken →
-    MayTake (LockTransition h.limits) h.entries a s taken x u → IsOpenAt h returns past x.index
+    MayTake (StateTransition h.limits) h.entries a s taken x u → IsOpenAt h returns past x.index
 open_may h returns past threads a s u taken x at in_effect may = record {
   entry = x.entry;
   is_entry = may.effect.is_entry;
@@ -225,7 +225,7 @@ pub none_by_reply : (h : ObservedHistory) (returns : List ℕ) (node : Node) (a 
     Takes h returns node a i s taken None
 none_by_reply h returns node a i s taken is gone x u may same =
     gone x.entry (ap (λ (k : ℕ). slice_get h.entries k) (sym same) ∙ may.effect.is_entry) x.reply u
-    may.effect.replies may.steps
+    may.effect.replies may.goes
 
 -- it takes effect
 pub taken_to : (h : ObservedHistory) (returns : List ℕ) (node : Node) (a : Observation) (i : ℕ) (s : LockState)
@@ -248,16 +248,16 @@ taken_to h returns node a i s taken threads did is bit gone sets = record {
     fresh = λ has. bit (taken_by_bit h.entries (take node.past returns) node.threads taken i e is.stands.in_effect
         is.it.is_entry is.it.still has).0;
     begun = is.it.begun a is.at;
-    steps = went.steps;
+    goes = went.goes;
   };
   put = went.writer;
   stands = stands;
   only = λ x u may same.
       let entry : x.entry ≡ e = same_Some x.entry e (sym may.effect.is_entry ∙
       ap (λ (k : ℕ). slice_get h.entries k) same ∙ is.it.is_entry) in
-      let steps : LockTransition h.limits s (e.call, x.reply) u =
-      subst (λ (o : Observation). LockTransition h.limits s (o.call, x.reply) u) entry may.steps in
-      let reply : did.reply ≡ x.reply = one_reply h.limits s.0 s.1 e.call did.reply x.reply went.steps.replies
+      let steps : StateTransition h.limits s (e.call, x.reply) u =
+      subst (λ (o : Observation). StateTransition h.limits s (o.call, x.reply) u) entry may.goes in
+      let reply : did.reply ≡ x.reply = one_reply h.limits s.0 s.1 e.call did.reply x.reply went.goes.replies
       steps.replies in
       let state : after_call h.limits s (e.call, did.reply) ≡ u =
       ap (λ (r : Reply). after_call h.limits s (e.call, r)) reply ∙ sym steps.next in

@@ -19,7 +19,7 @@ use Rattle.stamp_explain.specs.declared.node.Next.{Next}
 use Rattle.stamp_explain.specs.declared.store.Store.{Store}
 use Rattle.stamp_explain.specs.Observed.{ObservedHistory, IsReturnAt}
 use Rattle.stamp_explain.specs.Explained.{Effect, IsExplained, IsExplainedBy, history_of, indices_of}
-use Rattle.stamp_explain.specs.Search.{LockTransition, IsCompletedBy, AreReturns}
+use Rattle.stamp_explain.specs.Search.{StateTransition, IsCompletedBy, AreReturns}
 use Rattle.stamp_explain.specs.Search.{first_state}
 use Rattle.stamp_explain.specs.Configuration.{Reaches}
 use Rattle.stamp_explain.specs.Configuration.Reaches.{begins}
@@ -33,7 +33,7 @@ use Rattle.stamp_explain.proofs.Entering.{read_left}
 
 -- what an order of the whole history is to a search
 pub completed_from : (h : ObservedHistory) (returns : List ℕ) (rest : List Effect) → AreReturns h.entries returns →
-    IsCompletedBy (LockTransition h.limits) h.entries returns (first_state h.width) [] rest → IsExplainedBy h rest
+    IsCompletedBy (StateTransition h.limits) h.entries returns (first_state h.width) [] rest → IsExplainedBy h rest
 completed_from h returns rest are by = record {
   effects = by.effects;
   once = by.once;
@@ -48,7 +48,7 @@ completed_from h returns rest are by = record {
     right (inr has) = has
 
 pub explained_by : (h : ObservedHistory) (returns : List ℕ) → AreReturns h.entries returns →
-    (explained : IsExplained h) → IsCompletedBy (LockTransition h.limits) h.entries returns (first_state h.width) []
+    (explained : IsExplained h) → IsCompletedBy (StateTransition h.limits) h.entries returns (first_state h.width) []
     explained.order
 explained_by h returns are explained =
     let by = explained.by in
@@ -339,7 +339,7 @@ found_nothing h returns store waiting are is none explained =
       taken = [];
       stands = opening_stands h returns is.first is.is_first;
       rest = explained.order;
-      by = subst (λ (n : ℕ). IsCompletedBy (LockTransition h.limits) h.entries (drop n returns)
+      by = subst (λ (n : ℕ). IsCompletedBy (StateTransition h.limits) h.entries (drop n returns)
           (first_state h.width) []
           explained.order) (sym is.is_first.past) (explained_by h returns are explained);
       moves = refl;

@@ -17,7 +17,7 @@ use Rattle.stamp_explain.specs.declared.observed.Returned.{Returned}
 use Rattle.stamp_explain.specs.Observed.{ObservedHistory, IsBefore, HasReturned, IsInterval, IsObserved, IsReturnAt}
 use Rattle.stamp_explain.specs.Explained.{Effect, history_of, indices_of, IsExplained}
 use Rattle.stamp_explain.specs.Search.{Runs, IsCompletedBy, CanComplete, FindsOrder, ReturnsNoLater, AreInOrder}
-use Rattle.stamp_explain.specs.Search.{IsFirstReturn, LockState, first_state, after_call, LockTransition}
+use Rattle.stamp_explain.specs.Search.{IsFirstReturn, LockState, first_state, after_call, StateTransition}
 use Rattle.stamp_explain.specs.Search.FindsOrder.{at_end, returns, takes}
 use Rattle.stamp_explain.specs.ExplainLaws.{JustInTime}
 use Rattle.stamp_explain.proofs.Lists.{none_in_empty, contains_cases, contains_rest, pairs_head, pairs_tail, either_in}
@@ -30,31 +30,31 @@ pub record IsSoundReturn (entries : List Observation) (i : ℕ) : Type 0 where
   pub awaited : IsAwaited entries i entry
 
 abbrev FindsWithin : {S : Type 0} → (S → Call × Reply → S → Type 0) → List Observation → ℕ → Type 0
-FindsWithin {S} step entries n = (to_come : List ℕ) (s : S) (taken : List ℕ) (rest : List Effect) →
+FindsWithin {S} Goes entries n = (to_come : List ℕ) (s : S) (taken : List ℕ) (rest : List Effect) →
     length to_come + length rest ≤ n → All (IsSoundReturn entries) to_come →
-    IsCompletedBy step entries to_come s taken rest → FindsOrder step entries to_come s taken
+    IsCompletedBy Goes entries to_come s taken rest → FindsOrder Goes entries to_come s taken
 
 -- what an order completes is found; n bounds the moves
-pub finds : {S : Type 0} (step : S → Call × Reply → S → Type 0) (entries : List Observation) (n : ℕ)
+pub finds : {S : Type 0} (Goes : S → Call × Reply → S → Type 0) (entries : List Observation) (n : ℕ)
     (to_come : List ℕ) (s : S) (taken : List ℕ) (rest : List Effect) → length to_come + length rest ≤ n →
-    All (IsSoundReturn entries) to_come → IsCompletedBy step entries to_come s taken rest →
-    FindsOrder step entries to_come s taken
-finds step entries n [] s taken rest few sound by = at_end
-finds step entries zero (i ∷ to_come) s taken rest few sound by = absurd (omega arith)
-finds {S} step entries (suc n) (i ∷ to_come) s taken rest few sound by =
-    which rest few by (either_in taken i) (finds step entries n)
+    All (IsSoundReturn entries) to_come → IsCompletedBy Goes entries to_come s taken rest →
+    FindsOrder Goes entries to_come s taken
+finds Goes entries n [] s taken rest few sound by = at_end
+finds Goes entries zero (i ∷ to_come) s taken rest few sound by = absurd (omega arith)
+finds {S} Goes entries (suc n) (i ∷ to_come) s taken rest few sound by =
+    which rest few by (either_in taken i) (finds Goes entries n)
   where
     it : IsSoundReturn entries i
     it = All-head (IsSoundReturn entries) i to_come sound
 
     which : (rest : List Effect) → length (i ∷ to_come) + length rest ≤ suc n →
-        IsCompletedBy step entries (i ∷ to_come) s taken rest → Contains taken i ⊎ (¬ Contains taken i) →
-        FindsWithin step entries n → FindsOrder step entries (i ∷ to_come) s taken
+        IsCompletedBy Goes entries (i ∷ to_come) s taken rest → Contains taken i ⊎ (¬ Contains taken i) →
+        FindsWithin Goes entries n → FindsOrder Goes entries (i ∷ to_come) s taken
     which rest few by (inl has) go = returns has (go to_come s taken rest (omega arith)
-        (All-tail (IsSoundReturn entries) i to_come sound) (past_return step entries i to_come s taken rest by))
-    which [] few by (inr not_yet) go = absurd (never_empty step entries i to_come s taken not_yet by)
+        (All-tail (IsSoundReturn entries) i to_come sound) (past_return Goes entries i to_come s taken rest by))
+    which [] few by (inr not_yet) go = absurd (never_empty Goes entries i to_come s taken not_yet by)
     which (x ∷ rest) few by (inr not_yet) go =
-        let first = takes_first step entries i it.entry to_come s taken x rest it.awaited not_yet by in
+        let first = takes_first Goes entries i it.entry to_come s taken x rest it.awaited not_yet by in
         takes it.entry x first.0 it.awaited.is_entry not_yet first.1.0
         (go (i ∷ to_come) first.0 (x.index ∷ taken) rest (omega arith) sound first.1.1)
 
@@ -114,30 +114,30 @@ taken_pending entries to_come taken x pending = record {
 }
 
 -- what is found completes
-pub completes : {S : Type 0} (step : S → Call × Reply → S → Type 0) (entries : List Observation) {to_come : List ℕ}
-    {s : S} {taken : List ℕ} → FindsOrder step entries to_come s taken → ArePending entries to_come taken →
-    CanComplete step entries to_come s taken
-completes step entries (at_end {s} {taken}) pending = record { rest = []; by = completed_by_none step entries s taken }
-completes step entries (returns {i} {to_come} {s} {taken} has found) pending =
+pub completes : {S : Type 0} (Goes : S → Call × Reply → S → Type 0) (entries : List Observation) {to_come : List ℕ}
+    {s : S} {taken : List ℕ} → FindsOrder Goes entries to_come s taken → ArePending entries to_come taken →
+    CanComplete Goes entries to_come s taken
+completes Goes entries (at_end {s} {taken}) pending = record { rest = []; by = completed_by_none Goes entries s taken }
+completes Goes entries (returns {i} {to_come} {s} {taken} has found) pending =
     let more : ArePending entries to_come taken = record {
       whole = λ j e at back not_yet. other (contains_cases i to_come j (pending.whole j e at back not_yet)) not_yet;
       in_order = pairs_tail (AreInOrder entries) i to_come pending.in_order;
     } in
-    let left : CanComplete step entries to_come s taken = completes step entries found more in
-    record { rest = left.rest; by = before_return step entries i to_come s taken left.rest has left.by }
+    let left : CanComplete Goes entries to_come s taken = completes Goes entries found more in
+    record { rest = left.rest; by = before_return Goes entries i to_come s taken left.rest has left.by }
   where
     other : {j : ℕ} → (i ≡ j) ⊎ Contains to_come j → ¬ Contains taken j → Contains to_come j
     other (inl e) not_yet = absurd (not_yet (subst (λ (k : ℕ). Contains taken k) e has))
     other (inr found) not_yet = found
-completes step entries (takes {i} {to_come} {s} {taken} a x t at not_yet may found) pending =
+completes Goes entries (takes {i} {to_come} {s} {taken} a x t at not_yet may found) pending =
     let more : ArePending entries (i ∷ to_come) (x.index ∷ taken) = record {
       whole = λ j e at_j back misses. pending.whole j e at_j back (λ has. misses (rest_of j has));
       in_order = pending.in_order;
     } in
-    let left : CanComplete step entries (i ∷ to_come) t (x.index ∷ taken) = completes step entries found more in
+    let left : CanComplete Goes entries (i ∷ to_come) t (x.index ∷ taken) = completes Goes entries found more in
     record {
       rest = x ∷ left.rest;
-      by = puts_first step entries a (i ∷ to_come) s t taken x left.rest
+      by = puts_first Goes entries a (i ∷ to_come) s t taken x left.rest
           (first_of_pending entries i a to_come taken at pending) may left.by;
     }
   where
@@ -146,7 +146,7 @@ completes step entries (takes {i} {to_come} {s} {taken} a x t at not_yet may fou
 
 -- legal histories are those that lock and record run
 pub runs_legal : (limits : Bounds) (events : List LockEvent) (content : List ℕ) (history : History) →
-    IsLegalFrom limits events content history → Runs (LockTransition limits) (events, content) history
+    IsLegalFrom limits events content history → Runs (StateTransition limits) (events, content) history
 runs_legal limits events content [] legal = tt
 runs_legal limits events content (x ∷ xs) legal = (
   after_call limits (events, content) x,
@@ -157,12 +157,12 @@ runs_legal limits events content (x ∷ xs) legal = (
 )
 
 pub legal_runs : (limits : Bounds) (events : List LockEvent) (content : List ℕ) (history : History) →
-    Runs (LockTransition limits) (events, content) history → IsLegalFrom limits events content history
+    Runs (StateTransition limits) (events, content) history → IsLegalFrom limits events content history
 legal_runs limits events content [] runs = tt
 legal_runs limits events content (x ∷ xs) runs = (
   runs.1.0.replies,
   legal_runs limits (events ++ appended_by (transition limits events x.0))
-      (content_next content x.0 x.1) xs (subst (λ (t : LockState). Runs (LockTransition limits) t xs) runs.1.0.next
+      (content_next content x.0 x.1) xs (subst (λ (t : LockState). Runs (StateTransition limits) t xs) runs.1.0.next
       runs.1.1),
 )
 
@@ -188,10 +188,10 @@ sound_return h i observed r = record {
 pub just_in_time : JustInTime
 just_in_time h to_come observed are = (there, back)
   where
-    there : IsExplained h → FindsOrder (LockTransition h.limits) h.entries to_come (first_state h.width) []
+    there : IsExplained h → FindsOrder (StateTransition h.limits) h.entries to_come (first_state h.width) []
     there explained =
         let by = explained.by in
-        finds (LockTransition h.limits) h.entries (length to_come + length explained.order) to_come
+        finds (StateTransition h.limits) h.entries (length to_come + length explained.order) to_come
         (first_state h.width) []
         explained.order (omega arith)
         (All-weaker (IsReturnAt h.entries) (IsSoundReturn h.entries) (λ i r. sound_return h i observed r) to_come
@@ -207,10 +207,10 @@ just_in_time h to_come observed are = (there, back)
           runs = runs_legal h.limits [] (zeros h.width) (history_of explained.order) by.legal;
         })
 
-    back : FindsOrder (LockTransition h.limits) h.entries to_come (first_state h.width) [] → IsExplained h
+    back : FindsOrder (StateTransition h.limits) h.entries to_come (first_state h.width) [] → IsExplained h
     back found =
-        let left : CanComplete (LockTransition h.limits) h.entries to_come (first_state h.width) [] =
-        completes (LockTransition h.limits) h.entries found (record {
+        let left : CanComplete (StateTransition h.limits) h.entries to_come (first_state h.width) [] =
+        completes (StateTransition h.limits) h.entries found (record {
           whole =
               λ i e at returned _. are.whole i e at returned;
           in_order = are.in_order;

@@ -14,7 +14,7 @@ use Rattle.stamp_explain.specs.declared.node.Waiting.{Waiting}
 use Rattle.stamp_explain.specs.declared.store.Store.{Store}
 use Rattle.stamp_explain.specs.Observed.{IsObserved, ObservedHistory, IsReturnAt}
 use Rattle.stamp_explain.specs.Explained.{IsExplained}
-use Rattle.stamp_explain.specs.Search.{LockTransition, IsCompletedBy, AreReturns, first_state}
+use Rattle.stamp_explain.specs.Search.{StateTransition, IsCompletedBy, AreReturns, first_state}
 use Rattle.stamp_explain.specs.Configuration.{AreOne, AwaitsNext, Configuration, GoesOnFrom, IsAlive, LookedAtMore}
 use Rattle.stamp_explain.specs.Configuration.{MovesFromOne}
 use Rattle.stamp_explain.specs.Node.{IsFirstNode, IsNext}
@@ -66,7 +66,7 @@ deepens_no_more h returns store waited expanded are before all seen explained =
       taken = [];
       stands = opening_stands h returns first was.linked.is_first;
       rest = explained.order;
-      by = subst (λ (n : ℕ). IsCompletedBy (LockTransition h.limits) h.entries (drop n returns)
+      by = subst (λ (n : ℕ). IsCompletedBy (StateTransition h.limits) h.entries (drop n returns)
           (first_state h.width) []
           explained.order) (sym was.linked.is_first.past) (explained_by h returns are explained);
       moves = refl;
@@ -285,7 +285,8 @@ deepened_more h returns store waiting expanded most awaited is enough = record {
           taken = c.taken;
           stands = it.stands;
           rest = alive.rest;
-          by = subst (λ (xs : List ℕ). IsCompletedBy (LockTransition h.limits) h.entries xs c.state c.taken alive.rest)
+          by = subst (λ (xs : List ℕ). IsCompletedBy (StateTransition h.limits) h.entries xs c.state c.taken
+              alive.rest)
               it.to_come alive.by;
           moves = refl;
         }))

@@ -9,7 +9,7 @@ use Rattle.stamp_explain.specs.declared.node.Node.{Node}
 use Rattle.stamp_explain.specs.declared.order.Taken.{Taken}
 use Rattle.stamp_explain.specs.Observed.{ObservedHistory}
 use Rattle.stamp_explain.specs.Explained.{Effect}
-use Rattle.stamp_explain.specs.Search.{LockState, LockTransition, IsCompletedBy}
+use Rattle.stamp_explain.specs.Search.{LockState, StateTransition, IsCompletedBy}
 use Rattle.stamp_explain.specs.Configuration.{Reaches, put_after}
 use Rattle.stamp_explain.specs.Configuration.Reaches.{goes_past, goes_on_by}
 use Rattle.stamp_explain.specs.Node.{StandsFor, IsReached}
@@ -98,14 +98,14 @@ led_by h returns node w (Some i) reached leads =
       next = l.state;
       index = l.index;
       is_effect = l.may.effect;
-      steps = l.may.steps;
+      goes = l.may.goes;
     }
 
 -- these calls, with these replies, complete what a node stands for
 pub record EndsFor (h : ObservedHistory) (returns : List ℕ) (v : Node) (s : LockState) (taken : List ℕ)
     (left : List Taken) : Type 0 where
   pub rest : List Effect
-  pub by : IsCompletedBy (LockTransition h.limits) h.entries (drop v.past returns) s taken rest
+  pub by : IsCompletedBy (StateTransition h.limits) h.entries (drop v.past returns) s taken rest
   pub are : left ≡ taken_of rest
 
 pub record Ends (h : ObservedHistory) (returns : List ℕ) (v : Node) (left : List Taken) : Type 0 where
@@ -124,8 +124,8 @@ pub ends_last : (h : ObservedHistory) (returns : List ℕ) (v : Node) → length
 ends_last h returns v all = record {
   ends = λ s taken stands pending. record {
     rest = [];
-    by = subst (λ (to_come : List ℕ). IsCompletedBy (LockTransition h.limits) h.entries to_come s taken [])
-        (sym (none_after returns v.past all)) (completed_by_none (LockTransition h.limits) h.entries s taken);
+    by = subst (λ (to_come : List ℕ). IsCompletedBy (StateTransition h.limits) h.entries to_come s taken [])
+        (sym (none_after returns v.past all)) (completed_by_none (StateTransition h.limits) h.entries s taken);
     are = refl;
   };
 }
@@ -151,9 +151,9 @@ ends_past h returns node w left leads after = record {
         (subst (λ (rest : List ℕ). ArePending h.entries rest taken) to_come pending)) in
         record {
           rest = end.rest;
-          by = subst (λ (rest : List ℕ). IsCompletedBy (LockTransition h.limits) h.entries rest s taken end.rest)
+          by = subst (λ (rest : List ℕ). IsCompletedBy (StateTransition h.limits) h.entries rest s taken end.rest)
               (sym to_come)
-              (before_return (LockTransition h.limits) h.entries i (drop w.past returns) s taken end.rest l.in_effect
+              (before_return (StateTransition h.limits) h.entries i (drop w.past returns) s taken end.rest l.in_effect
               end.by);
           are = end.are;
         }
@@ -179,15 +179,15 @@ ends_call h returns node w i one left leads same replies after = record {
         let at : slice_get h.entries one.entry ≡ Some x.entry =
         ap (λ (k : ℕ). slice_get h.entries k) entry ∙ l.may.effect.is_entry in
         let reply : one.reply ≡ x.reply = one_reply h.limits s.0 s.1 x.entry.call one.reply x.reply
-        (replies x.entry s at stands.at) l.may.steps.replies in
+        (replies x.entry s at stands.at) l.may.goes.replies in
         record {
           rest = x ∷ end.rest;
-          by = puts_first (LockTransition h.limits) h.entries l.awaited (drop node.past returns) s l.state taken x
+          by = puts_first (StateTransition h.limits) h.entries l.awaited (drop node.past returns) s l.state taken x
               end.rest
               (first_of_pending h.entries (slice_index returns node.past) l.awaited (drop (suc node.past) returns)
               taken l.is_awaited (subst (λ (rest : List ℕ). ArePending h.entries rest taken)
               (come returns node.past leads.inside) pending)) l.may
-              (subst (λ (rest : List ℕ). IsCompletedBy (LockTransition h.limits) h.entries rest l.state
+              (subst (λ (rest : List ℕ). IsCompletedBy (StateTransition h.limits) h.entries rest l.state
               (x.index ∷ taken) end.rest) to_come end.by);
           are = ap (λ (n : ℕ). record { entry = n; reply = one.reply } ∷ left) entry ∙
               ap (λ (r : Reply). record { entry = x.index; reply = r } ∷ left) reply ∙

@@ -9,7 +9,7 @@ use Rattle.stamp_explain.specs.declared.node.Origin.{Origin}
 use Rattle.stamp_explain.specs.declared.store.Store.{Store}
 use Rattle.stamp_explain.specs.declared.order.Taken.{Taken}
 use Rattle.stamp_explain.specs.Observed.{ObservedHistory}
-use Rattle.stamp_explain.specs.Search.{LockTransition, IsCompletedBy, AreReturns, first_state}
+use Rattle.stamp_explain.specs.Search.{StateTransition, IsCompletedBy, AreReturns, first_state}
 use Rattle.stamp_explain.specs.Expand.{ComesAfter, IsLed, IsLinkedAt, AreLinked}
 use Rattle.stamp_explain.specs.Order.{IsTakenAt, IsOrderOf, IsEnd}
 use Rattle.stamp_explain.proofs.Finding.{ArePending}
@@ -97,7 +97,7 @@ pub back_first : (h : ObservedHistory) (returns : List ℕ) (store : Store) (fou
 back_first h returns store found are linked way = record {
   order = end.rest;
   explains = completed_from h returns end.rest are
-      (subst (λ (to_come : List ℕ). IsCompletedBy (LockTransition h.limits) h.entries to_come (first_state h.width) []
+      (subst (λ (to_come : List ℕ). IsCompletedBy (StateTransition h.limits) h.entries to_come (first_state h.width) []
       end.rest) all end.by);
   are = end.are;
 }

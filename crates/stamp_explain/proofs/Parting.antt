@@ -195,11 +195,11 @@ judged_apart h observed = (
 )
 
 -- an order of one of them completes a search for it among all calls
-completes : {S : Type 0} (step : S → Call × Reply → S → Type 0) (h : ObservedHistory) (p : Observation → Bool)
+completes : {S : Type 0} (Goes : S → Call × Reply → S → Type 0) (h : ObservedHistory) (p : Observation → Bool)
     (lock : Bool) (returns : List ℕ) (s : S) → (is : PartOrder h p) → AreReturnsOf h.entries lock returns →
-    ((e : Observation) → is_lock_call e.call ≡ lock → p e ≡ true) → Runs step s (history_of is.order) →
-    CanComplete step h.entries returns s []
-completes step h p lock returns s is are pass runs = record {
+    ((e : Observation) → is_lock_call e.call ≡ lock → p e ≡ true) → Runs Goes s (history_of is.order) →
+    CanComplete Goes h.entries returns s []
+completes Goes h p lock returns s is are pass runs = record {
   rest = is.order;
   by = record {
     effects = is.by.effects;
@@ -214,11 +214,11 @@ completes step h p lock returns s is are pass runs = record {
 }
 
 -- and what completes it is an order
-completed : {S : Type 0} (step : S → Call × Reply → S → Type 0) (h : ObservedHistory) (p : Observation → Bool)
-    (lock : Bool) (returns : List ℕ) (s : S) → (can : CanComplete step h.entries returns s []) →
+completed : {S : Type 0} (Goes : S → Call × Reply → S → Type 0) (h : ObservedHistory) (p : Observation → Bool)
+    (lock : Bool) (returns : List ℕ) (s : S) → (can : CanComplete Goes h.entries returns s []) →
     AreReturnsOf h.entries lock returns → ((e : Observation) → p e ≡ true → is_lock_call e.call ≡ lock) →
     AllPass p can.rest → IsLegal h.limits h.width (history_of can.rest) → PartOrder h p
-completed step h p lock returns s can are kind passes legal = record {
+completed Goes h p lock returns s can are kind passes legal = record {
   order = can.rest;
   by = record { effects = can.by.effects; once = can.by.once; ordered = can.by.ordered; legal = legal };
   passes = passes;

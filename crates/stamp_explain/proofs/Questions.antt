@@ -16,7 +16,7 @@ use Rattle.stamp_explain.specs.declared.observed.Observation.{Observation}
 use Rattle.stamp_explain.specs.declared.observed.Returned.{Returned}
 use Rattle.stamp_explain.specs.Unchanging.{changes_nothing, is_question, asks_by, is_open_question}
 use Rattle.stamp_explain.specs.Explained.{Effect, IsEffectOf, history_of, indices_of}
-use Rattle.stamp_explain.specs.Search.{LockState, LockTransition, Runs}
+use Rattle.stamp_explain.specs.Search.{LockState, StateTransition, Runs}
 use Rattle.stamp_explain.specs.ExplainLaws.{OpenQuestionsAreNotNeeded}
 use Rattle.stamp_explain.specs.Observed.{IsReturnAt}
 use Rattle.stamp_explain.proofs.Lists.{contains_cases, contains_rest}
@@ -67,9 +67,9 @@ open_question e asks = by e.returned refl asks
 -- what an order completes after a question under way, it completes without it
 pub without_question : (limits : Bounds) (entries : List Observation) (returns : List ℕ) (s u : LockState)
     (taken : List ℕ) (x : Effect) (left : ℕ) → All (IsReturnAt entries) returns → IsEffectOf entries x →
-    LockTransition limits s (x.entry.call, x.reply) u → is_open_question x.entry ≡ true →
-    CompletesIn (LockTransition limits) entries returns u (x.index ∷ taken) left →
-    CompletesIn (LockTransition limits) entries returns s taken left
+    StateTransition limits s (x.entry.call, x.reply) u → is_open_question x.entry ≡ true →
+    CompletesIn (StateTransition limits) entries returns u (x.index ∷ taken) left →
+    CompletesIn (StateTransition limits) entries returns s taken left
 without_question limits entries returns s u taken x left are effect steps asks can = record {
   rest = can.rest;
   by = record {
@@ -78,7 +78,7 @@ without_question limits entries returns s u taken x left are effect steps asks c
     fresh = λ k d lt has. can.by.fresh k d lt (contains_rest x.index taken (get_or can.rest k d).index has);
     returned = λ k d lt. back (get_or returns k d) (are k d lt) (can.by.returned k d lt);
     ordered = can.by.ordered;
-    runs = subst (λ (t : LockState). Runs (LockTransition limits) t (history_of can.rest)) same can.by.runs;
+    runs = subst (λ (t : LockState). Runs (StateTransition limits) t (history_of can.rest)) same can.by.runs;
   };
   moves = can.moves;
 }
@@ -109,7 +109,7 @@ without_question limits entries returns s u taken x left are effect steps asks c
 
 pub open_questions_are_not_needed : OpenQuestionsAreNotNeeded
 open_questions_are_not_needed limits entries to_come s t taken x are effect asks steps can =
-    let left : CompletesIn (LockTransition limits) entries to_come s taken (length to_come + length can.rest) =
+    let left : CompletesIn (StateTransition limits) entries to_come s taken (length to_come + length can.rest) =
     without_question limits entries to_come s t taken x (length to_come + length can.rest) are effect steps asks
     (record { rest = can.rest; by = can.by; moves = refl }) in
     record { rest = left.rest; by = left.by }

@@ -54,7 +54,7 @@ replied h node i e returned range led is_entry at f s is there =
     subst (λ (o : Observation). IsReply h.limits s.0 s.1 o.call returned.reply) same
     (subst (λ (reply : Reply). IsReply h.limits s.0 s.1 led.effect.entry.call reply) (sym told)
     (one_reply_at h node.bits node.writer led.state s led.effect.entry.call led.effect.reply range led.at there
-    led.steps.replies))
+    led.goes.replies))
 
 -- the same, where the entry is read
 pub replied_read : (h : ObservedHistory) (node : Node) (i : ℕ) (read : List Observation) (e : Observation)

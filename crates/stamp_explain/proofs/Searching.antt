@@ -8,25 +8,25 @@ use Rattle.stamp_core.specs.declared.reply.Reply.{Reply}
 use Rattle.stamp_explain.specs.declared.observed.Observation.{Observation}
 use Rattle.stamp_explain.specs.Observed.{AreOfOneObject}
 use Rattle.stamp_explain.specs.Explained.{Effect}
-use Rattle.stamp_explain.specs.Search.{IsCompletedBy, MayTake, LockState, LockTransition}
+use Rattle.stamp_explain.specs.Search.{IsCompletedBy, MayTake, LockState, StateTransition}
 use Rattle.stamp_explain.proofs.Lists.{either_in}
 use Rattle.stamp_explain.proofs.Completing.{IsAwaited, past_return}
 use Rattle.stamp_explain.proofs.Swapping.{TakesAlike, takes_alike}
 
 -- an order completes it, in so many moves: returns and calls that take effect
-pub record CompletesIn {S : Type 0} (step : S → Call × Reply → S →
+pub record CompletesIn {S : Type 0} (Goes : S → Call × Reply → S →
     Type 0) (entries : List Observation) (to_come : List ℕ) (s : S) (taken : List ℕ) (n : ℕ) : Type 0 where
   pub rest : List Effect
-  pub by : IsCompletedBy step entries to_come s taken rest
+  pub by : IsCompletedBy Goes entries to_come s taken rest
   pub moves : length to_come + length rest ≡ n
 
 -- the return is past, and the rest takes a move less
-pub record GoesPast {S : Type 0} (step : S → Call × Reply → S →
+pub record GoesPast {S : Type 0} (Goes : S → Call × Reply → S →
     Type 0) (entries : List Observation) (i : ℕ) (to_come : List ℕ) (s : S) (taken : List ℕ) (n : ℕ) : Type 0 where
   pub in_effect : Contains taken i
   pub left : ℕ
   pub fewer : n ≡ suc left
-  pub completes : CompletesIn step entries to_come s taken left
+  pub completes : CompletesIn Goes entries to_come s taken left
 
 -- a call of the awaited one's object takes effect, and the rest takes a move less
 pub record GoesOnBy (limits : Bounds) (entries : List Observation) (i : ℕ) (a : Observation) (to_come : List ℕ)
@@ -35,27 +35,27 @@ pub record GoesOnBy (limits : Bounds) (entries : List Observation) (i : ℕ) (a 
   pub effect : Effect
   pub alike : AreOfOneObject a effect.entry
   pub state : LockState
-  pub may : MayTake (LockTransition limits) entries a s taken effect state
+  pub may : MayTake (StateTransition limits) entries a s taken effect state
   pub left : ℕ
   pub fewer : n ≡ suc left
-  pub completes : CompletesIn (LockTransition limits) entries (i ∷ to_come) state (effect.index ∷ taken) left
+  pub completes : CompletesIn (StateTransition limits) entries (i ∷ to_come) state (effect.index ∷ taken) left
 
 -- what can be completed goes on by one of these two moves
 pub goes_on : (limits : Bounds) (entries : List Observation) (i : ℕ) (a : Observation) (to_come : List ℕ)
     (s : LockState) (taken : List ℕ) (n : ℕ) → IsAwaited entries i a →
-    CompletesIn (LockTransition limits) entries (i ∷ to_come) s taken n →
-    GoesPast (LockTransition limits) entries i to_come s taken n ⊎ GoesOnBy limits entries i a to_come s taken n
+    CompletesIn (StateTransition limits) entries (i ∷ to_come) s taken n →
+    GoesPast (StateTransition limits) entries i to_come s taken n ⊎ GoesOnBy limits entries i a to_come s taken n
 goes_on limits entries i a to_come s taken n awaited can = which (either_in taken i)
   where
     which : Contains taken i ⊎ (¬ Contains taken i) →
-        GoesPast (LockTransition limits) entries i to_come s taken n ⊎ GoesOnBy limits entries i a to_come s taken n
+        GoesPast (StateTransition limits) entries i to_come s taken n ⊎ GoesOnBy limits entries i a to_come s taken n
     which (inl has) = inl (record {
       in_effect = has;
       left = length to_come + length can.rest;
       fewer = omega (arith, can.moves);
       completes = record {
         rest = can.rest;
-        by = past_return (LockTransition limits) entries i to_come s taken can.rest can.by;
+        by = past_return (StateTransition limits) entries i to_come s taken can.rest can.by;
         moves = refl;
       };
     })

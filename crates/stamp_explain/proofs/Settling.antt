@@ -7,7 +7,7 @@ use Rattle.stamp_explain.specs.declared.node.Node.{Node}
 use Rattle.stamp_explain.specs.declared.node.Next.{Next}
 use Rattle.stamp_explain.specs.declared.order.Taken.{Taken}
 use Rattle.stamp_explain.specs.Observed.{ObservedHistory}
-use Rattle.stamp_explain.specs.Search.{IsCompletedBy, LockTransition}
+use Rattle.stamp_explain.specs.Search.{IsCompletedBy, StateTransition}
 use Rattle.stamp_explain.specs.Expand.{ComesByReturn, ComesNext, ComesAfter, GoesOn, Hope, IsLed, PassesOne, PassesTo}
 use Rattle.stamp_explain.specs.Expand.{Suffice}
 use Rattle.stamp_explain.specs.Expand.{IsNotInEffect}
@@ -35,7 +35,7 @@ hope_past h returns u w n step hope = record {
     taken = hope.taken;
     stands = l.stands;
     rest = hope.rest;
-    by = past_return (LockTransition h.limits) h.entries (slice_index returns u.past) (drop w.past returns) hope.state
+    by = past_return (StateTransition h.limits) h.entries (slice_index returns u.past) (drop w.past returns) hope.state
         hope.taken hope.rest (subst (λ (rest : List ℕ). IsCompleted rest) to_come hope.by);
     moves = refl;
   };
@@ -49,7 +49,7 @@ hope_past h returns u w n step hope = record {
         ap (λ (rest : List ℕ). slice_index returns u.past ∷ rest) (come_less returns u.past w.past l.past)
 
     IsCompleted : List ℕ → Type 0
-    IsCompleted rest = IsCompletedBy (LockTransition h.limits) h.entries rest hope.state hope.taken hope.rest
+    IsCompleted rest = IsCompletedBy (StateTransition h.limits) h.entries rest hope.state hope.taken hope.rest
 
 -- and after several
 pub hope_passes : (h : ObservedHistory) (returns : List ℕ) (v w : Node) (n : ℕ) → PassesTo h returns v w →

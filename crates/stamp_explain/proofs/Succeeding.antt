@@ -16,7 +16,7 @@ use Rattle.stamp_explain.specs.Observed.{ObservedHistory, IsObserved, HasReturne
 use Rattle.stamp_explain.specs.Explained.{Effect}
 use Rattle.stamp_explain.specs.Unchanging.{changes_nothing, unchanging_by, is_unchanging, unchanging_in}
 use Rattle.stamp_explain.specs.Unchanging.{is_unchanging_at, asks_in, asks_at}
-use Rattle.stamp_explain.specs.Search.{LockState, LockTransition, MayTake}
+use Rattle.stamp_explain.specs.Search.{LockState, StateTransition, MayTake}
 use Rattle.stamp_explain.specs.Search.{StandsBefore}
 use Rattle.stamp_explain.specs.Ahead.{GivesWay}
 use Rattle.stamp_explain.specs.Configuration.{IsAtOnce, IsFirstAtOnce, IsFirstAlike}
@@ -39,7 +39,7 @@ pub record NoneOfFirst (h : ObservedHistory) (asked : Option ℕ) (returns : Lis
     (k : ℕ) : Type 0 where
   pub none : (a : Observation) (s : LockState) (taken : List ℕ) → IsAwaitedAt h returns node.past a →
       StandsFor h returns node s taken → (x : Effect) (t : LockState) → IsAtOnce asked x → (p : ℕ) → p < k →
-      p < length calls → get_or calls p 0 ≡ x.index → ¬ MayTake (LockTransition h.limits) h.entries a s taken x t
+      p < length calls → get_or calls p 0 ≡ x.index → ¬ MayTake (StateTransition h.limits) h.entries a s taken x t
 
 pub none_of_none : (h : ObservedHistory) (asked : Option ℕ) (returns : List ℕ) (node : Node) (calls : List ℕ) →
     NoneOfFirst h asked returns node calls 0
@@ -52,7 +52,7 @@ pub none_of_more : (h : ObservedHistory) (asked : Option ℕ) (returns : List �
     (k : ℕ) → NoneOfFirst h asked returns node calls k →
     ((a : Observation) (s : LockState) (taken : List ℕ) → IsAwaitedAt h returns node.past a →
     StandsFor h returns node s taken → (x : Effect) (t : LockState) → IsAtOnce asked x →
-    get_or calls k 0 ≡ x.index → ¬ MayTake (LockTransition h.limits) h.entries a s taken x t) →
+    get_or calls k 0 ≡ x.index → ¬ MayTake (StateTransition h.limits) h.entries a s taken x t) →
     NoneOfFirst h asked returns node calls (k + 1)
 none_of_more h asked returns node calls k before here = record {
   none = λ a s taken awaited stands x t at_once p lt inside is.
@@ -65,7 +65,7 @@ none_of_more h asked returns node calls k before here = record {
     by : (a : Observation) (s : LockState) (taken : List ℕ) → IsAwaitedAt h returns node.past a →
         StandsFor h returns node s taken → (x : Effect) (t : LockState) → IsAtOnce asked x → (p : ℕ) →
         p < length calls → get_or calls p 0 ≡ x.index → (p < k) ⊎ (p ≡ k) →
-        ¬ MayTake (LockTransition h.limits) h.entries a s taken x t
+        ¬ MayTake (StateTransition h.limits) h.entries a s taken x t
     by a s taken awaited stands x t at_once p inside is (inl less) =
         before.none a s taken awaited stands x t at_once p less inside is
     by a s taken awaited stands x t at_once p inside is (inr same) =
@@ -127,7 +127,7 @@ first_at_once h asked timeline node a s taken calls k x is stands are before ins
     three : (p k : ℕ) → (p < k) ⊎ ((p ≡ k) ⊎ (k < p))
     three p k = grind arith
 
-    by : (y : Effect) (t : LockState) → IsAtOnce asked y → MayTake (LockTransition h.limits) h.entries a s taken y t →
+    by : (y : Effect) (t : LockState) → IsAtOnce asked y → MayTake (StateTransition h.limits) h.entries a s taken y t →
         Contains calls y.index → ¬ StandsBefore returns y.index x.index
     by y t too may (p, lt, at) sooner = which (three p k)
       where
@@ -260,9 +260,9 @@ suffices_at_once h timeline node a i w is unchanging takes n hope =
         unchanging_so x.entry x.reply
         (tells_unchanging h timeline.returns.items node a i w hope.state hope.taken unchanging took)
         took.may.effect.replies in
-        let once : TakesAtOnce (LockTransition h.limits) h.entries (drop node.past timeline.returns.items) hope.state
+        let once : TakesAtOnce (StateTransition h.limits) h.entries (drop node.past timeline.returns.items) hope.state
         (x.index ∷ hope.taken) n =
-        takes_at_once (LockTransition h.limits) h.entries (drop node.past timeline.returns.items) hope.state
+        takes_at_once (StateTransition h.limits) h.entries (drop node.past timeline.returns.items) hope.state
         hope.taken x n
         took.may.effect tells.0
         (λ s t steps. unchanging_calls_change_nothing h.limits x.entry.call x.reply s t tells.1 steps) took.may.fresh
@@ -270,8 +270,8 @@ suffices_at_once h timeline node a i w is unchanging takes n hope =
         tells.0 took.may.fresh)
         (record { rest = hope.rest; by = hope.by; moves = hope.moves }) in
         let same : took.state ≡ hope.state = unchanging_calls_change_nothing h.limits x.entry.call x.reply hope.state
-        took.state tells.1 took.may.steps in
-        let P : List ℕ → Type 0 = λ (to_come : List ℕ). CompletesIn (LockTransition h.limits) h.entries to_come
+        took.state tells.1 took.may.goes in
+        let P : List ℕ → Type 0 = λ (to_come : List ℕ). CompletesIn (StateTransition h.limits) h.entries to_come
         hope.state
         (x.index ∷ hope.taken) once.left in
         goes_on_to h timeline.returns.items (w ∷ []) w hope.state (x.index ∷ hope.taken) once.left n (alone w)

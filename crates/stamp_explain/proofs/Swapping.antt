@@ -17,7 +17,7 @@ use Rattle.stamp_core.specs.declared.reply.Reply.{Reply}
 use Rattle.stamp_explain.specs.declared.observed.Observation.{Observation}
 use Rattle.stamp_explain.specs.Observed.{AreOfOneObject}
 use Rattle.stamp_explain.specs.Explained.{Effect, IsEffectOf, history_of, indices_of}
-use Rattle.stamp_explain.specs.Search.{Runs, IsCompletedBy, MayTake, LockState, LockTransition}
+use Rattle.stamp_explain.specs.Search.{Runs, IsCompletedBy, MayTake, LockState, StateTransition}
 use Rattle.stamp_explain.specs.ExplainLaws.{OneObjectSuffices}
 use Rattle.stamp_explain.proofs.Lists.{none_in_empty, contains_cases}
 use Rattle.stamp_explain.proofs.Completing.{IsAwaited, IsBehind, same_entry, behind_length, awaited_in, takes_next}
@@ -33,7 +33,7 @@ abbrev after_record : LockState → Call × Reply → LockState
 after_record s x = (s.0, content_next s.1 x.0 x.1)
 
 lock_transitions : (limits : Bounds) (s t : LockState) (x : Call × Reply) → is_lock_call x.0 ≡ true →
-    LockTransition limits s x t → Replies (transition limits s.0 x.0) x.1 × (t ≡ after_lock limits s x.0)
+    StateTransition limits s x t → Replies (transition limits s.0 x.0) x.1 × (t ≡ after_lock limits s x.0)
 lock_transitions limits s t x lock is = (
   subst (λ (b : Bool). MatchBool b (Replies (transition limits s.0 x.0) x.1) (RecordReplies s.1 x.0 x.1)) lock
       is.replies,
@@ -42,7 +42,7 @@ lock_transitions limits s t x lock is = (
 )
 
 by_lock : (limits : Bounds) (s : LockState) (x : Call × Reply) → is_lock_call x.0 ≡ true →
-    Replies (transition limits s.0 x.0) x.1 → LockTransition limits s x (after_lock limits s x.0)
+    Replies (transition limits s.0 x.0) x.1 → StateTransition limits s x (after_lock limits s x.0)
 by_lock limits s x lock replies = record {
   replies = subst (λ (b : Bool). MatchBool b (Replies (transition limits s.0 x.0) x.1) (RecordReplies s.1 x.0 x.1))
       (sym lock) replies;
@@ -51,7 +51,7 @@ by_lock limits s x lock replies = record {
 }
 
 record_transitions : (limits : Bounds) (s t : LockState) (x : Call × Reply) → is_lock_call x.0 ≡ false →
-    LockTransition limits s x t → RecordReplies s.1 x.0 x.1 × (t ≡ after_record s x)
+    StateTransition limits s x t → RecordReplies s.1 x.0 x.1 × (t ≡ after_record s x)
 record_transitions limits s t x guarded is = (
   subst (λ (b : Bool). MatchBool b (Replies (transition limits s.0 x.0) x.1) (RecordReplies s.1 x.0 x.1)) guarded
       is.replies,
@@ -60,7 +60,7 @@ record_transitions limits s t x guarded is = (
 )
 
 by_record : (limits : Bounds) (s : LockState) (x : Call × Reply) → is_lock_call x.0 ≡ false →
-    RecordReplies s.1 x.0 x.1 → LockTransition limits s x (after_record s x)
+    RecordReplies s.1 x.0 x.1 → StateTransition limits s x (after_record s x)
 by_record limits s x guarded replies = record {
   replies = subst (λ (b : Bool). MatchBool b (Replies (transition limits s.0 x.0) x.1) (RecordReplies s.1 x.0 x.1))
       (sym guarded) replies;
@@ -71,11 +71,11 @@ by_record limits s x guarded replies = record {
 -- the second call may be made first
 record Swaps (limits : Bounds) (s t : LockState) (x y : Call × Reply) : Type 0 where
   state : LockState
-  sooner : LockTransition limits s x state
-  later : LockTransition limits state y t
+  sooner : StateTransition limits s x state
+  later : StateTransition limits state y t
 
 swaps : (limits : Bounds) (s u t : LockState) (x y : Call × Reply) → is_lock_call y.0 ≢ is_lock_call x.0 →
-    LockTransition limits s y u → LockTransition limits u x t → Swaps limits s t x y
+    StateTransition limits s y u → StateTransition limits u x t → Swaps limits s t x y
 swaps limits s u t x y other one two = by (is_lock_call x.0) (is_lock_call y.0) refl refl
   where
     by : (b c : Bool) → is_lock_call x.0 ≡ b → is_lock_call y.0 ≡ c → Swaps limits s t x y
@@ -89,7 +89,7 @@ swaps limits s u t x y other one two = by (is_lock_call x.0) (is_lock_call y.0) 
           state = after_lock limits s x.0;
           sooner = by_lock limits s x x_is
               (subst (λ (w : LockState). Replies (transition limits w.0 x.0) x.1) f.1 g.0);
-          later = subst (λ (w : LockState). LockTransition limits (after_lock limits s x.0) y w)
+          later = subst (λ (w : LockState). StateTransition limits (after_lock limits s x.0) y w)
               (sym (g.1 ∙ ap (λ (w : LockState). after_lock limits w x.0) f.1))
               (by_record limits (after_lock limits s x.0) y y_is f.0);
         }
@@ -100,7 +100,7 @@ swaps limits s u t x y other one two = by (is_lock_call x.0) (is_lock_call y.0) 
         record {
           state = after_record s x;
           sooner = by_record limits s x x_is (subst (λ (w : LockState). RecordReplies w.1 x.0 x.1) f.1 g.0);
-          later = subst (λ (w : LockState). LockTransition limits (after_record s x) y w)
+          later = subst (λ (w : LockState). StateTransition limits (after_record s x) y w)
               (sym (g.1 ∙ ap (λ (w : LockState). after_record w x) f.1))
               (by_lock limits (after_record s x) y y_is f.0);
         }
@@ -115,8 +115,8 @@ record Brings (limits : Bounds) (s : LockState) (lock : Bool) (rest : List Effec
   kind : is_lock_call effect.entry.call ≡ lock
   out : IsBehind (IsOfOther lock) effect rest others
   state : LockState
-  steps : LockTransition limits s (effect.entry.call, effect.reply) state
-  runs : Runs (LockTransition limits) state (history_of others)
+  steps : StateTransition limits s (effect.entry.call, effect.reply) state
+  runs : Runs (StateTransition limits) state (history_of others)
 
 same_or_other : (b c : Bool) → (b ≡ c) ⊎ (b ≢ c)
 same_or_other true true = inl refl
@@ -132,7 +132,7 @@ other_call entries i a at y is other same =
 
 brings : (limits : Bounds) (entries : List Observation) (i : ℕ) (a : Observation) (s : LockState)
     (rest : List Effect) → slice_get entries i ≡ Some a → All (IsEffectOf entries) rest →
-    Runs (LockTransition limits) s (history_of rest) → Contains (indices_of rest) i →
+    Runs (StateTransition limits) s (history_of rest) → Contains (indices_of rest) i →
     Brings limits s (is_lock_call a.call) rest
 brings limits entries i a s [] at effects runs has = absurd (none_in_empty i has)
 brings limits entries i a s (y ∷ rest) at effects runs has =
@@ -154,7 +154,7 @@ brings limits entries i a s (y ∷ rest) at effects runs has =
       kind = same;
       out = at_first;
       state = runs.0;
-      steps = runs.1.0;
+      goes = runs.1.0;
       runs = runs.1.1;
     }
     by (inr other) again =
@@ -162,14 +162,14 @@ brings limits entries i a s (y ∷ rest) at effects runs has =
         again (rest_only other (contains_cases y.index (indices_of rest) i has)) in
         let w : Swaps limits s b.state (b.effect.entry.call, b.effect.reply) (y.entry.call, y.reply) =
         swaps limits s runs.0 b.state (b.effect.entry.call, b.effect.reply) (y.entry.call, y.reply)
-        (λ e. other (e ∙ b.kind)) runs.1.0 b.steps in
+        (λ e. other (e ∙ b.kind)) runs.1.0 b.goes in
         record {
           effect = b.effect;
           others = y ∷ b.others;
           kind = b.kind;
           out = behind other b.out;
           state = w.state;
-          steps = w.sooner;
+          goes = w.sooner;
           runs = (b.state, (w.later, b.runs));
         }
 
@@ -180,13 +180,13 @@ pub record TakesAlike (limits : Bounds) (entries : List Observation) (i : ℕ) (
   pub others : List Effect
   pub alike : AreOfOneObject a effect.entry
   pub state : LockState
-  pub may : MayTake (LockTransition limits) entries a s taken effect state
-  pub by : IsCompletedBy (LockTransition limits) entries (i ∷ to_come) state (effect.index ∷ taken) others
+  pub may : MayTake (StateTransition limits) entries a s taken effect state
+  pub by : IsCompletedBy (StateTransition limits) entries (i ∷ to_come) state (effect.index ∷ taken) others
   pub fewer : length rest ≡ suc (length others)
 
 pub takes_alike : (limits : Bounds) (entries : List Observation) (i : ℕ) (a : Observation) (to_come : List ℕ)
     (s : LockState) (taken : List ℕ) (rest : List Effect) → IsAwaited entries i a → ¬ Contains taken i →
-    IsCompletedBy (LockTransition limits) entries (i ∷ to_come) s taken rest →
+    IsCompletedBy (StateTransition limits) entries (i ∷ to_come) s taken rest →
     TakesAlike limits entries i a to_come s taken rest
 takes_alike limits entries i a to_come s taken rest awaited not_yet by = record {
   effect = b.effect;
@@ -202,11 +202,11 @@ takes_alike limits entries i a to_come s taken rest awaited not_yet by = record 
     b = brings limits entries i a s rest awaited.is_entry by.effects by.runs
         (awaited_in i to_come taken rest not_yet by.returned)
 
-    both : MayTake (LockTransition limits) entries a s taken b.effect b.state ×
-        IsCompletedBy (LockTransition limits) entries (i ∷ to_come) b.state (b.effect.index ∷ taken) b.others
-    both = takes_next (LockTransition limits) entries i a to_come s b.state taken (IsOfOther (is_lock_call a.call))
+    both : MayTake (StateTransition limits) entries a s taken b.effect b.state ×
+        IsCompletedBy (StateTransition limits) entries (i ∷ to_come) b.state (b.effect.index ∷ taken) b.others
+    both = takes_next (StateTransition limits) entries i a to_come s b.state taken (IsOfOther (is_lock_call a.call))
         b.effect
-        awaited not_yet (other_call entries i a awaited.is_entry) b.out b.steps b.runs by
+        awaited not_yet (other_call entries i a awaited.is_entry) b.out b.goes b.runs by
 
 pub one_object_suffices : OneObjectSuffices
 one_object_suffices limits entries i a to_come s taken at interval not_yet can =

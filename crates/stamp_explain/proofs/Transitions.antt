@@ -42,7 +42,7 @@ lock_went h i e s bits next writer reply lock at goes =
     let found = goes.after s.0 at.word in
     record {
       may = found.0;
-      steps = record {
+      goes = record {
         replies = subst (λ (b : Bool). MatchBool b (Replies (transition h.limits s.0 e.call) reply)
             (RecordReplies s.1 e.call reply)) (sym lock) found.1.0;
         next = refl;
@@ -83,7 +83,7 @@ pub record_went : (h : ObservedHistory) (i : ℕ) (e : Observation) (s : LockSta
     Does h i e writer s (record { bits = bits; writer = next; reply = reply })
 record_went h i e s bits writer next reply is_entry guarded at goes = record {
   may = goes.0;
-  steps = record {
+  goes = record {
     replies = subst (λ (b : Bool). MatchBool b (Replies (transition h.limits s.0 e.call) reply)
         (RecordReplies s.1 e.call reply)) (sym guarded)
         (subst (λ (content : List ℕ). RecordReplies content e.call reply) at.content goes.1.0);

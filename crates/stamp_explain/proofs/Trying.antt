@@ -16,7 +16,7 @@ use Rattle.stamp_explain.specs.Observed.{ObservedHistory, IsObserved, IsBefore, 
 use Rattle.stamp_explain.specs.Observed.{AreOfOneObject}
 use Rattle.stamp_explain.specs.Explained.{Effect}
 use Rattle.stamp_explain.specs.Unchanging.{asks_by, asks_in, is_open_question}
-use Rattle.stamp_explain.specs.Search.{IsAlikeSooner, LockState, LockTransition, MayTake}
+use Rattle.stamp_explain.specs.Search.{IsAlikeSooner, LockState, StateTransition, MayTake}
 use Rattle.stamp_explain.specs.Ahead.{IsAhead, GivesWay}
 use Rattle.stamp_core.specs.Call.{is_lock_call}
 use Rattle.stamp_explain.specs.Node.{StandsFor}
@@ -58,7 +58,7 @@ pub record Tries (h : ObservedHistory) (asked : Option ℕ) (returns : List ℕ)
     (nexts : List Next) : Type 0 where
   pub tried : (a : Observation) (s : LockState) (taken : List ℕ) → IsAwaitedAt h returns node.past a →
       StandsFor h returns node s taken → (x : Effect) (u : LockState) →
-      MayTake (LockTransition h.limits) h.entries a s taken x u → AreOfOneObject a x.entry →
+      MayTake (StateTransition h.limits) h.entries a s taken x u → AreOfOneObject a x.entry →
       is_open_question x.entry ≡ false → (p : ℕ) → p < length calls → length calls ≤ p + k → get_or calls p 0 ≡
       x.index → MakesOrWaits h asked returns node calls x u taken nexts
 
@@ -77,7 +77,7 @@ pub one_more_tried : (h : ObservedHistory) (asked : Option ℕ) (returns : List 
     ((w : Next) → Contains old w → Contains new w) →
     ((a : Observation) (s : LockState) (taken : List ℕ) → IsAwaitedAt h returns node.past a →
     StandsFor h returns node s taken → (x : Effect) (u : LockState) →
-    MayTake (LockTransition h.limits) h.entries a s taken x u → AreOfOneObject a x.entry →
+    MayTake (StateTransition h.limits) h.entries a s taken x u → AreOfOneObject a x.entry →
     is_open_question x.entry ≡ false → get_or calls (length calls - 1 - k) 0 ≡ x.index →
     MakesOrWaits h asked returns node calls x u taken new) → Tries h asked returns node calls (k + 1) new
 one_more_tried h asked returns node calls k old new tries more kept makes = record {
@@ -99,7 +99,7 @@ one_more_tried h asked returns node calls k old new tries more kept makes = reco
 
     by : (a : Observation) (s : LockState) (taken : List ℕ) → IsAwaitedAt h returns node.past a →
         StandsFor h returns node s taken → (x : Effect) (u : LockState) →
-        MayTake (LockTransition h.limits) h.entries a s taken x u → AreOfOneObject a x.entry →
+        MayTake (StateTransition h.limits) h.entries a s taken x u → AreOfOneObject a x.entry →
         is_open_question x.entry ≡ false → (p : ℕ) → p < length calls → get_or calls p 0 ≡ x.index →
         (length calls ≤ p + k) ⊎ (p ≡ length calls - 1 - k) → MakesOrWaits h asked returns node calls x u taken new
     by a s taken awaited stands x u may alike asks_not p lt is (inl le) =
@@ -202,8 +202,8 @@ pub record Completes (h : ObservedHistory) (timeline : Timeline) (node : Node) (
     (taken : List ℕ) (u : LockState) (left : ℕ) (x : Effect) : Type 0 where
   object : AreOfOneObject a x.entry
   asks_not : is_open_question x.entry ≡ false
-  may : MayTake (LockTransition h.limits) h.entries a s taken x u
-  rest : CompletesIn (LockTransition h.limits) h.entries (get_or timeline.returns.items node.past 0 ∷
+  may : MayTake (StateTransition h.limits) h.entries a s taken x u
+  rest : CompletesIn (StateTransition h.limits) h.entries (get_or timeline.returns.items node.past 0 ∷
       drop (suc node.past) timeline.returns.items) u (x.index ∷ taken) left
 
 -- so may one that goes ahead of it
@@ -291,9 +291,9 @@ goes_or_waits h asked timeline node a calls k nexts s taken most u left x is are
         (bound_ahead out.goes.entry x.entry (subst (IsAhead out.goes.entry) same out.goes.ahead))
         (completes_ahead h asked timeline node a calls s taken u left x is are stands it out same)
     by (inr found) =
-        let P : List ℕ → Type 0 = λ (to_come : List ℕ). CompletesIn (LockTransition h.limits) h.entries to_come u
+        let P : List ℕ → Type 0 = λ (to_come : List ℕ). CompletesIn (StateTransition h.limits) h.entries to_come u
         (x.index ∷ taken) left in
-        let rest : CompletesIn (LockTransition h.limits) h.entries (drop found.via.past returns) u (x.index ∷ taken)
+        let rest : CompletesIn (StateTransition h.limits) h.entries (drop found.via.past returns) u (x.index ∷ taken)
         left =
         subst P (same_left found.via found.past) it.rest in
         let there : HopesWithin h returns found.next.node left =
@@ -357,14 +357,14 @@ suffice_by_one h asked timeline node a calls k nexts is bit are all tries n agai
     hope_without : (on : GoesOnBy h.limits h.entries i a (drop (suc node.past) returns) hope.state hope.taken n) →
         is_open_question on.effect.entry ≡ true → Hope h returns node on.left
     hope_without on asking =
-        let P : List ℕ → Type 0 = λ (xs : List ℕ). CompletesIn (LockTransition h.limits) h.entries xs hope.state
+        let P : List ℕ → Type 0 = λ (xs : List ℕ). CompletesIn (StateTransition h.limits) h.entries xs hope.state
         hope.taken
         on.left in
-        let can : CompletesIn (LockTransition h.limits) h.entries (drop node.past returns) hope.state hope.taken
+        let can : CompletesIn (StateTransition h.limits) h.entries (drop node.past returns) hope.state hope.taken
         on.left =
         subst P (sym (left_of h timeline node a is)) (without_question h.limits h.entries to_come hope.state on.state
         hope.taken
-        on.effect on.left are_returns on.may.effect on.may.steps asking on.completes) in
+        on.effect on.left are_returns on.may.effect on.may.goes asking on.completes) in
         record {
           state = hope.state;
           taken = hope.taken;
@@ -383,7 +383,7 @@ suffice_by_one h asked timeline node a calls k nexts is bit are all tries n agai
       hope = on.hope;
     }
 
-    goes : GoesPast (LockTransition h.limits) h.entries i (drop (suc node.past) returns) hope.state hope.taken n ⊎
+    goes : GoesPast (StateTransition h.limits) h.entries i (drop (suc node.past) returns) hope.state hope.taken n ⊎
         GoesOnBy h.limits h.entries i a (drop (suc node.past) returns) hope.state hope.taken n →
         GoesOn h returns nexts n
     goes (inl past) = absurd (not_yet h timeline node a hope.state hope.taken is bit hope.stands past.in_effect)

@@ -14,7 +14,7 @@ use Rattle.stamp_explain.specs.Observed.{ObservedHistory, AreOfOneObject, IsBefo
 use Rattle.stamp_explain.specs.Unchanging.{is_unchanging, is_open_question}
 use Rattle.stamp_explain.specs.Explained.{Effect, IsExplained}
 use Rattle.stamp_explain.specs.Ahead.{IsAhead}
-use Rattle.stamp_explain.specs.Search.{LockState, LockTransition, CanComplete, MayTake, AreReturns, StandsBefore}
+use Rattle.stamp_explain.specs.Search.{LockState, StateTransition, CanComplete, MayTake, AreReturns, StandsBefore}
 use Rattle.stamp_explain.specs.Search.{first_state}
 
 -- whose words the record holds after a call, which stands at this place of the history, and its reply
@@ -33,12 +33,12 @@ pub record IsFirstAtOnce (h : ObservedHistory) (asked : Option ℕ) (returns : L
     (s : LockState) (taken : List ℕ) (x : Effect) : Type 0 where
   pub at_once : IsAtOnce asked x
   pub first : (y : Effect) (t : LockState) → IsAtOnce asked y →
-      MayTake (LockTransition h.limits) h.entries awaited s taken y t → ¬ StandsBefore returns y.index x.index
+      MayTake (StateTransition h.limits) h.entries awaited s taken y t → ¬ StandsBefore returns y.index x.index
 
 -- none of them may take effect
 abbrev pub NoneIsAtOnce : ObservedHistory → Option ℕ → Observation → LockState → List ℕ → Type 0
 NoneIsAtOnce h asked awaited s taken = (x : Effect) (t : LockState) → IsAtOnce asked x →
-    ¬ MayTake (LockTransition h.limits) h.entries awaited s taken x t
+    ¬ MayTake (StateTransition h.limits) h.entries awaited s taken x t
 
 -- each call that is alike and returned sooner is in effect, or begins after the awaited one has returned
 abbrev pub IsFirstAlike : ObservedHistory → Option ℕ → Observation → List ℕ → Effect → Type 0
@@ -71,7 +71,7 @@ pub data Reaches (h : ObservedHistory) (asked : Option ℕ) (returns : List ℕ)
   goes_on_by : {i : ℕ} {to_come : List ℕ} {s : LockState} {put : Option ℕ} {taken : List ℕ} →
       Reaches h asked returns (i ∷ to_come) s put taken → (awaited : Observation) (x : Effect) (t : LockState) →
       slice_get h.entries i ≡ Some awaited → ¬ Contains taken i → IsTried h asked returns awaited s taken x →
-      MayTake (LockTransition h.limits) h.entries awaited s taken x t →
+      MayTake (StateTransition h.limits) h.entries awaited s taken x t →
       Reaches h asked returns (i ∷ to_come) t (put_after put x.index x.entry.call x.reply) (x.index ∷ taken)
 
 -- where a way leads
@@ -118,7 +118,7 @@ pub record ReachesMoreBeside (h : ObservedHistory) (i most : ℕ) : Type 0 where
 
 -- an order goes on from here to the end
 abbrev pub IsAlive : (h : ObservedHistory) (returns : List ℕ) → Configuration h None returns → Type 0
-IsAlive h returns c = CanComplete (LockTransition h.limits) h.entries c.to_come c.state c.taken
+IsAlive h returns c = CanComplete (StateTransition h.limits) h.entries c.to_come c.state c.taken
 
 -- the second goes on from the first: its calls took effect as they did there, and then more; returns that were to
 -- come there are past

@@ -17,7 +17,7 @@ use Rattle.stamp_explain.specs.Observed.{ObservedHistory, IsObserved, AreOfOneOb
 use Rattle.stamp_explain.specs.Unchanging.{asks_at}
 use Rattle.stamp_explain.specs.Ahead.{GivesWay}
 use Rattle.stamp_explain.specs.Explained.{Effect, IsEffectOf, IsExplained}
-use Rattle.stamp_explain.specs.Search.{LockState, LockTransition, MayTake, IsCompletedBy}
+use Rattle.stamp_explain.specs.Search.{LockState, StateTransition, MayTake, IsCompletedBy}
 use Rattle.stamp_explain.specs.Configuration.{GivesUp, IsGivenUp, IsTried, NoneIsAtOnce, put_after}
 use Rattle.stamp_explain.specs.Node.{IsStateBy, StandsFor, IsReached, IsFirstNode}
 use Rattle.stamp_explain.specs.Timeline.{IsTimeline, IsAwaitedAt}
@@ -37,7 +37,7 @@ pub record Hope (h : ObservedHistory) (returns : List ℕ) (node : Node) (n : �
   pub taken : List ℕ
   pub stands : StandsFor h returns node state taken
   pub rest : List Effect
-  pub by : IsCompletedBy (LockTransition h.limits) h.entries (drop node.past returns) state taken rest
+  pub by : IsCompletedBy (StateTransition h.limits) h.entries (drop node.past returns) state taken rest
   pub moves : length (drop node.past returns) + length rest ≡ n
 
 -- a node that comes next can be completed in fewer moves
@@ -60,7 +60,7 @@ pub record ComesByCall (h : ObservedHistory) (asked : Option ℕ) (returns : Lis
   pub index : effect.index ≡ i
   pub tried : IsTried h asked returns awaited s taken effect
   pub state : LockState
-  pub may : MayTake (LockTransition h.limits) h.entries awaited s taken effect state
+  pub may : MayTake (StateTransition h.limits) h.entries awaited s taken effect state
   pub put : w.writer ≡ put_after node.writer effect.index effect.entry.call effect.reply
   pub stands : StandsFor h returns w state (effect.index ∷ taken)
 
@@ -114,7 +114,7 @@ pub record IsLedBy (h : ObservedHistory) (node : Node) (i : ℕ) : Type 0 where
   pub next : LockState
   pub index : effect.index ≡ i
   pub is_effect : IsEffectOf h.entries effect
-  pub steps : LockTransition h.limits state (effect.entry.call, effect.reply) next
+  pub goes : StateTransition h.limits state (effect.entry.call, effect.reply) next
 
 abbrev pub IsLed : ObservedHistory → Node → Option ℕ → Type 0
 IsLed h node None = Unit {0}
@@ -142,15 +142,15 @@ pub record IsTakenTo (h : ObservedHistory) (returns : List ℕ) (node : Node) (a
   pub index : effect.index ≡ i
   pub took : w.took ≡ Some effect.index
   pub state : LockState
-  pub may : MayTake (LockTransition h.limits) h.entries a s taken effect state
+  pub may : MayTake (StateTransition h.limits) h.entries a s taken effect state
   pub put : w.node.writer ≡ put_after node.writer effect.index effect.entry.call effect.reply
   pub stands : StandsFor h returns w.node state (effect.index ∷ taken)
-  pub only : (x : Effect) (u : LockState) → MayTake (LockTransition h.limits) h.entries a s taken x u → x.index ≡ i →
+  pub only : (x : Effect) (u : LockState) → MayTake (StateTransition h.limits) h.entries a s taken x u → x.index ≡ i →
       StandsFor h returns w.node u (x.index ∷ taken)
 
 abbrev pub Takes : ObservedHistory → List ℕ → Node → Observation → ℕ → LockState → List ℕ → Option Next → Type 0
 Takes h returns node a i s taken None = (x : Effect) (u : LockState) →
-    MayTake (LockTransition h.limits) h.entries a s taken x u → x.index ≢ i
+    MayTake (StateTransition h.limits) h.entries a s taken x u → x.index ≢ i
 Takes h returns node a i s taken (Some w) = IsTakenTo h returns node a i s taken w
 
 -- what was found of the call of this entry, in whatever the node stands for

@@ -14,7 +14,7 @@ use Rattle.stamp_core.specs.Linearized.{IsLinearized}
 use Rattle.stamp_explain.specs.Points.{IsRecordOfObserved}
 use Rattle.stamp_explain.specs.Cut.{cut, seen_at, IsStuck}
 use Rattle.stamp_explain.specs.Search.{LockState, FindsOrder, CanComplete, MayTake, AreReturns, AreReturnsOf}
-use Rattle.stamp_explain.specs.Search.{LockTransition, LockAlone, RecordAlone, first_state, IsFirstReturn}
+use Rattle.stamp_explain.specs.Search.{StateTransition, LockAlone, RecordAlone, first_state, IsFirstReturn}
 use Rattle.stamp_explain.specs.Search.{IsAlikeSooner}
 use Rattle.stamp_explain.specs.Configuration.{Configuration, IsAlive, GivesUp}
 use Rattle.stamp_core.specs.Content.{zeros}
@@ -42,23 +42,23 @@ OneStuck = (h : ObservedHistory) (i j : ℕ) → IsStuck h i → IsStuck h j →
 abbrev pub JustInTime : Type 0
 JustInTime =
     (h : ObservedHistory) (returns : List ℕ) → IsObserved h → AreReturns h.entries returns →
-    IsExplained h ↔ FindsOrder (LockTransition h.limits) h.entries returns (first_state h.width) []
+    IsExplained h ↔ FindsOrder (StateTransition h.limits) h.entries returns (first_state h.width) []
 
 -- A call whose reply tells that it changes nothing changes nothing.
 abbrev pub UnchangingCallsChangeNothing : Type 0
 UnchangingCallsChangeNothing =
     (limits : Bounds) (call : Call) (reply : Reply) (s t : LockState) →
-    changes_nothing call reply ≡ true → LockTransition limits s (call, reply) t → t ≡ s
+    changes_nothing call reply ≡ true → StateTransition limits s (call, reply) t → t ≡ s
 
 -- So once it may take effect, nothing is lost if it does.
 abbrev pub UnchangingCallsAtOnce : Type 0
 UnchangingCallsAtOnce =
     (limits : Bounds) (entries : List Observation) (awaited : Observation) (to_come : List ℕ) (s t : LockState)
     (taken : List ℕ) (x : Effect) →
-    MayTake (LockTransition limits) entries awaited s taken x t → HasReturned x.entry →
+    MayTake (StateTransition limits) entries awaited s taken x t → HasReturned x.entry →
     changes_nothing x.entry.call x.reply ≡ true →
-    CanComplete (LockTransition limits) entries to_come s taken →
-    CanComplete (LockTransition limits) entries to_come s (x.index ∷ taken)
+    CanComplete (StateTransition limits) entries to_come s taken →
+    CanComplete (StateTransition limits) entries to_come s (x.index ∷ taken)
 
 -- a call of the awaited one's object may take effect, and the search can be completed then
 pub record GoesOnAlike (limits : Bounds) (entries : List Observation) (i : ℕ) (awaited : Observation)
@@ -66,8 +66,8 @@ pub record GoesOnAlike (limits : Bounds) (entries : List Observation) (i : ℕ) 
   pub effect : Effect
   pub alike : AreOfOneObject awaited effect.entry
   pub state : LockState
-  pub may : MayTake (LockTransition limits) entries awaited s taken effect state
-  pub can : CanComplete (LockTransition limits) entries (i ∷ to_come) state (effect.index ∷ taken)
+  pub may : MayTake (StateTransition limits) entries awaited s taken effect state
+  pub can : CanComplete (StateTransition limits) entries (i ∷ to_come) state (effect.index ∷ taken)
 
 -- Where a return is awaited, nothing is lost if of the open calls only those of its object are tried: those of the
 -- lock, or those of the record.
@@ -76,22 +76,22 @@ OneObjectSuffices =
     (limits : Bounds) (entries : List Observation) (i : ℕ) (awaited : Observation) (to_come : List ℕ) (s : LockState)
     (taken : List ℕ) →
     slice_get entries i ≡ Some awaited → IsInterval awaited → ¬ Contains taken i →
-    CanComplete (LockTransition limits) entries (i ∷ to_come) s taken →
+    CanComplete (StateTransition limits) entries (i ∷ to_come) s taken →
     GoesOnAlike limits entries i awaited to_come s taken
 
 -- this call may take effect, and the search can be completed then
 pub record MayGoBy (limits : Bounds) (entries : List Observation) (awaited : Observation) (to_come : List ℕ)
     (s t : LockState) (taken : List ℕ) (y : Effect) : Type 0 where
-  pub may : MayTake (LockTransition limits) entries awaited s taken y t
-  pub can : CanComplete (LockTransition limits) entries to_come t (y.index ∷ taken)
+  pub may : MayTake (StateTransition limits) entries awaited s taken y t
+  pub can : CanComplete (StateTransition limits) entries to_come t (y.index ∷ taken)
 
 -- Of open calls that are alike, nothing is lost if the one that returned first takes effect before the others.
 abbrev pub AlikeByReturn : Type 0
 AlikeByReturn =
     (limits : Bounds) (entries : List Observation) (awaited : Observation) (to_come : List ℕ) (s t : LockState)
     (taken : List ℕ) (x : Effect) (k : ℕ) (e : Observation) →
-    IsFirstReturn entries taken awaited → MayTake (LockTransition limits) entries awaited s taken x t →
-    CanComplete (LockTransition limits) entries to_come t (x.index ∷ taken) →
+    IsFirstReturn entries taken awaited → MayTake (StateTransition limits) entries awaited s taken x t →
+    CanComplete (StateTransition limits) entries to_come t (x.index ∷ taken) →
     slice_get entries k ≡ Some e → IsAlikeSooner e x.entry → ¬ Contains taken k → ¬ IsBefore awaited e →
     Contains to_come k →
     MayGoBy limits entries awaited to_come s t taken (record { index = k; entry = e; reply = x.reply })
@@ -102,9 +102,9 @@ OpenQuestionsAreNotNeeded =
     (limits : Bounds) (entries : List Observation) (to_come : List ℕ) (s t : LockState) (taken : List ℕ)
     (x : Effect) →
     All (IsReturnAt entries) to_come → IsEffectOf entries x → is_open_question x.entry ≡ true →
-    LockTransition limits s (x.entry.call, x.reply) t → CanComplete (LockTransition limits) entries to_come t
+    StateTransition limits s (x.entry.call, x.reply) t → CanComplete (StateTransition limits) entries to_come t
     (x.index ∷ taken) →
-    CanComplete (LockTransition limits) entries to_come s taken
+    CanComplete (StateTransition limits) entries to_come s taken
 
 -- A recorded history of an observed one that is linearized explains it.
 abbrev pub PointsExplain : Type 0

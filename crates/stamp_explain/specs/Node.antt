@@ -12,7 +12,7 @@ use Rattle.stamp_explain.specs.declared.observed.Observation.{Observation}
 use Rattle.stamp_explain.specs.declared.node.Node.{Node}
 use Rattle.stamp_explain.specs.declared.node.CallTransition.{CallTransition}
 use Rattle.stamp_explain.specs.Observed.{ObservedHistory, IsBefore, AllowsReply}
-use Rattle.stamp_explain.specs.Search.{LockState, LockTransition, first_state, after_call}
+use Rattle.stamp_explain.specs.Search.{LockState, StateTransition, first_state, after_call}
 use Rattle.stamp_explain.specs.Configuration.{Reaches, put_after}
 
 -- the words that a call puts; zeros where it is no put
@@ -76,13 +76,13 @@ pub record IsFirstNode (h : ObservedHistory) (node : Node) : Type 0 where
 pub record Does (h : ObservedHistory) (i : ℕ) (e : Observation) (put : Option ℕ) (s : LockState)
     (transition : CallTransition) : Type 0 where
   pub may : AllowsReply e transition.reply
-  pub steps : LockTransition h.limits s (e.call, transition.reply) (after_call h.limits s (e.call, transition.reply))
+  pub goes : StateTransition h.limits s (e.call, transition.reply) (after_call h.limits s (e.call, transition.reply))
   pub at : IsStateBy h transition.bits transition.writer (after_call h.limits s (e.call, transition.reply))
   pub writer : transition.writer ≡ put_after put i e.call transition.reply
 
 -- what was found of a call in the state: what it does, or that no reply that its observation allows is given
 abbrev pub HasGone : ObservedHistory → ℕ → Observation → Option ℕ → LockState → Option CallTransition → Type 0
-HasGone h i e put s None = (reply : Reply) (t : LockState) → AllowsReply e reply → ¬ LockTransition h.limits s (
+HasGone h i e put s None = (reply : Reply) (t : LockState) → AllowsReply e reply → ¬ StateTransition h.limits s (
   e.call,
   reply,
 ) t

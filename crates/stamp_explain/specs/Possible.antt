@@ -9,7 +9,7 @@ use Rattle.stamp_explain.specs.declared.possible.PossibleError.TheVariants.{Unde
 use Rattle.stamp_explain.specs.Observed.{ObservedHistory, IsBefore, IsReturnAt}
 use Rattle.stamp_explain.specs.Explained.{IsExplained}
 use Rattle.stamp_explain.specs.Cut.{cut_after, place_then, seen_at}
-use Rattle.stamp_explain.specs.Search.{AreReturns, LockState, LockTransition}
+use Rattle.stamp_explain.specs.Search.{AreReturns, LockState, StateTransition}
 use Rattle.stamp_explain.specs.Configuration.{Configuration, IsGivenUp, ReachesMoreBeside}
 
 -- the call, returned at the same position with this reply
@@ -67,7 +67,7 @@ pub record GetsBeside (h : ObservedHistory) (i : ℕ) (e : Observation) (reply :
   pub still : ¬ Contains reached.taken i
   pub awaits : AwaitsNotBefore h reached.to_come e
   pub next : LockState
-  pub steps : LockTransition h.limits reached.state (e.call, reply) next
+  pub goes : StateTransition h.limits reached.state (e.call, reply) next
 
 -- a search of what is seen when the call at this place has returned, in which this call takes no effect, reaches more
 -- than so many configurations

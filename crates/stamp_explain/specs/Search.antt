@@ -18,11 +18,11 @@ use Rattle.stamp_explain.specs.Explained.{Effect, IsEffectOf, history_of, indice
 
 -- the calls have these replies, one after the other from this state on
 abbrev pub Runs : {S : Type 0} → (S → Call × Reply → S → Type 0) → S → History → Type 0
-Runs step s [] = Unit {0}
-Runs {S} step s (x ∷ xs) = (t : S) × (step s x t × Runs step t xs)
+Runs Goes s [] = Unit {0}
+Runs {S} Goes s (x ∷ xs) = (t : S) × (Goes s x t × Runs Goes t xs)
 
 -- in this state, with these calls in effect and these returns to come, the rest of an order
-pub record IsCompletedBy {S : Type 0} (step : S → Call × Reply → S →
+pub record IsCompletedBy {S : Type 0} (Goes : S → Call × Reply → S →
     Type 0) (entries : List Observation) (returns : List ℕ) (s : S) (taken : List ℕ) (rest : List Effect) : Type 0
   where
     pub effects : All (IsEffectOf entries) rest
@@ -30,22 +30,22 @@ pub record IsCompletedBy {S : Type 0} (step : S → Call × Reply → S →
     pub fresh : All (λ (x : Effect). ¬ Contains taken x.index) rest
     pub returned : All (λ (i : ℕ). Contains taken i ⊎ Contains (indices_of rest) i) returns
     pub ordered : AllPairs RespectsBefore rest
-    pub runs : Runs step s (history_of rest)
+    pub runs : Runs Goes s (history_of rest)
 
-pub record CanComplete {S : Type 0} (step : S → Call × Reply → S →
+pub record CanComplete {S : Type 0} (Goes : S → Call × Reply → S →
     Type 0) (entries : List Observation) (returns : List ℕ) (s : S) (taken : List ℕ) : Type 0 where
   pub rest : List Effect
-  pub by : IsCompletedBy step entries returns s taken rest
+  pub by : IsCompletedBy Goes entries returns s taken rest
 
 -- an open call may take effect: it hasn't yet, it began no later than the awaited call returned, and the
 -- object replies so
-pub record MayTake {S : Type 0} (step : S → Call × Reply → S →
+pub record MayTake {S : Type 0} (Goes : S → Call × Reply → S →
     Type 0) (entries : List Observation) (awaited : Observation) (s : S) (taken : List ℕ) (x : Effect) (t : S) : Type
     0 where
   pub effect : IsEffectOf entries x
   pub fresh : ¬ Contains taken x.index
   pub begun : ¬ IsBefore awaited x.entry
-  pub steps : step s (x.entry.call, x.reply) t
+  pub goes : Goes s (x.entry.call, x.reply) t
 
 -- of the calls that are not in effect this one returned first: what another had returned before, it had too
 abbrev pub IsFirstReturn : List Observation → List ℕ → Observation → Type 0
@@ -59,14 +59,14 @@ pub record IsAlikeSooner (e f : Observation) : Type 0 where
 
 -- a way to the end: a call in effect may return; where one that is not in effect is to return, an open call
 -- takes effect
-pub data FindsOrder {S : Type 0} (step : S → Call × Reply → S → Type 0) (entries : List Observation) : List ℕ → S →
+pub data FindsOrder {S : Type 0} (Goes : S → Call × Reply → S → Type 0) (entries : List Observation) : List ℕ → S →
     List ℕ → Type 0 where
-  at_end : {s : S} {taken : List ℕ} → FindsOrder step entries [] s taken
+  at_end : {s : S} {taken : List ℕ} → FindsOrder Goes entries [] s taken
   returns : {i : ℕ} {to_come : List ℕ} {s : S} {taken : List ℕ} → Contains taken i →
-      FindsOrder step entries to_come s taken → FindsOrder step entries (i ∷ to_come) s taken
+      FindsOrder Goes entries to_come s taken → FindsOrder Goes entries (i ∷ to_come) s taken
   takes : {i : ℕ} {to_come : List ℕ} {s : S} {taken : List ℕ} → (awaited : Observation) (x : Effect) (t : S) →
-      slice_get entries i ≡ Some awaited → ¬ Contains taken i → MayTake step entries awaited s taken x t →
-      FindsOrder step entries (i ∷ to_come) t (x.index ∷ taken) → FindsOrder step entries (i ∷ to_come) s taken
+      slice_get entries i ≡ Some awaited → ¬ Contains taken i → MayTake Goes entries awaited s taken x t →
+      FindsOrder Goes entries (i ∷ to_come) t (x.index ∷ taken) → FindsOrder Goes entries (i ∷ to_come) s taken
 
 -- the first returned, and the other did not return sooner
 abbrev pub ReturnsNoLater : Observation → Observation → Type 0
@@ -99,7 +99,7 @@ first_state width = ([], zeros width)
 abbrev pub after_call : Bounds → LockState → Call × Reply → LockState
 after_call limits s x = (s.0 ++ appended_by (transition limits s.0 x.0), content_next s.1 x.0 x.1)
 
-pub record LockTransition (limits : Bounds) (s : LockState) (x : Call × Reply) (t : LockState) : Type 0 where
+pub record StateTransition (limits : Bounds) (s : LockState) (x : Call × Reply) (t : LockState) : Type 0 where
   pub replies : IsReply limits s.0 s.1 x.0 x.1
   pub next : t ≡ after_call limits s x
 

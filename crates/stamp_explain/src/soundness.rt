@@ -52,7 +52,7 @@ fn is_apart_from(others: &[Observation], entry: &Observation) -> bool
     true
 }
 
-/// Whether an observer may tell this history, so that it can be explained: no call is over before it began,
+/// Whether an observer may tell this history, so that `explain` may be called on it: no call is over before it began,
 /// calls of one thread don't overlap, threads are below 64, and the calls suit the width.
 pub fn is_observed(observed: &Observed) -> bool
     ensures { IsTrue result ↔ IsObserved observed.now }

@@ -232,8 +232,8 @@ impl Machine {
     /// A value found at a lock's word has to be a word that the lock's limits admit. The limits of
     /// the record's own lock are the widest of the layout. Where a call of the record is in a lock
     /// call on that lock, the word found there must have a version left. So whoever drives machines
-    /// by hand has to stop before the versions are spent; a run never comes to their end. What a
-    /// store or a releasing exchange finds may be any number.
+    /// by hand has to stop before the versions are spent; a run never comes to their end. What is
+    /// found at a record's word, or by a releasing exchange, may be any number.
     pub fn resume(self, found: u64) -> Turn
         requires { IsFound self found }
         ensures after { result ≡ after_access self found }

@@ -3,7 +3,7 @@ use Rattle.std.specs.Prelude.{◌≢◌, ℕ, [], ◌∷◌}
 use mathlib.Core.List.{IsPrefix}
 use Rattle.stamp_core.specs.Limits.{Bounds}
 use Rattle.stamp_core.specs.declared.call.Call.{Call}
-use Rattle.stamp_threads.specs.PassView.{HasFound, MadeNoCall}
+use Rattle.stamp_threads.specs.PassView.{HasFound, MadeNoCallSince}
 use Rattle.stamp_threads.specs.LockLog.{LockLog, Appends}
 use Rattle.stamp_threads.specs.LockPass.{LockPassView, IsConsistentWith, LeavesWord}
 
@@ -20,5 +20,5 @@ pub record LostExchange (limits : Bounds) (call : Call) (loaded found : ℕ) (v 
     pub longer : IsPrefix first w.known
     pub first_appends : Appends limits first call
     pub second_appends : Appends limits w.known call
-    pub no_call : MadeNoCall v w
+    pub no_call : MadeNoCallSince v w
     pub consistent : IsConsistentWith limits w

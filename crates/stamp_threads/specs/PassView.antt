@@ -77,7 +77,7 @@ module _ {E P : Type 0} where
     pub splits : w.splits ≡ v.splits
 
   -- and it has made no call since
-  pub record MadeNoCall (v w : PassView E P) : Type 0 where
+  pub record MadeNoCallSince (v w : PassView E P) : Type 0 where
     pub same : IsSamePass v w
     pub own : w.own ≡ v.own
 
@@ -88,5 +88,5 @@ module _ {E P : Type 0} where
     pub second_begins : IsPrefix w.known v'.known
     pub alike : w'.known ≡ v'.known
     pub apart : v.name ≢ w.name
-    pub no_calls : MadeNoCall v v' × MadeNoCall w w'
+    pub no_calls : MadeNoCallSince v v' × MadeNoCallSince w w'
     pub finds : (v'.found ≡ v.found) × (w'.found ≡ w.found)

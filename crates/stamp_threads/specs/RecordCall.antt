@@ -15,7 +15,7 @@ use Rattle.stamp_threads.specs.declared.faults.PutFault.{PutFault}
 use Rattle.stamp_threads.specs.declared.faults.PutFault.TheVariants.{Busy, Lost, Spent}
 use Rattle.stamp_threads.specs.declared.faults.GetFault.{GetFault}
 use Rattle.stamp_threads.specs.declared.faults.GetFault.TheVariants as get
-use Rattle.stamp_threads.specs.PassView.{entry, HasFound, IsSamePass, MadeNoCall, PassesMet}
+use Rattle.stamp_threads.specs.PassView.{entry, HasFound, IsSamePass, MadeNoCallSince, PassesMet}
 use Rattle.stamp_threads.specs.RecordWord.{word_with, writer_unit}
 use Rattle.stamp_threads.specs.RecordLog.{RecordLog, word_after, content_in, is_locked, marker_in, puts}
 use Rattle.stamp_threads.specs.RecordPass.{RecordPassView, IsConsistentWith, LeavesWord}
@@ -57,7 +57,7 @@ pub record SawWord (shape : RecordShape) (v : RecordPassView) (word : ℕ) (w : 
     Type 0 where
   pub left : LeavesWord shape v word w.known
   pub others : is_locked w.known ≡ true → marker_in w.known ≢ v.name
-  pub no_call : MadeNoCall v w
+  pub no_call : MadeNoCallSince v w
   pub idle : w.phase ≡ Idle
   pub consistent : IsConsistentWith shape.width w
 

@@ -115,8 +115,8 @@ get_of words = Called Get (Content words)
 
 -- v is the pass before a step that has found this word, and me the seat after it
 module _ (shape : RecordShape) (v : RecordPassView) (found : ℕ) (me : Seated) where
-  -- the pass has come to know the whole history, is this one then, and made no call: where the
-  -- history is locked, another pass made its last mark
+  -- the pass has come to know the whole history and made no call: the seat has the pass that comes of it, and
+  -- where the history is locked, another pass made its last mark
   pub record CameToKnow (after_it : RecordLog → RecordPassView) : Type 0 where
     pub log : RecordLog
     pub left : LeavesWord shape v found log

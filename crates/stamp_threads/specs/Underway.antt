@@ -11,7 +11,7 @@ use Rattle.stamp_machines.specs.MachineState.{start, lock_alone, on_lock_alone}
 use Rattle.stamp_machines.specs.declared.machine.Turn.{Turn}
 use Rattle.stamp_machines.specs.declared.machine.Turn.TheVariants.{Going, Done}
 use Rattle.stamp_threads.specs.declared.lost.Lost.{Lost}
-use Rattle.stamp_threads.specs.PassView.{HasFound, MadeNoCall}
+use Rattle.stamp_threads.specs.PassView.{HasFound, MadeNoCallSince}
 use Rattle.stamp_threads.specs.LockPass.{LockPassView, IsConsistentWith, LeavesWord}
 use Rattle.stamp_threads.specs.LockRule.{Loaded}
 
@@ -31,12 +31,12 @@ turn_once limits call (Err lost) = Going (on_lock_alone limits call (Some lost.f
 pub record Waited (v : LockPassView) (words : List ℕ) (w : LockPassView) : Type 0 where
   pub begins : IsPrefix v.known w.known
   pub found : HasFound v words w
-  pub no_call : MadeNoCall v w
+  pub no_call : MadeNoCallSince v w
 
 -- the pass knew the whole history when the access found this word, and made no call
 pub record WentOn (limits : Bounds) (v : LockPassView) (word : ℕ) (w : LockPassView) : Type 0 where
   pub left : LeavesWord limits v word w.known
-  pub no_call : MadeNoCall v w
+  pub no_call : MadeNoCallSince v w
   pub consistent : IsConsistentWith limits w
 
 -- the last access of the call has found this word, on which it isn't decided yet. The pass, which was

@@ -43,14 +43,14 @@ impl Patience {
     }
 
     /// Pauses after a load that found this word, on which the call waits. After sixteen rounds it sleeps
-    /// instead, 100 microseconds at most, and not at all where the word has changed since.
+    /// instead, 100 microseconds at most, and not at all where the low half of the word differs by then.
     pub fn wait<R: Wait>(&mut self, rt: &R, table: &LockTable, found: u64)
         requires { table.now.table_id.words ≡ 1 }
     {
         if self.rounds < AWAKE {
             self.pause();
         } else {
-            // The sleep compares no more bits than these, and each change of the word changes them.
+            // The sleep compares no more bits than these. Each single change of the word changes them.
             let low = (found & 0xffff_ffff) as u32;
             table.park_timeout(rt, 0, low, Duration::from_micros(NAP));
         }

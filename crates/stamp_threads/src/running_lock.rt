@@ -176,10 +176,10 @@ impl RunningLock {
     }
 
     /// Makes the call, and tries again until it is made: `WriteLock` and `ReadLock` where they wait for
-    /// others, and every call where its exchange lost. Before each try it spins, the first eight times,
-    /// each twice as long as before; after that it lets other threads run. From the seventeenth time on
-    /// it sleeps where it waits, 100 microseconds at most each time; after a lost exchange it never
-    /// does. It may go on for ever.
+    /// others, and every call where its exchange lost. Before each further try it spins, the first eight
+    /// times, each twice as long as before; after that it lets other threads run. From the seventeenth
+    /// time on it sleeps where it waits, 100 microseconds at most each time; after a lost exchange it
+    /// never does. It may go on for ever.
     pub fn call<R: Wait>(&self, rt: &R, pass: &mut Pass, call: Call) -> Reply
         requires lock_call { IsTrue (is_lock_call call) }
         requires table { pass.old.table ≡ self.now.table }

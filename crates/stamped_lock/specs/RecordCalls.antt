@@ -6,7 +6,7 @@ use Rattle.stamp_core.specs.declared.reply.Reply.{Reply}
 use Rattle.stamp_threads.specs.declared.faults.PutFault.{PutFault}
 use Rattle.stamp_threads.specs.declared.faults.PutFault.TheVariants.{Spent}
 use Rattle.stamp_threads.specs.declared.faults.GetFault.{GetFault}
-use Rattle.stamp_threads.specs.PassView.{MadeNoCall}
+use Rattle.stamp_threads.specs.PassView.{MadeNoCallSince}
 use Rattle.stamp_threads.specs.RecordPass.{RecordPassView, RecordView}
 use Rattle.stamp_threads.specs.RecordCall.{RecordAnswered, PutRefused, GetRefused}
 
@@ -35,7 +35,7 @@ pub record RefusesGet (fault : GetFault) (h h' : RecordHandleView) : Type 0 wher
 pub record Tried (h h' : RecordHandleView) : Type 0 where
   pub same : h'.running ≡ h.running
   pub begins : IsPrefix h.pass.known h'.pass.known
-  pub no_call : MadeNoCall h.pass h'.pass
+  pub no_call : MadeNoCallSince h.pass h'.pass
 
 -- after some tries the call was made
 pub record MadeAtLast (call : Call) (reply : Reply) (h h' : RecordHandleView) : Type 0 where
