@@ -115,7 +115,7 @@ record Brings (limits : Bounds) (s : LockState) (lock : Bool) (rest : List Effec
   kind : is_lock_call effect.entry.call ≡ lock
   out : IsBehind (IsOfOther lock) effect rest others
   state : LockState
-  steps : StateTransition limits s (effect.entry.call, effect.reply) state
+  goes : StateTransition limits s (effect.entry.call, effect.reply) state
   runs : Runs (StateTransition limits) state (history_of others)
 
 same_or_other : (b c : Bool) → (b ≡ c) ⊎ (b ≢ c)
