@@ -30,7 +30,7 @@ use crate::replays::{is_answered, is_replayed};
 use crate::running::{running_lock_outcome, running_record_outcome};
 use crate::schedules::{are_runs_alike, is_judged, is_written};
 use crate::sharing::shared_outcome;
-use crate::texts::{BAD_REPLAY, BAD_SCRIPT, Reading, texts_outcome};
+use crate::texts::{BAD_REPLAY, BAD_SCRIPT, Reader, texts_outcome};
 use stamp_core::Limits;
 use std::process::ExitCode;
 use std::rt::Env;
@@ -43,8 +43,8 @@ fn outcome_of_all(rt: &(impl Wait + AllocGlobal), limits: Limits) -> Outcome {
     let outcomes = [
         Outcome::of(is_replayed(alloc, limits)),
         Outcome::of(is_answered(alloc)),
-        texts_outcome(alloc, Reading::Replay, &BAD_REPLAY),
-        texts_outcome(alloc, Reading::Script, &BAD_SCRIPT),
+        texts_outcome(alloc, Reader::Replay, &BAD_REPLAY),
+        texts_outcome(alloc, Reader::Script, &BAD_SCRIPT),
         fault_lines_outcome(alloc),
         orders_outcome(alloc, &ANSWERED),
         Outcome::of(is_written(alloc)),

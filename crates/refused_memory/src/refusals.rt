@@ -6,7 +6,7 @@ use crate::refused_records::{is_long_refused, records_outcome};
 use crate::refused_scripts::{SHAPES, WIDTHS, is_step_refused, shapes_outcome};
 use crate::replays::replay_waits_outcome;
 use crate::running::running_record_outcome;
-use crate::texts::{ANSWERS, HISTORIES, REPLAYS, Reading, SCRIPTS, texts_outcome};
+use crate::texts::{ANSWERS, HISTORIES, REPLAYS, Reader, SCRIPTS, texts_outcome};
 use stamp_core::Limits;
 use std::alloc::Global;
 
@@ -21,10 +21,10 @@ pub(crate) fn refusal_outcome(alloc: Global, limits: Limits, word: &str) -> Outc
         "replay" => replay_waits_outcome(alloc, limits),
         "book" => book_waits_outcome(alloc, limits),
         "put" => running_record_outcome(alloc, limits),
-        "read_replay" => texts_outcome(alloc, Reading::Replay, &REPLAYS),
-        "read_script" => texts_outcome(alloc, Reading::Script, &SCRIPTS),
-        "read_history" => texts_outcome(alloc, Reading::History, &HISTORIES),
-        "replay_text" => texts_outcome(alloc, Reading::Answer, &ANSWERS),
+        "read_replay" => texts_outcome(alloc, Reader::Replay, &REPLAYS),
+        "read_script" => texts_outcome(alloc, Reader::Script, &SCRIPTS),
+        "read_history" => texts_outcome(alloc, Reader::History, &HISTORIES),
+        "replay_text" => texts_outcome(alloc, Reader::Answer, &ANSWERS),
         "serve" => orders_outcome(alloc, &REFUSED),
         "read_fault" => orders_outcome(alloc, &READ_FAULT),
         "write_fault" => orders_outcome(alloc, &WRITE_FAULT),

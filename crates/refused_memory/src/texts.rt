@@ -6,9 +6,9 @@ use stamp_history::{
 };
 use std::alloc::Global;
 
-/// What a text is read as. A replay may be answered at once.
+/// The call that reads a text. A replay may be answered at once.
 #[derive(Clone, Copy)]
-pub(crate) enum Reading {
+pub(crate) enum Reader {
     Replay,
     Script,
     History,
@@ -177,20 +177,20 @@ fn fault_of<T: Drop>(read: Result<T, ReadError>) -> Option<AnswerError> {
 }
 
 /// How the text is refused, if it is.
-fn fault(alloc: Global, reading: Reading, text: &[u8]) -> Option<AnswerError> {
-    match reading {
-        Reading::Replay => fault_of(read_replay(alloc, text)),
-        Reading::Script => fault_of(read_script(alloc, text)),
-        Reading::History => fault_of(read_history(alloc, text)),
-        Reading::Answer => replay_text(alloc, text).err(),
+fn fault(alloc: Global, reader: Reader, text: &[u8]) -> Option<AnswerError> {
+    match reader {
+        Reader::Replay => fault_of(read_replay(alloc, text)),
+        Reader::Script => fault_of(read_script(alloc, text)),
+        Reader::History => fault_of(read_history(alloc, text)),
+        Reader::Answer => replay_text(alloc, text).err(),
     }
 }
 
 /// Each text, one after another: all are refused as they say, or for want of memory.
-pub(crate) fn texts_outcome(alloc: Global, reading: Reading, texts: &[Refused]) -> Outcome {
+pub(crate) fn texts_outcome(alloc: Global, reader: Reader, texts: &[Refused]) -> Outcome {
     let mut all = Outcome::Right;
     for (text, due) in texts {
-        all = all.and(match fault(alloc, reading, text) {
+        all = all.and(match fault(alloc, reader, text) {
             Some(AnswerError::Refused(ReadError::Memory)) => Outcome::Refused,
             found => Outcome::right_if(found == Some(*due)),
         });

@@ -15,7 +15,7 @@ use Rattle.stamp_explain.specs.Observed.{ObservedHistory}
 use Rattle.stamp_explain.specs.Search.{LockState}
 use Rattle.stamp_explain.specs.Configuration.{AwaitsNext, Configuration, ReachesMoreBeside}
 use Rattle.stamp_explain.specs.Node.{IsReached, IsFirstNode}
-use Rattle.stamp_explain.specs.Expand.{ComesNextBy, Enters, nodes_of}
+use Rattle.stamp_explain.specs.Expand.{ComesNextBy, AddsUnseen, nodes_of}
 use Rattle.stamp_explain.specs.Expand.{ComesByReturn, PassesTo}
 use Rattle.stamp_explain.specs.Expand.PassesTo.{passes_none, passes_more}
 use Rattle.stamp_explain.specs.Asking.{AreLed, AreMore, AreReplies, Gets, GetsMore}
@@ -130,45 +130,45 @@ pub record AsksSoFar (asking : Asking) (looked : ℕ) (store : Store) (waiting :
       Searches h asking.timeline.returns.items store waiting
 
 pub asked_first : (asking : Asking) (old new : Store) (waiting : List ℕ) (next : Next) → old.nodes.items ≡ [] →
-    IsFirstNode asking.seen next.node → Enters old new 0 [] waiting (next ∷ []) → AsksSoFar asking 0 new waiting []
-asked_first asking old new waiting next empty is enters = record {
-  explores = explores_first old new waiting next empty enters;
-  reached = λ v has. subst (IsReachedBeside asking) (only_first old new waiting next empty enters v has)
+    IsFirstNode asking.seen next.node → AddsUnseen old new 0 [] waiting (next ∷ []) → AsksSoFar asking 0 new waiting []
+asked_first asking old new waiting next empty is adds = record {
+  explores = explores_first old new waiting next empty adds;
+  reached = λ v has. subst (IsReachedBeside asking) (only_first old new waiting next empty adds v has)
       (opening_beside asking next.node is);
   once = pairs_none (λ (a b : Reply). a ≢ b);
   gets = λ reply has. absurd (none_in_empty reply has);
   searches = λ reply h answered misses. searches_first h asking.timeline.returns.items old new waiting next empty
-      (opening_alike asking.seen h asking.place next.node (alike_of asking reply h answered) is) enters;
+      (opening_alike asking.seen h asking.place next.node (alike_of asking reply h answered) is) adds;
 }
 
 pub asked_more : (asking : Asking) (looked : ℕ) (old new : Store) (before popped after : List ℕ) (nexts : List Next)
     (replies more : List Reply) (place : ℕ) (v : Node) → AsksSoFar asking looked old before replies →
     before ≡ popped ++ place ∷ [] → slice_get old.nodes.items place ≡ Some v → AreLed asking v nexts →
     AreMore replies more → GetsMore asking replies more → SufficeUnless asking v nexts more →
-    Enters old new place popped after nexts → AsksSoFar asking (looked + 1) new after more
+    AddsUnseen old new place popped after nexts → AsksSoFar asking (looked + 1) new after more
 asked_more asking looked old new before popped after nexts replies more place v is split at led grows gets suffice
-    enters =
+    adds =
     record {
-      explores = explores_more looked old new before popped after nexts place is.explores split enters;
-      reached = λ w has. by w (Contains-append_cases old.nodes.items (nodes_of enters.added) w
-          (subst (λ (ns : List Node). Contains ns w) enters.nodes has));
+      explores = explores_more looked old new before popped after nexts place is.explores split adds;
+      reached = λ w has. by w (Contains-append_cases old.nodes.items (nodes_of adds.added) w
+          (subst (λ (ns : List Node). Contains ns w) adds.nodes has));
       once = grows.once is.once;
       gets = λ reply has. gotten reply (gets reply has);
       searches = λ reply h answered misses. searches_more h asking.timeline.returns.items old new before popped after
           nexts place v (is.searches reply h answered (λ has. misses (grows.kept reply has))) split at
-          (suffice.suffice reply h answered misses) enters;
+          (suffice.suffice reply h answered misses) adds;
     }
   where
     gotten : (reply : Reply) → Contains replies reply ⊎ Gets asking reply → Gets asking reply
     gotten reply (inl has) = is.gets reply has
     gotten reply (inr new) = new
 
-    by : (w : Node) → Contains old.nodes.items w ⊎ Contains (nodes_of enters.added) w → IsReachedBeside asking w
+    by : (w : Node) → Contains old.nodes.items w ⊎ Contains (nodes_of adds.added) w → IsReachedBeside asking w
     by w (inl has) = is.reached w has
-    by w (inr has) = let found : (x : Next) × (Contains enters.added x × (x.node ≡ w)) = named enters.added w has in
+    by w (inr has) = let found : (x : Next) × (Contains adds.added x × (x.node ≡ w)) = named adds.added w has in
         subst (IsReachedBeside asking) found.1.1 (leads_beside asking v found.0
         (is.reached v (contains_at old.nodes.items place v at))
-        (led.each found.0 (All-contains (Contains nexts) enters.added found.0 enters.among found.1.0)))
+        (led.each found.0 (All-contains (Contains nexts) adds.added found.0 adds.among found.1.0)))
 
 -- where none waits, no other reply is explained
 pub asked_end : (asking : Asking) (looked : ℕ) (store : Store) (waiting : List ℕ) (replies : List Reply) →

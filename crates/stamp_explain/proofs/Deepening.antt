@@ -18,7 +18,7 @@ use Rattle.stamp_explain.specs.Node.{IsFirstNode}
 use Rattle.stamp_explain.specs.Store.{Keeps, BeginsWith}
 use Rattle.stamp_explain.specs.Expand.{Hope, GoesOn, ComesAfter, Expands}
 use Rattle.stamp_explain.specs.Expand.{AreLinked, waiting_from}
-use Rattle.stamp_explain.proofs.Entering.{read_left, read_right}
+use Rattle.stamp_explain.proofs.AddingUnseen.{read_left, read_right}
 use Rattle.stamp_explain.proofs.Counting.{IsFor}
 use Rattle.stamp_explain.proofs.Exploring.{opening_stands, opening_way}
 use Rattle.stamp_explain.proofs.GoingOn.{read_both, at_contains, same_goes_on}

@@ -25,11 +25,11 @@ use Rattle.stamp_explain.specs.Configuration.{Reaches}
 use Rattle.stamp_explain.specs.Configuration.Reaches.{begins}
 use Rattle.stamp_explain.specs.Node.{AreTaken, IsFirstNode, StandsFor, IsReached}
 use Rattle.stamp_explain.specs.Store.{Keeps}
-use Rattle.stamp_explain.specs.Expand.{Hope, GoesOn, Suffice, Enters, IsPlaced, nodes_of}
+use Rattle.stamp_explain.specs.Expand.{Hope, GoesOn, Suffice, AddsUnseen, IsPlaced, nodes_of}
 use Rattle.stamp_explain.proofs.Lists.{none_in_empty, contains_cases, contains_first, contains_rest}
 use Rattle.stamp_explain.proofs.Finding.{runs_legal, legal_runs}
 use Rattle.stamp_explain.proofs.Searching.{Waits, Follows, LosesNothing, node_kept, none_left}
-use Rattle.stamp_explain.proofs.Entering.{read_left}
+use Rattle.stamp_explain.proofs.AddingUnseen.{read_left}
 
 -- what an order of the whole history is to a search
 pub completed_from : (h : ObservedHistory) (returns : List ℕ) (rest : List Effect) → AreReturns h.entries returns →
@@ -137,48 +137,48 @@ named_at xs j w at = by (slice_get xs j) refl (sym (slice_get-map (λ (x : Next)
 
 -- the nodes of a store that had none
 first_nodes : (old new : Store) (waiting : List ℕ) (next : Next) → old.nodes.items ≡ [] →
-    (enters : Enters old new 0 [] waiting (next ∷ [])) → new.nodes.items ≡ nodes_of enters.added
-first_nodes old new waiting next empty enters =
-    enters.nodes ∙ ap (λ (ns : List Node). ns ++ nodes_of enters.added) empty
+    (adds : AddsUnseen old new 0 [] waiting (next ∷ [])) → new.nodes.items ≡ nodes_of adds.added
+first_nodes old new waiting next empty adds =
+    adds.nodes ∙ ap (λ (ns : List Node). ns ++ nodes_of adds.added) empty
 
 pub explores_first : (old new : Store) (waiting : List ℕ) (next : Next) → old.nodes.items ≡ [] →
-    Enters old new 0 [] waiting (next ∷ []) → Explores 0 new waiting
-explores_first old new waiting next empty enters = record {
-  keeps = enters.keeps;
-  inside = subst (All (λ (p : ℕ). p < length new.nodes.items)) (sym enters.to_do) enters.inside;
+    AddsUnseen old new 0 [] waiting (next ∷ []) → Explores 0 new waiting
+explores_first old new waiting next empty adds = record {
+  keeps = adds.keeps;
+  inside = subst (All (λ (p : ℕ). p < length new.nodes.items)) (sym adds.to_do) adds.inside;
   count = omega (
     arith,
-    ap (λ (ns : List Node). length ns) (first_nodes old new waiting next empty enters),
-    length-map enters.added (λ (w : Next). w.node),
-    enters.many,
-    ap (λ (ps : List ℕ). length ps) enters.to_do,
+    ap (λ (ns : List Node). length ns) (first_nodes old new waiting next empty adds),
+    length-map adds.added (λ (w : Next). w.node),
+    adds.many,
+    ap (λ (ps : List ℕ). length ps) adds.to_do,
   );
 }
 
 -- all of them are the first
 pub only_first : (old new : Store) (waiting : List ℕ) (next : Next) → old.nodes.items ≡ [] →
-    Enters old new 0 [] waiting (next ∷ []) → (v : Node) → Contains new.nodes.items v → next.node ≡ v
-only_first old new waiting next empty enters v has =
-    let found : (x : Next) × (Contains enters.added x × (x.node ≡ v)) = named enters.added v
-    (subst (λ (ns : List Node). Contains ns v) (first_nodes old new waiting next empty enters) has) in
+    AddsUnseen old new 0 [] waiting (next ∷ []) → (v : Node) → Contains new.nodes.items v → next.node ≡ v
+only_first old new waiting next empty adds v has =
+    let found : (x : Next) × (Contains adds.added x × (x.node ≡ v)) = named adds.added v
+    (subst (λ (ns : List Node). Contains ns v) (first_nodes old new waiting next empty adds) has) in
     ap (λ (w : Next). w.node) (which found.0 (contains_cases next [] found.0
-    (All-contains (Contains (next ∷ [])) enters.added found.0 enters.among found.1.0))) ∙ found.1.1
+    (All-contains (Contains (next ∷ [])) adds.added found.0 adds.among found.1.0))) ∙ found.1.1
   where
     which : (w : Next) → (next ≡ w) ⊎ Contains [] w → next ≡ w
     which w (inl e) = e
     which w (inr none) = absurd (none_in_empty w none)
 
 pub searches_first : (h : ObservedHistory) (returns : List ℕ) (old new : Store) (waiting : List ℕ) (next : Next) →
-    old.nodes.items ≡ [] → IsFirstNode h next.node → Enters old new 0 [] waiting (next ∷ []) →
+    old.nodes.items ≡ [] → IsFirstNode h next.node → AddsUnseen old new 0 [] waiting (next ∷ []) →
     Searches h returns new waiting
-searches_first h returns old new waiting next empty is enters = record {
+searches_first h returns old new waiting next empty is adds = record {
   loses = record {
     kept = λ u n seen hope. record {
       node = u;
       moves = n;
-      waiting = subst (λ (ps : List ℕ). IsPlaced new.nodes.items ps u) (sym enters.to_do)
-          (enters.placed u (subst (λ (ns : List Node). Contains ns u)
-          (first_nodes old new waiting next empty enters) seen));
+      waiting = subst (λ (ps : List ℕ). IsPlaced new.nodes.items ps u) (sym adds.to_do)
+          (adds.placed u (subst (λ (ns : List Node). Contains ns u)
+          (first_nodes old new waiting next empty adds) seen));
       no_more = omega arith;
       hope = hope;
     };
@@ -186,7 +186,7 @@ searches_first h returns old new waiting next empty is enters = record {
   first = next.node;
   is_first = is;
   at_first = slice_get-get_or new.nodes.items 0 next.node inside ∙ ap (λ (v : Node). Some v)
-      (sym (only_first old new waiting next empty enters (get_or new.nodes.items 0 next.node)
+      (sym (only_first old new waiting next empty adds (get_or new.nodes.items 0 next.node)
       (Contains-get_or new.nodes.items 0 next.node inside)));
 }
   where
@@ -194,7 +194,7 @@ searches_first h returns old new waiting next empty is enters = record {
     some_in xs (k, lt, e) = omega (arith, lt)
 
     inside : 0 < length new.nodes.items
-    inside = some_in new.nodes.items (enters.each next (contains_first next [] next refl))
+    inside = some_in new.nodes.items (adds.each next (contains_first next [] next refl))
 
 -- the node is one of those that come next
 abbrev Comes : List Next → Node → Type 0
@@ -202,31 +202,31 @@ Comes nexts w = (x : Next) × (Contains nexts x × (x.node ≡ w))
 
 pub explores_more : (looked : ℕ) (old new : Store) (before popped after : List ℕ) (nexts : List Next)
     (place : ℕ) → Explores looked old before → before ≡ popped ++ place ∷ [] →
-    Enters old new place popped after nexts → Explores (looked + 1) new after
-explores_more looked old new before popped after nexts place is split enters = record {
-  keeps = enters.keeps;
-  inside = subst (All (λ (p : ℕ). p < length new.nodes.items)) (sym enters.to_do)
-      (All-append (λ (p : ℕ). p < length new.nodes.items) popped enters.places
+    AddsUnseen old new place popped after nexts → Explores (looked + 1) new after
+explores_more looked old new before popped after nexts place is split adds = record {
+  keeps = adds.keeps;
+  inside = subst (All (λ (p : ℕ). p < length new.nodes.items)) (sym adds.to_do)
+      (All-append (λ (p : ℕ). p < length new.nodes.items) popped adds.places
       (All-weaker (Contains popped) (λ (p : ℕ). p < length new.nodes.items)
-      (λ p has. omega (arith, longer, popped_less p has)) popped (All-contains_itself popped)) enters.inside);
+      (λ p has. omega (arith, longer, popped_less p has)) popped (All-contains_itself popped)) adds.inside);
   count = omega (
     arith,
     is.count,
     longer,
-    enters.many,
-    ap (λ (ps : List ℕ). length ps) enters.to_do,
+    adds.many,
+    ap (λ (ps : List ℕ). length ps) adds.to_do,
     ap (λ (ps : List ℕ). length ps) split,
-    length-append popped enters.places,
+    length-append popped adds.places,
     length-append popped (place ∷ []),
   );
 }
   where
-    longer : length new.nodes.items ≡ length old.nodes.items + length enters.added
+    longer : length new.nodes.items ≡ length old.nodes.items + length adds.added
     longer = omega (
       arith,
-      ap (λ (ns : List Node). length ns) enters.nodes,
-      length-append old.nodes.items (nodes_of enters.added),
-      length-map enters.added (λ (w : Next). w.node),
+      ap (λ (ns : List Node). length ns) adds.nodes,
+      length-append old.nodes.items (nodes_of adds.added),
+      length-map adds.added (λ (w : Next). w.node),
     )
 
     popped_less : (p : ℕ) → Contains popped p → p < length old.nodes.items
@@ -236,12 +236,12 @@ explores_more looked old new before popped after nexts place is split enters = r
 pub searches_more : (h : ObservedHistory) (returns : List ℕ) (old new : Store) (before popped after : List ℕ)
     (nexts : List Next) (place : ℕ) (v : Node) → Searches h returns old before → before ≡ popped ++ place ∷ [] →
     slice_get old.nodes.items place ≡ Some v → Suffice h returns v nexts →
-    Enters old new place popped after nexts → Searches h returns new after
-searches_more h returns old new before popped after nexts place v is split at suffice enters = record {
+    AddsUnseen old new place popped after nexts → Searches h returns new after
+searches_more h returns old new before popped after nexts place v is split at suffice adds = record {
   loses = record {
     kept = λ u n seen hope. turned (kept.kept u n
-        (Contains-append_cases old.nodes.items (nodes_of enters.added) u
-        (subst (λ (ns : List Node). Contains ns u) enters.nodes seen)) hope);
+        (Contains-append_cases old.nodes.items (nodes_of adds.added) u
+        (subst (λ (ns : List Node). Contains ns u) adds.nodes seen)) hope);
   };
   first = is.first;
   is_first = is.is_first;
@@ -249,8 +249,8 @@ searches_more h returns old new before popped after nexts place v is split at su
 }
   where
     more : (k : ℕ) (w : Node) → slice_get old.nodes.items k ≡ Some w → slice_get new.nodes.items k ≡ Some w
-    more k w here = ap (λ (ns : List Node). slice_get ns k) enters.nodes ∙
-        read_left old.nodes.items (nodes_of enters.added) k w here
+    more k w here = ap (λ (ns : List Node). slice_get ns k) adds.nodes ∙
+        read_left old.nodes.items (nodes_of adds.added) k w here
 
     either : (w : Node) → IsPlaced old.nodes.items before w → (w ≡ v) ⊎ IsPlaced old.nodes.items popped w
     either w placed = which (Contains-push_cases popped place placed.place
@@ -287,35 +287,35 @@ searches_more h returns old new before popped after nexts place v is split at su
           hope = on.hope;
         }
 
-    known : (w : Node) → Comes nexts w → Contains old.nodes.items w ⊎ Contains (nodes_of enters.added) w
-    known w (x, (has, same)) = Contains-append_cases old.nodes.items (nodes_of enters.added) w
-        (subst (λ (ns : List Node). Contains ns w) enters.nodes
-        (subst (λ (u : Node). Contains new.nodes.items u) same (enters.each x has)))
+    known : (w : Node) → Comes nexts w → Contains old.nodes.items w ⊎ Contains (nodes_of adds.added) w
+    known w (x, (has, same)) = Contains-append_cases old.nodes.items (nodes_of adds.added) w
+        (subst (λ (ns : List Node). Contains ns w) adds.nodes
+        (subst (λ (u : Node). Contains new.nodes.items u) same (adds.each x has)))
 
     kept : LosesNothing (Hope h returns) (λ (w : Node). Contains old.nodes.items w ⊎
-        Contains (nodes_of enters.added) w) (λ (w : Node). Contains (nodes_of enters.added) w ⊎
+        Contains (nodes_of adds.added) w) (λ (w : Node). Contains (nodes_of adds.added) w ⊎
         IsPlaced old.nodes.items popped w)
     kept = node_kept (Hope h returns) (Contains old.nodes.items) (IsPlaced old.nodes.items popped) (Comes nexts)
-        (Contains (nodes_of enters.added)) v had follows known
+        (Contains (nodes_of adds.added)) v had follows known
 
-    back : (w : Node) → Contains (nodes_of enters.added) w ⊎ IsPlaced old.nodes.items popped w →
+    back : (w : Node) → Contains (nodes_of adds.added) w ⊎ IsPlaced old.nodes.items popped w →
         IsPlaced new.nodes.items after w
     back w (inl has) =
-        let placed : IsPlaced new.nodes.items enters.places w = enters.placed w has in
+        let placed : IsPlaced new.nodes.items adds.places w = adds.placed w has in
         record {
           place = placed.place;
-          among = subst (λ (ps : List ℕ). Contains ps placed.place) (sym enters.to_do)
-              (Contains-append_right popped enters.places placed.place placed.among);
+          among = subst (λ (ps : List ℕ). Contains ps placed.place) (sym adds.to_do)
+              (Contains-append_right popped adds.places placed.place placed.among);
           is_node = placed.is_node;
         }
     back w (inr placed) = record {
       place = placed.place;
-      among = subst (λ (ps : List ℕ). Contains ps placed.place) (sym enters.to_do)
-          (Contains-append_left popped enters.places placed.place placed.among);
+      among = subst (λ (ps : List ℕ). Contains ps placed.place) (sym adds.to_do)
+          (Contains-append_left popped adds.places placed.place placed.among);
       is_node = more placed.place w placed.is_node;
     }
 
-    turned : {n : ℕ} → Waits (Hope h returns) (λ (w : Node). Contains (nodes_of enters.added) w ⊎
+    turned : {n : ℕ} → Waits (Hope h returns) (λ (w : Node). Contains (nodes_of adds.added) w ⊎
         IsPlaced old.nodes.items popped w) n → Waits (Hope h returns) (IsPlaced new.nodes.items after) n
     turned w = record {
       node = w.node;

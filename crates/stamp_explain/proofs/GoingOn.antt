@@ -17,7 +17,7 @@ use Rattle.stamp_explain.specs.Node.{AreTaken, IsNext, IsReached}
 use Rattle.stamp_explain.specs.Expand.{ComesNext, ComesNextBy, ComesAfter, PassesTo, ComesByReturn, ComesByCall}
 use Rattle.stamp_explain.specs.Expand.PassesTo.{passes_none, passes_more}
 use Rattle.stamp_explain.proofs.Lists.{contains_first}
-use Rattle.stamp_explain.proofs.Entering.{read_left, read_right, read_last}
+use Rattle.stamp_explain.proofs.AddingUnseen.{read_left, read_right, read_last}
 use Rattle.stamp_explain.proofs.Leading.{come, come_less, reached_past, reached_by}
 use Rattle.stamp_explain.proofs.Counting.{IsFor, configuration_of, is_for_its}
 

@@ -15,7 +15,7 @@ use Rattle.stamp_explain.specs.Configuration.{Configuration, GoesOnFrom, IsBegin
 use Rattle.stamp_explain.specs.Node.{IsReached}
 use Rattle.stamp_explain.specs.Expand.{Hope, ComesAfter}
 use Rattle.stamp_explain.specs.Expand.{IsLinkedAt, LooksAt}
-use Rattle.stamp_explain.proofs.Entering.{read_left, read_last}
+use Rattle.stamp_explain.proofs.AddingUnseen.{read_left, read_last}
 use Rattle.stamp_explain.proofs.Counting.{IsFor}
 use Rattle.stamp_explain.proofs.GoingOn.{read_push, at_contains, goes_on_through, MovesTo, moves_to, reached_of}
 use Rattle.stamp_explain.proofs.Deepening.{IsLedFrom, WaitsAbove, GoesByNow, IsOpen, IsDead, Deepens, None_now}

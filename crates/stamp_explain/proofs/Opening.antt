@@ -21,7 +21,7 @@ use Rattle.stamp_explain.specs.TimelineKeys.{IsKeptOpen, AreKept}
 use Rattle.stamp_explain.specs.TimelineKeys.{IsBegun, BeginsMore, EndsAt, BeginsAt, places_of}
 use Rattle.stamp_explain.proofs.Lists.{none_in_empty, contains_cases, contains_first, contains_rest}
 use Rattle.stamp_explain.proofs.Ending.{pair_cmp, sorted_rise}
-use Rattle.stamp_explain.proofs.Entering.{read_last}
+use Rattle.stamp_explain.proofs.AddingUnseen.{read_last}
 use Rattle.stamp_explain.proofs.Keyed.{placed_once, rising_has, rising_from, placed_pairs, key_of_place, place_of_key}
 
 -- the returned calls in the order of their returns

@@ -224,7 +224,7 @@ pub record IsPlaced (nodes : List Node) (places : List ℕ) (v : Node) : Type 0 
   pub is_node : slice_get nodes place ≡ Some v
 
 -- nodes that come from this place and were not seen are added to those seen, and their places to those that wait
-pub record Enters (old new : Store) (from : ℕ) (waited waiting : List ℕ) (nexts : List Next) : Type 0 where
+pub record AddsUnseen (old new : Store) (from : ℕ) (waited waiting : List ℕ) (nexts : List Next) : Type 0 where
   pub keeps : Keeps new
   pub added : List Next
   pub nodes : new.nodes.items ≡ old.nodes.items ++ nodes_of added

@@ -8,7 +8,7 @@ ghost use Rattle.stamp_explain.specs.declared.observed.Returned.{Returned};
 ghost use Rattle.stamp_explain.specs.Observed.{ObservedHistory, IsObserved};
 ghost use Rattle.stamp_explain.specs.Configuration.{ReachesMoreBeside};
 ghost use Rattle.stamp_explain.specs.Cut.{place_then};
-ghost use Rattle.stamp_explain.specs.Expand.{Enters, Suffice, Took};
+ghost use Rattle.stamp_explain.specs.Expand.{AddsUnseen, Suffice, Took};
 ghost use Rattle.stamp_explain.specs.Store.{Keeps};
 ghost use Rattle.stamp_explain.specs.Possible.{without_return};
 ghost use Rattle.stamp_explain.specs.Asking.{Adds, AreAsked, AreLed, AreMore, AreReplies, GetsMore, IsSeenWith, IsAsking, IsAskingAt, ComesNextBeside, MayGoOnBeside, NoneIsAtOnceBeside, SufficeBeside, SufficeUnless};
@@ -191,14 +191,14 @@ fn go_on(
 
 /// Adds the nodes that were not seen, which come from this place, to those seen, and their places to
 /// those that wait.
-fn enter(
+fn add_unseen(
     store: &mut Store,
     waiting: &mut Vec<usize>,
     from: usize,
     nexts: &[Next],
 ) -> Result<(), AllocError>
     requires { Keeps store.old }
-    ensures { IfOk result (λ _. Enters store.old store.new from waiting.old.items waiting.new.items nexts.now) }
+    ensures { IfOk result (λ _. AddsUnseen store.old store.new from waiting.old.items waiting.new.items nexts.now) }
 {
     for next in nexts {
         let place = store.nodes.len();
@@ -230,7 +230,7 @@ pub(crate) fn replies_of(
         node: opening(&asking.seen),
         took: None,
     };
-    enter(&mut store, &mut waiting, 0, &[first])?;
+    add_unseen(&mut store, &mut waiting, 0, &[first])?;
     let mut nexts = Vec::new(alloc);
     let mut replies = Vec::new(alloc);
     for _ in 0..most {
@@ -239,7 +239,7 @@ pub(crate) fn replies_of(
         };
         let node = store.nodes[place];
         go_on(asking, &node, &mut nexts, &mut replies)?;
-        enter(&mut store, &mut waiting, place, nexts.as_slice())?;
+        add_unseen(&mut store, &mut waiting, place, nexts.as_slice())?;
     }
     if waiting.is_empty() {
         return Ok(Some(replies));

@@ -11,7 +11,7 @@ use Rattle.stamp_core.specs.declared.call.Call.{Call}
 use Rattle.stamp_history.specs.declared.field.Field.TheVariants as part
 use Rattle.stamp_history.specs.declared.read_error.ReadError.TheVariants.{NotScript}
 use Rattle.stamp_history.specs.LockCall.{lock_call}
-use Rattle.stamp_history.specs.Reading.{◌>>=◌, each, kind}
+use Rattle.stamp_history.specs.JsonReading.{◌>>=◌, each, kind}
 use Rattle.stamp_history.specs.ReplayFields.{call_at}
 use Rattle.stamp_history.proofs.ItemByItem.{next_left}
 

@@ -14,7 +14,7 @@ use Rattle.stamp_history.specs.declared.text_kind.TextKind.TheVariants as text
 use Rattle.stamp_history.specs.HistoryFields.{format, width, listed_entries, pair_at, reported, report}
 use Rattle.stamp_history.specs.HistoryText.{pair_data, with_entries}
 use Rattle.stamp_history.specs.LimitFields as limit
-use Rattle.stamp_history.specs.Reading.{◌>>=◌, each}
+use Rattle.stamp_history.specs.JsonReading.{◌>>=◌, each}
 
 -- what is read after the format, the limits and the width is read of what they were written of
 pub fields_found : {A : Type 0} (l : Layout) (readers versions w : ℕ) (d : Data) (ps : List (ℕ × ℕ)) →

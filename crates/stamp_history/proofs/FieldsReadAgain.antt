@@ -12,7 +12,7 @@ use Rattle.stamp_core.specs.declared.layout.Layout.TheVariants.{One, Two}
 use Rattle.stamp_history.specs.HistoryLaws.{IsU64, PairIsU64}
 use Rattle.stamp_history.specs.HistoryText.{report_data, format_of, with_layout, with_report, after_entries}
 use Rattle.stamp_history.specs.HistoryText.{with_entries}
-use Rattle.stamp_history.specs.Reading.{json_of}
+use Rattle.stamp_history.specs.JsonReading.{json_of}
 use Rattle.stamp_history.specs.ReplayText.{number_data}
 use Rattle.stamp_history.proofs.EntriesReadAgain.{report_again}
 use Rattle.stamp_history.proofs.ReadAgain.{ReadsAgain, MembersReadAgain, number_again, no_members_again, member_again}

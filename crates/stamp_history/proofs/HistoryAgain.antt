@@ -26,7 +26,7 @@ use Rattle.stamp_history.specs.HistoryCall.{history_call}
 use Rattle.stamp_history.specs.HistoryFields.{top, format, width, entry_at, entries, report}
 use Rattle.stamp_history.specs.HistoryText.{call_data, entry_data, entries_data, with_entries, history_data}
 use Rattle.stamp_history.specs.LimitFields as limit
-use Rattle.stamp_history.specs.Reading.{◌>>=◌, each}
+use Rattle.stamp_history.specs.JsonReading.{◌>>=◌, each}
 use Rattle.stamp_history.specs.ReplayText.{number_data, words_data, reply_data}
 use Rattle.stamp_history.specs.ReplyValue.{reply}
 use Rattle.stamp_history.specs.WordsValue.{numbers, words}

@@ -8,7 +8,7 @@ use Rattle.stamp_core.specs.declared.entry.Entry.{Entry}
 use Rattle.stamp_history.specs.History.{recorded_in, recorded_of}
 use Rattle.stamp_history.specs.HistoryLaws.{EntryIsU64, HistoriesReadAgain}
 use Rattle.stamp_history.specs.HistoryText.{entry_data, entries_data, history_text}
-use Rattle.stamp_history.specs.Reading.{◌>>=◌}
+use Rattle.stamp_history.specs.JsonReading.{◌>>=◌}
 use Rattle.stamp_history.proofs.EntriesReadAgain.{entry_again}
 use Rattle.stamp_history.proofs.FieldsReadAgain.{small, fields_again}
 use Rattle.stamp_history.proofs.HistoryAgain.{history_found}

@@ -18,7 +18,7 @@ use Rattle.stamp_history.specs.EntryValue as value
 use Rattle.stamp_history.specs.HistoryFields.{suited, entry_at, pair_at, counted, listed_entries}
 use Rattle.stamp_history.specs.HistoryFields.{entries, listed_report, reported, report, width}
 use Rattle.stamp_history.specs.JsonValue.{has_key, whole_under, list_under}
-use Rattle.stamp_history.specs.Reading.{◌>>=◌, kind, ranged, each}
+use Rattle.stamp_history.specs.JsonReading.{◌>>=◌, kind, ranged, each}
 use Rattle.stamp_history.proofs.EachItem.{bind_ok}
 
 -- what is in range was found, and passes the test

@@ -4,7 +4,7 @@ use Rattle.std.specs.Str.{IsUtf8, is_utf8}
 use Rattle.std.proofs.lemmas.Str.{IsUtf8-from_is_utf8}
 use Rattle.serde_json.specs.Read.{read}
 use Rattle.stamp_history.specs.declared.read_error.ReadError.TheVariants.{NotJson}
-use Rattle.stamp_history.specs.Reading.{json_of}
+use Rattle.stamp_history.specs.JsonReading.{json_of}
 
 refused_at : (b : Bool) (bytes : List ℕ) → is_utf8 bytes ≡ b → (IsUtf8 bytes → read bytes ≡ None) → json_of bytes ≡
     Err NotJson

@@ -10,7 +10,7 @@ use Rattle.stamp_core.specs.declared.call.Call.{Call}
 use Rattle.stamp_history.specs.declared.text_kind.TextKind.TheVariants as text
 use Rattle.stamp_history.specs.HistoryCall.{history_call}
 use Rattle.stamp_history.specs.LockCall.{if_of_lock, lock_call}
-use Rattle.stamp_history.specs.Reading.{◌>>=◌, json_of, each}
+use Rattle.stamp_history.specs.JsonReading.{◌>>=◌, json_of, each}
 use Rattle.stamp_history.specs.LimitFields.{limits}
 use Rattle.stamp_history.specs.Replay.{Replay, replay_in, replay_of}
 use Rattle.stamp_history.specs.ReplayFields.{top, call_at, calls, listed_calls}

@@ -6,7 +6,7 @@ use Rattle.stamp_history.specs.declared.read_error.ReadError.{ReadError}
 use Rattle.stamp_history.specs.declared.text_kind.TextKind.TheVariants as text
 use Rattle.stamp_history.specs.HistoryFields.{top, format, width, entries, report}
 use Rattle.stamp_history.specs.LimitFields.{limits}
-use Rattle.stamp_history.specs.Reading.{◌>>=◌, json_of}
+use Rattle.stamp_history.specs.JsonReading.{◌>>=◌, json_of}
 
 unfoldable pub recorded_in : Data → Result Recorded ReadError
 recorded_in d = do

@@ -18,9 +18,9 @@ use Rattle.stamp_machines.specs.declared.script.ScriptCall.TheVariants.{IsWriteL
 use Rattle.stamp_machines.specs.declared.script.ScriptCall.TheVariants.{ReadCount, Get, Put, PutIf}
 use Rattle.stamp_history.specs.ScriptCallValue.{script_call}
 
-abbrev pub number : Arg → Option ℕ
-number (Number n) = Some n
-number (Of thread index) = None
+abbrev pub plain_number : Arg → Option ℕ
+plain_number (Number n) = Some n
+plain_number (Of thread index) = None
 
 abbrev pub as_call : ScriptCall → Option Call
 as_call TryWrite = Some call.TryWrite
@@ -28,13 +28,13 @@ as_call TryRead = Some call.TryRead
 as_call WriteLock = Some call.WriteLock
 as_call ReadLock = Some call.ReadLock
 as_call Optimistic = Some call.Optimistic
-as_call (Validate stamp) = option_map call.Validate (number stamp)
-as_call (UnlockWrite stamp) = option_map call.UnlockWrite (number stamp)
-as_call (UnlockRead stamp) = option_map call.UnlockRead (number stamp)
-as_call (Unlock stamp) = option_map call.Unlock (number stamp)
-as_call (ToWrite stamp) = option_map call.ToWrite (number stamp)
-as_call (ToRead stamp) = option_map call.ToRead (number stamp)
-as_call (ToOptimistic stamp) = option_map call.ToOptimistic (number stamp)
+as_call (Validate stamp) = option_map call.Validate (plain_number stamp)
+as_call (UnlockWrite stamp) = option_map call.UnlockWrite (plain_number stamp)
+as_call (UnlockRead stamp) = option_map call.UnlockRead (plain_number stamp)
+as_call (Unlock stamp) = option_map call.Unlock (plain_number stamp)
+as_call (ToWrite stamp) = option_map call.ToWrite (plain_number stamp)
+as_call (ToRead stamp) = option_map call.ToRead (plain_number stamp)
+as_call (ToOptimistic stamp) = option_map call.ToOptimistic (plain_number stamp)
 as_call TryUnlockWrite = Some call.TryUnlockWrite
 as_call TryUnlockRead = Some call.TryUnlockRead
 as_call IsWriteLocked = Some call.IsWriteLocked

@@ -12,7 +12,7 @@ use Rattle.stamp_history.specs.declared.read_error.ReadError.{ReadError}
 use Rattle.stamp_history.specs.declared.read_error.ReadError.TheVariants.{NotHistory, Limit}
 use Rattle.stamp_history.specs.EntryValue as value
 use Rattle.stamp_history.specs.JsonValue.{has_key, has_keys, whole, whole_under, list_under}
-use Rattle.stamp_history.specs.Reading.{◌>>=◌, kind, ranged, each}
+use Rattle.stamp_history.specs.JsonReading.{◌>>=◌, kind, ranged, each}
 
 -- the keys of format 1 and of format 2, each without a report and with one
 abbrev pub keys : List (List ℕ)

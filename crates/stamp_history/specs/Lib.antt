@@ -3,7 +3,7 @@ pub mod Gives
 pub mod JsonValue
 pub mod LockCall
 pub mod SmallCall
-pub mod Reading
+pub mod JsonReading
 pub mod LimitFields
 pub mod ReplayFields
 pub mod Replay

@@ -12,7 +12,7 @@ use Rattle.stamp_history.specs.declared.read_error.ReadError.TheVariants.{NotScr
 use Rattle.stamp_history.specs.declared.text_kind.TextKind.{TextKind}
 use Rattle.stamp_history.specs.declared.text_kind.TextKind.TheVariants.{Replay, Script, History}
 use Rattle.stamp_history.specs.JsonValue.{has_key, whole_under}
-use Rattle.stamp_history.specs.Reading.{◌>>=◌, ranged}
+use Rattle.stamp_history.specs.JsonReading.{◌>>=◌, ranged}
 
 -- the fault of a field of another kind, in a text that is read as one of these
 abbrev pub mistake : TextKind → Field → ReadError

@@ -8,7 +8,7 @@ use Rattle.stamp_history.specs.SmallCall.{small_calls}
 use Rattle.stamp_history.specs.declared.small_call.SmallCall.{SmallCall}
 use Rattle.stamp_history.specs.declared.read_error.ReadError.{ReadError}
 use Rattle.stamp_history.specs.declared.text_kind.TextKind.TheVariants as text
-use Rattle.stamp_history.specs.Reading.{◌>>=◌, json_of}
+use Rattle.stamp_history.specs.JsonReading.{◌>>=◌, json_of}
 use Rattle.stamp_history.specs.LimitFields.{limits}
 use Rattle.stamp_history.specs.ReplayFields.{top, calls}
 

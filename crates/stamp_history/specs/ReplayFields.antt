@@ -8,7 +8,7 @@ use Rattle.stamp_history.specs.declared.read_error.ReadError.{ReadError}
 use Rattle.stamp_history.specs.declared.read_error.ReadError.TheVariants.{NotScript, Limit}
 use Rattle.stamp_history.specs.JsonValue.{has_keys, list_under}
 use Rattle.stamp_history.specs.LockCall.{lock_call}
-use Rattle.stamp_history.specs.Reading.{◌>>=◌, kind, ranged, each}
+use Rattle.stamp_history.specs.JsonReading.{◌>>=◌, kind, ranged, each}
 
 -- the keys without a layout, and with one
 abbrev pub keys : List (List ℕ)

@@ -8,7 +8,7 @@ use Rattle.stamp_history.specs.declared.read_error.ReadError.TheVariants.{BadScr
 use Rattle.stamp_history.specs.declared.text_kind.TextKind.TheVariants as text
 use Rattle.stamp_history.specs.LimitFields.{limits}
 use Rattle.stamp_history.specs.FirstFault.{first_fault}
-use Rattle.stamp_history.specs.Reading.{◌>>=◌, json_of}
+use Rattle.stamp_history.specs.JsonReading.{◌>>=◌, json_of}
 use Rattle.stamp_history.specs.ScriptValue.{top, width, threads, steps}
 
 -- what the fields hold

@@ -8,7 +8,7 @@ use Rattle.stamp_history.specs.declared.field.Field.TheVariants as part
 use Rattle.stamp_history.specs.declared.read_error.ReadError.{ReadError}
 use Rattle.stamp_history.specs.declared.read_error.ReadError.TheVariants.{NotScript}
 use Rattle.stamp_history.specs.JsonValue.{has_keys, whole, whole_under, list_under}
-use Rattle.stamp_history.specs.Reading.{◌>>=◌, kind, each}
+use Rattle.stamp_history.specs.JsonReading.{◌>>=◌, kind, each}
 use Rattle.stamp_history.specs.ScriptCallValue.{script_call}
 
 -- the keys without a layout, and with one

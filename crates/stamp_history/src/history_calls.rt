@@ -10,8 +10,8 @@ use stamp_core::Call;
 use stamp_machines::{Arg, ScriptCall};
 
 /// The stamp, if it is a number.
-pub(crate) fn number(stamp: Arg) -> Option<u64>
-    ensures { result ≡ spec.number stamp }
+pub(crate) fn plain_number(stamp: Arg) -> Option<u64>
+    ensures { result ≡ spec.plain_number stamp }
 {
     match stamp {
         Arg::Number(number) => Some(number),
@@ -29,13 +29,13 @@ fn as_call(call: ScriptCall) -> Option<Call>
         ScriptCall::WriteLock => Some(Call::WriteLock),
         ScriptCall::ReadLock => Some(Call::ReadLock),
         ScriptCall::Optimistic => Some(Call::Optimistic),
-        ScriptCall::Validate(stamp) => Some(Call::Validate(number(stamp)?)),
-        ScriptCall::UnlockWrite(stamp) => Some(Call::UnlockWrite(number(stamp)?)),
-        ScriptCall::UnlockRead(stamp) => Some(Call::UnlockRead(number(stamp)?)),
-        ScriptCall::Unlock(stamp) => Some(Call::Unlock(number(stamp)?)),
-        ScriptCall::ToWrite(stamp) => Some(Call::ToWrite(number(stamp)?)),
-        ScriptCall::ToRead(stamp) => Some(Call::ToRead(number(stamp)?)),
-        ScriptCall::ToOptimistic(stamp) => Some(Call::ToOptimistic(number(stamp)?)),
+        ScriptCall::Validate(stamp) => Some(Call::Validate(plain_number(stamp)?)),
+        ScriptCall::UnlockWrite(stamp) => Some(Call::UnlockWrite(plain_number(stamp)?)),
+        ScriptCall::UnlockRead(stamp) => Some(Call::UnlockRead(plain_number(stamp)?)),
+        ScriptCall::Unlock(stamp) => Some(Call::Unlock(plain_number(stamp)?)),
+        ScriptCall::ToWrite(stamp) => Some(Call::ToWrite(plain_number(stamp)?)),
+        ScriptCall::ToRead(stamp) => Some(Call::ToRead(plain_number(stamp)?)),
+        ScriptCall::ToOptimistic(stamp) => Some(Call::ToOptimistic(plain_number(stamp)?)),
         ScriptCall::TryUnlockWrite => Some(Call::TryUnlockWrite),
         ScriptCall::TryUnlockRead => Some(Call::TryUnlockRead),
         ScriptCall::IsWriteLocked => Some(Call::IsWriteLocked),

@@ -7,7 +7,7 @@ ghost use Rattle.stamp_history.specs.EntryValue as entry;
 ghost use Rattle.stamp_history.specs.Gives.{Gives};
 ghost use Rattle.stamp_history.specs.HistoryFields as field;
 ghost use Rattle.stamp_history.specs.JsonValue as json;
-ghost use Rattle.stamp_history.specs.Reading.{each};
+ghost use Rattle.stamp_history.specs.JsonReading.{each};
 
 use crate::field::Field;
 use crate::history_entries::entry_of;

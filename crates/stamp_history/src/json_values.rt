@@ -6,7 +6,7 @@ ghost use Rattle.serde_json.specs.Find.{get, get_member, as_array};
 ghost use Rattle.serde_json.specs.View.{view, items_view, members_view};
 ghost use Rattle.stamp_history.specs.Gives.{Gives};
 ghost use Rattle.stamp_history.specs.JsonValue as spec;
-ghost use Rattle.stamp_history.specs.Reading.{json_of};
+ghost use Rattle.stamp_history.specs.JsonReading.{json_of};
 
 use crate::read_error::ReadError;
 use serde_json::{Map, Value};

@@ -6,7 +6,7 @@ ghost use Rattle.stamp_history.specs.HistoryCall as history;
 ghost use Rattle.stamp_history.specs.LockCall as spec;
 ghost use Rattle.stamp_history.specs.SmallCall.{call_of};
 
-use crate::history_calls::number;
+use crate::history_calls::plain_number;
 use crate::script_calls::script_call_of;
 use crate::small_call::SmallCall;
 use serde_json::Value;
@@ -22,13 +22,13 @@ fn small_call(call: ScriptCall) -> Option<SmallCall>
         ScriptCall::WriteLock => Some(SmallCall::WriteLock),
         ScriptCall::ReadLock => Some(SmallCall::ReadLock),
         ScriptCall::Optimistic => Some(SmallCall::Optimistic),
-        ScriptCall::Validate(stamp) => Some(SmallCall::Validate(number(stamp)?)),
-        ScriptCall::UnlockWrite(stamp) => Some(SmallCall::UnlockWrite(number(stamp)?)),
-        ScriptCall::UnlockRead(stamp) => Some(SmallCall::UnlockRead(number(stamp)?)),
-        ScriptCall::Unlock(stamp) => Some(SmallCall::Unlock(number(stamp)?)),
-        ScriptCall::ToWrite(stamp) => Some(SmallCall::ToWrite(number(stamp)?)),
-        ScriptCall::ToRead(stamp) => Some(SmallCall::ToRead(number(stamp)?)),
-        ScriptCall::ToOptimistic(stamp) => Some(SmallCall::ToOptimistic(number(stamp)?)),
+        ScriptCall::Validate(stamp) => Some(SmallCall::Validate(plain_number(stamp)?)),
+        ScriptCall::UnlockWrite(stamp) => Some(SmallCall::UnlockWrite(plain_number(stamp)?)),
+        ScriptCall::UnlockRead(stamp) => Some(SmallCall::UnlockRead(plain_number(stamp)?)),
+        ScriptCall::Unlock(stamp) => Some(SmallCall::Unlock(plain_number(stamp)?)),
+        ScriptCall::ToWrite(stamp) => Some(SmallCall::ToWrite(plain_number(stamp)?)),
+        ScriptCall::ToRead(stamp) => Some(SmallCall::ToRead(plain_number(stamp)?)),
+        ScriptCall::ToOptimistic(stamp) => Some(SmallCall::ToOptimistic(plain_number(stamp)?)),
         ScriptCall::TryUnlockWrite => Some(SmallCall::TryUnlockWrite),
         ScriptCall::TryUnlockRead => Some(SmallCall::TryUnlockRead),
         ScriptCall::IsWriteLocked => Some(SmallCall::IsWriteLocked),

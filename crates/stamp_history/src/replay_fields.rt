@@ -4,7 +4,7 @@ ghost use Rattle.std.specs.Prelude.{◌≡◌};
 ghost use Rattle.serde_json.specs.View.{view, items_view};
 ghost use Rattle.stamp_history.specs.SmallCall.{call_of, small_calls};
 ghost use Rattle.stamp_history.specs.Gives.{Gives};
-ghost use Rattle.stamp_history.specs.Reading.{each};
+ghost use Rattle.stamp_history.specs.JsonReading.{each};
 ghost use Rattle.stamp_history.specs.ReplayFields as field;
 
 use crate::field::Field;

@@ -19,7 +19,7 @@ use Rattle.stamp_machines.specs.StateFields.{world_at, stamps_at, SameState}
 use Rattle.stamp_machines.specs.declared.machine.Turn.{Turn}
 use Rattle.stamp_machines.specs.declared.machine.Turn.TheVariants as turned
 use Rattle.stamp_machines.specs.declared.state.Begun.{Begun}
-use Rattle.stamp_machines.specs.declared.state.State.{State}
+use Rattle.stamp_machines.specs.declared.state.RunState.{RunState}
 use Rattle.stamp_machines.specs.declared.state.StepKind.{StepKind}
 use Rattle.stamp_machines.specs.declared.state.StepKind.TheVariants.{Idle, Going, Ended}
 use Rattle.stamp_machines.proofs.StepBound.{execution-rest}
@@ -98,7 +98,7 @@ after-same script made made' same =
     ap (λ (es : List Entry). drop (length es) (finished_calls script script.steps)) same
 
 -- before the first step
-pub opening-after : (script : Scripted) (s : State) → world_at [] s 0 ≡ opening script →
+pub opening-after : (script : Scripted) (s : RunState) → world_at [] s 0 ≡ opening script →
     vec_len s.workers ≡ length script.threads →
     ((t : ℕ) → stamps_at s.workers.items t ≡ []) → IsAfter script s 0
 unfolding execution_of
@@ -110,7 +110,7 @@ opening-after script s world workers stamps =
       stamps = stamps;
     }
 
-pub opening-completing : (script : Scripted) (s : State) → world_at [] s 0 ≡ opening script →
+pub opening-completing : (script : Scripted) (s : RunState) → world_at [] s 0 ≡ opening script →
     completing_at script s 0 ≡ before_all script
 unfolding execution_of
 opening-completing script s world =
@@ -122,7 +122,7 @@ opening-completing script s world =
     }) (ap (λ (w : World). w.entries) world)
 
 -- the schedule's world, where the entries of the steps made are gone
-pub world-after : (script : Scripted) (s : State) (made : ℕ) → IsAfter script s made →
+pub world-after : (script : Scripted) (s : RunState) (made : ℕ) → IsAfter script s made →
     s.entries.items ≡ [] →
     world_at (calls_until script made) s made ≡ execution_of script (take made script.steps)
 world-after script s made after none =
@@ -131,14 +131,14 @@ world-after script s made after none =
     ∙ append-nil (calls_until script made) in
     ap (λ (es : List Entry). record (world_at [] s made) { entries = es }) until ∙ after.world
 
-pub kept-after : (script : Scripted) (s : State) (made : ℕ) → IsSound script →
+pub kept-after : (script : Scripted) (s : RunState) (made : ℕ) → IsSound script →
     length script.steps ≤ 1000000 → IsAfter script s made → s.entries.items ≡ [] →
     Invariant script (world_at (calls_until script made) s made)
 kept-after script s made sound few after none =
     rw (world-after script s made after none)
     (always-kept script (take made script.steps) sound (simp length-take (omega (arith, few))))
 
-pub after-reserved : (script : Scripted) (old mid : State) (made : ℕ) → SameState old mid →
+pub after-reserved : (script : Scripted) (old mid : RunState) (made : ℕ) → SameState old mid →
     IsAfter script old made → IsAfter script mid made
 after-reserved script old mid made same after =
     record {
@@ -149,7 +149,7 @@ after-reserved script old mid made same after =
     }
 
 -- what kind a step is of, and what it left
-going : (script : Scripted) (old new : State) (made t : ℕ) → old.entries.items ≡ [] →
+going : (script : Scripted) (old new : RunState) (made t : ℕ) → old.entries.items ≡ [] →
     calls_until script (made + 1) ≡ calls_until script made ++ new.entries.items →
     calls_until script made ++ new.entries.items ≡ calls_until script made ++ old.entries.items →
     (new.entries.items ≡ []) × (calls_after script (made + 1) ≡ calls_after script made)
@@ -162,7 +162,7 @@ going script old new made t none until same =
           (until ∙ ap (λ (es : List Entry). gone ++ es) items ∙ append-nil gone),
     )
 
-handed-on : (script : Scripted) (old new : State) (made t : ℕ) (p : StepKind) →
+handed-on : (script : Scripted) (old new : RunState) (made t : ℕ) (p : StepKind) →
     old.entries.items ≡ [] →
     (step script (world_at (calls_until script made) old made) t).entries
     ≡ calls_until script made ++ new.entries.items →
@@ -188,7 +188,7 @@ handed-on script old new made t Ended none entries until told =
     (sym (stepped-last (world_at gone old made) t (current script (world_at gone old made) t) told.0 told.1)) in
     rw (one, rest, ended) refl
 
-pub step-made : (script : Scripted) (old new : State) (made t : ℕ) (p : StepKind) →
+pub step-made : (script : Scripted) (old new : RunState) (made t : ℕ) (p : StepKind) →
     IsAfter script old made → made < length script.steps → old.entries.items ≡ [] →
     take (made + 1) script.steps ≡ take made script.steps ++ t ∷ [] →
     world_at (calls_until script made) new (made + 1)

@@ -496,12 +496,12 @@ write_some limits k s e =
           (grind (arith, nat_tests))
     ]
 
-shared : (limits : Bounds) (job : Job) (seen : Option ℕ) (lock lock' : ℕ) (items content : List ℕ)
+read_locked : (limits : Bounds) (job : Job) (seen : Option ℕ) (lock lock' : ℕ) (items content : List ℕ)
     (r : Reply) → Stands limits job (Locking ToShare seen) lock items content →
     CallLeaves limits ReadLock lock lock' r →
     MovedRightly limits job (Locking ToShare seen) lock items content lock' items
     (Going (Reading (stamp_in r) []))
-shared limits job seen lock lock' items content r s t =
+read_locked limits job seen lock lock' items content r s t =
     let h = shared_at limits (counts_at limits lock) t.taken t.transition in
     let cs : counts_at limits lock' ≡ record {
       write_count = (counts_at limits lock).write_count;
@@ -687,7 +687,7 @@ ended : (limits : Bounds) (job : Job) (e : GuardCall) (seen : Option ℕ) (lock 
     MovedRightly limits job (Locking e seen) lock items content lock' items
     (guard_call_done job e (stamp_in r))
 ended limits job ToShare seen lock lock' items content r s t =
-    shared limits job seen lock lock' items content r s t
+    read_locked limits job seen lock lock' items content r s t
 ended limits job (ToLeave u loaded) seen lock lock' items content r s t =
     let g = got_content job loaded content s.fits.0 s.fits.2 in
     leaves limits job (Locking (ToLeave u loaded) seen) lock lock' u items content r

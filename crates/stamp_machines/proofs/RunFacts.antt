@@ -5,7 +5,7 @@ use Rattle.std.specs.Prelude.{slice_index}
 use Rattle.std.proofs.Common.{get_or}
 use Rattle.std.proofs.lemmas.List.{length-append}
 use Rattle.stamp_core.specs.declared.entry.Entry.{Entry}
-use Rattle.stamp_machines.specs.declared.state.State.{State}
+use Rattle.stamp_machines.specs.declared.state.RunState.{RunState}
 use Rattle.stamp_machines.specs.declared.running.Run.TheInside.{Inside}
 use Rattle.stamp_machines.specs.Script.{Scripted}
 use Rattle.stamp_machines.specs.World.{World, step, execution_of, finished_calls}
@@ -25,11 +25,11 @@ pub run-kept : (r : Inside) → IsAt r →
     Invariant r.script.now (world_at [] r.state (length r.steps.items))
 run-kept r h = rw h.world (always-kept r.script.now r.steps.items h.sound h.few)
 
-same_world : (gone : List Entry) (old new : State) (n : ℕ) → SameState old new →
+same_world : (gone : List Entry) (old new : RunState) (n : ℕ) → SameState old new →
     world_at gone new n ≡ world_at gone old n
 same_world gone old new n s = simp (s.words, s.begun, s.entries)
 
-pub world-more : (script : Scripted) (old mid new : State) (steps steps' : List ℕ) (t : ℕ) →
+pub world-more : (script : Scripted) (old mid new : RunState) (steps steps' : List ℕ) (t : ℕ) →
     world_at [] old (length steps) ≡ execution_of script steps → SameState old mid →
     world_at [] new (length steps + 1) ≡ step script (world_at [] mid (length steps)) t →
     steps' ≡ steps ++ t ∷ [] → world_at [] new (length steps') ≡ execution_of script steps'
@@ -37,7 +37,7 @@ world-more script old mid new steps steps' t w s n e =
     rw (e, length-append) (n ∙ ap (λ x. step script x t) (same_world [] old mid (length steps) s ∙ w)
     ∙ sym (execution_of-more script steps t))
 
-pub same-kept : (script : Scripted) (old mid : State) (n : ℕ) → SameState old mid →
+pub same-kept : (script : Scripted) (old mid : RunState) (n : ℕ) → SameState old mid →
     Invariant script (world_at [] old n) → Invariant script (world_at [] mid n)
 same-kept script old mid n s k = rw (same_world [] old mid n s) k
 

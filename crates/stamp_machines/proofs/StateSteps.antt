@@ -26,7 +26,7 @@ use Rattle.stamp_core.specs.Decision.{stamp_in}
 use Rattle.stamp_machines.specs.Script.{IsSound}
 use Rattle.stamp_machines.specs.Invariant.{Invariant}
 use Rattle.stamp_machines.specs.StateFields.{world_at, stamps_at, stamps_in, begun_in}
-use Rattle.stamp_machines.specs.declared.state.State.{State}
+use Rattle.stamp_machines.specs.declared.state.RunState.{RunState}
 use Rattle.stamp_machines.proofs.AccessesAreSafe.{IsSafeIn}
 use Rattle.stamp_machines.proofs.StepsKeep.{current-safe}
 use Rattle.stamp_machines.proofs.WorkerStamps.{same_stamps, stamps_at-index, stamps_at-kept}
@@ -100,14 +100,14 @@ begun_at-index (x ∷ ws) zero d h = refl
 begun_at-index (x ∷ ws) (suc i) d h = begun_at-index ws i d (omega arith)
 
 -- the thread's next call was begun, if it was in none
-pub record HasBegun (gone : List Entry) (script : Scripted) (old mid : State) (t position : ℕ) : Type 0 where
+pub record HasBegun (gone : List Entry) (script : Scripted) (old mid : RunState) (t position : ℕ) : Type 0 where
   pub world : world_at gone mid position ≡ begun_with (world_at gone old position) t
       (current script (world_at gone old position) t)
   pub stamps : (u : ℕ) → stamps_at mid.workers.items u ≡ stamps_of u (gone ++ mid.entries.items)
   pub thread : t < length (map begun_in old.workers.items)
   pub worker : t < length mid.workers.items
 
-pub has-begun : (gone : List Entry) (script : Scripted) (old mid : State) (t position : ℕ) →
+pub has-begun : (gone : List Entry) (script : Scripted) (old mid : RunState) (t position : ℕ) →
     t < vec_len old.workers → vec_len mid.workers ≡ vec_len old.workers → mid.entries ≡ old.entries →
     ((u : ℕ) → stamps_at old.workers.items u ≡ stamps_of u (gone ++ old.entries.items)) →
     ((u : ℕ) → stamps_at mid.workers.items u ≡ stamps_at old.workers.items u) →
@@ -126,7 +126,7 @@ has-begun gone script old mid t position h many entries before stamps world =
     }
 
 -- the call that its worker is in
-worker-current : (gone : List Entry) (script : Scripted) (old mid : State) (t position : ℕ)
+worker-current : (gone : List Entry) (script : Scripted) (old mid : RunState) (t position : ℕ)
     (d : Worker) → HasBegun gone script old mid t position →
     (slice_index_or mid.workers.items t d).begun ≡ current script (world_at gone old position) t
 worker-current gone script old mid t position d h =
@@ -135,7 +135,7 @@ worker-current gone script old mid t position d h =
     h.world
 
 -- its access is safe
-pub worker-safe : (gone : List Entry) (script : Scripted) (old mid : State) (t position : ℕ)
+pub worker-safe : (gone : List Entry) (script : Scripted) (old mid : RunState) (t position : ℕ)
     (d : Worker) (b : Begun) → HasBegun gone script old mid t position →
     Invariant script (world_at gone old position) → IsSound script → position < 1000000 →
     (slice_index_or mid.workers.items t d).begun ≡ Some b →
@@ -178,7 +178,7 @@ kind_of (Going machine) = kind.Going
 kind_of (Done reply) = kind.Ended
 
 -- the worker's call made its access, which led to this turn; the worker is this one now
-pub record AccessMade (b : Begun) (t position : ℕ) (mid new : State) (d w : Worker) (turned : Turn) : Type 0 where
+pub record AccessMade (b : Begun) (t position : ℕ) (mid new : RunState) (d w : Worker) (turned : Turn) : Type 0 where
   pub words : new.words.items ≡ words_after (next_access b.machine) mid.words.items
   pub turn : after_access b.machine (seen_by (next_access b.machine) mid.words.items) ≡ turned
   pub workers : new.workers.items ≡ slice_set mid.workers.items t w
@@ -187,7 +187,7 @@ pub record AccessMade (b : Begun) (t position : ℕ) (mid new : State) (d w : Wo
       ≡ stamps_with (slice_index_or mid.workers.items t d).stamps.items turned
   pub entries : new.entries.items ≡ entries_with t position b mid.entries.items turned
 
-world-turned : (gone : List Entry) (mid new : State) (t position : ℕ) (b : Begun) (words : List ℕ)
+world-turned : (gone : List Entry) (mid new : RunState) (t position : ℕ) (b : Begun) (words : List ℕ)
     (turned : Turn) → new.words.items ≡ words →
     map begun_in new.workers.items
     ≡ slice_set (map begun_in mid.workers.items) t (begun_after b turned) →
@@ -200,7 +200,7 @@ world-turned gone mid new t position b words (Done reply) p q r =
     rw r (sym (append_assoc gone mid.entries.items _)) in
     rw (p, q, more) refl
 
-stamps-turned : (gone : List Entry) (mid new : State) (t position u : ℕ) (b : Begun) (w : Worker)
+stamps-turned : (gone : List Entry) (mid new : RunState) (t position u : ℕ) (b : Begun) (w : Worker)
     (turned : Turn) → t < length mid.workers.items →
     stamps_at mid.workers.items u ≡ stamps_of u (gone ++ mid.entries.items) →
     stamps_in w ≡ stamps_with (stamps_at mid.workers.items t) turned →
@@ -223,7 +223,7 @@ turned-kind script world t b (Going m) e is = (rw e refl, rw (e, is) refl)
 turned-kind script world t b (Done reply) e is = (entry_of world t b reply, rw (e, is) refl)
 
 -- a step of a thread that is in a call
-pub step-made : (gone : List Entry) (script : Scripted) (old mid new : State) (t position : ℕ)
+pub step-made : (gone : List Entry) (script : Scripted) (old mid new : RunState) (t position : ℕ)
     (d w : Worker) (b : Begun) (turned : Turn) → HasBegun gone script old mid t position →
     (slice_index_or mid.workers.items t d).begun ≡ Some b →
     AccessMade b t position mid new d w turned → IsStep gone script old new t position (kind_of turned)
@@ -252,7 +252,7 @@ step-made gone script old mid new t position d w b turned h is made =
     }
 
 -- a step of a thread that has no call left
-pub idle-made : (gone : List Entry) (script : Scripted) (old mid new : State) (t position : ℕ)
+pub idle-made : (gone : List Entry) (script : Scripted) (old mid new : RunState) (t position : ℕ)
     (d : Worker) → HasBegun gone script old mid t position →
     (slice_index_or mid.workers.items t d).begun ≡ None → new.words.items ≡ mid.words.items →
     new.workers.items ≡ mid.workers.items → new.entries.items ≡ mid.entries.items →

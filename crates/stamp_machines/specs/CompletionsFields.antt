@@ -6,7 +6,7 @@ use Rattle.stamp_machines.specs.Completing.{Completing, after_next}
 use Rattle.stamp_machines.specs.Script.{Scripted}
 use Rattle.stamp_machines.specs.World.{execution_of, finished_calls, stamps_of}
 use Rattle.stamp_machines.specs.StateFields.{world_at, stamps_at}
-use Rattle.stamp_machines.specs.declared.state.State.{State}
+use Rattle.stamp_machines.specs.declared.state.RunState.{RunState}
 use Rattle.stamp_machines.specs.declared.state.StepKind.{StepKind}
 use Rattle.stamp_machines.specs.declared.state.StepKind.TheVariants.{Idle, Going, Ended}
 use Rattle.stamp_machines.specs.declared.completions.Completions.TheInside.{Inside}
@@ -19,7 +19,7 @@ abbrev pub calls_after : Scripted → ℕ → List Entry
 calls_after script made = drop (length (calls_until script made)) (finished_calls script script.steps)
 
 -- no entry but the last one is kept
-abbrev pub completing_at : Scripted → State → ℕ → Completing
+abbrev pub completing_at : Scripted → RunState → ℕ → Completing
 completing_at script s made =
     record {
       script = script;
@@ -32,7 +32,7 @@ abbrev pub completing_of : Inside → Completing
 completing_of c = completing_at c.script.now c.state c.made
 
 -- the words and the threads' calls are those of the schedule for the steps made
-pub record IsAfter (script : Scripted) (s : State) (made : ℕ) : Type 0 where
+pub record IsAfter (script : Scripted) (s : RunState) (made : ℕ) : Type 0 where
   pub world : record (world_at [] s made) { entries = calls_until script made }
       ≡ execution_of script (take made script.steps)
   pub few : made ≤ length script.steps
@@ -40,7 +40,7 @@ pub record IsAfter (script : Scripted) (s : State) (made : ℕ) : Type 0 where
   pub stamps : (t : ℕ) → stamps_at s.workers.items t ≡ stamps_of t (calls_until script made)
 
 -- what is to come after a step of this kind
-abbrev pub HandsOn : Scripted → State → ℕ → StepKind → Type 0
+abbrev pub HandsOn : Scripted → RunState → ℕ → StepKind → Type 0
 HandsOn script s made Ended =
     completing_at script s (made + 1) ≡ after_next (completing_at script s made)
 HandsOn script s made Idle =
@@ -48,7 +48,7 @@ HandsOn script s made Idle =
 HandsOn script s made Going =
     (s.entries.items ≡ []) × (calls_after script (made + 1) ≡ calls_after script made)
 
-pub record StepMade (script : Scripted) (s : State) (made : ℕ) (p : StepKind) : Type 0 where
+pub record StepMade (script : Scripted) (s : RunState) (made : ℕ) (p : StepKind) : Type 0 where
   pub after : IsAfter script s (made + 1)
   pub hands_on : HandsOn script s made p
 

@@ -4,7 +4,7 @@ use Rattle.std.specs.Prelude.{vec_capacity, ◌<◌, ◌++◌}
 use Rattle.stamp_core.specs.declared.entry.Entry.{Entry}
 use Rattle.stamp_machines.specs.declared.state.Begun.{Begun}
 use Rattle.stamp_machines.specs.declared.state.Worker.{Worker}
-use Rattle.stamp_machines.specs.declared.state.State.{State}
+use Rattle.stamp_machines.specs.declared.state.RunState.{RunState}
 use Rattle.stamp_machines.specs.World.{World}
 
 abbrev pub begun_in : Worker → Option Begun
@@ -23,7 +23,7 @@ HasRoom None = Unit {0}
 HasRoom (Some w) = vec_len w.stamps < vec_capacity w.stamps
 
 -- the schedule's world, where these entries came before those that are kept
-abbrev pub world_at : List Entry → State → ℕ → World
+abbrev pub world_at : List Entry → RunState → ℕ → World
 world_at gone s position =
     record {
       words = s.words.items;
@@ -33,7 +33,7 @@ world_at gone s position =
     }
 
 -- what clients see of two states is the same
-pub record SameState (old : State) (new : State) : Type 0 where
+pub record SameState (old : RunState) (new : RunState) : Type 0 where
   pub words : new.words ≡ old.words
   pub begun : map begun_in new.workers.items ≡ map begun_in old.workers.items
   pub stamps : (t : ℕ) → stamps_at new.workers.items t ≡ stamps_at old.workers.items t

@@ -5,11 +5,11 @@ use Rattle.stamp_machines.specs.Script.{Scripted}
 use Rattle.stamp_machines.specs.World.{step, stamps_of}
 use Rattle.stamp_machines.specs.StateFields.{world_at, stamps_at}
 use Rattle.stamp_machines.specs.StepKind.{IsOfKind}
-use Rattle.stamp_machines.specs.declared.state.State.{State}
+use Rattle.stamp_machines.specs.declared.state.RunState.{RunState}
 use Rattle.stamp_machines.specs.declared.state.StepKind.{StepKind}
 
 -- the schedule's world after the step, the stamps of the finished calls, and the kind of the step
-pub record IsStep (gone : List Entry) (script : Scripted) (old new : State) (thread position : ℕ)
+pub record IsStep (gone : List Entry) (script : Scripted) (old new : RunState) (thread position : ℕ)
     (kind : StepKind) : Type 0 where
   pub world : world_at gone new (position + 1) ≡ step script (world_at gone old position) thread
   pub stamps : (t : ℕ) → stamps_at new.workers.items t ≡ stamps_of t (gone ++ new.entries.items)

@@ -5,7 +5,7 @@ ghost use Rattle.stamp_machines.specs.Completing.{before_all, after_next, Stoppe
 
 use crate::running::RunError;
 use crate::script::Script;
-use crate::state::{State, StepKind};
+use crate::state::{RunState, StepKind};
 use stamp_core::Entry;
 use std::alloc::{AllocError, Global};
 use std::marker::Model;
@@ -17,7 +17,7 @@ use std::marker::Model;
 #[derive(Drop)]
 pub struct Completions<'a> {
     script: &'a Script,
-    state: State,
+    state: RunState,
     made: usize,
 }
 
@@ -36,7 +36,7 @@ impl<'a> Model for Completions<'a> {
 /// Makes the script's step after those made, where no entry is kept. There is none either where
 /// memory is refused.
 #[inline(always)]
-fn make_step(script: &Script, state: &mut State, made: usize) -> Result<StepKind, AllocError>
+fn make_step(script: &Script, state: &mut RunState, made: usize) -> Result<StepKind, AllocError>
     requires few { made < length script.now.steps }
     requires after { IsAfter script.now state.old made }
     requires none { state.old.entries.items ≡ [] }
@@ -50,7 +50,7 @@ fn make_step(script: &Script, state: &mut State, made: usize) -> Result<StepKind
 }
 
 /// Makes the script's steps after those made, up to the one by which a call ends, or else all.
-fn run_on(script: &Script, state: &mut State, made: &mut usize) -> Result<(), AllocError>
+fn run_on(script: &Script, state: &mut RunState, made: &mut usize) -> Result<(), AllocError>
     requires after { IsAfter script.now state.old made.old }
     requires none { state.old.entries.items ≡ [] }
     ensures after { IsAfter script.now state.new made.new }
@@ -77,7 +77,7 @@ impl<'a> Completions<'a> {
         ensures ok { IfOk result (λ r. r ≡ before_all script.now) }
         ensures memory { OnErr result (result ≡ Err RunError.Memory) }
     {
-        let state = State::new(alloc, script.shape(), script.thread_count())?;
+        let state = RunState::new(alloc, script.shape(), script.thread_count())?;
         Ok(Completions {
             script,
             state,

@@ -4,7 +4,7 @@ ghost use Rattle.std.specs.Prelude.{slice_index, All};
 
 use crate::access::LOCK;
 use crate::script::Script;
-use crate::state::{State, StepKind};
+use crate::state::{RunState, StepKind};
 use crate::tally::Tally;
 use stamp_core::{Entry, Record, Word};
 use std::alloc::{AllocError, Global};
@@ -62,7 +62,7 @@ impl From<AllocError> for RunError {
 #[derive(Drop)]
 pub struct Run<'a> {
     script: &'a Script,
-    state: State,
+    state: RunState,
     steps: Vec<u64>,
 }
 
@@ -94,7 +94,7 @@ impl<'a> Run<'a> {
         ensures ok { IfOk result (λ r. r ≡ record { script = script.now; steps = [] }) }
         ensures memory { OnErr result (result ≡ Err RunError.Memory) }
     {
-        let state = State::new(alloc, script.shape(), script.thread_count())?;
+        let state = RunState::new(alloc, script.shape(), script.thread_count())?;
         Ok(Run {
             script,
             state,

@@ -384,7 +384,7 @@ fn upgraded(shape: &Shape, call: &Call, stamp: u64, loaded: &LoadedWords, got: u
 }
 
 /// Words are to be loaded under the read lock of this stamp.
-fn shared(shape: &Shape, call: &Call, stamp: u64, loaded: &mut LoadedWords) -> Stage
+fn read_locked(shape: &Shape, call: &Call, stamp: u64, loaded: &mut LoadedWords) -> Stage
     requires { IsRecordCall shape.now call.now }
     ensures next { going_at shape.now call.now loaded.new result
         ≡ record_turn shape.now call.now (job_of call.now)
@@ -413,7 +413,7 @@ pub(crate) fn ended(
 {
     let got = stamp_in(answer);
     match guard_call {
-        GuardCall::Share => ControlFlow::Continue(shared(shape, call, got, loaded)),
+        GuardCall::Share => ControlFlow::Continue(read_locked(shape, call, got, loaded)),
         GuardCall::Leave { .. } => {
             *answer = Reply::Content(loaded.words());
             ControlFlow::Break(())

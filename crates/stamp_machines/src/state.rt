@@ -31,7 +31,7 @@ pub(crate) struct Worker {
 
 /// The common words, the threads, and the finished calls.
 #[derive(Drop)]
-pub(crate) struct State {
+pub(crate) struct RunState {
     pub(crate) words: Vec<u64>,
     pub(crate) workers: Vec<Worker>,
     pub(crate) entries: Vec<Entry>,
@@ -51,7 +51,7 @@ ghost use Rattle.stamp_core.specs.declared.entry.Entry.{Entry};
 ghost use Rattle.stamp_machines.specs.StateFields.{stamps_at, begun_in, HasRoom};
 ghost use Rattle.stamp_machines.specs.World.{number_of, call_of, next_call, opening_word};
 
-fn number(workers: &[Worker], arg: Arg) -> u64
+fn number_of(workers: &[Worker], arg: Arg) -> u64
     ensures { result ≡ number_of (stamps_at workers.now) arg }
 {
     match arg {
@@ -72,13 +72,13 @@ fn resolve(workers: &[Worker], call: &ScriptCall) -> Call
         ScriptCall::WriteLock => Call::WriteLock,
         ScriptCall::ReadLock => Call::ReadLock,
         ScriptCall::Optimistic => Call::Optimistic,
-        ScriptCall::Validate(arg) => Call::Validate(number(workers, *arg)),
-        ScriptCall::UnlockWrite(arg) => Call::UnlockWrite(number(workers, *arg)),
-        ScriptCall::UnlockRead(arg) => Call::UnlockRead(number(workers, *arg)),
-        ScriptCall::Unlock(arg) => Call::Unlock(number(workers, *arg)),
-        ScriptCall::ToWrite(arg) => Call::ToWrite(number(workers, *arg)),
-        ScriptCall::ToRead(arg) => Call::ToRead(number(workers, *arg)),
-        ScriptCall::ToOptimistic(arg) => Call::ToOptimistic(number(workers, *arg)),
+        ScriptCall::Validate(arg) => Call::Validate(number_of(workers, *arg)),
+        ScriptCall::UnlockWrite(arg) => Call::UnlockWrite(number_of(workers, *arg)),
+        ScriptCall::UnlockRead(arg) => Call::UnlockRead(number_of(workers, *arg)),
+        ScriptCall::Unlock(arg) => Call::Unlock(number_of(workers, *arg)),
+        ScriptCall::ToWrite(arg) => Call::ToWrite(number_of(workers, *arg)),
+        ScriptCall::ToRead(arg) => Call::ToRead(number_of(workers, *arg)),
+        ScriptCall::ToOptimistic(arg) => Call::ToOptimistic(number_of(workers, *arg)),
         ScriptCall::TryUnlockWrite => Call::TryUnlockWrite,
         ScriptCall::TryUnlockRead => Call::TryUnlockRead,
         ScriptCall::IsWriteLocked => Call::IsWriteLocked,
@@ -184,7 +184,7 @@ fn opening_words(alloc: Global, shape: &Shape) -> Result<Vec<u64>, AllocError>
     Ok(words)
 }
 
-impl State {
+impl RunState {
     ghost use Rattle.stamp_machines.specs.World.{stamps_of, current, begun_with, opening_of};
     ghost use Rattle.stamp_machines.specs.StateFields.{world_at, SameState};
     ghost use Rattle.stamp_machines.specs.StateStep.{IsStep};
@@ -193,7 +193,7 @@ impl State {
     ghost use Rattle.stamp_machines.specs.Script.{IsSound};
 
     /// The opening words, and threads that have begun nothing.
-    pub(crate) fn new(alloc: Global, shape: Shape, threads: usize) -> Result<State, AllocError>
+    pub(crate) fn new(alloc: Global, shape: Shape, threads: usize) -> Result<RunState, AllocError>
         requires { shape.width ≤ 16 }
         ensures world { IfOk result
             (λ s. world_at [] s 0 ≡ opening_of shape.limits shape.width threads) }
@@ -208,7 +208,7 @@ impl State {
                 stamps: Vec::new(alloc),
             })?;
         }
-        Ok(State {
+        Ok(RunState {
             words,
             workers,
             entries: Vec::new(alloc),

@@ -21,7 +21,7 @@ use Rattle.stamp_history.specs.HistoryFields.{format, width}
 use Rattle.stamp_history.specs.HistoryLaws.{IsU64, CallIsU64, PairIsU64}
 use Rattle.stamp_history.specs.HistoryText.{call_data, with_entries}
 use Rattle.stamp_history.specs.LimitFields as limit
-use Rattle.stamp_history.specs.Reading.{◌>>=◌, each}
+use Rattle.stamp_history.specs.JsonReading.{◌>>=◌, each}
 use Rattle.stamp_history.specs.ReplayText.{number_data, reply_data}
 use Rattle.stamp_history.proofs.EntriesReadAgain.{call_again, reply_again}
 use Rattle.stamp_history.proofs.FieldsFound.{fields_found, listed_found, mapped_len}

@@ -10,7 +10,7 @@ use Rattle.stamp_history.specs.declared.read_error.ReadError.{ReadError}
 use Rattle.stamp_history.specs.declared.read_error.ReadError.TheVariants.{NotHistory, Limit}
 use Rattle.stamp_history.specs.HistoryFields.{keys, keys_with_layout, listed_entries}
 use Rattle.stamp_history.specs.JsonValue.{has_keys}
-use Rattle.stamp_history.specs.Reading.{◌>>=◌, ranged, each}
+use Rattle.stamp_history.specs.JsonReading.{◌>>=◌, ranged, each}
 use Rattle.stamp_observed.specs.ObservationValue as value
 
 -- the keys of a history without a report

@@ -6,7 +6,7 @@ use Rattle.stamp_history.specs.declared.read_error.ReadError.{ReadError}
 use Rattle.stamp_history.specs.declared.text_kind.TextKind.TheVariants as text
 use Rattle.stamp_history.specs.HistoryFields.{format, width}
 use Rattle.stamp_history.specs.LimitFields.{limits}
-use Rattle.stamp_history.specs.Reading.{◌>>=◌, json_of}
+use Rattle.stamp_history.specs.JsonReading.{◌>>=◌, json_of}
 use Rattle.stamp_observed.specs.ObservedFields.{top, entries}
 
 unfoldable pub observed_in : Data → Result ObservedHistory ReadError

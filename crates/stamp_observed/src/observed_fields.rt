@@ -3,7 +3,7 @@
 ghost use Rattle.std.specs.Prelude.{◌≡◌, option_and_then};
 ghost use Rattle.serde_json.specs.View.{view, items_view};
 ghost use Rattle.stamp_history.specs.Gives.{Gives};
-ghost use Rattle.stamp_history.specs.Reading.{each};
+ghost use Rattle.stamp_history.specs.JsonReading.{each};
 ghost use Rattle.stamp_observed.specs.ObservationValue as call;
 ghost use Rattle.stamp_observed.specs.ObservedFields as field;
 

@@ -14,14 +14,14 @@ use Rattle.stamp_core.specs.declared.reply.Reply.TheVariants.{Content}
 use Rattle.stamp_threads.specs.declared.record_view.RecordShape.{RecordShape}
 use Rattle.stamp_threads.specs.declared.record_view.RecordEvent.{RecordEvent}
 use Rattle.stamp_threads.specs.declared.record_view.RecordPhase.{RecordPhase}
-use Rattle.stamp_threads.specs.declared.record_view.RecordPhase.TheVariants.{Idle, Reading}
+use Rattle.stamp_threads.specs.declared.record_view.RecordPhase.TheVariants.{Idle, Loading}
 use Rattle.stamp_threads.specs.PassView.{entry, knowing, finding}
 use Rattle.stamp_threads.specs.Seats.{alone}
 use Rattle.stamp_threads.specs.RecordWord.{word_with}
 use Rattle.stamp_threads.specs.RecordLog.{puts, puts_in, content_in, is_locked, is_own}
 use Rattle.stamp_threads.specs.RecordPass.{RecordPassView, Seated, IsConsistentWith, marks_ahead, first_of}
-use Rattle.stamp_threads.specs.RecordRule.{KnowsReading, Knows, IsWriting, IsKept, calling}
-use Rattle.stamp_threads.specs.RecordRule.{starting_to_read, stopping, get_of, loading_one, loaded_one}
+use Rattle.stamp_threads.specs.RecordRule.{KnowsLoading, Knows, IsWriting, IsKept, calling}
+use Rattle.stamp_threads.specs.RecordRule.{starting_to_load, stopping, get_of, loading_one, loaded_one}
 use Rattle.stamp_threads.specs.RecordRule.{Confirmed, Overtaken, LoadedForGet, word_to_confirm, LoadForGetTells}
 use Rattle.stamp_threads.specs.RecordRule.{LoadTells, ConfirmTells}
 use Rattle.stamp_threads.proofs.Beginnings.{begins_all}
@@ -37,15 +37,15 @@ use Rattle.stamp_threads.proofs.RecordSteps.{idle_quiet, KeptBy, Leaves, load_le
 module _ {enterable : Bool} (P : List ℕ → Type 0) (shape : RecordShape) (s : State (Unit {0}) (List RecordPassView))
     (r : IsKept enterable P shape s)
     (id : ℕ) (v : RecordPassView) (here : get_elem? s.views id ≡ some (v ∷ [])) (version : ℕ)
-    (xs : List ℕ) (reading : v.phase ≡ Reading version xs) where
-  pub reading_quiet : IsWriting v.phase → ⊥
-  reading_quiet w = subst IsWriting reading w
+    (xs : List ℕ) (loading : v.phase ≡ Loading version xs) where
+  pub loading_quiet : IsWriting v.phase → ⊥
+  loading_quiet w = subst IsWriting loading w
 
   none_ahead : marks_ahead v.phase ≡ 0
-  none_ahead = ap marks_ahead reading
+  none_ahead = ap marks_ahead loading
 
-  what : KnowsReading shape.width r.log version xs
-  what = subst (Knows P shape.width s.words r.log v.name) reading
+  what : KnowsLoading shape.width r.log version xs
+  what = subst (Knows P shape.width s.words r.log v.name) loading
       (fits_here P shape s r id v here).knows
 
   -- one more word is loaded
@@ -58,7 +58,7 @@ module _ {enterable : Bool} (P : List ℕ → Type 0) (shape : RecordShape) (s :
       let h = what in
       let more : length (xs ++ x ∷ []) ≡ k + 1 =
       length-append xs (x ∷ []) ∙ ap (λ (n : ℕ). n + 1) long in
-      let loaded : KnowsReading shape.width r.log version (xs ++ x ∷ []) = record {
+      let loaded : KnowsLoading shape.width r.log version (xs ++ x ∷ []) = record {
         before = h.before;
         few = omega arith;
         stand = λ e p j l. dite (ℕ_discrete j k)
@@ -69,14 +69,14 @@ module _ {enterable : Bool} (P : List ℕ → Type 0) (shape : RecordShape) (s :
             h.stand e p j (omega arith));
       } in
       let ahead : marks_ahead v.phase ≡ marks_ahead w.phase =
-      ap marks_ahead reading ∙
-      sym (ap (λ (p : RecordPhase). marks_ahead (loading_one p x)) reading) in
-      only_views P shape s r id v here reading_quiet w refl refl (record {
+      ap marks_ahead loading ∙
+      sym (ap (λ (p : RecordPhase). marks_ahead (loading_one p x)) loading) in
+      only_views P shape s r id v here loading_quiet w refl refl (record {
         known = f.part.known;
         own = f.part.own;
         marks = f.marks ∙ ap (λ (n : ℕ). puts_in v.own + n) ahead;
         knows = subst (Knows P shape.width s.words r.log v.name)
-            (sym (ap (λ (z : RecordPhase). loading_one z x) reading)) loaded;
+            (sym (ap (λ (z : RecordPhase). loading_one z x) loading)) loaded;
       })
 
   -- the lock word is as it was, and the words are the content
@@ -152,13 +152,13 @@ load_for_get_at : {enterable : Bool} (P : List ℕ → Type 0) (shape : RecordSh
     (id : ℕ) (v : RecordPassView) → get_elem? s.views id ≡ some (v ∷ []) → v.phase ≡ Idle →
     (b : Bool) → is_locked r.log ≡ b →
     (word : ℕ) → KeptBy enterable P shape s id (if b then knowing (finding v word) r.log
-    else starting_to_read (finding v word) r.log) s.words
+    else starting_to_load (finding v word) r.log) s.words
 load_for_get_at P shape s r id v here idle true e word =
     only_views P shape s r id v here (idle_quiet v.phase idle) (knowing (finding v word) r.log)
     refl refl (knowing_brings P shape s r id v here word)
 load_for_get_at P shape s r id v here idle false e word =
     let f = fits_here P shape s r id v here in
-    only_views P shape s r id v here (idle_quiet v.phase idle) (starting_to_read (finding v word) r.log)
+    only_views P shape s r id v here (idle_quiet v.phase idle) (starting_to_load (finding v word) r.log)
     refl refl (record {
       known = begins_all r.log;
       own = f.part.own;
@@ -179,7 +179,7 @@ allows_load_for_get P shape slots id me is idle s r _ at _ =
     at ∙ ap (λ (m : Seated). some m.0) is in
     let word : ℕ = get_or s.words 0 0 in
     let w : RecordPassView = if is_locked r.log then knowing (finding v word) r.log
-    else starting_to_read (finding v word) r.log in
+    else starting_to_load (finding v word) r.log in
     let quiet = idle_quiet v.phase idle in
     load_leaves P shape s id me 0 w (LoadedForGet shape v word)
     (load_for_get_at P shape s r id v here idle (is_locked r.log) refl word) (record {
@@ -194,32 +194,32 @@ allows_load_for_get P shape slots id me is idle s r _ at _ =
 -- a load of a word of the record
 pub allows_load_word : {enterable : Bool} (P : List ℕ → Type 0) (shape : RecordShape) (slots id : ℕ) (me : Seated)
     (version k : ℕ)
-    (xs : List ℕ) → me ≡ alone (first_of me.0) → (first_of me.0).phase ≡ Reading version xs →
+    (xs : List ℕ) → me ≡ alone (first_of me.0) → (first_of me.0).phase ≡ Loading version xs →
     length xs ≡ k → k < shape.width →
     Allows (IsKept enterable P shape) slots id me (k + 1) (λ n. n)
     (LoadTells (step slots (k + 1) 0 0 none) me)
-allows_load_word P shape slots id me version k xs is reading long inside s r _ there _ =
+allows_load_word P shape slots id me version k xs is loading long inside s r _ there _ =
     let v : RecordPassView = first_of me.0 in
     let here : get_elem? s.views id ≡ some (v ∷ []) =
     there ∙ ap (λ (m : Seated). some m.0) is in
     let w = loaded_one v (get_or s.words (k + 1) 0) in
     load_leaves P shape s id me (k + 1) w (λ m. m ≡ alone w)
-    (loads P shape s r id v here version xs reading k long inside) (λ i. (w ∷ [], (is i).1))
+    (loads P shape s r id v here version xs loading k long inside) (λ i. (w ∷ [], (is i).1))
 
 -- the second load of the lock word, by whether it is the word of the first
 confirm_at : {enterable : Bool} (P : List ℕ → Type 0) (shape : RecordShape)
     (s : State (Unit {0}) (List RecordPassView))
     (r : IsKept enterable P shape s) (id : ℕ) (me : Seated) (version : ℕ) (xs : List ℕ) →
     me ≡ alone (first_of me.0) → get_elem? s.views id ≡ some (first_of me.0 ∷ []) →
-    (first_of me.0).phase ≡ Reading version xs → length xs ≡ shape.width → (b : Bool) →
+    (first_of me.0).phase ≡ Loading version xs → length xs ≡ shape.width → (b : Bool) →
     eqb (get_or s.words 0 0) (word_with shape.limits.layout version false) ≡ b →
     Leaves enterable P shape s id me 0 (get_or s.words 0 0) (λ m. MatchBool b
     (Confirmed shape (first_of me.0) (get_or s.words 0 0) m P xs)
     (Overtaken shape (first_of me.0) (get_or s.words 0 0) m))
-confirm_at P shape s r id me version xs is here reading long true e =
+confirm_at P shape s r id me version xs is here loading long true e =
     let v : RecordPassView = first_of me.0 in
     let w = calling (finding v (get_or s.words 0 0)) r.log (get_of xs) in
-    let t = confirms P shape s r id v here version xs reading long (eqb-true _ _ e) in
+    let t = confirms P shape s r id v here version xs loading long (eqb-true _ _ e) in
     load_leaves P shape s id me 0 w (λ m. Confirmed shape v (get_or s.words 0 0) m P xs) t.0 (record {
       log = r.log;
       content = t.2;
@@ -228,29 +228,29 @@ confirm_at P shape s r id me version xs is here reading long true e =
       after = λ i. (w ∷ [], (is i).1);
       consistent = t.1;
     })
-confirm_at P shape s r id me version xs is here reading long false e =
+confirm_at P shape s r id me version xs is here loading long false e =
     let v : RecordPassView = first_of me.0 in
     let word : ℕ = get_or s.words 0 0 in
-    load_knows P shape s r id me is here (reading_quiet P shape s r id v here version xs reading)
+    load_knows P shape s r id me is here (loading_quiet P shape s r id v here version xs loading)
     (stopping (finding v word)) refl refl refl
-    (stopping_brings P shape s r id v here version xs reading word)
+    (stopping_brings P shape s r id v here version xs loading word)
 
 pub allows_confirm : {enterable : Bool} (P : List ℕ → Type 0) (shape : RecordShape) (slots id : ℕ) (me : Seated)
     (version : ℕ)
-    (xs : List ℕ) → me ≡ alone (first_of me.0) → (first_of me.0).phase ≡ Reading version xs →
+    (xs : List ℕ) → me ≡ alone (first_of me.0) → (first_of me.0).phase ≡ Loading version xs →
     length xs ≡ shape.width →
     Allows (IsKept enterable P shape) slots id me 0 (λ n. n)
     (ConfirmTells P shape xs (step slots 0 0 0 none) me)
-allows_confirm P shape slots id me version xs is reading long s r _ there _ =
+allows_confirm P shape slots id me version xs is loading long s r _ there _ =
     let v : RecordPassView = first_of me.0 in
     let here : get_elem? s.views id ≡ some (v ∷ []) =
     there ∙ ap (λ (m : Seated). some m.0) is in
     let n : ℕ = get_or s.words 0 0 in
     let layout = shape.limits.layout in
-    let t = confirm_at P shape s r id me version xs is here reading long
+    let t = confirm_at P shape s r id me version xs is here loading long
     (eqb n (word_with layout version false)) refl in
     let same : eqb n (word_with layout version false) ≡ eqb n (word_to_confirm layout v.phase) =
-    ap (λ (z : RecordPhase). eqb n (word_to_confirm layout z)) (sym reading) in (
+    ap (λ (z : RecordPhase). eqb n (word_to_confirm layout z)) (sym loading) in (
       t.0,
       t.1,
       t.2,

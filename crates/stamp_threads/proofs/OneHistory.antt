@@ -4,7 +4,8 @@ use Rattle.std.proofs.Common.{⊎_elim, inl, inr}
 use mathlib.Core.List.{IsPrefix}
 use Rattle.stamp_threads.specs.declared.pass_view.LogEntry.{LogEntry}
 use Rattle.stamp_threads.specs.declared.pass_view.PassView.{PassView}
-use Rattle.stamp_threads.specs.PassView.{IsPart, made_by}
+use Rattle.stamp_threads.specs.PassName.{HasGivenAll}
+use Rattle.stamp_threads.specs.PassView.{IsPart, made_by, PassesMet}
 use Rattle.stamp_threads.specs.OneHistory.{AreOrdered, Agree}
 use Rattle.stamp_threads.proofs.MadeBy.{made_by-append}
 
@@ -44,3 +45,20 @@ agree is_own IsLegal v w log legal first second apart = record {
   first_calls = made_first is_own v.name w.known log v.own second.known first.own;
   second_calls = made_first is_own w.name v.known log w.own first.known second.own;
 }
+
+-- two passes that met knew parts of the history that both know now
+pub met_agree : {E P : Type 0} (is_own : E → Bool) (IsLegal : List (LogEntry E) → Type 0)
+    (v w v' w' : PassView E P) → PassesMet v w v' w' → IsLegal v'.known →
+    made_by is_own v'.name v'.known ≡ v'.own → HasGivenAll v'.name v'.splits v'.known →
+    made_by is_own w'.name w'.known ≡ w'.own → HasGivenAll w'.name w'.splits w'.known →
+    Agree is_own IsLegal v w
+met_agree is_own IsLegal v w v' w' m legal first_own first_given second_own second_given =
+    agree is_own IsLegal v w v'.known legal (record {
+      known = m.first_begins;
+      own = rw m.no_calls.0.same.name at first_own ∙ m.no_calls.0.own;
+      given = rw (m.no_calls.0.same.name, m.no_calls.0.same.splits) at first_given;
+    }) (record {
+      known = m.second_begins;
+      own = rw (m.no_calls.1.same.name, m.alike) at second_own ∙ m.no_calls.1.own;
+      given = rw (m.no_calls.1.same.name, m.no_calls.1.same.splits, m.alike) at second_given;
+    }) m.apart

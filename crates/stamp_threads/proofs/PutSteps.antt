@@ -36,7 +36,7 @@ use Rattle.stamp_threads.proofs.RecordLogs.{puts_in_put}
 use Rattle.stamp_threads.proofs.RecordSteps.{Brings, OthersKnow, fits_here, leaves_now, not_other}
 use Rattle.stamp_threads.proofs.RecordSteps.{one_after, one_consistent, one_stands}
 use Rattle.stamp_threads.proofs.RecordSteps.{knowing_brings, load_knows}
-use Rattle.stamp_threads.proofs.RecordSteps.{locked_by, reader_knows, idle_quiet, KeptBy}
+use Rattle.stamp_threads.proofs.RecordSteps.{locked_by, quiet_knows, idle_quiet, KeptBy}
 use Rattle.stamp_threads.proofs.RecordSteps.{Leaves}
 
 module _ {enterable : Bool} (P : List ℕ → Type 0) (shape : RecordShape) (s : State (Unit {0}) (List RecordPassView))
@@ -78,7 +78,7 @@ module _ {enterable : Bool} (P : List ℕ → Type 0) (shape : RecordShape) (s :
         knows = knows;
       } in
       let others : OthersKnow P shape s r.log id cells' log' =
-      λ i k u away st h. reader_knows P shape.width s.words cells' r.log log' u.name u.phase
+      λ i k u away st h. quiet_knows P shape.width s.words cells' r.log log' u.name u.phase
       (omega (arith, same)) (inl now)
       (λ t. true≢false (sym (locked_by P shape.width s.words r.log u.name u.phase t h).0 ∙ free.0))
       h in
@@ -155,7 +155,7 @@ module _ {enterable : Bool} (P : List ℕ → Type 0) (shape : RecordShape) (s :
             knows = knows;
           } in
           let others : OthersKnow P shape s r.log id cells' r.log =
-          λ i j u away st h. reader_knows P shape.width s.words cells' r.log r.log u.name u.phase
+          λ i j u away st h. quiet_knows P shape.width s.words cells' r.log r.log u.name u.phase
           (le_refl (puts r.log)) (inl k.locked) (alone_writes i j u away st h) h in
           record {
             log = r.log;
@@ -208,7 +208,7 @@ module _ {enterable : Bool} (P : List ℕ → Type 0) (shape : RecordShape) (s :
         knows = tt;
       } in
       let others : OthersKnow P shape s r.log id cells' log' =
-      λ i j u away st h. reader_knows P shape.width s.words cells' r.log log' u.name u.phase
+      λ i j u away st h. quiet_knows P shape.width s.words cells' r.log log' u.name u.phase
       (omega (arith, more)) (inr (omega (arith, more)))
       (alone_writes version shape.width xs writing i j u away st h) h in
       let legal = legal_longer shape.width r.log v.name (Put xs) Done refl refl r.legal in (

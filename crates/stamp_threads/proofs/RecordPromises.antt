@@ -7,14 +7,14 @@ use Rattle.stamp_core.specs.declared.reply.Reply.TheVariants.{Content, Done}
 use Rattle.stamp_threads.specs.declared.record_view.RecordPhase.{RecordPhase}
 use Rattle.stamp_core.specs.Limits.{AreInRange}
 use Rattle.stamp_threads.specs.declared.record_view.RecordShape.{RecordShape}
-use Rattle.stamp_threads.specs.declared.record_view.RecordPhase.TheVariants.{Idle, Reading, Writing}
+use Rattle.stamp_threads.specs.declared.record_view.RecordPhase.TheVariants.{Idle, Loading, Writing}
 use Rattle.stamp_threads.specs.declared.record_view.RecordEvent.TheVariants.{Mark}
 use Rattle.stamp_threads.specs.PassView.{entry, knowing, finding, HasFound}
 use Rattle.stamp_threads.specs.Seats.{alone, both}
 use Rattle.stamp_threads.specs.RecordWord.{version_unit, writer_unit, word_with}
 use Rattle.stamp_threads.specs.RecordLog.{RecordLog, puts, is_locked}
 use Rattle.stamp_threads.specs.RecordPass.{RecordPassView, Seated, LeavesWord, first_of, second_of}
-use Rattle.stamp_threads.specs.RecordRule.{with_phase, starting_to_read, acquiring, LoadedForPut}
+use Rattle.stamp_threads.specs.RecordRule.{with_phase, starting_to_load, acquiring, LoadedForPut}
 use Rattle.stamp_threads.specs.RecordRule.{Acquired, LoadedForGet, Released}
 use Rattle.stamp_threads.specs.RecordRule.{Confirmed, Overtaken, word_to_confirm, Met}
 use Rattle.stamp_threads.specs.RecordCall.{RecordAnswered, SawWord, WasBusy, WasLost, WasSpent}
@@ -111,12 +111,12 @@ module _ (shape : RecordShape) (v : RecordPassView) (found : ℕ) where
   -- a get goes on
   pub get_goes_on : (me : Seated) (t : LoadedForGet shape v found me) →
       eqb (found % version_unit shape.limits.layout) (writer_unit shape.limits.layout) ≡ false →
-      (first_of me.0).phase ≡ Reading (puts t.log) []
+      (first_of me.0).phase ≡ Loading (puts t.log) []
   get_goes_on me t test =
       let free = is_free t.log t.left test in
       ap (λ (m : Seated). (first_of m.0).phase) t.after ∙
       ap (λ (b : Bool). (if b then knowing (finding v found) t.log
-      else starting_to_read (finding v found) t.log).phase) free
+      else starting_to_load (finding v found) t.log).phase) free
 
 abbrev HeldTest : RecordShape → ℕ → Bool → Type 0
 HeldTest shape word b =
@@ -200,7 +200,7 @@ module _ (shape : RecordShape) (v : RecordPassView) (loaded : ℕ) where
       let locked = locked_of t.log t.left test in
       let after = t.after ∙
       ap (λ (b : Bool). alone (if b then knowing (finding v loaded) t.log
-      else starting_to_read (finding v loaded) t.log)) locked in
+      else starting_to_load (finding v loaded) t.log)) locked in
       put_busy me (record {
         log = t.log;
         left = t.left;
@@ -212,22 +212,22 @@ module _ (shape : RecordShape) (v : RecordPassView) (loaded : ℕ) where
   -- what the pass knows when it has loaded the words
   module _ (P : List ℕ → Type 0) (me me2 : Seated) (words : List ℕ) (t : LoadedForGet shape v loaded me)
       (test : HeldTest shape loaded false)
-      (loads : (version : ℕ) → (first_of me.0).phase ≡ Reading version [] →
-      me2 ≡ alone (with_phase (first_of me.0) (Reading version words))) where
+      (loads : (version : ℕ) → (first_of me.0).phase ≡ Loading version [] →
+      me2 ≡ alone (with_phase (first_of me.0) (Loading version words))) where
     free_now : is_locked t.log ≡ false
     free_now = is_free shape v loaded t.log t.left test
 
     abbrev reads : RecordPassView
-    reads = with_phase (knowing (finding v loaded) t.log) (Reading (puts t.log) words)
+    reads = with_phase (knowing (finding v loaded) t.log) (Loading (puts t.log) words)
 
-    opens : me ≡ alone (starting_to_read (finding v loaded) t.log)
+    opens : me ≡ alone (starting_to_load (finding v loaded) t.log)
     opens = t.after ∙ ap (λ (b : Bool). alone (if b then knowing (finding v loaded) t.log
-        else starting_to_read (finding v loaded) t.log)) free_now
+        else starting_to_load (finding v loaded) t.log)) free_now
 
     reads_is : first_of me2.0 ≡ reads
     reads_is = ap (λ (m : Seated). first_of m.0)
         (loads (puts t.log) (ap (λ (m : Seated). (first_of m.0).phase) opens) ∙
-        ap (λ (m : Seated). alone (with_phase (first_of m.0) (Reading (puts t.log) words))) opens)
+        ap (λ (m : Seated). alone (with_phase (first_of m.0) (Loading (puts t.log) words))) opens)
 
     abbrev Told : ℕ → Seated → RecordPassView → Type 0
     Told found me3 u = MatchBool (eqb found (word_to_confirm shape.limits.layout u.phase))
@@ -250,7 +250,7 @@ module _ (shape : RecordShape) (v : RecordPassView) (loaded : ℕ) where
         let o : Overtaken shape reads found me3 =
         told_by found me3 false (ne_eqb found loaded differ) told in
         subst (λ (m : Seated). WasLost shape v loaded found (first_of m.0)) (sym o.after)
-        (lost_after t.log (Reading (puts t.log) words) found _ t.left free_now differ (record {
+        (lost_after t.log (Loading (puts t.log) words) found _ t.left free_now differ (record {
           left = o.left;
           others = o.others;
           no_call = no_call_by _ _ refl refl refl;
@@ -400,8 +400,8 @@ module _ (key shape : RecordShape) (same : key ≡ shape) (v : RecordPassView) (
 
   module _ (P : List ℕ → Type 0) (me me2 : Seated) (words : List ℕ) (t : LoadedForGet key v loaded me)
       (test : HeldTest shape loaded false)
-      (loads : (version : ℕ) → (first_of me.0).phase ≡ Reading version [] →
-      me2 ≡ alone (with_phase (first_of me.0) (Reading version words))) (found : ℕ)
+      (loads : (version : ℕ) → (first_of me.0).phase ≡ Loading version [] →
+      me2 ≡ alone (with_phase (first_of me.0) (Loading version words))) (found : ℕ)
       (me3 : Seated)
       (told : MatchBool
       (eqb found (word_to_confirm key.limits.layout (first_of me2.0).phase))

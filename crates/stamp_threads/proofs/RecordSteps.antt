@@ -10,7 +10,7 @@ use Rattle.atomic_table.specs.Table.{State, Act, keeps, stepped, Valid, carried_
 use Rattle.atomic_table.proofs.Lists.{set_here}
 use Rattle.stamp_threads.specs.declared.record_view.RecordShape.{RecordShape}
 use Rattle.stamp_threads.specs.declared.record_view.RecordPhase.{RecordPhase}
-use Rattle.stamp_threads.specs.declared.record_view.RecordPhase.TheVariants.{Idle, Writing, Reading}
+use Rattle.stamp_threads.specs.declared.record_view.RecordPhase.TheVariants.{Idle, Writing, Loading}
 use Rattle.stamp_threads.specs.PassName.{HasGivenAll}
 use Rattle.stamp_threads.specs.PassView.{made_by, knowing, finding}
 use Rattle.stamp_threads.specs.Seats.{StandsAt, AreSeated, alone}
@@ -232,17 +232,17 @@ pub locked_by : (P : List ℕ → Type 0) (width : ℕ) (cells : List ℕ) (log 
     (is_locked log ≡ true) × (marker_in log ≡ name)
 locked_by P width cells log name Idle w h = absurd w
 locked_by P width cells log name (Writing version words stored) w h = (h.locked, h.marker)
-locked_by P width cells log name (Reading version words) w h = absurd w
+locked_by P width cells log name (Loading version words) w h = absurd w
 
--- a reader knows nothing of a locked record, nor of later versions
-pub reader_knows : (P : List ℕ → Type 0) (width : ℕ) (cells cells' : List ℕ) (log log' : RecordLog) (name : List ℕ)
+-- a pass that doesn't write knows nothing of a locked record, nor of later versions
+pub quiet_knows : (P : List ℕ → Type 0) (width : ℕ) (cells cells' : List ℕ) (log log' : RecordLog) (name : List ℕ)
     (phase : RecordPhase) → puts log ≤ puts log' →
     (is_locked log' ≡ true) ⊎ (puts log < puts log') → (IsWriting phase → ⊥) →
     Knows P width cells log name phase → Knows P width cells' log' name phase
-reader_knows P width cells cells' log log' name Idle le why quiet h = tt
-reader_knows P width cells cells' log log' name (Writing version words stored) le why quiet h =
+quiet_knows P width cells cells' log log' name Idle le why quiet h = tt
+quiet_knows P width cells cells' log log' name (Writing version words stored) le why quiet h =
     absurd (quiet tt)
-reader_knows P width cells cells' log log' name (Reading version words) le why quiet h =
+quiet_knows P width cells cells' log log' name (Loading version words) le why quiet h =
     let a = h.before in
     record {
       before = omega arith;
@@ -266,7 +266,7 @@ same_knows P width cells log log' name (Writing version words stored) p l m c h 
   few = h.few;
   stand = h.stand;
 }
-same_knows P width cells log log' name (Reading version words) p l m c h =
+same_knows P width cells log log' name (Loading version words) p l m c h =
     let a = h.before in
     record {
       before = omega arith;

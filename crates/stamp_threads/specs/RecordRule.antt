@@ -11,7 +11,7 @@ use Rattle.stamp_threads.specs.declared.record_view.RecordShape.{RecordShape}
 use Rattle.stamp_threads.specs.declared.record_view.RecordEvent.{RecordEvent}
 use Rattle.stamp_threads.specs.declared.record_view.RecordEvent.TheVariants.{Mark, Called}
 use Rattle.stamp_threads.specs.declared.record_view.RecordPhase.{RecordPhase}
-use Rattle.stamp_threads.specs.declared.record_view.RecordPhase.TheVariants.{Idle, Writing, Reading}
+use Rattle.stamp_threads.specs.declared.record_view.RecordPhase.TheVariants.{Idle, Writing, Loading}
 use Rattle.stamp_threads.specs.PassView.{IsPart, entry, knowing, adding, finding}
 use Rattle.stamp_threads.specs.Seats.{StandsAt, AreSeated, alone, both}
 use Rattle.stamp_threads.specs.RecordWord.{word_with}
@@ -33,9 +33,9 @@ pub record KnowsWriting (P : List ℕ → Type 0) (width : ℕ) (cells : List �
   pub few : stored ≤ width
   pub stand : (j : ℕ) → j < stored → slice_index cells (j + 1) ≡ slice_index words j
 
--- what a reader knows: while nothing was put since, and nobody has write mode, the words that it
--- has loaded are the first of the content
-pub record KnowsReading (width : ℕ) (log : RecordLog) (version : ℕ) (words : List ℕ) : Type 0 where
+-- what a pass that loads knows: while nothing was put since, and nobody has write mode, the words
+-- that it has loaded are the first of the content
+pub record KnowsLoading (width : ℕ) (log : RecordLog) (version : ℕ) (words : List ℕ) : Type 0 where
   pub before : version ≤ puts log
   pub few : length words ≤ width
   pub stand : is_locked log ≡ false → puts log ≡ version → (j : ℕ) → j < length words →
@@ -46,7 +46,7 @@ abbrev pub Knows : (List ℕ → Type 0) → ℕ → List ℕ → RecordLog → 
 Knows P width cells log name Idle = Unit {0}
 Knows P width cells log name (Writing version words stored) =
     KnowsWriting P width cells log name version words stored
-Knows P width cells log name (Reading version words) = KnowsReading width log version words
+Knows P width cells log name (Loading version words) = KnowsLoading width log version words
 
 -- a pass knows a part of the history, and has a mark there for each of its puts
 pub record KnowsPart (P : List ℕ → Type 0) (width : ℕ) (cells : List ℕ) (log : RecordLog) (v : RecordPassView) :
@@ -99,9 +99,9 @@ acquiring v log words =
 abbrev pub calling : RecordPassView → RecordLog → RecordEvent → RecordPassView
 calling v log event = record (adding v log event) { phase = Idle }
 
--- it knows the whole history, and begins to read
-abbrev pub starting_to_read : RecordPassView → RecordLog → RecordPassView
-starting_to_read v log = with_phase (knowing v log) (Reading (puts log) [])
+-- it knows the whole history, and begins to load the words
+abbrev pub starting_to_load : RecordPassView → RecordLog → RecordPassView
+starting_to_load v log = with_phase (knowing v log) (Loading (puts log) [])
 
 -- it knows the whole history, and made no call
 abbrev pub stopping : RecordPassView → RecordLog → RecordPassView
@@ -141,12 +141,12 @@ module _ (shape : RecordShape) (v : RecordPassView) (found : ℕ) (me : Seated) 
     pub few : puts (log ++ entry v.name (put_of words) ∷ []) ≤ shape.limits.versions
     pub consistent : IsConsistentWith shape.width (calling (finding v found) log (put_of words))
 
-  -- the first load of a get: where nobody has write mode the pass begins to read
+  -- the first load of a get: where nobody has write mode the pass begins to load the words
   pub record LoadedForGet : Type 0 where
     pub log : RecordLog
     pub left : LeavesWord shape v found log
     pub after : me ≡ alone (if is_locked log then knowing (finding v found) log
-        else starting_to_read (finding v found) log)
+        else starting_to_load (finding v found) log)
     pub others : is_locked log ≡ true → marker_in log ≢ v.name
     pub consistent : IsConsistentWith shape.width (knowing (finding v found) log)
 
@@ -177,13 +177,13 @@ pub record Met (shape : RecordShape) (v w : RecordPassView) (me : Seated) : Type
 abbrev pub storing_one : RecordPhase → RecordPhase
 storing_one Idle = Idle
 storing_one (Writing version words stored) = Writing version words (stored + 1)
-storing_one (Reading version words) = Reading version words
+storing_one (Loading version words) = Loading version words
 
 -- one more word is loaded
 abbrev pub loading_one : RecordPhase → ℕ → RecordPhase
 loading_one Idle word = Idle
 loading_one (Writing version words stored) word = Writing version words stored
-loading_one (Reading version words) word = Reading version (words ++ word ∷ [])
+loading_one (Loading version words) word = Loading version (words ++ word ∷ [])
 
 abbrev pub stored_one : RecordPassView → RecordPassView
 stored_one v = with_phase v (storing_one v.phase)
@@ -191,11 +191,11 @@ stored_one v = with_phase v (storing_one v.phase)
 abbrev pub loaded_one : RecordPassView → ℕ → RecordPassView
 loaded_one v word = with_phase v (loading_one v.phase word)
 
--- the lock word that a reader has to find again
+-- the lock word that a get has to find again
 abbrev pub word_to_confirm : Layout → RecordPhase → ℕ
 word_to_confirm layout Idle = 0
 word_to_confirm layout (Writing version words stored) = 0
-word_to_confirm layout (Reading version words) = word_with layout version false
+word_to_confirm layout (Loading version words) = word_with layout version false
 
 -- what each step tells the seat that makes it
 abbrev pub Tells : Type 1

@@ -2,7 +2,7 @@
 ghost use Rattle.std.specs.Prelude.{◌≡◌, ◌+◌, ◌<◌, ◌≤◌, ◌==◌, MatchBool, true, false, length};
 ghost use Rattle.std.specs.Prelude.{slice_index, ℕ, List, []};
 ghost use Rattle.stamp_threads.specs.declared.record_view.RecordPhase.TheVariants.{Idle, Writing};
-ghost use Rattle.stamp_threads.specs.declared.record_view.RecordPhase.TheVariants.{Reading};
+ghost use Rattle.stamp_threads.specs.declared.record_view.RecordPhase.TheVariants.{Loading};
 ghost use Rattle.stamp_threads.specs.PassView.{after_split, split_off};
 ghost use Rattle.stamp_threads.specs.Seats.{alone, both, StandsAlone};
 ghost use Rattle.stamp_threads.specs.RecordWord.{word_with, writer_unit};
@@ -126,7 +126,7 @@ pub fn release<C: WordsStep, P: ContentRule>(
 }
 
 /// The load that a get begins with: of the lock word. Where nobody has write mode, the pass begins
-/// to read.
+/// to load the words.
 #[inline(always)]
 pub fn load_for_get<C: WordsStep, P: ContentRule>(
     table: &RecordTable<P>,
@@ -146,8 +146,8 @@ pub fn load_for_get<C: WordsStep, P: ContentRule>(
 pub fn load_word<P: ContentRule>(table: &RecordTable<P>, seat: &mut RecordSeat, place: usize) -> u64
     requires seat { IsAtSeat table.now.table_id table.now.key.shape seat.old.table_id seat.old.me }
     requires inside { (place < table.now.key.shape.width) × (table.now.key.shape.width ≤ 16) }
-    requires reading { (version : ℕ) × (words : List ℕ)
-        × ((first_of seat.old.me.0).phase ≡ Reading version words) × (length words ≡ place) }
+    requires loading { (version : ℕ) × (words : List ℕ)
+        × ((first_of seat.old.me.0).phase ≡ Loading version words) × (length words ≡ place) }
     ensures table { seat.new.table_id ≡ seat.old.table_id }
     ensures told { seat.new.me ≡ alone (loaded_one (first_of seat.old.me.0) result) }
 {
@@ -159,12 +159,12 @@ pub fn load_word<P: ContentRule>(table: &RecordTable<P>, seat: &mut RecordSeat, 
 pub fn load_all<P: ContentRule>(table: &RecordTable<P>, seat: &mut RecordSeat, into: &mut [u64])
     requires seat { IsAtSeat table.now.table_id table.now.key.shape seat.old.table_id seat.old.me }
     requires long { (length into.old ≡ table.now.key.shape.width) × (table.now.key.shape.width ≤ 16) }
-    requires reading { (version : ℕ) × ((first_of seat.old.me.0).phase ≡ Reading version []) }
+    requires loading { (version : ℕ) × ((first_of seat.old.me.0).phase ≡ Loading version []) }
     ensures table { seat.new.table_id ≡ seat.old.table_id }
     ensures long { length into.new ≡ length into.old }
     ensures told { let v = first_of seat.old.me.0 in
-        (version : ℕ) → v.phase ≡ Reading version []
-        → seat.new.me ≡ alone (with_phase v (Reading version into.new)) }
+        (version : ℕ) → v.phase ≡ Loading version []
+        → seat.new.me ≡ alone (with_phase v (Loading version into.new)) }
 {
     for i in 0..into.len() {
         into[i] = load_word(table, seat, i);
@@ -180,8 +180,8 @@ pub fn confirm<C: WordsStep, P: ContentRule>(
 ) -> u64
     requires step { (C.shape ≡ table.now.key.shape) × (C.words ≡ words.now) }
     requires seat { IsAtSeat table.now.table_id table.now.key.shape seat.old.table_id seat.old.me }
-    requires reading { (version : ℕ)
-        × ((first_of seat.old.me.0).phase ≡ Reading version words.now)
+    requires loading { (version : ℕ)
+        × ((first_of seat.old.me.0).phase ≡ Loading version words.now)
         × (length words.now ≡ table.now.key.shape.width) }
     ensures table { seat.new.table_id ≡ seat.old.table_id }
     ensures told { let key = table.now.key.shape in let v = first_of seat.old.me.0 in

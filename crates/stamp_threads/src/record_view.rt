@@ -47,7 +47,7 @@ pub enum RecordPhase {
         stored: u64,
     },
     /// It found nobody in write mode, and loads the words.
-    Reading {
+    Loading {
         /// How many puts were made when its first load found the lock word.
         version: u64,
         /// The words that it has loaded so far, in their order.

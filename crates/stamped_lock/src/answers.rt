@@ -10,7 +10,7 @@ use stamp_core::Reply;
 
 /// The stamp, where it is not 0.
 #[inline(always)]
-pub fn stamp_in(reply: Reply) -> Option<Stamp>
+pub fn stamp_unless_zero(reply: Reply) -> Option<Stamp>
     requires { IsStampReply reply }
     ensures { stamped result ≡ reply }
 {

@@ -14,7 +14,7 @@ ghost use Rattle.stamp_threads.specs.PassView.{after_split, split_off};
 ghost use Rattle.stamped_lock.specs.Made.{Made, MadeOrLost};
 ghost use Rattle.stamped_lock.specs.Replies.{stamped, tested, released, MayReply, NeverLoses};
 
-use crate::answers::{count_in, release_in, some_stamp_in, stamp_in, test_in};
+use crate::answers::{count_in, release_in, some_stamp_in, stamp_unless_zero, test_in};
 use crate::mismatch::Mismatch;
 use crate::stamp::Stamp;
 use stamp_core::{Call, Reply};
@@ -114,7 +114,7 @@ impl<'a> LockHandle<'a> {
     pub fn write<R: Wait>(&mut self, rt: &R) -> Option<Stamp>
         ensures { Made WriteLock (stamped result) self.old self.new }
     {
-        stamp_in(self.make_until_done(rt, Call::WriteLock))
+        stamp_unless_zero(self.make_until_done(rt, Call::WriteLock))
     }
 
     /// Acquires write mode if nobody holds the lock (`tryWriteLock`). None where somebody does, or no
@@ -122,7 +122,7 @@ impl<'a> LockHandle<'a> {
     pub fn try_write<R: Wait>(&mut self, rt: &R) -> Option<Stamp>
         ensures { Made TryWrite (stamped result) self.old self.new }
     {
-        stamp_in(self.make(rt, Call::TryWrite))
+        stamp_unless_zero(self.make(rt, Call::TryWrite))
     }
 
     /// Acquires read mode (`readLock`). It waits while there is a writer, or no room for a reader.
@@ -137,7 +137,7 @@ impl<'a> LockHandle<'a> {
     pub fn try_read<R: Wait>(&mut self, rt: &R) -> Option<Stamp>
         ensures { Made TryRead (stamped result) self.old self.new }
     {
-        stamp_in(self.make(rt, Call::TryRead))
+        stamp_unless_zero(self.make(rt, Call::TryRead))
     }
 
     /// A stamp to be validated later (`tryOptimisticRead`). None while there is a writer. It holds
@@ -146,7 +146,7 @@ impl<'a> LockHandle<'a> {
     pub fn try_optimistic_read(&mut self) -> Option<Stamp>
         ensures { Made Optimistic (stamped result) self.old self.new }
     {
-        stamp_in(self.make_surely(Call::Optimistic))
+        stamp_unless_zero(self.make_surely(Call::Optimistic))
     }
 
     /// Whether nobody acquired write mode since the stamp was issued (`validate`). Also true of a stamp
@@ -191,7 +191,7 @@ impl<'a> LockHandle<'a> {
     pub fn try_convert_to_write<R: Wait>(&mut self, rt: &R, stamp: Stamp) -> Option<Stamp>
         ensures { Made (ToWrite stamp) (stamped result) self.old self.new }
     {
-        stamp_in(self.make(rt, Call::ToWrite(stamp.number())))
+        stamp_unless_zero(self.make(rt, Call::ToWrite(stamp.number())))
     }
 
     /// Goes on in read mode (`tryConvertToReadLock`): from write mode, from read mode with the same
@@ -200,7 +200,7 @@ impl<'a> LockHandle<'a> {
     pub fn try_convert_to_read<R: Wait>(&mut self, rt: &R, stamp: Stamp) -> Option<Stamp>
         ensures { Made (ToRead stamp) (stamped result) self.old self.new }
     {
-        stamp_in(self.make(rt, Call::ToRead(stamp.number())))
+        stamp_unless_zero(self.make(rt, Call::ToRead(stamp.number())))
     }
 
     /// Releases the mode that the stamp matches, and answers an optimistic stamp
@@ -209,7 +209,7 @@ impl<'a> LockHandle<'a> {
     pub fn try_convert_to_optimistic<R: Wait>(&mut self, rt: &R, stamp: Stamp) -> Option<Stamp>
         ensures { Made (ToOptimistic stamp) (stamped result) self.old self.new }
     {
-        stamp_in(self.make(rt, Call::ToOptimistic(stamp.number())))
+        stamp_unless_zero(self.make(rt, Call::ToOptimistic(stamp.number())))
     }
 
     /// Releases write mode without a stamp, if it is held (`tryUnlockWrite`). False where it isn't. It

@@ -7,7 +7,7 @@ ghost use Rattle.stamp_core.specs.declared.call.Call.TheVariants.{TryUnlockWrite
 ghost use Rattle.stamped_lock.specs.Made.{MadeOrLost, UnlockedOrLost};
 ghost use Rattle.stamped_lock.specs.Replies.{stamped, tested};
 
-use crate::answers::{release_in, stamp_in, test_in};
+use crate::answers::{release_in, stamp_unless_zero, test_in};
 use crate::handle::LockHandle;
 use crate::stamp::Stamp;
 use crate::unlock_error::UnlockError;
@@ -21,7 +21,7 @@ impl<'a> LockHandle<'a> {
         ensures { MadeOrLost TryWrite stamped result self.old self.new }
     {
         let reply = self.make_once(Call::TryWrite)?;
-        Ok(stamp_in(reply))
+        Ok(stamp_unless_zero(reply))
     }
 
     /// `try_read`, tried once. Where it fails as `Lost`, nothing was acquired.
@@ -30,7 +30,7 @@ impl<'a> LockHandle<'a> {
         ensures { MadeOrLost TryRead stamped result self.old self.new }
     {
         let reply = self.make_once(Call::TryRead)?;
-        Ok(stamp_in(reply))
+        Ok(stamp_unless_zero(reply))
     }
 
     /// `unlock_read`, tried once. Where it fails as `Lost`, nothing was released.
@@ -59,7 +59,7 @@ impl<'a> LockHandle<'a> {
         ensures { MadeOrLost (ToWrite stamp) stamped result self.old self.new }
     {
         let reply = self.make_once(Call::ToWrite(stamp.number()))?;
-        Ok(stamp_in(reply))
+        Ok(stamp_unless_zero(reply))
     }
 
     /// `try_convert_to_read`, tried once. Where it fails as `Lost`, the old stamp still stands.
@@ -68,7 +68,7 @@ impl<'a> LockHandle<'a> {
         ensures { MadeOrLost (ToRead stamp) stamped result self.old self.new }
     {
         let reply = self.make_once(Call::ToRead(stamp.number()))?;
-        Ok(stamp_in(reply))
+        Ok(stamp_unless_zero(reply))
     }
 
     /// `try_convert_to_optimistic`, tried once. Where it fails as `Lost`, the old stamp still stands.
@@ -77,7 +77,7 @@ impl<'a> LockHandle<'a> {
         ensures { MadeOrLost (ToOptimistic stamp) stamped result self.old self.new }
     {
         let reply = self.make_once(Call::ToOptimistic(stamp.number()))?;
-        Ok(stamp_in(reply))
+        Ok(stamp_unless_zero(reply))
     }
 
     /// `try_unlock_write`, tried once. Where it fails as `Lost`, nothing was released.

@@ -1,7 +1,7 @@
 use Rattle.std.proofs.Common.{◌≡◌, vec_len}
 use Rattle.std.specs.Vec.Iter.{into_iter_items}
 use Rattle.serde_json.specs.View.{items_view}
-use Rattle.stamp_history.specs.Reading.{each}
+use Rattle.stamp_history.specs.JsonReading.{each}
 use Rattle.stamp_history.specs.ScriptValue.{call_at}
 use Rattle.stamp_history.proofs.EachItem.{with_front}
 use Rattle.stamp_history.proofs.script_fields.calls_of_thread.Given as goal

@@ -2,7 +2,7 @@ use Rattle.std.proofs.Common.{◌≡◌, map, vec_len}
 use Rattle.std.specs.Vec.Iter.{into_iter_items}
 use Rattle.serde_json.specs.View.{items_view}
 use Rattle.stamp_machines.specs.ScriptFault.{thread_calls}
-use Rattle.stamp_history.specs.Reading.{each}
+use Rattle.stamp_history.specs.JsonReading.{each}
 use Rattle.stamp_history.specs.ScriptValue.{thread_at}
 use Rattle.stamp_history.proofs.EachItem.{with_front}
 use Rattle.stamp_history.proofs.script_fields.threads_in.Given as goal

@@ -8,7 +8,7 @@ use Rattle.stamp_machines.specs.Script.{Scripted}
 use Rattle.stamp_machines.specs.World.{stamps_of}
 use Rattle.stamp_machines.specs.StateFields.{stamps_at}
 use Rattle.stamp_machines.specs.CompletionsFields.{IsAfter, calls_until}
-use Rattle.stamp_machines.specs.declared.state.State.{State}
+use Rattle.stamp_machines.specs.declared.state.RunState.{RunState}
 use Rattle.stamp_machines.proofs.FinishedCalls.{step-made, after-reserved, kept-after}
 use Rattle.stamp_machines.proofs.completions.make_step.Goals as goal
 
@@ -16,7 +16,7 @@ pub step-requires : goal.step-requires
 step-requires c =
     let script : Scripted = c.args.script.now in
     let made : ℕ = c.args.made in
-    let old : State = c.reserve.new.self in
+    let old : RunState = c.reserve.new.self in
     let same = c.reserve.ensures.same in
     let room = c.in_ok-reserve.ensures in
     let after : IsAfter script old made =
@@ -44,7 +44,7 @@ pub returns-clause-ok : goal.returns-clause-ok
 returns-clause-ok c =
     let script : Scripted = c.args.script.now in
     let made : ℕ = c.args.made in
-    let old : State = c.reserve.new.self in
+    let old : RunState = c.reserve.new.self in
     let same = c.reserve.ensures.same in
     let taken : take (made + 1) script.steps
     ≡ take made script.steps ++ get_or c.steps.result.now made 0 ∷ [] =

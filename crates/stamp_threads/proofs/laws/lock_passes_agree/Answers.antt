@@ -1,19 +1,10 @@
-use Rattle.std.proofs.Common.{◌∙◌}
 use Rattle.stamp_threads.specs.PassView.{every}
 use Rattle.stamp_threads.specs.LockLog.{IsLegalLog}
-use Rattle.stamp_threads.proofs.OneHistory.{agree}
+use Rattle.stamp_threads.proofs.OneHistory.{met_agree}
 use Rattle.stamp_threads.proofs.laws.lock_passes_agree.Goals as goal
 
 pub returns : goal.returns
-returns c limits v w v' w' m = agree every (IsLegalLog limits) v w v'.known
-    m.all_consistent.0.legal (record {
-      known = m.met.first_begins;
-      own = rw m.met.no_calls.0.same.name at m.all_consistent.0.own ∙ m.met.no_calls.0.own;
-      given = rw (m.met.no_calls.0.same.name, m.met.no_calls.0.same.splits) at m.all_consistent.0.given;
-    }) (record {
-      known = m.met.second_begins;
-      own = rw (m.met.no_calls.1.same.name, m.met.alike) at m.all_consistent.1.own ∙
-          m.met.no_calls.1.own;
-      given = rw (m.met.no_calls.1.same.name, m.met.no_calls.1.same.splits, m.met.alike) at
-          m.all_consistent.1.given;
-    }) m.met.apart
+returns c limits v w v' w' m =
+    let first = m.all_consistent.0 in
+    let second = m.all_consistent.1 in
+    met_agree every (IsLegalLog limits) v w v' w' m.met first.legal first.own first.given second.own second.given

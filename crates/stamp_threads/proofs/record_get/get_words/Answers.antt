@@ -7,14 +7,14 @@ use Rattle.stamp_threads.proofs.RecordPromises.{get_goes_on, get_busy_of, get_lo
 use Rattle.stamp_threads.proofs.RecordPromises.{get_made_of, get_obeys_of}
 use Rattle.stamp_threads.proofs.record_get.get_words.Goals as goal
 
-pub load_all-requires-clause-reading : goal.load_all-requires-clause-reading
-load_all-requires-clause-reading g c =
+pub load_all-requires-clause-loading : goal.load_all-requires-clause-loading
+load_all-requires-clause-loading g c =
     let t = rw c.requires.shape.0 at c.load_for_get-loaded.ensures.told in
     let test = sym (rw c.layout.ensures.layout at c.has_writer.ensures) ∙ c.if-has_writer.false in
     (puts t.log, get_goes_on _ _ _ _ t test)
 
-pub confirm-found-requires-clause-reading : goal.confirm-found-requires-clause-reading
-confirm-found-requires-clause-reading g c =
+pub confirm-found-requires-clause-loading : goal.confirm-found-requires-clause-loading
+confirm-found-requires-clause-loading g c =
     let t = rw c.requires.shape.0 at c.load_for_get-loaded.ensures.told in
     let test = sym (rw c.layout.ensures.layout at c.has_writer.ensures) ∙ c.if-has_writer.false in
     let phase = get_goes_on _ _ _ _ t test in (

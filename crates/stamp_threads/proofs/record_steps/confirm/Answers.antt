@@ -7,6 +7,6 @@ load-requires g c = (
   search rules,
   omega arith,
   rw (c.requires.step.0, c.requires.step.1)
-      (allows_confirm _ _ _ _ _ c.requires.reading.0 _ c.requires.seat.2 c.requires.reading.1
-      c.requires.reading.2),
+      (allows_confirm _ _ _ _ _ c.requires.loading.0 _ c.requires.seat.2 c.requires.loading.1
+      c.requires.loading.2),
 )

@@ -1,5 +1,5 @@
 use Rattle.std.proofs.Common.{◌≡◌, ℕ, [], take}
-use Rattle.stamp_threads.specs.declared.record_view.RecordPhase.TheVariants.{Reading}
+use Rattle.stamp_threads.specs.declared.record_view.RecordPhase.TheVariants.{Loading}
 use Rattle.stamp_threads.specs.Seats.{alone}
 use Rattle.stamp_threads.specs.RecordPass.{first_of}
 use Rattle.stamp_threads.specs.RecordRule.{with_phase}
@@ -8,7 +8,7 @@ use Rattle.stamp_threads.proofs.record_steps.load_all.Given as goal
 abbrev pub invariant-loop-i : goal.invariant-loop-i
 invariant-loop-i g l = record {
   table : l.seat.table_id ≡ l.initial.seat.table_id;
-  told : (version : ℕ) → (first_of l.initial.seat.me.0).phase ≡ Reading version [] →
+  told : (version : ℕ) → (first_of l.initial.seat.me.0).phase ≡ Loading version [] →
       l.seat.me ≡ alone (with_phase (first_of l.initial.seat.me.0)
-      (Reading version (take l.i l.into)));
+      (Loading version (take l.i l.into)));
 }

@@ -6,6 +6,6 @@ pub load-requires : goal.load-requires
 load-requires g c = (
   search rules,
   omega arith,
-  allows_load_word _ _ _ _ _ c.requires.reading.0 _ _ c.requires.seat.2 c.requires.reading.2
-      c.requires.reading.3 c.requires.inside.0,
+  allows_load_word _ _ _ _ _ c.requires.loading.0 _ _ c.requires.seat.2 c.requires.loading.2
+      c.requires.loading.3 c.requires.inside.0,
 )

@@ -8,7 +8,7 @@ use Rattle.stamp_machines.specs.declared.state.Worker.{Worker}
 use Rattle.stamp_machines.specs.World.{World, current, begun_with}
 use Rattle.stamp_machines.specs.StateFields.{stamps_at, begun_in, world_at}
 use Rattle.stamp_machines.proofs.StateSteps.{begun-next}
-use Rattle.stamp_machines.proofs.state.State.begin.Goals as goal
+use Rattle.stamp_machines.proofs.state.RunState.begin.Goals as goal
 
 pub returns-clause-world : goal.returns-clause-world
 returns-clause-world g c =

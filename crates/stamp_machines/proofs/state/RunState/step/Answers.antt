@@ -3,13 +3,13 @@ use Rattle.std.specs.Prelude.{slice_index_or, slice_set}
 use Rattle.std.proofs.lemmas.Grind.{common_steps}
 use Rattle.std.proofs.lemmas.List.{with_items_is, set-get_or}
 use Rattle.stamp_machines.specs.declared.machine.Turn.TheVariants.{Going, Done}
-use Rattle.stamp_machines.specs.declared.state.State.{State}
+use Rattle.stamp_machines.specs.declared.state.RunState.{RunState}
 use Rattle.stamp_machines.specs.declared.state.Worker.{Worker}
 use Rattle.stamp_machines.proofs.AccessesAreSafe.{IsSafeIn}
 use Rattle.stamp_machines.proofs.StateSteps.{HasBegun, has-begun, worker-safe, step-made, idle-made}
-use Rattle.stamp_machines.proofs.state.State.step.Given.{Over}
-use Rattle.stamp_machines.proofs.state.State.step.Goals as goal
-use Rattle.stamp_machines.proofs.state.State.step.Goals.{After-index_mut-worker, After-deref_mut}
+use Rattle.stamp_machines.proofs.state.RunState.step.Given.{Over}
+use Rattle.stamp_machines.proofs.state.RunState.step.Goals as goal
+use Rattle.stamp_machines.proofs.state.RunState.step.Goals.{After-index_mut-worker, After-deref_mut}
 
 -- the thread's next call was begun, if it was in none
 next_begun : (g : Over) (c : After-index_mut-worker g) →
@@ -20,7 +20,7 @@ next_begun g c =
 
 pub returns-in-None-clause-step : goal.returns-in-None-clause-step
 returns-in-None-clause-step g c =
-    let mid : State = c.begin.new.self in
+    let mid : RunState = c.begin.new.self in
     let worker : Worker = c.index_mut-worker.result.now in
     let value : worker ≡ slice_index_or mid.workers.items c.args.thread worker =
     c.index_mut-worker.ensures.value in
@@ -59,7 +59,7 @@ access-requires-clause-word g c = let at = goal.at.access-requires-clause-word g
 pub returns-then-not-access-clause-step : goal.returns-then-not-access-clause-step
 returns-then-not-access-clause-step g c =
     let at = goal.at.returns-then-not-access-clause-step g c in
-    let mid : State = c.begin.new.self in
+    let mid : RunState = c.begin.new.self in
     let words = words_found g at.After-deref_mut in
     let many : length c.access.new.words ≡ mid.words.len = grind (arith, common_steps) in
     step-made g.gone _ _ mid _ c.args.thread c.args.position _ _ c.in-Some.begun (Going c.access.new.self)
@@ -77,7 +77,7 @@ returns-then-not-access-clause-step g c =
 pub returns-else-not-access-clause-step : goal.returns-else-not-access-clause-step
 returns-else-not-access-clause-step g c =
     let at = goal.at.returns-else-not-access-clause-step g c in
-    let mid : State = c.begin.new.self in
+    let mid : RunState = c.begin.new.self in
     let words = words_found g at.After-deref_mut in
     let many : length c.access.new.words ≡ mid.words.len = grind (arith, common_steps) in
     step-made g.gone _ _ mid _ c.args.thread c.args.position _ c.end.new.self c.in-Some.begun

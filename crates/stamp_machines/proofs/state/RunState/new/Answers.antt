@@ -2,7 +2,7 @@ use Rattle.std.proofs.Common.{◌++◌, ◌∷◌, [], None, ap, ◌∙◌}
 use Rattle.std.proofs.lemmas.List.{map-append, replicate-append-replicate}
 use Rattle.stamp_machines.specs.StateFields.{begun_in}
 use Rattle.stamp_machines.proofs.WorkerStamps.{stamps_at-none_more}
-use Rattle.stamp_machines.proofs.state.State.new.Goals as goal
+use Rattle.stamp_machines.proofs.state.RunState.new.Goals as goal
 
 pub loop-preserved : goal.loop-preserved
 loop-preserved c =

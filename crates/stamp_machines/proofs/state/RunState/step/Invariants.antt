@@ -1,4 +1,4 @@
-use Rattle.stamp_machines.proofs.state.State.step.Given as goal
+use Rattle.stamp_machines.proofs.state.RunState.step.Given as goal
 
 abbrev pub ghost-begin : goal.ghost-begin
 ghost-begin g a = g.gone

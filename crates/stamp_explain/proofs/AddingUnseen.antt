@@ -13,7 +13,7 @@ use Rattle.stamp_explain.specs.declared.node.Next.{Next}
 use Rattle.stamp_explain.specs.declared.node.Origin.{Origin}
 use Rattle.stamp_explain.specs.declared.store.Store.{Store}
 use Rattle.stamp_explain.specs.Store.{Keeps, IsStored}
-use Rattle.stamp_explain.specs.Expand.{Enters, IsPlaced, nodes_of, origins_of}
+use Rattle.stamp_explain.specs.Expand.{AddsUnseen, IsPlaced, nodes_of, origins_of}
 use Rattle.stamp_explain.proofs.Lists.{none_in_empty}
 
 -- what stands at a place stays there when more is added, and what is added stands behind
@@ -42,40 +42,40 @@ take_more_is nexts i d lt =
     let e : i + 1 ≡ suc i = omega arith in
     ap (λ (n : ℕ). take n nexts) e ∙ take-suc nexts i d lt
 
-pub entered_new : (s0 s1 s2 : Store) (from : ℕ) (w0 w1 w2 : List ℕ) (nexts : List Next) (i : ℕ) (d : Next) →
-    i < length nexts → Enters s0 s1 from w0 w1 (take i nexts) →
+pub new_is_added : (s0 s1 s2 : Store) (from : ℕ) (w0 w1 w2 : List ℕ) (nexts : List Next) (i : ℕ) (d : Next) →
+    i < length nexts → AddsUnseen s0 s1 from w0 w1 (take i nexts) →
     IsStored s1 s2 (get_or nexts i d).node (record { from = from; took = (get_or nexts i d).took }) true →
-    w2 ≡ w1 ++ length s1.nodes.items ∷ [] → Enters s0 s2 from w0 w2 (take (i + 1) nexts)
-entered_new s0 s1 s2 from w0 w1 w2 nexts i d lt enters stored pushed = record {
+    w2 ≡ w1 ++ length s1.nodes.items ∷ [] → AddsUnseen s0 s2 from w0 w2 (take (i + 1) nexts)
+new_is_added s0 s1 s2 from w0 w1 w2 nexts i d lt adds stored pushed = record {
   keeps = stored.keeps;
-  added = enters.added ++ next ∷ [];
-  nodes = stored.nodes ∙ ap (λ (xs : List Node). xs ++ next.node ∷ []) enters.nodes ∙
-      append_assoc s0.nodes.items (nodes_of enters.added) (next.node ∷ []) ∙
+  added = adds.added ++ next ∷ [];
+  nodes = stored.nodes ∙ ap (λ (xs : List Node). xs ++ next.node ∷ []) adds.nodes ∙
+      append_assoc s0.nodes.items (nodes_of adds.added) (next.node ∷ []) ∙
       ap (λ (xs : List Node). s0.nodes.items ++ xs) (sym nodes_push);
-  origins = stored.origins ∙ ap (λ (xs : List Origin). xs ++ origin ∷ []) enters.origins ∙
-      append_assoc s0.origins.items (origins_of from enters.added) (origin ∷ []) ∙
+  origins = stored.origins ∙ ap (λ (xs : List Origin). xs ++ origin ∷ []) adds.origins ∙
+      append_assoc s0.origins.items (origins_of from adds.added) (origin ∷ []) ∙
       ap (λ (xs : List Origin). s0.origins.items ++ xs)
-      (sym (map-append (λ (w : Next). record { from = from; took = w.took }) enters.added (next ∷ [])));
-  places = enters.places ++ length s1.nodes.items ∷ [];
-  to_do = pushed ∙ ap (λ (xs : List ℕ). xs ++ length s1.nodes.items ∷ []) enters.to_do ∙
-      append_assoc w0 enters.places (length s1.nodes.items ∷ []);
+      (sym (map-append (λ (w : Next). record { from = from; took = w.took }) adds.added (next ∷ [])));
+  places = adds.places ++ length s1.nodes.items ∷ [];
+  to_do = pushed ∙ ap (λ (xs : List ℕ). xs ++ length s1.nodes.items ∷ []) adds.to_do ∙
+      append_assoc w0 adds.places (length s1.nodes.items ∷ []);
   many = omega (
     arith,
-    enters.many,
-    length-append enters.places (length s1.nodes.items ∷ []),
-    length-append enters.added (next ∷ []),
+    adds.many,
+    length-append adds.places (length s1.nodes.items ∷ []),
+    length-append adds.added (next ∷ []),
   );
-  placed = λ v has. placed v (Contains-push_cases (nodes_of enters.added) next.node v
+  placed = λ v has. placed v (Contains-push_cases (nodes_of adds.added) next.node v
       (subst (λ (xs : List Node). Contains xs v) nodes_push has));
-  inside = All-push (λ (p : ℕ). p < length s2.nodes.items) enters.places (length s1.nodes.items)
+  inside = All-push (λ (p : ℕ). p < length s2.nodes.items) adds.places (length s1.nodes.items)
       (All-weaker (λ (p : ℕ). p < length s1.nodes.items) (λ (p : ℕ). p < length s2.nodes.items)
-      (λ p less. omega (arith, less, longer)) enters.places enters.inside) (omega (arith, longer));
+      (λ p less. omega (arith, less, longer)) adds.places adds.inside) (omega (arith, longer));
   each = λ w has. each w (Contains-push_cases (take i nexts) next w
       (subst (λ (ns : List Next). Contains ns w) (take_more_is nexts i d lt) has));
-  among = subst (λ (ns : List Next). All (Contains ns) (enters.added ++ next ∷ [])) (sym (take_more_is nexts i d lt))
-      (All-push (Contains (take i nexts ++ next ∷ [])) enters.added next
+  among = subst (λ (ns : List Next). All (Contains ns) (adds.added ++ next ∷ [])) (sym (take_more_is nexts i d lt))
+      (All-push (Contains (take i nexts ++ next ∷ [])) adds.added next
       (All-weaker (Contains (take i nexts)) (Contains (take i nexts ++ next ∷ []))
-      (λ x has. Contains-append_left (take i nexts) (next ∷ []) x has) enters.added enters.among)
+      (λ x has. Contains-append_left (take i nexts) (next ∷ []) x has) adds.added adds.among)
       (Contains-push (take i nexts) next));
 }
   where
@@ -85,8 +85,8 @@ entered_new s0 s1 s2 from w0 w1 w2 nexts i d lt enters stored pushed = record {
     origin : Origin
     origin = record { from = from; took = next.took }
 
-    nodes_push : nodes_of (enters.added ++ next ∷ []) ≡ nodes_of enters.added ++ next.node ∷ []
-    nodes_push = map-append (λ (w : Next). w.node) enters.added (next ∷ [])
+    nodes_push : nodes_of (adds.added ++ next ∷ []) ≡ nodes_of adds.added ++ next.node ∷ []
+    nodes_push = map-append (λ (w : Next). w.node) adds.added (next ∷ [])
 
     longer : length s2.nodes.items ≡ length s1.nodes.items + 1
     longer = omega (
@@ -95,64 +95,64 @@ entered_new s0 s1 s2 from w0 w1 w2 nexts i d lt enters stored pushed = record {
       length-append s1.nodes.items (next.node ∷ []),
     )
 
-    placed : (v : Node) → Contains (nodes_of enters.added) v ⊎ (next.node ≡ v) →
-        IsPlaced s2.nodes.items (enters.places ++ length s1.nodes.items ∷ []) v
+    placed : (v : Node) → Contains (nodes_of adds.added) v ⊎ (next.node ≡ v) →
+        IsPlaced s2.nodes.items (adds.places ++ length s1.nodes.items ∷ []) v
     placed v (inl has) =
-        let at : IsPlaced s1.nodes.items enters.places v = enters.placed v has in
+        let at : IsPlaced s1.nodes.items adds.places v = adds.placed v has in
         record {
           place = at.place;
-          among = Contains-append_left enters.places (length s1.nodes.items ∷ []) at.place at.among;
+          among = Contains-append_left adds.places (length s1.nodes.items ∷ []) at.place at.among;
           is_node = ap (λ (xs : List Node). slice_get xs at.place) stored.nodes ∙
               read_left s1.nodes.items (next.node ∷ []) at.place v at.is_node;
         }
     placed v (inr same) = record {
       place = length s1.nodes.items;
-      among = Contains-push enters.places (length s1.nodes.items);
+      among = Contains-push adds.places (length s1.nodes.items);
       is_node = ap (λ (xs : List Node). slice_get xs (length s1.nodes.items)) stored.nodes ∙
           read_last s1.nodes.items next.node ∙ ap (λ (x : Node). Some x) same;
     }
 
     each : (w : Next) → Contains (take i nexts) w ⊎ (next ≡ w) → Contains s2.nodes.items w.node
     each w (inl has) = subst (λ (xs : List Node). Contains xs w.node) (sym stored.nodes)
-        (Contains-append_left s1.nodes.items (next.node ∷ []) w.node (enters.each w has))
+        (Contains-append_left s1.nodes.items (next.node ∷ []) w.node (adds.each w has))
     each w (inr same) = subst (λ (xs : List Node). Contains xs w.node) (sym stored.nodes)
         (subst (λ (x : Next). Contains (s1.nodes.items ++ next.node ∷ []) x.node) same
         (Contains-push s1.nodes.items next.node))
 
-pub entered_seen : (s0 s1 s2 : Store) (from : ℕ) (w0 w1 w2 : List ℕ) (nexts : List Next) (i : ℕ) (d : Next) →
-    i < length nexts → Enters s0 s1 from w0 w1 (take i nexts) →
+pub seen_is_left_out : (s0 s1 s2 : Store) (from : ℕ) (w0 w1 w2 : List ℕ) (nexts : List Next) (i : ℕ) (d : Next) →
+    i < length nexts → AddsUnseen s0 s1 from w0 w1 (take i nexts) →
     IsStored s1 s2 (get_or nexts i d).node (record { from = from; took = (get_or nexts i d).took }) false →
-    w2 ≡ w1 → Enters s0 s2 from w0 w2 (take (i + 1) nexts)
-entered_seen s0 s1 s2 from w0 w1 w2 nexts i d lt enters stored same = record {
+    w2 ≡ w1 → AddsUnseen s0 s2 from w0 w2 (take (i + 1) nexts)
+seen_is_left_out s0 s1 s2 from w0 w1 w2 nexts i d lt adds stored same = record {
   keeps = stored.keeps;
-  added = enters.added;
-  nodes = stored.nodes.0 ∙ enters.nodes;
-  origins = stored.origins ∙ enters.origins;
-  places = enters.places;
-  to_do = same ∙ enters.to_do;
-  many = enters.many;
-  placed = λ v has. subst (λ (xs : List Node). IsPlaced xs enters.places v) (sym stored.nodes.0)
-      (enters.placed v has);
-  inside = subst (λ (xs : List Node). All (λ (p : ℕ). p < length xs) enters.places) (sym stored.nodes.0)
-      enters.inside;
+  added = adds.added;
+  nodes = stored.nodes.0 ∙ adds.nodes;
+  origins = stored.origins ∙ adds.origins;
+  places = adds.places;
+  to_do = same ∙ adds.to_do;
+  many = adds.many;
+  placed = λ v has. subst (λ (xs : List Node). IsPlaced xs adds.places v) (sym stored.nodes.0)
+      (adds.placed v has);
+  inside = subst (λ (xs : List Node). All (λ (p : ℕ). p < length xs) adds.places) (sym stored.nodes.0)
+      adds.inside;
   each = λ w has. each w (Contains-push_cases (take i nexts) next w
       (subst (λ (ns : List Next). Contains ns w) (take_more_is nexts i d lt) has));
-  among = subst (λ (ns : List Next). All (Contains ns) enters.added) (sym (take_more_is nexts i d lt))
+  among = subst (λ (ns : List Next). All (Contains ns) adds.added) (sym (take_more_is nexts i d lt))
       (All-weaker (Contains (take i nexts)) (Contains (take i nexts ++ next ∷ []))
-      (λ x has. Contains-append_left (take i nexts) (next ∷ []) x has) enters.added enters.among);
+      (λ x has. Contains-append_left (take i nexts) (next ∷ []) x has) adds.added adds.among);
 }
   where
     next : Next
     next = get_or nexts i d
 
     each : (w : Next) → Contains (take i nexts) w ⊎ (next ≡ w) → Contains s2.nodes.items w.node
-    each w (inl has) = subst (λ (xs : List Node). Contains xs w.node) (sym stored.nodes.0) (enters.each w has)
+    each w (inl has) = subst (λ (xs : List Node). Contains xs w.node) (sym stored.nodes.0) (adds.each w has)
     each w (inr equal) = subst (λ (xs : List Node). Contains xs w.node) (sym stored.nodes.0)
         (subst (λ (x : Next). Contains s1.nodes.items x.node) equal stored.nodes.1)
 
-pub enters_none : (s : Store) (from : ℕ) (w : List ℕ) (nexts : List Next) → Keeps s →
-    Enters s s from w w (take 0 nexts)
-enters_none s from w nexts keeps = record {
+pub none_is_added : (s : Store) (from : ℕ) (w : List ℕ) (nexts : List Next) → Keeps s →
+    AddsUnseen s s from w w (take 0 nexts)
+none_is_added s from w nexts keeps = record {
   keeps = keeps;
   added = [];
   nodes = sym (append-nil s.nodes.items);

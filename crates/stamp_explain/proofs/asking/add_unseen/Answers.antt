@@ -5,9 +5,9 @@ use Rattle.stamp_explain.specs.declared.node.Node.{Node}
 use Rattle.stamp_explain.specs.declared.node.Origin.{Origin}
 use Rattle.stamp_explain.specs.declared.store.Store.{Store}
 use Rattle.stamp_explain.specs.Store.{IsStored}
-use Rattle.stamp_explain.proofs.Entering.{entered_new, entered_seen}
-use Rattle.stamp_explain.proofs.asking.enter.Goals as goal
-use Rattle.stamp_explain.proofs.asking.enter.Goals.{then-branch+in_ok-push, else-branch}
+use Rattle.stamp_explain.proofs.AddingUnseen.{new_is_added, seen_is_left_out}
+use Rattle.stamp_explain.proofs.asking.add_unseen.Goals as goal
+use Rattle.stamp_explain.proofs.asking.add_unseen.Goals.{then-branch+in_ok-push, else-branch}
 
 -- what is read where nothing stands
 abbrev blank : Next
@@ -25,12 +25,12 @@ loop-next-preserved c =
     let before : List ℕ = c.args.waiting.now.items in
     let waiting : List ℕ = c.loop-next.waiting.items in
     elim c.if-branch.branch [
-      | then-branch+in_ok-push w ↦ entered_new old kept c.add.new.self c.args.from before waiting
+      | then-branch+in_ok-push w ↦ new_is_added old kept c.add.new.self c.args.from before waiting
           c.if-branch.waiting.items c.args.nexts.now c.loop-next.next-index blank c.loop-next-test.true
           c.loop-next.invariant (stored_so w.if-branch.true c.in_ok-add.ensures)
           (ap (λ (v : Vec ℕ Global). v.items) w.waiting-is ∙ w.in_ok-push.ensures.items ∙
           ap (λ (n : ℕ). waiting ++ n ∷ []) (c.len-place.ensures ∙ c.loop-next.store.nodes.ok.0))
-      | else-branch w ↦ entered_seen old kept c.add.new.self c.args.from before waiting
+      | else-branch w ↦ seen_is_left_out old kept c.add.new.self c.args.from before waiting
           c.if-branch.waiting.items c.args.nexts.now c.loop-next.next-index blank c.loop-next-test.true
           c.loop-next.invariant (stored_so w.if-branch.false c.in_ok-add.ensures)
           (ap (λ (v : Vec ℕ Global). v.items) w.waiting-is)

@@ -1,6 +1,6 @@
 use Rattle.std.proofs.Common.{◌≡◌, ℕ, map, replicate, None, []}
 use Rattle.stamp_machines.specs.StateFields.{begun_in, stamps_at}
-use Rattle.stamp_machines.proofs.state.State.new.Given as goal
+use Rattle.stamp_machines.proofs.state.RunState.new.Given as goal
 
 abbrev pub invariant-loop : goal.invariant-loop
 invariant-loop l =
