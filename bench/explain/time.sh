@@ -1,5 +1,5 @@
 #!/usr/bin/env bash
-# Times `stamped_explain` beside the same search in C++ (explain.cpp), whole processes: recorded runs of the
+# Times `stamped_explain` beside the same search in C++ (explain.cpp), whole processes: observed runs of the
 # JDK's class by 16 threads, of 12,500, 50,000 and 200,000 calls, and cases that are hard for a search.
 #
 #   bench/explain/time.sh [PROGRAM [STAMPED [ROUNDS]]]
@@ -20,10 +20,10 @@ done
 room=$(mktemp -d)
 trap 'rm -rf "$room"' EXIT
 c++ -std=c++17 -O2 -o "$room/explain" "$here/explain.cpp"
-javac -d "$room" "$top"/recorders/java/{RecordedStampedLock,RecordedRun}.java
+javac -d "$room" "$top"/recorders/java/{ObservedStampedLock,ObservedRun}.java
 faulty='{"call":["optimistic"],"first":288230376151711743,"last":0,"reply":256,"thread":63}'
 for calls in 12500 50000 200000; do
-    java -cp "$room" RecordedRun 16 "$calls" 1 > "$room/$calls.json"
+    java -cp "$room" ObservedRun 16 "$calls" 1 > "$room/$calls.json"
     sed 's/],"format"/,'"$faulty"'],"format"/' "$room/$calls.json" > "$room/$calls.faulty"
 done
 python3 -B "$here/make_cases.py" "$room"

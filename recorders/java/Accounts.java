@@ -4,11 +4,11 @@ import java.io.Writer;
 import java.nio.charset.StandardCharsets;
 
 /**
- * A program whose lock is recorded: four threads move money between two accounts, or look at the sum,
- * and then the run is written to standard output.
+ * A program whose lock is observed: four threads move money between two accounts, or look at the sum,
+ * and then the observed history is written to standard output.
  */
 public final class Accounts {
-    private final RecordedStampedLock lock = new RecordedStampedLock();
+    private final ObservedStampedLock lock = new ObservedStampedLock();
     private long left = 500;
     private long right = 500;
 

@@ -6,7 +6,7 @@ Run at the top of the repository. Each history is made by threads that call a lo
 so it is right; half of them are then changed in a reply, a position, a thread, or by what is under way.
 The verdict is the same: a history that can't be observed so (the first entry that is over before it
 began, or overlaps one of its thread that is listed before it), the first return at which no order explains
-it, or a record, which is of this history and which `stamped check` accepts. Where one is stuck, the line on
+it, or a recorded history, which is of this one and which `stamped check` accepts. Where one is stuck, the line on
 standard error tells of that entry just the replies with which an order explains what was known then. The
 model of the lock is the call table in python (bench/common)."""
 import json
@@ -226,10 +226,10 @@ def output_of(words, text):
     return run.returncode, run.stdout.decode(), run.stderr.decode()
 
 
-def is_of(record, entries):
-    """The record has the returned calls, some under way, and nothing else."""
+def is_of(found, entries):
+    """The recorded history has the returned calls, some under way, and nothing else."""
     left = [dict(entry) for entry in entries]
-    for made_entry in record["entries"]:
+    for made_entry in found["entries"]:
         for entry in left:
             if made_entry["first"] != 64 * entry["first"] or any(
                     made_entry[key] != entry[key] for key in ("call", "thread")):

@@ -1,4 +1,4 @@
-"""Runs of this repository's own lock, recorded by `recorded_handles` and judged.
+"""Runs of this repository's own lock, observed by `observed_handles` and judged.
 
     handles.py HANDLES EXPLAIN STAMPED
 

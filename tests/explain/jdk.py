@@ -1,11 +1,11 @@
-"""Runs of the JDK's `StampedLock`, recorded by recorders/java and judged.
+"""Runs of the JDK's `StampedLock`, observed by recorders/java and judged.
 
     jdk.py EXPLAIN STAMPED [CALLS [ROUNDS]]
 
 Run at the top of the repository; it wants javac and java. ROUNDS times (once if not said) runs of 2 to 64
-threads are recorded, CALLS each (2,000 if not said). All must be explained, and `stamped check` must accept
+threads are observed, CALLS each (2,000 if not said). All must be explained, and `stamped check` must accept
 what explains them, with as many entries as calls; it takes 16 MiB, 130,000 to 170,000 calls. So must a run of the
-program Accounts. Where the JDK's class differs from this lock, the smallest history that shows it must be
+program Accounts. Where the JDK's class differs from this lock, the smallest observed history that shows it must be
 stuck."""
 import itertools
 import json
@@ -42,7 +42,7 @@ DIFFERENCES = {
 
 
 def judged(explain, stamped, text):
-    """What `stamped check` says of the record that explains a run; or why there is none."""
+    """What `stamped check` says of the recorded history that explains a run; or why there is none."""
     found = subprocess.run([explain], input=text, capture_output=True)
     if found.returncode == 0:
         found = subprocess.run([stamped, "check"], input=found.stdout, capture_output=True)
@@ -77,10 +77,10 @@ def main():
     total = 0
     with tempfile.TemporaryDirectory() as classes:
         subprocess.run(["javac", "-d", classes] + [f"{JAVA}/{name}.java" for name in
-                                                   ("RecordedStampedLock", "Accounts", "RecordedRun")], check=True)
+                                                   ("ObservedStampedLock", "Accounts", "ObservedRun")], check=True)
         total += try_run(explain, stamped, [classes, "Accounts", "100"])[0]
         for seed, threads in itertools.product(range(rounds), THREADS):
-            calls, seconds = try_run(explain, stamped, [classes, "RecordedRun", str(threads), str(most), str(seed)])
+            calls, seconds = try_run(explain, stamped, [classes, "ObservedRun", str(threads), str(most), str(seed)])
             total += calls
             print(f"jdk: {threads} threads, {calls} calls, ok, judged in {seconds:.2f} s", flush=True)
     print(f"jdk: {total} calls explained; {len(DIFFERENCES)} differences are stuck")

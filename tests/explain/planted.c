@@ -1,11 +1,11 @@
-// A lock that threads share, right or with a planted bug, whose calls are recorded:
+// A lock that threads share, right or with a planted bug, whose run is observed:
 //
 //     planted right|upgrade|version|validate THREADS CALLS SEED
 //
 // Each thread makes random calls, as the lock's documentation allows them, and keeps them on a tape of its
 // own, each with a ticket taken before it and one taken after it. Now and then a thread pauses until others
-// have made calls, so that the threads meet however the system schedules them. The run goes to standard
-// output, as `stamped_explain` reads it. The bugs:
+// have made calls, so that the threads meet however the system schedules them. The observed history goes to
+// standard output, as `stamped_explain` reads it. The bugs:
 //
 //     upgrade     a read mode becomes write mode beside other readers
 //     version     a release of write mode doesn't count

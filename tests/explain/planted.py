@@ -1,4 +1,4 @@
-"""Locks in C with a planted bug, recorded and judged.
+"""Locks in C with a planted bug, observed and judged.
 
     planted.py EXPLAIN STAMPED [CALLS [SEED]]
 

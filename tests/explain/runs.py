@@ -1,11 +1,11 @@
-"""Histories of `stamped run` with their points taken off, explained by the program.
+"""Recorded histories of `stamped run` with their points taken off, explained by the program.
 
     runs.py EXPLAIN STAMPED
 
 Run at the top of the repository. Threads make calls of a lock, and of a record that it guards, and are
-interleaved at random. Of the history that `run` tells, the points are taken off and the entries listed in another
-order; of some, what returned after a moment is under way, or was never begun. Each is explained, and
-`stamped check` accepts what is found: a record of at least the calls that returned."""
+interleaved at random. Of the recorded history that `run` tells, the points are taken off and the entries listed
+in another order; of some, what returned after a moment is under way, or was never begun. Each is explained, and
+`stamped check` accepts what is found: a recorded history of at least the calls that returned."""
 import json
 import random
 import subprocess
@@ -68,9 +68,9 @@ def main():
         history = json.loads(output_of([stamped, "run"], json.dumps(script).encode()))
         last = max(entry["last"] for entry in history["entries"])
         known = observed(chance, history, last // 2 if cut else last)
-        record = output_of([explain], json.dumps(known).encode())
-        count = len(json.loads(record)["entries"])
-        told = output_of([stamped, "check"], record)
+        found = output_of([explain], json.dumps(known).encode())
+        count = len(json.loads(found)["entries"])
+        told = output_of([stamped, "check"], found)
         returned = sum("last" in entry for entry in known["entries"])
         if told != f"ok {count}\n".encode() or not returned <= count <= len(known["entries"]):
             sys.exit(f"{threads} threads of {calls} calls, width {width}: {told} of {count}, {returned} returned")

@@ -1,4 +1,4 @@
-"""A stuck history, cut at a return and given other replies there by recorders/until.py, as on docs/JUDGING.md.
+"""A stuck observed history, cut at a return and given other replies there by recorders/until.py, as on docs/JUDGING.md.
 
     until.py EXPLAIN
 

@@ -11,8 +11,8 @@ import textwrap
 
 PAGES = {
     "README.md": ["counter"],
-    "docs/EXAMPLES.md": ["point", "price_board", "recorded_handles", "recorded_run"],
-    "docs/JUDGING.md": ["recorded_handles"],
+    "docs/EXAMPLES.md": ["point", "price_board", "observed_handles", "recorded_run"],
+    "docs/JUDGING.md": ["observed_handles"],
     "docs/TOUR.md": ["stamp_machines_tests", "stamp_threads_tests"],
     "docs/USING.md": ["counter", "config"],
 }

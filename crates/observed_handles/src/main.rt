@@ -1,8 +1,8 @@
 //! Threads share a lock by handles, each call is recorded, and the observed history is written as JSON.
 //!
-//! `recorded_handles THREADS ROUNDS` prints the history, which `stamped_explain` reads. More than 64 threads
-//! are an error, and so are more than 640,000 calls.
-//! `recorded_handles` alone records one of four threads, and prints who holds the lock at the end.
+//! `observed_handles THREADS ROUNDS` prints the observed history, which `stamped_explain` reads. More than 64
+//! threads are an error, and so are more than 640,000 calls.
+//! `observed_handles` alone records a run of four threads, and prints who holds the lock at the end.
 #![tactic(auto)]
 
 mod recorder;
@@ -24,7 +24,7 @@ use std::thread::{Threads, map_indices};
 use std::{env, io};
 
 /// The calls that the threads make in so many rounds each, thread by thread.
-fn recorded<R: Threads + Wait + Sync + AllocGlobal>(
+fn observations<R: Threads + Wait + Sync + AllocGlobal>(
     rt: &R,
     lock: &StampedLock,
     threads: u64,
@@ -43,7 +43,7 @@ fn recorded<R: Threads + Wait + Sync + AllocGlobal>(
     Ok(calls)
 }
 
-/// The calls as the history of a lock that `StampedLock::new` made.
+/// The calls as the observed history of a lock that `StampedLock::new` made.
 fn history_of(calls: Vec<Observation>) -> Result<Observed> {
     let count = calls.len();
     let Some(history) = Observed::of(Limits::widest(Layout::One), 0, calls) else {
@@ -75,7 +75,7 @@ fn main(rt: HostRuntime) -> Result<()> {
         "{threads} threads, and a history has at most {MOST_THREADS}"
     );
     let lock = StampedLock::new(rt.alloc())?;
-    let calls = recorded(&rt, &lock, threads, rounds)?;
+    let calls = observations(&rt, &lock, threads, rounds)?;
     if wanted.is_some() {
         return print_history(&rt, &history_of(calls)?);
     }

@@ -1,6 +1,6 @@
 //! A recorder: a handle whose calls are kept, each with a ticket taken before it and one after it.
 ghost use Rattle.std.specs.Prelude.{◌≡◌, [], IfOk, OnErr};
-ghost use Rattle.recorded_handles.specs.Recorder.{WasKept};
+ghost use Rattle.observed_handles.specs.Recorder.{WasKept};
 
 use stamp_core::{Call, Reply};
 use stamp_explain::{Observation, Returned};
@@ -82,7 +82,7 @@ impl Answer for u64 {
 
 /// Of a call that is tried once: where it lost, it was not made.
 impl<T: Answer> Answer for Result<T, Lost> {
-    ghost use Rattle.recorded_handles.specs.Recorder.{reply_unless_lost};
+    ghost use Rattle.observed_handles.specs.Recorder.{reply_unless_lost};
 
     ghost replied = { reply_unless_lost T.replied };
 

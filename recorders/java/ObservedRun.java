@@ -5,12 +5,13 @@ import java.nio.charset.StandardCharsets;
 import java.util.Random;
 
 /**
- * Threads make random calls on a recorded lock, and then the run is written to standard output:
- * {@code RecordedRun THREADS CALLS SEED}. All seventeen calls come up, each only as the documentation of
- * {@code StampedLock} allows it. The seed chooses the calls; how the threads meet differs from run to run.
+ * Threads make random calls on an observed lock, and then the observed history is written to standard
+ * output: {@code ObservedRun THREADS CALLS SEED}. All seventeen calls come up, each only as the
+ * documentation of {@code StampedLock} allows it. The seed chooses the calls; how the threads meet differs
+ * from run to run.
  */
-public final class RecordedRun {
-    private final RecordedStampedLock lock = new RecordedStampedLock();
+public final class ObservedRun {
+    private final ObservedStampedLock lock = new ObservedStampedLock();
 
     /** A thread that holds at most one mode at a time, and keeps its last optimistic stamp. */
     private final class Worker extends Thread {
@@ -122,7 +123,7 @@ public final class RecordedRun {
         int threads = Integer.parseInt(words[0]);
         int calls = Integer.parseInt(words[1]);
         long seed = Long.parseLong(words[2]);
-        RecordedRun run = new RecordedRun();
+        ObservedRun run = new ObservedRun();
         Worker[] workers = new Worker[threads];
         for (int i = 0; i < threads; i++) {
             workers[i] = run.new Worker(calls / threads, seed + i);

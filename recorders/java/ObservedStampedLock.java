@@ -10,14 +10,14 @@ import java.util.concurrent.locks.ReadWriteLock;
 import java.util.concurrent.locks.StampedLock;
 
 /**
- * A {@link StampedLock} that records the calls made on it, so that the run can be judged afterwards.
- * To record a program, construct this class where the program constructs a {@code StampedLock}, and
- * call {@link #writeTo} at the end.
+ * A {@link StampedLock} that is observed: the calls made on it are recorded, so that the run can be
+ * judged afterwards. To observe a program, construct this class where the program constructs a
+ * {@code StampedLock}, and call {@link #writeTo} at the end, which writes an observed history.
  *
  * <p>Each call takes a ticket before it begins and another after it has ended. It is kept, with its
  * reply, on a tape of its own thread. No lock is held around a call: threads share nothing but the
  * counter of tickets. At which moment between its tickets a call took effect is not recorded, since
- * nobody knows it.
+ * nobody knows it. So the history is an observed one.
  *
  * <ul>
  * <li>A release that throws {@link IllegalMonitorStateException} is recorded with the reply
@@ -35,7 +35,7 @@ import java.util.concurrent.locks.StampedLock;
  *
  * <p>Some 100 bytes are kept for each call until the lock itself is given up.
  */
-public class RecordedStampedLock extends StampedLock {
+public class ObservedStampedLock extends StampedLock {
     private static final long serialVersionUID = 1;
     private static final int MOST_THREADS = 64;
 
@@ -324,8 +324,9 @@ public class RecordedStampedLock extends StampedLock {
     }
 
     /**
-     * Writes the calls that were made so far as a line of JSON. Other threads may go on using the lock.
-     * A call that has not returned is written as under way, and one that begins later is left out.
+     * Writes the calls that were made so far, as an observed history, in one line of JSON. Other threads
+     * may go on using the lock. A call that has not returned is written as under way, and one that begins
+     * later is left out.
      *
      * @throws IllegalStateException if more than 64 threads have made calls
      * @throws IOException if writing fails
