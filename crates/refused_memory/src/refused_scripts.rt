@@ -73,7 +73,7 @@ pub(crate) const WIDTHS: [Case; 4] = [
 ];
 
 /// The call of all threads.
-fn call_of(shape: &Shape) -> ScriptCall {
+fn put_or_try_read(shape: &Shape) -> ScriptCall {
     match Words::new(&[7, 9]) {
         Some(words) if shape.is_put => ScriptCall::Put(words),
         _ => ScriptCall::TryRead,
@@ -81,7 +81,7 @@ fn call_of(shape: &Shape) -> ScriptCall {
 }
 
 fn threads(alloc: Global, shape: &Shape) -> Result<Vec<Vec<ScriptCall>>, AllocError> {
-    let call = call_of(shape);
+    let call = put_or_try_read(shape);
     let mut threads = Vec::new(alloc);
     for _ in 0..shape.threads {
         threads.push(vec![in alloc; call; shape.calls]?)?;

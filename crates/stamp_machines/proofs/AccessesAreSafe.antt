@@ -1,4 +1,4 @@
--- What a step needs of the world: its access is within the memory, and what it sees as a lock's
+-- What a step needs of the world: its access is within the memory, and what it finds as a lock's
 -- word is one that the limits admit, at the record's lock with a version left.
 use Rattle.std.proofs.Common.{◌≡◌, ℕ, ◌+◌, ◌<◌, ◌≤◌, Bool, true, false, List, length, Option, Some}
 use Rattle.std.proofs.Common.{None, if◌then◌else◌, refl, sym, subst, arith, nat_lt}
@@ -8,35 +8,35 @@ use Rattle.stamp_core.specs.Limits.{Bounds}
 use Rattle.stamp_core.specs.declared.call.Call.{Call}
 use Rattle.stamp_core.specs.declared.decision.Decision.{Decision}
 use Rattle.stamp_core.specs.declared.decision.Decision.TheVariants.{Answer, Change, Wait}
-use Rattle.stamp_machines.specs.Access.{place_of, seen_by}
+use Rattle.stamp_machines.specs.Access.{place_of, found_by}
 use Rattle.stamp_machines.specs.LockNumber.{IsAdmittedAt}
 use Rattle.stamp_core.specs.CountedDecision.{decision}
 use Rattle.stamp_machines.specs.Job.{Job}
 use Rattle.stamp_machines.specs.Place as places
 use Rattle.stamp_machines.specs.Place.{Place, GuardCall, call_for}
 use Rattle.stamp_machines.specs.LocalAccess.{LoadLock, LoadItem, with_lock}
-use Rattle.stamp_machines.specs.LockPhase.{phase_next, next_on}
+use Rattle.stamp_machines.specs.LockPhase.{phase_plan, plan_on}
 use Rattle.stamp_machines.specs.declared.shape.Shape.{Shape}
 use Rattle.stamp_machines.specs.MachineState.{Stage, OnLock, OnRecord, record_limits}
-use Rattle.stamp_machines.specs.Machine.{next_in, IsFoundIn, HasVersionLeft}
+use Rattle.stamp_machines.specs.Machine.{plan_in, IsFoundIn, HasVersionLeft}
 use Rattle.stamp_machines.specs.RecordKept.{FitsPlace}
 
 -- a lock phase is on its lock's word
 phase-place : (i : ℕ) (limits : Bounds) (call : Call) (seen : Option ℕ) →
-    place_of (with_lock i (phase_next limits call seen)) ≡ i
+    place_of (with_lock i (phase_plan limits call seen)) ≡ i
 phase-place i limits call None = refl
 phase-place i limits call (Some word) = go (decision limits word call)
   where
-    go : (d : Decision) → place_of (with_lock i (next_on word d)) ≡ i
+    go : (d : Decision) → place_of (with_lock i (plan_on word d)) ≡ i
     go (Answer r) = refl
     go (Change new r) = refl
     go Wait = refl
 
--- the access is within the memory, and what it sees may be resumed with
+-- the access is within the memory, and what it finds may be resumed with
 abbrev pub IsSafeIn : Shape → Call → Stage → List ℕ → Type 0
 IsSafeIn shape call stage words =
-    (place_of (next_in shape call stage) < length words)
-    × IsFoundIn shape stage (seen_by (next_in shape call stage) words)
+    (place_of (plan_in shape call stage) < length words)
+    × IsFoundIn shape stage (found_by (plan_in shape call stage) words)
 
 copying-safe : (shape : Shape) (call : Call) (job : Job) (first : ℕ) (loaded : List ℕ)
     (words : List ℕ) → length words ≡ 2 + shape.width →
@@ -48,7 +48,7 @@ copying-safe shape call job first loaded words n w = go (nat_lt (length loaded) 
         (place_of (with_lock 1 (if b then LoadItem (length loaded) else LoadLock)) < length words)
         × (shape.width ≤ length loaded →
         IsAdmittedAt (record_limits shape)
-        (seen_by (with_lock 1 (if b then LoadItem (length loaded) else LoadLock)) words))
+        (found_by (with_lock 1 (if b then LoadItem (length loaded) else LoadLock)) words))
     go true q =
         let h : length loaded < shape.width = grind (arith, nat_tests, q) in
         (omega (arith, h, n), λ k. absurd (omega (arith, h, k)))
@@ -66,7 +66,7 @@ record-safe shape call limits k wr content items job (places.Copying first loade
     v f = copying-safe shape call job first loaded words n w
 record-safe shape call limits k wr content items job (places.Locking e seen) words n l w
     v f =
-    let at : place_of (with_lock 1 (phase_next (record_limits shape) (call_for e) seen)) ≡ 1 =
+    let at : place_of (with_lock 1 (phase_plan (record_limits shape) (call_for e) seen)) ≡ 1 =
     phase-place 1 (record_limits shape) (call_for e) seen in (
       omega (arith, at, n),
       (
@@ -89,7 +89,7 @@ pub lock-safe : (shape : Shape) (call : Call) (seen : Option ℕ) (words : List 
     length words ≡ 2 + shape.width → IsAdmittedAt shape.limits (slice_index words 0) →
     IsSafeIn shape call (OnLock seen) words
 lock-safe shape call seen words n w =
-    let at : place_of (with_lock 0 (phase_next shape.limits call seen)) ≡ 0 =
+    let at : place_of (with_lock 0 (phase_plan shape.limits call seen)) ≡ 0 =
     phase-place 0 shape.limits call seen in (
       omega (arith, at, n),
       subst (λ (i : ℕ). IsAdmittedAt shape.limits (slice_index words i)) (sym at) w,

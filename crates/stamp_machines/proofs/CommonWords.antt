@@ -10,11 +10,11 @@ use Rattle.stamp_core.specs.Word.{LockWord}
 use Rattle.stamp_core.specs.declared.reply.Reply.{Reply}
 use Rattle.stamp_core.specs.declared.decision.Decision.{Decision}
 use Rattle.stamp_core.specs.declared.decision.Decision.TheVariants.{Answer, Change, Wait}
-use Rattle.stamp_machines.specs.Access.{words_after, seen_by}
+use Rattle.stamp_machines.specs.Access.{words_after, found_by}
 use Rattle.stamp_core.specs.CountedDecision.{decision}
 use Rattle.stamp_machines.specs.LocalAccess.{LocalAccess, LoadLock, CasLock, LoadItem, StoreItem}
-use Rattle.stamp_machines.specs.LocalAccess.{lock_after, items_after, with_lock, local_seen}
-use Rattle.stamp_machines.specs.LockPhase.{phase_next, next_on}
+use Rattle.stamp_machines.specs.LocalAccess.{lock_after, items_after, with_lock, local_found}
+use Rattle.stamp_machines.specs.LockPhase.{phase_plan, plan_on}
 
 -- the access is to the lock's word
 abbrev pub IsToLock : LocalAccess → Type 0
@@ -24,11 +24,11 @@ IsToLock (LoadItem i) = ⊥
 IsToLock (StoreItem i v) = ⊥
 
 pub phase-to_lock : (limits : Bounds) (call : Call) (seen : Option ℕ) →
-    IsToLock (phase_next limits call seen)
+    IsToLock (phase_plan limits call seen)
 phase-to_lock limits call None = tt
 phase-to_lock limits call (Some word) = go (decision limits word call)
   where
-    go : (d : Decision) → IsToLock (next_on word d)
+    go : (d : Decision) → IsToLock (plan_on word d)
     go (Answer r) = tt
     go (Change new r) = tt
     go Wait = tt
@@ -65,24 +65,24 @@ word-set at (LoadItem i) words h = absurd h
 word-set at (StoreItem i v) words h = absurd h
 
 pub phase-word_set : (at : ℕ) (limits : Bounds) (call : Call) (seen : Option ℕ) (words : List ℕ) →
-    words_after (with_lock at (phase_next limits call seen)) words
-    ≡ slice_set words at (lock_after (phase_next limits call seen) (slice_index words at))
+    words_after (with_lock at (phase_plan limits call seen)) words
+    ≡ slice_set words at (lock_after (phase_plan limits call seen) (slice_index words at))
 phase-word_set at limits call seen words =
-    word-set at (phase_next limits call seen) words (phase-to_lock limits call seen)
+    word-set at (phase_plan limits call seen) words (phase-to_lock limits call seen)
 
 -- an exchange of the word that it finds puts what the call changes that word to
 pub won-word : (limits : Bounds) (call : Call) (seen : Option ℕ) (found : ℕ) (new : LockWord)
     (reply : Reply) → seen ≡ Some found → decision limits found call ≡ Change new reply →
-    new.bits ≡ lock_after (phase_next limits call seen) found
+    new.bits ≡ lock_after (phase_plan limits call seen) found
 won-word limits call seen found new reply is says =
     let same : (found == found) ≡ true = grind (arith, nat_tests) in rw (is, says, same) refl
 
-seen-lock : (a : LocalAccess) (x y : ℕ) (items : List ℕ) → IsToLock a →
-    seen_by (with_lock 0 a) (x ∷ y ∷ items) ≡ local_seen a x []
-seen-lock LoadLock x y items h = refl
-seen-lock (CasLock old new) x y items h = refl
-seen-lock (LoadItem i) x y items h = absurd h
-seen-lock (StoreItem i v) x y items h = absurd h
+found-lock : (a : LocalAccess) (x y : ℕ) (items : List ℕ) → IsToLock a →
+    found_by (with_lock 0 a) (x ∷ y ∷ items) ≡ local_found a x []
+found-lock LoadLock x y items h = refl
+found-lock (CasLock old new) x y items h = refl
+found-lock (LoadItem i) x y items h = absurd h
+found-lock (StoreItem i v) x y items h = absurd h
 
 two-more : (i : ℕ) → 2 + i ≡ suc (suc i)
 two-more i = omega arith
@@ -99,35 +99,35 @@ on-record (CasLock old new) x y items = go (y == old)
 on-record (LoadItem i) x y items = refl
 on-record (StoreItem i v) x y items = rw (two-more i) refl
 
-seen-record : (a : LocalAccess) (x y : ℕ) (items : List ℕ) →
-    seen_by (with_lock 1 a) (x ∷ y ∷ items) ≡ local_seen a y items
-seen-record LoadLock x y items = refl
-seen-record (CasLock old new) x y items = refl
-seen-record (LoadItem i) x y items = rw (two-more i) refl
-seen-record (StoreItem i v) x y items = rw (two-more i) refl
+found-record : (a : LocalAccess) (x y : ℕ) (items : List ℕ) →
+    found_by (with_lock 1 a) (x ∷ y ∷ items) ≡ local_found a y items
+found-record LoadLock x y items = refl
+found-record (CasLock old new) x y items = refl
+found-record (LoadItem i) x y items = rw (two-more i) refl
+found-record (StoreItem i v) x y items = rw (two-more i) refl
 
 -- an access to the lock leaves all other words
 pub record LockMoves (words : List ℕ) (a : LocalAccess) : Type 0 where
   pub after : words_after (with_lock 0 a) words
       ≡ lock_after a (slice_index words 0) ∷ slice_index words 1 ∷ drop 2 words
-  pub seen : seen_by (with_lock 0 a) words ≡ local_seen a (slice_index words 0) []
+  pub found : found_by (with_lock 0 a) words ≡ local_found a (slice_index words 0) []
 
--- an access of a call of the record leaves the public lock
+-- an access of a call of the record leaves the word of the lock
 pub record RecordMoves (words : List ℕ) (a : LocalAccess) : Type 0 where
   pub after : words_after (with_lock 1 a) words
       ≡ slice_index words 0 ∷ lock_after a (slice_index words 1) ∷ items_after a (drop 2 words)
-  pub seen : seen_by (with_lock 1 a) words ≡ local_seen a (slice_index words 1) (drop 2 words)
+  pub found : found_by (with_lock 1 a) words ≡ local_found a (slice_index words 1) (drop 2 words)
 
 pub lock-moves : (words : List ℕ) (n : ℕ) (a : LocalAccess) → length words ≡ 2 + n → IsToLock a →
     LockMoves words a
 lock-moves [] n a h i = absurd (omega arith)
 lock-moves (x ∷ []) n a h i = absurd (omega arith)
 lock-moves (x ∷ y ∷ items) n a h i =
-    record { after = on-lock a x y items i; seen = seen-lock a x y items i }
+    record { after = on-lock a x y items i; found = found-lock a x y items i }
 
 pub record-moves : (words : List ℕ) (n : ℕ) (a : LocalAccess) → length words ≡ 2 + n →
     RecordMoves words a
 record-moves [] n a h = absurd (omega arith)
 record-moves (x ∷ []) n a h = absurd (omega arith)
 record-moves (x ∷ y ∷ items) n a h =
-    record { after = on-record a x y items; seen = seen-record a x y items }
+    record { after = on-record a x y items; found = found-record a x y items }

@@ -22,7 +22,7 @@ use Rattle.stamp_machines.specs.declared.shape.Shape.{Shape}
 use Rattle.stamp_machines.specs.MachineState.{first_stage, start}
 use Rattle.stamp_machines.specs.Script.{Scripted, Suits, calls_of}
 use Rattle.stamp_machines.specs.declared.state.Begun.{Begun}
-use Rattle.stamp_machines.specs.World.{World, current_of, begin, call_of, shape_of, stamps_of}
+use Rattle.stamp_machines.specs.World.{World, current_of, begin, resolved, shape_of, stamps_of}
 use Rattle.stamp_machines.specs.Invariant.{doing_at, doing_in, IsOf}
 use Rattle.stamp_machines.specs.RecordKept.{read_by, written_by, read_in, written_in, FitsPlace, FitsIn}
 
@@ -47,7 +47,7 @@ SuitsJob width None = Unit {0}
 SuitsJob width (Some job) = (0 < width) × ((is_get job ≡ true) ⊎ (length (new_words job) ≡ width))
 
 suits-job : (stamps : ℕ → List ℕ) (width : ℕ) (c : ScriptCall) → Suits width c →
-    SuitsJob width (job_in (call_of stamps c))
+    SuitsJob width (job_in (resolved stamps c))
 suits-job stamps width TryWrite s = tt
 suits-job stamps width TryRead s = tt
 suits-job stamps width WriteLock s = tt
@@ -128,12 +128,12 @@ next-ready limits script stamps position t k w content items (Some c) b h n e q 
     let within : t < length script.threads = thread-within script.threads t (length (stamps t)) c e in
     let suits : Suits script.width c =
     call-suits script.width (calls_of script t) (length (stamps t)) c (h t [] within) e in
-    let same : record { machine = start (shape_of script) (call_of stamps c); first = position } ≡ b =
+    let same : record { machine = start (shape_of script) (resolved stamps c); first = position } ≡ b =
     cc in (
       within,
       subst (λ (x : Begun). Ready limits (shape_of script) k w content items None x) same
-          (first-ready limits (shape_of script) k w content items (call_of stamps c) position
-          (job_in (call_of stamps c)) refl (rw n (suits-job stamps script.width c suits))),
+          (first-ready limits (shape_of script) k w content items (resolved stamps c) position
+          (job_in (resolved stamps c)) refl (rw n (suits-job stamps script.width c suits))),
     )
 
 pub current-ready : (limits : Bounds) (script : Scripted) (world : World) (t : ℕ) (k w : ℕ)

@@ -29,14 +29,15 @@ use Rattle.stamp_machines.specs.declared.machine.Turn.{Turn}
 use Rattle.stamp_machines.specs.declared.machine.Turn.TheVariants.{Going, Done}
 use Rattle.stamp_machines.specs.declared.shape.Shape.{Shape}
 use Rattle.stamp_machines.specs.Job.{Job}
-use Rattle.stamp_machines.specs.LockPhase.{PhaseTurn, Still, Ended}
+use Rattle.stamp_machines.specs.LockPhase as phases
+use Rattle.stamp_machines.specs.LockPhase.{PhaseTurn}
 use Rattle.stamp_machines.specs.Place as places
 use Rattle.stamp_machines.specs.Place.{PlaceTurn}
 use Rattle.stamp_machines.specs.MachineState.{MachineState, Stage, OnLock, OnRecord, start}
 use Rattle.stamp_machines.specs.Machine.{after_access, after_in, lock_turn, record_turn}
 use Rattle.stamp_machines.specs.Script.{Scripted, IsSound, Suits, calls_of}
 use Rattle.stamp_machines.specs.World.{World, opening, current, current_of, begin, shape_of}
-use Rattle.stamp_machines.specs.World.{stamps_of, is_of, call_of, world_after, stepped, step, entry_of}
+use Rattle.stamp_machines.specs.World.{stamps_of, is_of, resolved, world_after, stepped, step, entry_of}
 use Rattle.stamp_machines.specs.World.{execution_of, finished_calls}
 use Rattle.stamp_machines.proofs.CurrentCall.{thread-within, call-suits}
 use Rattle.stamp_machines.proofs.EntryOrder.{each_slot, slot_none}
@@ -118,7 +119,7 @@ both_suit : (width a b : ℕ) → 0 < width → a ≡ width → b ≡ width →
 both_suit width a b some same also = grind (arith, nat_tests, some, same, also)
 
 resolved-suits : (stamps : ℕ → List ℕ) (width : ℕ) (c : ScriptCall) → Suits width c →
-    IsTrue (call_suits width (call_of stamps c))
+    IsTrue (call_suits width (resolved stamps c))
 resolved-suits stamps width TryWrite s = refl
 resolved-suits stamps width TryRead s = refl
 resolved-suits stamps width WriteLock s = refl
@@ -168,7 +169,7 @@ current-one script world t b sound counts = by (slice_index_or world.begun t Non
         (sound.suited t [] within) at in
         let same : record {
           machine = start (shape_of script)
-              (call_of (λ k. stamps_of k world.entries) c);
+              (resolved (λ k. stamps_of k world.entries) c);
           first = world.position;
         } ≡ b = cc in (
           within,
@@ -218,18 +219,18 @@ IsStillOf call (Going m) = m.call ≡ call
 IsStillOf call (Done r) = Unit {0}
 
 lock_same : (shape : Shape) (call : Call) (p : PhaseTurn) → IsStillOf call (lock_turn shape call p)
-lock_same shape call (Still seen) = refl
-lock_same shape call (Ended r) = tt
+lock_same shape call (phases.Going seen) = refl
+lock_same shape call (phases.Done r) = tt
 
 record_same : (shape : Shape) (call : Call) (job : Job) (p : PlaceTurn) →
     IsStillOf call (record_turn shape call job p)
 record_same shape call job (places.Going place) = refl
 record_same shape call job (places.Done r) = tt
 
-pub after_same : (s : MachineState) (seen : ℕ) → IsStillOf s.call (after_access s seen)
-after_same s seen = by s.stage
+pub after_same : (s : MachineState) (found : ℕ) → IsStillOf s.call (after_access s found)
+after_same s found = by s.stage
   where
-    by : (stage : Stage) → IsStillOf s.call (after_in s.shape s.call seen stage)
+    by : (stage : Stage) → IsStillOf s.call (after_in s.shape s.call found stage)
     by (OnLock last) = lock_same s.shape s.call _
     by (OnRecord job place) = record_same s.shape s.call job _
 

@@ -23,9 +23,9 @@ use Rattle.stamp_core.proofs.WellFormedPush.{AllowsAll, push_all, obeys_now}
 use Rattle.stamp_core.proofs.TransitionsKeep.{IsAllowed, Keeps, row_keeps}
 use Rattle.stamp_core.proofs.WordCounts.{counts_in-represented}
 use Rattle.stamp_machines.specs.LockNumber.{RepresentsAt, IsAdmittedAt, counts_at}
-use Rattle.stamp_machines.specs.LockPhase.{Still, Ended, phase_next, phase_after, next_on, turn_on}
+use Rattle.stamp_machines.specs.LockPhase.{Going, Done, phase_plan, phase_after, plan_on, turn_on}
 use Rattle.stamp_machines.specs.LockPhase.{tried, PhaseTurn}
-use Rattle.stamp_machines.specs.LocalAccess.{lock_after, local_seen}
+use Rattle.stamp_machines.specs.LocalAccess.{lock_after, local_found}
 use Rattle.stamp_machines.specs.RecordKept.{IsRead}
 
 -- what a call's transition makes of the word
@@ -46,8 +46,8 @@ left-admitted limits call lock now r w t =
     }
 
 abbrev pub PhaseLeaves : Bounds → Call → ℕ → ℕ → PhaseTurn → Type 0
-PhaseLeaves limits call lock now (Still seen) = now ≡ lock
-PhaseLeaves limits call lock now (Ended r) = CallLeaves limits call lock now r
+PhaseLeaves limits call lock now (Going seen) = now ≡ lock
+PhaseLeaves limits call lock now (Done r) = CallLeaves limits call lock now r
 
 -- what a decision on the word says
 abbrev pub MeetsAt : Bounds → Call → ℕ → Decision → Type 0
@@ -143,14 +143,14 @@ loaded-leaves limits call lock range a =
 
 tried-leaves : (limits : Bounds) (call : Call) (lock old : ℕ) (d : Decision) → AreInRange limits →
     IsAdmittedAt limits lock → decision limits old call ≡ d →
-    PhaseLeaves limits call lock (lock_after (next_on old d) lock)
-    (tried limits call old (local_seen (next_on old d) lock []) d)
+    PhaseLeaves limits call lock (lock_after (plan_on old d) lock)
+    (tried limits call old (local_found (plan_on old d) lock []) d)
 tried-leaves limits call lock old (Answer r) range a e = loaded-leaves limits call lock range a
 tried-leaves limits call lock old Wait range a e = loaded-leaves limits call lock range a
 tried-leaves limits call lock old (Change new r) range a e = go (lock == old) refl
   where
     go : (b : Bool) → (lock == old) ≡ b →
-        PhaseLeaves limits call lock (if b then new.bits else lock) (if b then Ended r
+        PhaseLeaves limits call lock (if b then new.bits else lock) (if b then Done r
         else turn_on lock (decision limits lock call))
     go false q = loaded-leaves limits call lock range a
     go true q =
@@ -160,14 +160,14 @@ tried-leaves limits call lock old (Change new r) range a e = go (lock == old) re
 
 pub phase-leaves : (limits : Bounds) (call : Call) (lock : ℕ) (items : List ℕ) (seen : Option ℕ) →
     AreInRange limits → IsAdmittedAt limits lock →
-    PhaseLeaves limits call lock (lock_after (phase_next limits call seen) lock)
-    (phase_after limits call seen (local_seen (phase_next limits call seen) lock items))
+    PhaseLeaves limits call lock (lock_after (phase_plan limits call seen) lock)
+    (phase_after limits call seen (local_found (phase_plan limits call seen) lock items))
 phase-leaves limits call lock items None range a = loaded-leaves limits call lock range a
 phase-leaves limits call lock items (Some old) range a = go (decision limits old call) refl
   where
     go : (d : Decision) → decision limits old call ≡ d →
-        PhaseLeaves limits call lock (lock_after (next_on old d) lock)
-        (tried limits call old (local_seen (next_on old d) lock items) d)
+        PhaseLeaves limits call lock (lock_after (plan_on old d) lock)
+        (tried limits call old (local_found (plan_on old d) lock items) d)
     go (Answer r) e = tried-leaves limits call lock old (Answer r) range a e
     go Wait e = tried-leaves limits call lock old Wait range a e
     go (Change new r) e = tried-leaves limits call lock old (Change new r) range a e

@@ -8,8 +8,8 @@ use Rattle.stamp_core.specs.Limits.{Bounds}
 use Rattle.stamp_machines.specs.LockNumber.{counts_at}
 use Rattle.stamp_machines.specs.Job.{Job}
 use Rattle.stamp_machines.specs.Place.{Place, LoadingLock, Copying, Locking, Reading, Checking}
-use Rattle.stamp_machines.specs.Place.{Storing, Releasing, ToShare, ToLeave, ToRefuse}
-use Rattle.stamp_machines.specs.Place.{ToUpgrade, ToReleaseFirst, ToClaim}
+use Rattle.stamp_machines.specs.Place.{Storing, Releasing, Share, Leave, Refuse}
+use Rattle.stamp_machines.specs.Place.{Upgrade, ReleaseFirst, Claim}
 use Rattle.stamp_machines.specs.RecordKept.{read_by, written_by, FitsPlace, FitsIn, Doing, read_in}
 use Rattle.stamp_machines.specs.RecordKept.{written_in, RecordKept, Moved, SameFor, AloneFor}
 
@@ -43,16 +43,16 @@ quiet-fits limits k w k' w' content content' items items' job (Copying first loa
   where
     late : (w ≡ 1) × (k' ≡ k) → (counts_at limits first).write_count ≡ k' → ⊥
     late p q = let z = h.3 (q ∙ p.1) in omega (arith, p.0, z.0)
-quiet-fits limits k w k' w' content content' items items' job (Locking ToShare seen) l r s e h = tt
-quiet-fits limits k w k' w' content content' items items' job (Locking (ToLeave t loaded) seen) l r
+quiet-fits limits k w k' w' content content' items items' job (Locking Share seen) l r s e h = tt
+quiet-fits limits k w k' w' content content' items items' job (Locking (Leave t loaded) seen) l r
     s e h = absurd (omega arith)
-quiet-fits limits k w k' w' content content' items items' job (Locking (ToRefuse t) seen) l r s e
+quiet-fits limits k w k' w' content content' items items' job (Locking (Refuse t) seen) l r s e
     h = absurd (omega arith)
-quiet-fits limits k w k' w' content content' items items' job (Locking (ToUpgrade t) seen) l r s e
+quiet-fits limits k w k' w' content content' items items' job (Locking (Upgrade t) seen) l r s e
     h = absurd (omega arith)
-quiet-fits limits k w k' w' content content' items items' job (Locking (ToReleaseFirst t) seen) l r s e
+quiet-fits limits k w k' w' content content' items items' job (Locking (ReleaseFirst t) seen) l r s e
     h = absurd (omega arith)
-quiet-fits limits k w k' w' content content' items items' job (Locking ToClaim seen) l r s e h = h
+quiet-fits limits k w k' w' content content' items items' job (Locking Claim seen) l r s e h = h
 quiet-fits limits k w k' w' content content' items items' job (Reading t loaded) l r s e h =
     absurd (omega arith)
 quiet-fits limits k w k' w' content content' items items' job (Checking t loaded) l r s e h =

@@ -29,14 +29,15 @@ use Rattle.stamp_core.specs.CountedDecision.{decision}
 use Rattle.stamp_machines.specs.Job.{Job, Getting, Putting, PuttingIf, content_with, reply_to}
 use Rattle.stamp_machines.specs.Job.{new_words, expects, is_get, stored_reply}
 use Rattle.stamp_machines.specs.Place.{Going, Done, Place, GuardCall, LoadingLock, Copying, Locking}
-use Rattle.stamp_machines.specs.Place.{Reading, Checking, Storing, Releasing, ToShare}
-use Rattle.stamp_machines.specs.Place.{ToLeave, ToRefuse, ToUpgrade, ToReleaseFirst, ToClaim, next}
+use Rattle.stamp_machines.specs.Place.{Reading, Checking, Storing, Releasing, Share}
+use Rattle.stamp_machines.specs.Place.{Leave, Refuse, Upgrade, ReleaseFirst, Claim, plan}
 use Rattle.stamp_machines.specs.Place.{after, call_for, passed, guard_call_done, all_read}
 use Rattle.stamp_machines.specs.Place.{unchanged}
-use Rattle.stamp_machines.specs.LockPhase.{Still, Ended, next_on, phase_next, phase_after}
+use Rattle.stamp_machines.specs.LockPhase as phases
+use Rattle.stamp_machines.specs.LockPhase.{plan_on, phase_plan, phase_after}
 use Rattle.stamp_machines.specs.LockPhase.{PhaseTurn}
 use Rattle.stamp_machines.specs.LocalAccess.{LoadLock, LoadItem, lock_after, items_after}
-use Rattle.stamp_machines.specs.LocalAccess.{local_seen}
+use Rattle.stamp_machines.specs.LocalAccess.{local_found}
 use Rattle.stamp_machines.specs.RecordKept.{read_by, written_by, FitsPlace, SameFor, AloneFor, MovedRightly}
 use Rattle.stamp_machines.specs.RecordKept.{Stands, IsRead}
 use Rattle.stamp_machines.proofs.LockPhaseSteps.{PhaseLeaves, phase-leaves, CallLeaves, left-admitted}
@@ -85,21 +86,21 @@ loading-lock limits n job lock items content s e = go ((counts_at limits lock).w
   where
     go : (b : Bool) → ((counts_at limits lock).writers == 0) ≡ b →
         MovedRightly limits job LoadingLock lock items content lock items (if b then Going (Copying lock [])
-        else Going (Locking ToShare None))
+        else Going (Locking Share None))
     go true q =
         let z : (counts_at limits lock).writers ≡ 0 = grind (arith, q) in
         stays limits job LoadingLock (Copying lock []) lock items content s refl refl
         (s.fits, omega arith, omega arith, λ _. (z, refl))
-    go false q = stays limits job LoadingLock (Locking ToShare None) lock items content s refl refl tt
+    go false q = stays limits job LoadingLock (Locking Share None) lock items content s refl refl tt
 
 copying : (limits : Bounds) (n : ℕ) (job : Job) (first : ℕ) (loaded : List ℕ) (lock : ℕ)
     (items content : List ℕ) → Stands limits job (Copying first loaded) lock items content →
     n ≡ length content →
     MovedRightly limits job (Copying first loaded) lock items content
-    (lock_after (next limits n job (Copying first loaded)) lock)
-    (items_after (next limits n job (Copying first loaded)) items)
+    (lock_after (plan limits n job (Copying first loaded)) lock)
+    (items_after (plan limits n job (Copying first loaded)) items)
     (after limits n job (Copying first loaded)
-    (local_seen (next limits n job (Copying first loaded)) lock items))
+    (local_found (plan limits n job (Copying first loaded)) lock items))
 copying limits n job first loaded lock items content s e = go (nat_lt (length loaded) n) refl
   where
     right : (job : Job) → is_get job ≡ true → loaded ≡ content →
@@ -110,9 +111,9 @@ copying limits n job first loaded lock items content s e = go (nat_lt (length lo
 
     validated : (b : Bool) → unchanged limits first lock ≡ b → length content ≤ length loaded →
         MovedRightly limits job (Copying first loaded) lock items content lock items (if b
-        then Done (reply.Content loaded) else Going (Locking ToShare None))
+        then Done (reply.Content loaded) else Going (Locking Share None))
     validated false q h =
-        stays limits job (Copying first loaded) (Locking ToShare None) lock items content s refl
+        stays limits job (Copying first loaded) (Locking Share None) lock items content s refl
         refl tt
     validated true q h =
         let same : (counts_at limits lock).write_count ≡ (counts_at limits first).write_count =
@@ -138,11 +139,11 @@ copying limits n job first loaded lock items content s e = go (nat_lt (length lo
         (lock_after (if b then LoadItem (length loaded) else LoadLock) lock)
         (items_after (if b then LoadItem (length loaded) else LoadLock) items) (if b
         then Going (Copying first
-        (loaded ++ local_seen (if b then LoadItem (length loaded) else LoadLock) lock
+        (loaded ++ local_found (if b then LoadItem (length loaded) else LoadLock) lock
         items ∷ []))
         else (if unchanged limits first
-        (local_seen (if b then LoadItem (length loaded) else LoadLock) lock items)
-        then Done (reply.Content loaded) else Going (Locking ToShare None)))
+        (local_found (if b then LoadItem (length loaded) else LoadLock) lock items)
+        then Done (reply.Content loaded) else Going (Locking Share None)))
     go true q =
         let h : length loaded < length content = grind (arith, q, e) in
         stays limits job (Copying first loaded)
@@ -192,18 +193,18 @@ reading limits n job t loaded lock items content s e = go (nat_lt (length loaded
         expects job (loaded ++ slice_index items (length loaded) ∷ []) ≡ x →
         loaded ++ slice_index items (length loaded) ∷ [] ≡ content →
         MovedRightly limits job (Reading t loaded) lock items content lock items (if g
-        then Going (Locking (ToLeave t (loaded ++ slice_index items (length loaded) ∷ [])) None)
-        else (if x then Going (Locking (ToUpgrade t) None)
-        else Going (Locking (ToRefuse t) None)))
+        then Going (Locking (Leave t (loaded ++ slice_index items (length loaded) ∷ [])) None)
+        else (if x then Going (Locking (Upgrade t) None)
+        else Going (Locking (Refuse t) None)))
     done true x g q all =
         stays limits job (Reading t loaded)
-        (Locking (ToLeave t (loaded ++ slice_index items (length loaded) ∷ [])) None) lock items
+        (Locking (Leave t (loaded ++ slice_index items (length loaded) ∷ [])) None) lock items
         content s refl refl (g, s.fits.0, all)
     done false true g q all =
-        stays limits job (Reading t loaded) (Locking (ToUpgrade t) None) lock items content s refl
+        stays limits job (Reading t loaded) (Locking (Upgrade t) None) lock items content s refl
         refl (g, s.fits.0, rw all at q)
     done false false g q all =
-        stays limits job (Reading t loaded) (Locking (ToRefuse t) None) lock items content s refl
+        stays limits job (Reading t loaded) (Locking (Refuse t) None) lock items content s refl
         refl (g, s.fits.0, rw all at q)
 
     go : (b : Bool) → nat_lt (length loaded + 1) n ≡ b →
@@ -427,11 +428,11 @@ releasing limits n job t a lock items content s e =
     )
 
 items_same : (limits : Bounds) (call : Call) (seen : Option ℕ) (items : List ℕ) →
-    items_after (phase_next limits call seen) items ≡ items
+    items_after (phase_plan limits call seen) items ≡ items
 items_same limits call None items = refl
 items_same limits call (Some word) items = go (decision limits word call)
   where
-    go : (d : Decision) → items_after (next_on word d) items ≡ items
+    go : (d : Decision) → items_after (plan_on word d) items ≡ items
     go (Answer r) = refl
     go (Change new r) = refl
     go Wait = refl
@@ -440,23 +441,23 @@ items_same limits call (Some word) items = go (decision limits word call)
 still : (limits : Bounds) (job : Job) (e : GuardCall) (seen now : Option ℕ) (lock : ℕ)
     (items content : List ℕ) → Stands limits job (Locking e seen) lock items content →
     MovedRightly limits job (Locking e seen) lock items content lock items (Going (Locking e now))
-still limits job ToShare seen now lock items content s =
-    stays limits job (Locking ToShare seen) (Locking ToShare now) lock items content s refl refl
+still limits job Share seen now lock items content s =
+    stays limits job (Locking Share seen) (Locking Share now) lock items content s refl refl
     s.fits
-still limits job (ToLeave t loaded) seen now lock items content s =
-    stays limits job (Locking (ToLeave t loaded) seen) (Locking (ToLeave t loaded) now) lock items
+still limits job (Leave t loaded) seen now lock items content s =
+    stays limits job (Locking (Leave t loaded) seen) (Locking (Leave t loaded) now) lock items
     content s refl refl s.fits
-still limits job (ToRefuse t) seen now lock items content s =
-    stays limits job (Locking (ToRefuse t) seen) (Locking (ToRefuse t) now) lock items content s
+still limits job (Refuse t) seen now lock items content s =
+    stays limits job (Locking (Refuse t) seen) (Locking (Refuse t) now) lock items content s
     refl refl s.fits
-still limits job (ToUpgrade t) seen now lock items content s =
-    stays limits job (Locking (ToUpgrade t) seen) (Locking (ToUpgrade t) now) lock items content s
+still limits job (Upgrade t) seen now lock items content s =
+    stays limits job (Locking (Upgrade t) seen) (Locking (Upgrade t) now) lock items content s
     refl refl s.fits
-still limits job (ToReleaseFirst t) seen now lock items content s =
-    stays limits job (Locking (ToReleaseFirst t) seen) (Locking (ToReleaseFirst t) now) lock items content s
+still limits job (ReleaseFirst t) seen now lock items content s =
+    stays limits job (Locking (ReleaseFirst t) seen) (Locking (ReleaseFirst t) now) lock items content s
     refl refl s.fits
-still limits job ToClaim seen now lock items content s =
-    stays limits job (Locking ToClaim seen) (Locking ToClaim now) lock items content s refl refl
+still limits job Claim seen now lock items content s =
+    stays limits job (Locking Claim seen) (Locking Claim now) lock items content s refl refl
     s.fits
 
 -- an exchange on the lock, after which the call goes on
@@ -497,9 +498,9 @@ write_some limits k s e =
     ]
 
 read_locked : (limits : Bounds) (job : Job) (seen : Option ℕ) (lock lock' : ℕ) (items content : List ℕ)
-    (r : Reply) → Stands limits job (Locking ToShare seen) lock items content →
+    (r : Reply) → Stands limits job (Locking Share seen) lock items content →
     CallLeaves limits ReadLock lock lock' r →
-    MovedRightly limits job (Locking ToShare seen) lock items content lock' items
+    MovedRightly limits job (Locking Share seen) lock items content lock' items
     (Going (Reading (stamp_in r) []))
 read_locked limits job seen lock lock' items content r s t =
     let h = shared_at limits (counts_at limits lock) t.taken t.transition in
@@ -517,7 +518,7 @@ read_locked limits job seen lock lock' items content r s t =
     ap (λ (c : Counts). c.readers) cs in
     let st : stamp_in r ≡ read_stamp (units limits) (counts_at limits lock).write_count
     ((counts_at limits lock).readers + 1) = ap stamp_in (sym t.reply ∙ h.3) in
-    goes limits job (Locking ToShare seen) (Reading (stamp_in r) []) lock lock' items content s
+    goes limits job (Locking Share seen) (Reading (stamp_in r) []) lock lock' items content s
     (left-admitted _ _ _ _ _ s.admitted t) (omega (arith, w)) (omega (arith, n)) (λ _. s.free h.0)
     (is_read limits _ _ _ _ s.range h.1 k st, (omega arith, refl), s.some)
     (inl (k, w, refl, refl))
@@ -615,10 +616,10 @@ claim_counts c w r = rw r refl
 
 upgraded : (limits : Bounds) (job : Job) (u : ℕ) (seen : Option ℕ) (lock lock' : ℕ)
     (items content : List ℕ) (r : Reply) →
-    Stands limits job (Locking (ToUpgrade u) seen) lock items content →
+    Stands limits job (Locking (Upgrade u) seen) lock items content →
     CallLeaves limits (ToWrite u) lock lock' r →
-    MovedRightly limits job (Locking (ToUpgrade u) seen) lock items content lock' items
-    (guard_call_done job (ToUpgrade u) (stamp_in r))
+    MovedRightly limits job (Locking (Upgrade u) seen) lock items content lock' items
+    (guard_call_done job (Upgrade u) (stamp_in r))
 upgraded limits job u seen lock lock' items content r s t =
     go (upgraded_at limits (counts_at limits lock) u t.taken t.transition free
     (omega (arith, s.reads)))
@@ -631,13 +632,13 @@ upgraded limits job u seen lock lock' items content r s t =
         × (t.taken.reply
         ≡ reply.Stamp (write_stamp (units limits) ((counts_at limits lock).write_count + 1))))
         ⊎ ((t.taken.appended ≡ []) × (t.taken.reply ≡ reply.Stamp 0)) →
-        MovedRightly limits job (Locking (ToUpgrade u) seen) lock items content lock' items
-        (guard_call_done job (ToUpgrade u) (stamp_in r))
+        MovedRightly limits job (Locking (Upgrade u) seen) lock items content lock' items
+        (guard_call_done job (Upgrade u) (stamp_in r))
     go (inl h) =
         let st : stamp_in r ≡ write_stamp (units limits) ((counts_at limits lock).write_count + 1) =
         ap stamp_in (sym t.reply ∙ h.2) in
         let some : (stamp_in r == 0) ≡ false = write_some limits _ _ st in
-        rw some (claims limits job (Locking (ToUpgrade u) seen) (Storing (stamp_in r) 0) lock lock'
+        rw some (claims limits job (Locking (Upgrade u) seen) (Storing (stamp_in r) 0) lock lock'
         0 items content s (left-admitted _ _ _ _ _ s.admitted t) refl free h.0
         (t.counts ∙ ap (after_events (counts_at limits lock)) h.1
         ∙ upgrade_counts (counts_at limits lock) free h.0) refl refl
@@ -652,30 +653,30 @@ upgraded limits job u seen lock lock' items content r s t =
         ap (λ (c : Counts). c.writers) cs in
         let n : (counts_at limits lock').readers ≡ (counts_at limits lock).readers =
         ap (λ (c : Counts). c.readers) cs in
-        rw st (goes limits job (Locking (ToUpgrade u) seen) (Locking (ToReleaseFirst u) None) lock lock'
+        rw st (goes limits job (Locking (Upgrade u) seen) (Locking (ReleaseFirst u) None) lock lock'
         items content s (left-admitted _ _ _ _ _ s.admitted t) (omega (arith, w))
         (omega (arith, n)) (λ _. s.free free)
         (s.fits.0, rw k s.fits.1) (inl (k, w, refl, refl)))
 
 claimed : (limits : Bounds) (job : Job) (seen : Option ℕ) (lock lock' : ℕ) (items content : List ℕ)
-    (r : Reply) → Stands limits job (Locking ToClaim seen) lock items content →
+    (r : Reply) → Stands limits job (Locking Claim seen) lock items content →
     CallLeaves limits WriteLock lock lock' r →
-    MovedRightly limits job (Locking ToClaim seen) lock items content lock' items
-    (guard_call_done job ToClaim (stamp_in r))
+    MovedRightly limits job (Locking Claim seen) lock items content lock' items
+    (guard_call_done job Claim (stamp_in r))
 claimed limits Getting seen lock lock' items content r s t = absurd (true_false s.fits)
   where
     true_false : true ≡ false → ⊥
     true_false e = cc
 claimed limits (Putting a) seen lock lock' items content r s t =
     let h = claimed_at limits (counts_at limits lock) t.taken t.transition s.room in
-    claims limits (Putting a) (Locking ToClaim seen) (Storing (stamp_in r) 0) lock lock' 0 items
+    claims limits (Putting a) (Locking Claim seen) (Storing (stamp_in r) 0) lock lock' 0 items
     content s (left-admitted _ _ _ _ _ s.admitted t) refl h.0 h.1
     (t.counts ∙ ap (after_events (counts_at limits lock)) h.2
     ∙ claim_counts (counts_at limits lock) h.0 h.1) refl refl
     (refl, ap stamp_in (sym t.reply ∙ h.3), refl, s.some, s.free h.0)
 claimed limits (PuttingIf a b) seen lock lock' items content r s t =
     let h = claimed_at limits (counts_at limits lock) t.taken t.transition s.room in
-    claims limits (PuttingIf a b) (Locking ToClaim seen) (Checking (stamp_in r) []) lock lock' 0
+    claims limits (PuttingIf a b) (Locking Claim seen) (Checking (stamp_in r) []) lock lock' 0
     items content s (left-admitted _ _ _ _ _ s.admitted t) refl h.0 h.1
     (t.counts ∙ ap (after_events (counts_at limits lock)) h.2
     ∙ claim_counts (counts_at limits lock) h.0 h.1) refl refl
@@ -686,49 +687,49 @@ ended : (limits : Bounds) (job : Job) (e : GuardCall) (seen : Option ℕ) (lock 
     CallLeaves limits (call_for e) lock lock' r →
     MovedRightly limits job (Locking e seen) lock items content lock' items
     (guard_call_done job e (stamp_in r))
-ended limits job ToShare seen lock lock' items content r s t =
+ended limits job Share seen lock lock' items content r s t =
     read_locked limits job seen lock lock' items content r s t
-ended limits job (ToLeave u loaded) seen lock lock' items content r s t =
+ended limits job (Leave u loaded) seen lock lock' items content r s t =
     let g = got_content job loaded content s.fits.0 s.fits.2 in
-    leaves limits job (Locking (ToLeave u loaded) seen) lock lock' u items content r
+    leaves limits job (Locking (Leave u loaded) seen) lock lock' u items content r
     (reply.Content loaded) s refl refl t s.fits.1 g.0 g.1
-ended limits job (ToRefuse u) seen lock lock' items content r s t =
+ended limits job (Refuse u) seen lock lock' items content r s t =
     let g = refused_no job content s.fits.0 s.fits.2 in
-    leaves limits job (Locking (ToRefuse u) seen) lock lock' u items content r reply.No s refl refl
+    leaves limits job (Locking (Refuse u) seen) lock lock' u items content r reply.No s refl refl
     t s.fits.1 g.0 g.1
-ended limits job (ToReleaseFirst u) seen lock lock' items content r s t =
+ended limits job (ReleaseFirst u) seen lock lock' items content r s t =
     let l = left_counts limits lock lock' u r t s.fits.1 s.reads in
-    goes limits job (Locking (ToReleaseFirst u) seen) (Locking ToClaim None) lock lock' items content s
+    goes limits job (Locking (ReleaseFirst u) seen) (Locking Claim None) lock lock' items content s
     (left-admitted _ _ _ _ _ s.admitted t) (omega (arith, l.1)) (omega (arith, l.2))
     (λ z. s.free (sym l.1 ∙ z)) s.fits.0 (inl (l.0, l.1, refl, refl))
-ended limits job (ToUpgrade u) seen lock lock' items content r s t =
+ended limits job (Upgrade u) seen lock lock' items content r s t =
     upgraded limits job u seen lock lock' items content r s t
-ended limits job ToClaim seen lock lock' items content r s t =
+ended limits job Claim seen lock lock' items content r s t =
     claimed limits job seen lock lock' items content r s t
 
 locking : (limits : Bounds) (job : Job) (e : GuardCall) (seen : Option ℕ) (lock : ℕ)
     (items content : List ℕ) → Stands limits job (Locking e seen) lock items content →
     MovedRightly limits job (Locking e seen) lock items content
-    (lock_after (phase_next limits (call_for e) seen) lock)
-    (items_after (phase_next limits (call_for e) seen) items)
+    (lock_after (phase_plan limits (call_for e) seen) lock)
+    (items_after (phase_plan limits (call_for e) seen) items)
     (passed job e
     (phase_after limits (call_for e) seen
-    (local_seen (phase_next limits (call_for e) seen) lock items)))
+    (local_found (phase_plan limits (call_for e) seen) lock items)))
 locking limits job e seen lock items content s =
     rw (items_same limits (call_for e) seen items)
     (go _ _ (phase-leaves limits (call_for e) lock items seen s.range s.admitted))
   where
     go : (lock' : ℕ) (p : PhaseTurn) → PhaseLeaves limits (call_for e) lock lock' p →
         MovedRightly limits job (Locking e seen) lock items content lock' items (passed job e p)
-    go lock' (Still now) l = rw l (still limits job e seen now lock items content s)
-    go lock' (Ended r) t = ended limits job e seen lock lock' items content r s t
+    go lock' (phases.Going now) l = rw l (still limits job e seen now lock items content s)
+    go lock' (phases.Done r) t = ended limits job e seen lock lock' items content r s t
 
 -- one access of a record call
 pub own-step : (limits : Bounds) (n : ℕ) (job : Job) (place : Place) (lock : ℕ)
     (items content : List ℕ) → Stands limits job place lock items content → n ≡ length content →
-    MovedRightly limits job place lock items content (lock_after (next limits n job place) lock)
-    (items_after (next limits n job place) items)
-    (after limits n job place (local_seen (next limits n job place) lock items))
+    MovedRightly limits job place lock items content (lock_after (plan limits n job place) lock)
+    (items_after (plan limits n job place) items)
+    (after limits n job place (local_found (plan limits n job place) lock items))
 own-step limits n job LoadingLock lock items content s e = loading-lock limits n job lock items content s e
 own-step limits n job (Copying first loaded) lock items content s e =
     copying limits n job first loaded lock items content s e

@@ -14,7 +14,7 @@ use Rattle.stamp_core.specs.Word.{Represents, IsAdmitted, word_at}
 use Rattle.stamp_core.specs.History.{events_of}
 use Rattle.stamp_core.specs.Linearized.{history_of}
 use Rattle.stamp_machines.specs.Invariant.{Invariant, events_in}
-use Rattle.stamp_machines.specs.RunFields.{course_of, IsAt}
+use Rattle.stamp_machines.specs.RunFields.{run_view_of, IsAt}
 use Rattle.stamp_machines.specs.RunRecord.{IsRecordOf}
 use Rattle.stamp_core.specs.Record.{Recorded, recorded, IsRecorded}
 use Rattle.stamp_machines.proofs.StepsKeep.{always-kept, execution_of-more}
@@ -82,7 +82,7 @@ run-reported r h report each =
 -- a record with its entries is that of the steps so far
 pub record-of : (r : Inside) → IsAt r → (report : List (ℕ × ℕ)) → (made : Recorded) →
     made ≡ recorded r.script.now.limits r.script.now.width r.state.entries.items report →
-    IsRecordOf (course_of r) report made
+    IsRecordOf (run_view_of r) report made
 record-of r h report made is =
     let order = run-in-order r h in
     record {

@@ -13,8 +13,8 @@ use Rattle.stamp_core.specs.declared.entry.Entry.{Entry}
 use Rattle.stamp_core.specs.declared.reply.Reply.{Reply}
 use Rattle.stamp_machines.specs.declared.state.Begun.{Begun}
 use Rattle.stamp_machines.specs.declared.state.Worker.{Worker}
-use Rattle.stamp_machines.specs.Access.{words_after, seen_by}
-use Rattle.stamp_machines.specs.Machine.{next_access, after_access}
+use Rattle.stamp_machines.specs.Access.{words_after, found_by}
+use Rattle.stamp_machines.specs.Machine.{plan_of, after_access}
 use Rattle.stamp_machines.specs.Script.{Scripted}
 use Rattle.stamp_machines.specs.Stepped.{AnswersStep}
 use Rattle.stamp_machines.specs.declared.running.Stepped.TheVariants.{Ended}
@@ -41,12 +41,12 @@ world_after-begun world t b words (Done r) = simp set-set
 
 step-begun : (script : Scripted) (world mid : World) (t : ℕ) (b : Begun) →
     current script world t ≡ Some b → mid ≡ begun_with world t (current script world t) →
-    world_after mid t b (words_after (next_access b.machine) mid.words)
-    (after_access b.machine (seen_by (next_access b.machine) mid.words)) ≡ step script world t
+    world_after mid t b (words_after (plan_of b.machine) mid.words)
+    (after_access b.machine (found_by (plan_of b.machine) mid.words)) ≡ step script world t
 step-begun script world mid t b e m =
     let m' : mid ≡ begun_with world t (Some b) = rw e at m in
-    rw (m', e) (world_after-begun world t b (words_after (next_access b.machine) world.words)
-    (after_access b.machine (seen_by (next_access b.machine) world.words)))
+    rw (m', e) (world_after-begun world t b (words_after (plan_of b.machine) world.words)
+    (after_access b.machine (found_by (plan_of b.machine) world.words)))
 
 -- the call that a thread begins that was in none
 pub begun-next : (script : Scripted) (world : World) (stamps : ℕ → List ℕ) (t : ℕ) (b : Begun) →
@@ -179,8 +179,8 @@ kind_of (Done reply) = kind.Ended
 
 -- the worker's call made its access, which led to this turn; the worker is this one now
 pub record AccessMade (b : Begun) (t position : ℕ) (mid new : RunState) (d w : Worker) (turned : Turn) : Type 0 where
-  pub words : new.words.items ≡ words_after (next_access b.machine) mid.words.items
-  pub turn : after_access b.machine (seen_by (next_access b.machine) mid.words.items) ≡ turned
+  pub words : new.words.items ≡ words_after (plan_of b.machine) mid.words.items
+  pub turn : after_access b.machine (found_by (plan_of b.machine) mid.words.items) ≡ turned
   pub workers : new.workers.items ≡ slice_set mid.workers.items t w
   pub begun : w.begun ≡ begun_after b turned
   pub stamps : w.stamps.items
@@ -217,7 +217,7 @@ stamps-turned gone mid new t position u b w (Done reply) h before s e =
 
 turned-kind : (script : Scripted) (world : World) (t : ℕ) (b : Begun) (turned : Turn) →
     current script world t ≡ Some b →
-    after_access b.machine (seen_by (next_access b.machine) world.words) ≡ turned →
+    after_access b.machine (found_by (plan_of b.machine) world.words) ≡ turned →
     IsOfKind script world t (kind_of turned)
 turned-kind script world t b (Going m) e is = (rw e refl, rw (e, is) refl)
 turned-kind script world t b (Done reply) e is = (entry_of world t b reply, rw (e, is) refl)
@@ -242,7 +242,7 @@ step-made gone script old mid new t position d w b turned h is made =
       world =
           world-turned gone mid new t position b _ turned made.words begun made.entries
           ∙ ap (λ (x : Turn). world_after (world_at gone mid position) t b
-          (words_after (next_access b.machine) mid.words.items) x) (sym made.turn)
+          (words_after (plan_of b.machine) mid.words.items) x) (sym made.turn)
           ∙ step-begun script (world_at gone old position) (world_at gone mid position) t b e h.world;
       stamps =
           λ u. ap (λ (ws : List Worker). stamps_at ws u) made.workers

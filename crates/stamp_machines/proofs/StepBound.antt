@@ -21,12 +21,13 @@ use Rattle.stamp_core.specs.declared.decision.Decision.{Decision}
 use Rattle.stamp_core.specs.declared.decision.Decision.TheVariants.{Answer, Change, Wait}
 use Rattle.stamp_core.proofs.Deciding.{only_locking_waits}
 use Rattle.stamp_machines.specs.LockNumber.{IsAdmittedAt}
-use Rattle.stamp_machines.specs.LockPhase.{PhaseTurn, Still, Ended, turn_on, tried, phase_after}
-use Rattle.stamp_machines.specs.LockPhase.{phase_next}
+use Rattle.stamp_machines.specs.LockPhase as phases
+use Rattle.stamp_machines.specs.LockPhase.{PhaseTurn, turn_on, tried, phase_after}
+use Rattle.stamp_machines.specs.LockPhase.{phase_plan}
 use Rattle.stamp_machines.specs.MachineState.{Stage, OnLock, OnRecord, start, first_stage}
 use Rattle.stamp_machines.specs.Script.{Scripted, IsSound, calls_of}
 use Rattle.stamp_machines.specs.World.{World, current, current_of, begin, shape_of, stamps_of}
-use Rattle.stamp_machines.specs.World.{call_of, world_after, stepped, step, entry_of, execution_of}
+use Rattle.stamp_machines.specs.World.{resolved, world_after, stepped, step, entry_of, execution_of}
 use Rattle.stamp_machines.specs.World.{finished_calls}
 use Rattle.stamp_machines.specs.Interference.{lock_word, interferes, changes_by_others, own_since}
 use Rattle.stamp_machines.specs.Interference.{changes_since, own_steps, interference, NeverWaits}
@@ -36,11 +37,11 @@ use Rattle.stamp_machines.specs.declared.shape.Shape.{Shape}
 use Rattle.stamp_machines.specs.declared.state.Begun.{Begun}
 use Rattle.stamp_machines.specs.declared.machine.Turn.{Turn}
 use Rattle.stamp_machines.specs.declared.machine.Turn.TheVariants.{Going, Done}
-use Rattle.stamp_machines.specs.Access.{words_after, seen_by}
+use Rattle.stamp_machines.specs.Access.{words_after, found_by}
 use Rattle.stamp_machines.specs.Job.{job_in}
 use Rattle.stamp_machines.specs.LocalAccess.{LocalAccess, LoadLock, CasLock, LoadItem, StoreItem}
-use Rattle.stamp_machines.specs.LocalAccess.{with_lock, lock_after, local_seen}
-use Rattle.stamp_machines.specs.Machine.{next_access, after_access, lock_turn}
+use Rattle.stamp_machines.specs.LocalAccess.{with_lock, lock_after, local_found}
+use Rattle.stamp_machines.specs.Machine.{plan_of, after_access, lock_turn}
 use Rattle.stamp_machines.specs.Invariant.{Invariant, IsOf, events_in, job_at}
 use Rattle.stamp_machines.proofs.LockCallSteps.{decided}
 use Rattle.stamp_machines.proofs.TwoKindsOfCall.{lock_none}
@@ -67,9 +68,9 @@ BoundedStage limits call word own changes (OnRecord job place) = Unit {0}
 
 -- the same once the access is made
 abbrev pub BoundedTurn : Bounds → Call → ℕ → ℕ → ℕ → PhaseTurn → Type 0
-BoundedTurn limits call word own changes (Still seen) =
+BoundedTurn limits call word own changes (phases.Going seen) =
     BoundedStage limits call word own changes (OnLock seen)
-BoundedTurn limits call word own changes (Ended r) = own ≤ changes + 2
+BoundedTurn limits call word own changes (phases.Done r) = own ≤ changes + 2
 
 never_waits : (limits : Bounds) (call : Call) (word : ℕ) → AreInRange limits →
     IsAdmittedAt limits word → NeverWaits call → decision limits word call ≡ Wait → ⊥
@@ -252,7 +253,7 @@ current-bounded script steps n b all = by (slice_index_or (execution_of script s
     begins (Some c) e =
         let same : record {
           machine = start (shape_of script)
-              (call_of (λ k. stamps_of k (execution_of script steps).entries) c);
+              (resolved (λ k. stamps_of k (execution_of script steps).entries) c);
           first = (execution_of script steps).position;
         } ≡ b = cc in
         subst (λ (x : Begun). BoundedSlot script steps n (Some x)) same
@@ -278,15 +279,15 @@ lock-bounded : (limits : Bounds) (shape : Shape) (call : Call) (word now own cha
     (x : PhaseTurn) → PhaseLeaves limits call word now x →
     BoundedTurn limits call word own changes x →
     BoundedMachine limits call now own changes (lock_turn shape call x)
-lock-bounded limits shape call word now own changes (Still seen) same bounded =
+lock-bounded limits shape call word now own changes (phases.Going seen) same bounded =
     subst (λ (w : ℕ). BoundedStage limits call w own changes (OnLock seen)) (sym same) bounded
-lock-bounded limits shape call word now own changes (Ended r) same bounded = bounded
+lock-bounded limits shape call word now own changes (phases.Done r) same bounded = bounded
 
-seen-is : (a : LocalAccess) (word : ℕ) → IsToLock a → local_seen a word [] ≡ word
-seen-is LoadLock word h = refl
-seen-is (CasLock old new) word h = refl
-seen-is (LoadItem i) word h = absurd h
-seen-is (StoreItem i v) word h = absurd h
+found-is : (a : LocalAccess) (word : ℕ) → IsToLock a → local_found a word [] ≡ word
+found-is LoadLock word h = refl
+found-is (CasLock old new) word h = refl
+found-is (LoadItem i) word h = absurd h
+found-is (StoreItem i v) word h = absurd h
 
 turn-bounded : (script : Scripted) (world : World) (b : Begun) (stage : Stage) (own changes : ℕ) →
     Invariant script world → IsSound script → b.machine.shape ≡ shape_of script →
@@ -294,8 +295,8 @@ turn-bounded : (script : Scripted) (world : World) (b : Begun) (stage : Stage) (
     b.machine.stage ≡ stage →
     BoundedStage script.limits b.machine.call (lock_word world) own changes stage →
     BoundedMachine script.limits b.machine.call
-    (slice_index (words_after (next_access b.machine) world.words) 0) (own + 1) changes
-    (after_access b.machine (seen_by (next_access b.machine) world.words))
+    (slice_index (words_after (plan_of b.machine) world.words) 0) (own + 1) changes
+    (after_access b.machine (found_by (plan_of b.machine) world.words))
 turn-bounded script world b (OnRecord job place) own changes k sound shape kind never at bounded =
     let none : job_in b.machine.call ≡ None = lock_none b.machine.call never.lock in
     let some : job_in b.machine.call ≡ Some job = kind ∙ ap job_at at in
@@ -303,13 +304,13 @@ turn-bounded script world b (OnRecord job place) own changes k sound shape kind 
     cc
 turn-bounded script world b (OnLock seen) own changes k sound shape kind never at bounded =
     let call : Call = b.machine.call in
-    let a : LocalAccess = phase_next script.limits call seen in
+    let a : LocalAccess = phase_plan script.limits call seen in
     let word : ℕ = lock_word world in
     let to_lock : IsToLock a = phase-to_lock script.limits call seen in
     let m = lock-moves world.words script.width a k.memory to_lock in
     let admitted : IsAdmittedAt script.limits word =
     record { events = events_in script world; represented = k.represented } in
-    let found : local_seen a word [] ≡ word = seen-is a word to_lock in
+    let found : local_found a word [] ≡ word = found-is a word to_lock in
     let l : PhaseLeaves script.limits call word (lock_after a word)
     (phase_after script.limits call seen word) =
     rw found at (phase-leaves script.limits call word [] seen sound.range admitted) in
@@ -323,7 +324,7 @@ turn-bounded script world b (OnLock seen) own changes k sound shape kind never a
     t in
     let moved : slice_index (words_after (with_lock 0 a) world.words) 0 ≡ lock_after a word =
     ap (λ (ws : List ℕ). slice_index ws 0) m.after in
-    rw (at, shape, moved, m.seen, found) done
+    rw (at, shape, moved, m.found, found) done
 
 -- where the step of a thread leaves its call
 itself : (n : ℕ) → (n == n) ≡ true
@@ -451,8 +452,8 @@ step-bounded script steps n sound few all = by (current script world n) refl
         let bounded : BoundedSlot script steps n (Some b) = current-bounded script steps n b all e in
         let now : execution_of script (steps ++ n ∷ []) ≡ stepped world n (Some b) =
         execution_of-more script steps n ∙ ap (stepped world n) e in
-        lands-bounded script steps n b (words_after (next_access b.machine) world.words)
-        (after_access b.machine (seen_by (next_access b.machine) world.words)) all bounded now
+        lands-bounded script steps n b (words_after (plan_of b.machine) world.words)
+        (after_access b.machine (found_by (plan_of b.machine) world.words)) all bounded now
         (after_same b.machine _)
         (λ never. turn-bounded script world b b.machine.stage _ _ k sound of.0 of.1 never refl
         (bounded.1 never))

@@ -18,20 +18,21 @@ use Rattle.stamp_core.proofs.WellFormedPush.{well_formed_none}
 use Rattle.stamp_core.specs.declared.entry.Entry.{Entry}
 use Rattle.stamp_machines.specs.declared.access.Access.{Access}
 use Rattle.stamp_machines.specs.declared.access.Access.TheVariants.{Load, Cas, Store}
-use Rattle.stamp_machines.specs.Access.{words_after, seen_by}
+use Rattle.stamp_machines.specs.Access.{words_after, found_by}
 use Rattle.stamp_machines.specs.LockNumber.{RepresentsAt, IsAdmittedAt, counts_at}
 use Rattle.stamp_machines.specs.Job.{Job, job_in, content_with, reply_to}
 use Rattle.stamp_core.specs.History.{IsLegal, History, IsReply, appended_by, content_after}
 use Rattle.stamp_core.specs.History.{events_of}
 use Rattle.stamp_machines.specs.Place as places
 use Rattle.stamp_machines.specs.Place.{Place, PlaceTurn}
-use Rattle.stamp_machines.specs.LockPhase.{Still, Ended, phase_next, phase_after, PhaseTurn}
-use Rattle.stamp_machines.specs.LocalAccess.{LocalAccess, lock_after, with_lock, local_seen}
+use Rattle.stamp_machines.specs.LockPhase as phases
+use Rattle.stamp_machines.specs.LockPhase.{phase_plan, phase_after, PhaseTurn}
+use Rattle.stamp_machines.specs.LocalAccess.{LocalAccess, lock_after, with_lock, local_found}
 use Rattle.stamp_machines.specs.declared.machine.Turn.{Turn as MachineTurn}
 use Rattle.stamp_machines.specs.declared.machine.Turn.TheVariants as machines
 use Rattle.stamp_machines.specs.declared.shape.Shape.{Shape}
 use Rattle.stamp_machines.specs.MachineState.{MachineState, Stage, OnLock, OnRecord, record_limits}
-use Rattle.stamp_machines.specs.Machine.{next_in, after_in, next_access, after_access, lock_turn}
+use Rattle.stamp_machines.specs.Machine.{plan_in, after_in, plan_of, after_access, lock_turn}
 use Rattle.stamp_machines.specs.Machine.{record_turn}
 use Rattle.stamp_machines.specs.Script.{Scripted, IsSound}
 use Rattle.stamp_machines.specs.declared.state.Begun.{Begun}
@@ -181,7 +182,7 @@ lock-step : (script : Scripted) (world : World) (t : ℕ) (b : Begun) (now : ℕ
     words ≡ now ∷ slice_index world.words 1 ∷ drop 2 world.words → length words ≡ 2 + script.width →
     PhaseLeaves script.limits b.machine.call (slice_index world.words 0) now p →
     Invariant script (world_after world t b words (lock_turn b.machine.shape b.machine.call p))
-lock-step script world t b now words (Still seen) k sound o j z w n l =
+lock-step script world t b now words (phases.Going seen) k sound o j z w n l =
     going-kept script world t b words (record b.machine { stage = OnLock seen }) k (o, j) n (rw w l)
     (rw (
       w,
@@ -190,7 +191,7 @@ lock-step script world t b now words (Still seen) k sound o j z w n l =
       set-none (map doing_in world.begun) t (map-index world.begun t ∙ z),
     ) k.record_kept)
     (rw w (let f = k.few in omega (arith, f)))
-lock-step script world t b now words (Ended r) k sound o j z w n l =
+lock-step script world t b now words (phases.Done r) k sound o j z w n l =
     let same = counts-of script.limits (slice_index world.words 0) (events_in script world) sound.range
     k.represented in
     let e : transition script.limits (events_in script world) b.machine.call ≡ Some l.taken =
@@ -320,11 +321,11 @@ begun-kept : (script : Scripted) (world : World) (t : ℕ) (b : Begun) (stage : 
     Invariant script world → IsSound script → world.position < 1000000 → t < length world.begun →
     ReadyAt script world t b → b.machine.stage ≡ stage →
     Invariant script (world_after world t b
-    (words_after (next_in (shape_of script) b.machine.call stage) world.words)
+    (words_after (plan_in (shape_of script) b.machine.call stage) world.words)
     (after_in (shape_of script) b.machine.call
-    (seen_by (next_in (shape_of script) b.machine.call stage) world.words) stage))
+    (found_by (plan_in (shape_of script) b.machine.call stage) world.words) stage))
 begun-kept script world t b (OnLock seen) k sound room h ready e =
-    let a : LocalAccess = phase_next script.limits b.machine.call seen in
+    let a : LocalAccess = phase_plan script.limits b.machine.call seen in
     let m = lock-moves world.words script.width a k.memory
     (phase-to_lock script.limits b.machine.call seen) in
     let w : IsAdmittedAt script.limits (slice_index world.words 0) =
@@ -335,16 +336,16 @@ begun-kept script world t b (OnLock seen) k sound room h ready e =
     let slot : doing_in (slice_index_or world.begun t None) ≡ None = ready.lock (ap doing_at e) in
     let n : length (words_after (with_lock 0 a) world.words) ≡ 2 + script.width =
     length-words_after (with_lock 0 a) world.words ∙ k.memory in
-    rw m.seen (subst
+    rw m.found (subst
     (λ (s : Shape). Invariant script
     (world_after world t b (words_after (with_lock 0 a) world.words)
     (lock_turn s b.machine.call
     (phase_after script.limits b.machine.call seen
-    (local_seen a (slice_index world.words 0) []))))) ready.of.0
+    (local_found a (slice_index world.words 0) []))))) ready.of.0
     (lock-step script world t b _ _ _ k sound ready.of.0 j slot m.after n l))
 begun-kept script world t b (OnRecord job place) k sound room h ready e =
     let limits : Bounds = record_limits (shape_of script) in
-    let a : LocalAccess = places.next limits script.width job place in
+    let a : LocalAccess = places.plan limits script.width job place in
     let m = record-moves world.words script.width a k.memory in
     let d : doing_at b.machine.stage ≡ Some (record { job = job; place = place }) = ap doing_at e in
     let j : job_in b.machine.call ≡ Some job = ready.of.1 ∙ ap job_at e in
@@ -361,28 +362,28 @@ begun-kept script world t b (OnRecord job place) k sound room h ready e =
     ≤ world.position + 1 =
     (let one = at_most_one_more limits place (slice_index world.words 1) _ (drop 2 world.words)
     (content_in script world) _ _ s.0.effect in let f = k.few in omega (arith, one, f)) in
-    rw m.seen (subst
+    rw m.found (subst
     (λ (x : Shape). Invariant script
     (world_after world t b (words_after (with_lock 1 a) world.words)
     (record_turn x b.machine.call job
     (places.after limits script.width job place
-    (local_seen a (slice_index world.words 1) (drop 2 world.words)))))) ready.of.0
+    (local_found a (slice_index world.words 1) (drop 2 world.words)))))) ready.of.0
     (record-step script world t b job place _ _ _ _ k h ready.of.0 j rd wr m.after n few s))
 
 -- a machine of another shape is none of the script's
 of-shape : (script : Scripted) (world : World) (t : ℕ) (b : Begun) → b.machine.shape ≡ shape_of script →
     Invariant script (world_after world t b
-    (words_after (next_in (shape_of script) b.machine.call b.machine.stage) world.words)
+    (words_after (plan_in (shape_of script) b.machine.call b.machine.stage) world.words)
     (after_in (shape_of script) b.machine.call
-    (seen_by (next_in (shape_of script) b.machine.call b.machine.stage) world.words)
+    (found_by (plan_in (shape_of script) b.machine.call b.machine.stage) world.words)
     b.machine.stage)) →
-    Invariant script (world_after world t b (words_after (next_access b.machine) world.words)
-    (after_access b.machine (seen_by (next_access b.machine) world.words)))
+    Invariant script (world_after world t b (words_after (plan_of b.machine) world.words)
+    (after_access b.machine (found_by (plan_of b.machine) world.words)))
 of-shape script world t b e h =
     subst (λ (s : Shape). Invariant script
-    (world_after world t b (words_after (next_in s b.machine.call b.machine.stage) world.words)
+    (world_after world t b (words_after (plan_in s b.machine.call b.machine.stage) world.words)
     (after_in s b.machine.call
-    (seen_by (next_in s b.machine.call b.machine.stage) world.words) b.machine.stage)))
+    (found_by (plan_in s b.machine.call b.machine.stage) world.words) b.machine.stage)))
     (sym e) h
 
 stepped-kept : (script : Scripted) (world : World) (t : ℕ) (c : Option Begun) → Invariant script world →
@@ -512,7 +513,7 @@ current-safe script world t b k sound room e =
 releases : (script : Scripted) (world : World) (t : ℕ) (b : Begun) (job : Job) (s : ℕ) (r : Reply) →
     Invariant script world → IsSound script → world.position < 1000000 → current script world t ≡ Some b →
     b.machine.stage ≡ OnRecord job (places.Releasing s r) →
-    (next_access b.machine ≡ Cas 1 s (s + (units script.limits).writer))
+    (plan_of b.machine ≡ Cas 1 s (s + (units script.limits).writer))
     × (slice_index world.words 1 ≡ s)
 releases script world t b job s r k sound room e at =
     let ready = (call-ready script world t b k sound e).1 in

@@ -21,7 +21,7 @@ use Rattle.stamp_machines.specs.declared.running.Stepped.{Stepped}
 use Rattle.stamp_machines.specs.declared.running.Stepped.TheVariants.{Idle, Going, Ended}
 use Rattle.stamp_machines.specs.Script.{Scripted, IsSound, calls_of}
 use Rattle.stamp_machines.specs.World.{World, current, current_of, begin, shape_of, stamps_of}
-use Rattle.stamp_machines.specs.World.{call_of, world_after, stepped, entry_of, execution_of}
+use Rattle.stamp_machines.specs.World.{resolved, world_after, stepped, entry_of, execution_of}
 use Rattle.stamp_machines.specs.World.{finished_calls}
 use Rattle.stamp_machines.specs.MachineState.{start}
 use Rattle.stamp_machines.specs.Stepped.{AnswersStep}
@@ -104,7 +104,7 @@ current-measured script steps n b s all =
     begins (Some c) z e =
         let same : record {
           machine = start (shape_of script)
-              (call_of (λ k. stamps_of k (execution_of script steps).entries) c);
+              (resolved (λ k. stamps_of k (execution_of script steps).entries) c);
           first = (execution_of script steps).position;
         } ≡ b = cc in
         let first : b.first ≡ length steps = ap (λ (x : Begun). x.first) (sym same) ∙ here in

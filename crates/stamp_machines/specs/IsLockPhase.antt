@@ -10,12 +10,12 @@ use Rattle.stamp_core.specs.Decision.{stamp_in}
 use Rattle.stamp_core.specs.declared.call.Call.{Call}
 use Rattle.stamp_core.specs.declared.reply.Reply.{Reply}
 use Rattle.stamp_core.specs.declared.decision.Decision.TheVariants.{Change}
-use Rattle.stamp_machines.specs.LockPhase.{PhaseTurn, Still, Ended}
+use Rattle.stamp_machines.specs.LockPhase.{PhaseTurn, Going, Done}
 
 -- it goes on with this word, or with none, or has ended with this reply
 abbrev pub phase_turn : ControlFlow (Unit {0}) (Option ℕ) → Reply → PhaseTurn
-phase_turn (Continue seen) reply = Still seen
-phase_turn (Break _) reply = Ended reply
+phase_turn (Continue seen) reply = Going seen
+phase_turn (Break _) reply = Done reply
 
 -- what the call does to a word
 pub record Changing (limits : Bounds) (call : Call) (old : ℕ) : Type 0 where
@@ -35,5 +35,5 @@ IsLockPhase limits call seen = (is_lock_call call ≡ true) × IsChanging limits
 
 -- it goes on with such a word, or the stamp that it ended with is below 2^63
 abbrev pub IsPhaseTurn : Bounds → Call → PhaseTurn → Type 0
-IsPhaseTurn limits call (Still seen) = IsChanging limits call seen
-IsPhaseTurn limits call (Ended reply) = stamp_in reply < 2 ^ 63
+IsPhaseTurn limits call (Going seen) = IsChanging limits call seen
+IsPhaseTurn limits call (Done reply) = stamp_in reply < 2 ^ 63

@@ -15,7 +15,7 @@ use Rattle.stamp_machines.specs.declared.state.Begun.{Begun}
 use Rattle.stamp_machines.specs.Job.{Job}
 use Rattle.stamp_machines.specs.Place.{Releasing}
 use Rattle.stamp_machines.specs.MachineState.{OnRecord}
-use Rattle.stamp_machines.specs.Machine.{next_access}
+use Rattle.stamp_machines.specs.Machine.{plan_of}
 use Rattle.stamp_machines.specs.Script.{Scripted, IsSound}
 use Rattle.stamp_machines.specs.World.{execution_of, finished_calls, current}
 
@@ -68,5 +68,5 @@ ReleasesWinAlways =
     (r : Reply) → IsSound script → length steps < 1000000 →
     current script (execution_of script steps) thread ≡ Some b →
     b.machine.stage ≡ OnRecord job (Releasing stamp r) →
-    (next_access b.machine ≡ Cas 1 stamp (stamp + (units script.limits).writer))
+    (plan_of b.machine ≡ Cas 1 stamp (stamp + (units script.limits).writer))
     × (slice_index (execution_of script steps).words 1 ≡ stamp)

@@ -16,7 +16,7 @@ with_lock i (CasLock old new) = Cas i old new
 with_lock i (LoadItem j) = Load (2 + j)
 with_lock i (StoreItem j value) = Store (2 + j) value
 
--- the lock's word and the record's words after the access, and what it sees
+-- the lock's word and the record's words after the access, and what it finds
 abbrev pub lock_after : LocalAccess → ℕ → ℕ
 lock_after LoadLock lock = lock
 lock_after (CasLock old new) lock = if lock == old then new else lock
@@ -29,8 +29,8 @@ items_after (CasLock old new) items = items
 items_after (LoadItem i) items = items
 items_after (StoreItem i value) items = slice_set items i value
 
-abbrev pub local_seen : LocalAccess → ℕ → List ℕ → ℕ
-local_seen LoadLock lock items = lock
-local_seen (CasLock old new) lock items = lock
-local_seen (LoadItem i) lock items = slice_index items i
-local_seen (StoreItem i value) lock items = slice_index items i
+abbrev pub local_found : LocalAccess → ℕ → List ℕ → ℕ
+local_found LoadLock lock items = lock
+local_found (CasLock old new) lock items = lock
+local_found (LoadItem i) lock items = slice_index items i
+local_found (StoreItem i value) lock items = slice_index items i

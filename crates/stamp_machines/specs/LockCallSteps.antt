@@ -7,7 +7,8 @@ use Rattle.stamp_core.specs.Decision.{Answers, Changes, HasNone}
 use Rattle.stamp_core.specs.declared.call.Call.{Call}
 use Rattle.stamp_core.specs.declared.call.Call.TheVariants.{WriteLock, ReadLock}
 use Rattle.stamp_core.specs.declared.reply.Reply.{Reply}
-use Rattle.stamp_machines.specs.LockPhase.{PhaseTurn, Still, Ended}
+use Rattle.stamp_machines.specs.LockPhase as phases
+use Rattle.stamp_machines.specs.LockPhase.{PhaseTurn}
 use Rattle.stamp_machines.specs.PhaseState.{PhaseState}
 use Rattle.stamp_machines.specs.MachineState.{MachineState, Stage, OnLock, OnRecord}
 use Rattle.stamp_machines.specs.declared.access.Access.{Access}
@@ -43,10 +44,10 @@ pub record Goes (p : PhaseState) (found : ℕ) (q : PhaseState) : Type 0 where
 
 -- where the phase leads to have found this word
 abbrev pub LeadsBy : PhaseState → ℕ → PhaseTurn → Type 0
-LeadsBy p found (Still seen) = Goes p found (record p { seen = seen })
-LeadsBy p found (Ended reply) = Ends p found reply
+LeadsBy p found (phases.Going seen) = Goes p found (record p { seen = seen })
+LeadsBy p found (phases.Done reply) = Ends p found reply
 
--- where a call of the public lock is, which has word 0
+-- where a call of the lock is, which has word 0
 abbrev pub on_lock : Bounds → Call → Option ℕ → PhaseState
 on_lock limits call seen = record { at = 0; limits = limits; call = call; seen = seen }
 

@@ -12,29 +12,29 @@ use Rattle.stamp_machines.specs.LocalAccess.{LocalAccess, LoadLock, CasLock}
 -- it goes on with the word that it decided to change, or with none, which is to be loaded; or it
 -- has ended
 pub data PhaseTurn : Type 0 where
-  Still : Option ℕ → PhaseTurn
-  Ended : Reply → PhaseTurn
+  Going : Option ℕ → PhaseTurn
+  Done : Reply → PhaseTurn
 
-abbrev pub next_on : ℕ → Decision → LocalAccess
-next_on word (Answer reply) = LoadLock
-next_on word (Change new reply) = CasLock word new.bits
-next_on word Wait = LoadLock
+abbrev pub plan_on : ℕ → Decision → LocalAccess
+plan_on word (Answer reply) = LoadLock
+plan_on word (Change new reply) = CasLock word new.bits
+plan_on word Wait = LoadLock
 
--- its next access
-abbrev pub phase_next : Bounds → Call → Option ℕ → LocalAccess
-phase_next limits call None = LoadLock
-phase_next limits call (Some word) = next_on word (decision limits word call)
+-- its plan, which is its next access
+abbrev pub phase_plan : Bounds → Call → Option ℕ → LocalAccess
+phase_plan limits call None = LoadLock
+phase_plan limits call (Some word) = plan_on word (decision limits word call)
 
 -- its turn by the decision on this word, which it found
 abbrev pub turn_on : ℕ → Decision → PhaseTurn
-turn_on word (Answer reply) = Ended reply
-turn_on word (Change new reply) = Still (Some word)
-turn_on word Wait = Still None
+turn_on word (Answer reply) = Done reply
+turn_on word (Change new reply) = Going (Some word)
+turn_on word Wait = Going None
 
 abbrev pub tried : Bounds → Call → ℕ → ℕ → Decision → PhaseTurn
 tried limits call old found (Answer reply) = turn_on found (decision limits found call)
 tried limits call old found (Change new reply) =
-    if found == old then Ended reply else turn_on found (decision limits found call)
+    if found == old then Done reply else turn_on found (decision limits found call)
 tried limits call old found Wait = turn_on found (decision limits found call)
 
 -- where it is after an access has found this word

@@ -1,4 +1,4 @@
--- The next access of a call, and where it stands after it.
+-- The plan of a call, which is its next access, and where it stands after it.
 use Rattle.std.specs.Prelude.{◌≡◌, ℕ, ◌<◌, ◌≤◌, List, [], ◌∷◌, length}
 use Rattle.stamp_core.specs.declared.call.Call.{Call}
 use Rattle.stamp_machines.specs.LockNumber.{IsAdmittedAt, counts_at}
@@ -6,7 +6,8 @@ use Rattle.stamp_machines.specs.Job.{Job}
 use Rattle.stamp_machines.specs.Place as places
 use Rattle.stamp_machines.specs.Place.{Place, PlaceTurn}
 use Rattle.stamp_machines.specs.LocalAccess.{with_lock}
-use Rattle.stamp_machines.specs.LockPhase.{PhaseTurn, Still, Ended, phase_next, phase_after}
+use Rattle.stamp_machines.specs.LockPhase as phases
+use Rattle.stamp_machines.specs.LockPhase.{PhaseTurn, phase_plan, phase_after}
 use Rattle.stamp_machines.specs.MachineState.{MachineState, Stage, OnLock, OnRecord, record_limits}
 use Rattle.stamp_machines.specs.declared.shape.Shape.{Shape}
 use Rattle.stamp_machines.specs.declared.machine.Turn.{Turn}
@@ -14,18 +15,18 @@ use Rattle.stamp_machines.specs.declared.machine.Turn.TheVariants.{Going, Done}
 use Rattle.stamp_machines.specs.declared.access.Access.{Access}
 
 -- a lock phase is on word 0; a call of the record has its lock at word 1
-abbrev pub next_in : Shape → Call → Stage → Access
-next_in shape call (OnLock seen) = with_lock 0 (phase_next shape.limits call seen)
-next_in shape call (OnRecord job place) =
-    with_lock 1 (places.next (record_limits shape) shape.width job place)
+abbrev pub plan_in : Shape → Call → Stage → Access
+plan_in shape call (OnLock seen) = with_lock 0 (phase_plan shape.limits call seen)
+plan_in shape call (OnRecord job place) =
+    with_lock 1 (places.plan (record_limits shape) shape.width job place)
 
-abbrev pub next_access : MachineState → Access
-next_access s = next_in s.shape s.call s.stage
+abbrev pub plan_of : MachineState → Access
+plan_of s = plan_in s.shape s.call s.stage
 
 abbrev pub lock_turn : Shape → Call → PhaseTurn → Turn
-lock_turn shape call (Still seen) =
+lock_turn shape call (phases.Going seen) =
     Going (record { shape = shape; call = call; stage = OnLock seen })
-lock_turn shape call (Ended r) = Done r
+lock_turn shape call (phases.Done r) = Done r
 
 abbrev pub record_turn : Shape → Call → Job → PlaceTurn → Turn
 record_turn shape call job (places.Going place) =
@@ -33,14 +34,14 @@ record_turn shape call job (places.Going place) =
 record_turn shape call job (places.Done r) = Done r
 
 abbrev pub after_in : Shape → Call → ℕ → Stage → Turn
-after_in shape call seen (OnLock last) =
-    lock_turn shape call (phase_after shape.limits call last seen)
-after_in shape call seen (OnRecord job place) =
-    record_turn shape call job (places.after (record_limits shape) shape.width job place seen)
+after_in shape call found (OnLock seen) =
+    lock_turn shape call (phase_after shape.limits call seen found)
+after_in shape call found (OnRecord job place) =
+    record_turn shape call job (places.after (record_limits shape) shape.width job place found)
 
--- where the call stands after its access has seen this, or its reply
+-- where the call stands after its access has found this, or its reply
 abbrev pub after_access : MachineState → ℕ → Turn
-after_access s seen = after_in s.shape s.call seen s.stage
+after_access s found = after_in s.shape s.call found s.stage
 
 -- the accesses of a call found these words, one after another, and it stands here after them. A call
 -- that has ended makes no access

@@ -13,10 +13,10 @@ use Rattle.stamp_machines.specs.Job.{Job, Getting, job_in, is_get, new_words, st
 use Rattle.stamp_machines.specs.Place as places
 use Rattle.stamp_machines.specs.Place.{call_for}
 use Rattle.stamp_machines.specs.MachineState as states
-use Rattle.stamp_machines.specs.MachineState.{MachineState, OnLock, OnRecord, record_limits}
+use Rattle.stamp_machines.specs.MachineState.{MachineState, OnRecord, record_limits}
 use Rattle.stamp_machines.specs.declared.shape.Shape.{Shape}
 use Rattle.stamp_machines.specs.declared.stage.Stage.{Stage}
-use Rattle.stamp_machines.specs.declared.stage.Stage.TheVariants.{Public, LoadingLock, Copying}
+use Rattle.stamp_machines.specs.declared.stage.Stage.TheVariants.{OnLock, LoadingLock, Copying}
 use Rattle.stamp_machines.specs.declared.stage.Stage.TheVariants.{Locking, Reading, Checking}
 use Rattle.stamp_machines.specs.declared.stage.Stage.TheVariants.{Storing, Releasing}
 use Rattle.stamp_machines.specs.declared.stage.GuardCall.{GuardCall}
@@ -36,19 +36,19 @@ job_of call = job_or (job_in call)
 
 -- with these words loaded
 abbrev pub guard_call_in : List ℕ → GuardCall → places.GuardCall
-guard_call_in loaded Share = places.ToShare
-guard_call_in loaded (Leave stamp) = places.ToLeave stamp loaded
-guard_call_in loaded (Refuse stamp) = places.ToRefuse stamp
-guard_call_in loaded (Upgrade stamp) = places.ToUpgrade stamp
-guard_call_in loaded (ReleaseFirst stamp) = places.ToReleaseFirst stamp
-guard_call_in loaded Claim = places.ToClaim
+guard_call_in loaded Share = places.Share
+guard_call_in loaded (Leave stamp) = places.Leave stamp loaded
+guard_call_in loaded (Refuse stamp) = places.Refuse stamp
+guard_call_in loaded (Upgrade stamp) = places.Upgrade stamp
+guard_call_in loaded (ReleaseFirst stamp) = places.ReleaseFirst stamp
+guard_call_in loaded Claim = places.Claim
 
 -- its reply once its write lock is released
 abbrev pub released_reply : Job → Bool → Reply
 released_reply job is_stored = if is_stored then stored_reply job else No
 
 abbrev pub stage_at : Call → List ℕ → Stage → states.Stage
-stage_at call loaded (Public seen) = OnLock seen
+stage_at call loaded (OnLock seen) = states.OnLock seen
 stage_at call loaded LoadingLock = OnRecord (job_of call) places.LoadingLock
 stage_at call loaded (Copying first) = OnRecord (job_of call) (places.Copying first loaded)
 stage_at call loaded (Locking guard_call seen) =
@@ -59,8 +59,8 @@ stage_at call loaded (Storing stamp stored) = OnRecord (job_of call) (places.Sto
 stage_at call loaded (Releasing stamp is_stored) =
     OnRecord (job_of call) (places.Releasing stamp (released_reply (job_of call) is_stored))
 
-abbrev pub state_in : Inside → MachineState
-state_in m = record { shape = m.shape; call = m.call; stage = stage_at m.call m.loaded m.stage }
+abbrev pub machine_state_of : Inside → MachineState
+machine_state_of m = record { shape = m.shape; call = m.call; stage = stage_at m.call m.loaded m.stage }
 
 -- a call that has these words loaded goes on at this stage
 abbrev pub going_at : Shape → Call → List ℕ → Stage → Turn
@@ -93,7 +93,7 @@ IsGuardCall shape call loaded (ReleaseFirst stamp) = IsWriter shape call
 IsGuardCall shape call loaded Claim = IsWriter shape call
 
 abbrev pub IsStage : Shape → Call → List ℕ → Stage → Type 0
-IsStage shape call loaded (Public seen) = IsLockPhase shape.limits call seen
+IsStage shape call loaded (OnLock seen) = IsLockPhase shape.limits call seen
 IsStage shape call loaded LoadingLock = IsRecordCall shape call
 IsStage shape call loaded (Copying first) =
     IsRecordCall shape call × IsAdmittedAt (record_limits shape) first

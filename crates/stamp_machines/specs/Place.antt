@@ -1,4 +1,4 @@
--- The record calls: where they may stand, what they access next, and where that leads.
+-- The record calls: where they may stand, their next access, and where it leads.
 use Rattle.std.specs.Prelude.{ℕ, ◌+◌, ◌==◌, ◌&&◌, nat_lt, Bool, List, [], ◌∷◌, ◌++◌, length, Option}
 use Rattle.std.specs.Prelude.{None, if◌then◌else◌, slice_index}
 use Rattle.stamp_core.specs.Limits.{Bounds, units}
@@ -12,20 +12,21 @@ use Rattle.stamp_machines.specs.LockNumber.{counts_at}
 use Rattle.stamp_machines.specs.Job.{Job, Getting, Putting, PuttingIf, new_words, expects, is_get}
 use Rattle.stamp_machines.specs.Job.{stored_reply}
 use Rattle.stamp_machines.specs.LocalAccess.{LocalAccess, LoadLock, CasLock, LoadItem, StoreItem}
-use Rattle.stamp_machines.specs.LockPhase.{PhaseTurn, Still, Ended, phase_next, phase_after}
+use Rattle.stamp_machines.specs.LockPhase as phases
+use Rattle.stamp_machines.specs.LockPhase.{PhaseTurn, phase_plan, phase_after}
 
 -- a lock call on the record's lock, and what its end leads to
 pub data GuardCall : Type 0 where
-  ToShare : GuardCall  -- read lock of a get or a put_if
-  ToLeave : ℕ → List ℕ → GuardCall  -- unlock after a get has read these words
-  ToRefuse : ℕ → GuardCall  -- unlock of a put_if that read other words
-  ToUpgrade : ℕ → GuardCall  -- conversion of a put_if that read its words
-  ToReleaseFirst : ℕ → GuardCall  -- unlock of a put_if whose conversion gave nothing
-  ToClaim : GuardCall  -- write lock of a put or a put_if
+  Share : GuardCall  -- read lock of a get or a put_if
+  Leave : ℕ → List ℕ → GuardCall  -- unlock after a get has read these words
+  Refuse : ℕ → GuardCall  -- unlock of a put_if that read other words
+  Upgrade : ℕ → GuardCall  -- conversion of a put_if that read its words
+  ReleaseFirst : ℕ → GuardCall  -- unlock of a put_if whose conversion gave nothing
+  Claim : GuardCall  -- write lock of a put or a put_if
 
 pub data Place : Type 0 where
   LoadingLock : Place
-  Copying : ℕ → List ℕ → Place  -- the lock word first seen, the words loaded
+  Copying : ℕ → List ℕ → Place  -- the lock word first found, the words loaded
   Locking : GuardCall → Option ℕ → Place  -- a lock phase, with the word that it decided on
   Reading : ℕ → List ℕ → Place  -- under a read stamp
   Checking : ℕ → List ℕ → Place  -- under a write stamp, of a put_if
@@ -37,27 +38,27 @@ pub data PlaceTurn : Type 0 where
   Done : Reply → PlaceTurn
 
 abbrev pub call_for : GuardCall → Call
-call_for ToShare = ReadLock
-call_for (ToLeave s loaded) = UnlockRead s
-call_for (ToRefuse s) = UnlockRead s
-call_for (ToUpgrade s) = ToWrite s
-call_for (ToReleaseFirst s) = UnlockRead s
-call_for ToClaim = WriteLock
+call_for Share = ReadLock
+call_for (Leave s loaded) = UnlockRead s
+call_for (Refuse s) = UnlockRead s
+call_for (Upgrade s) = ToWrite s
+call_for (ReleaseFirst s) = UnlockRead s
+call_for Claim = WriteLock
 
 abbrev pub first_place : Job → Place
 first_place Getting = LoadingLock
-first_place (Putting a) = Locking ToClaim None
-first_place (PuttingIf a b) = Locking ToShare None
+first_place (Putting a) = Locking Claim None
+first_place (PuttingIf a b) = Locking Share None
 
-abbrev pub next : Bounds → ℕ → Job → Place → LocalAccess
-next limits n job LoadingLock = LoadLock
-next limits n job (Copying first loaded) =
+abbrev pub plan : Bounds → ℕ → Job → Place → LocalAccess
+plan limits n job LoadingLock = LoadLock
+plan limits n job (Copying first loaded) =
     if nat_lt (length loaded) n then LoadItem (length loaded) else LoadLock
-next limits n job (Locking e seen) = phase_next limits (call_for e) seen
-next limits n job (Reading s loaded) = LoadItem (length loaded)
-next limits n job (Checking s loaded) = LoadItem (length loaded)
-next limits n job (Storing s i) = StoreItem i (slice_index (new_words job) i)
-next limits n job (Releasing s a) = CasLock s (s + (units limits).writer)
+plan limits n job (Locking e seen) = phase_plan limits (call_for e) seen
+plan limits n job (Reading s loaded) = LoadItem (length loaded)
+plan limits n job (Checking s loaded) = LoadItem (length loaded)
+plan limits n job (Storing s i) = StoreItem i (slice_index (new_words job) i)
+plan limits n job (Releasing s a) = CasLock s (s + (units limits).writer)
 
 -- after the write lock
 abbrev pub claimed : Job → ℕ → PlaceTurn
@@ -66,17 +67,17 @@ claimed (Putting a) s = Going (Storing s 0)
 claimed (PuttingIf a b) s = Going (Checking s [])
 
 abbrev pub guard_call_done : Job → GuardCall → ℕ → PlaceTurn
-guard_call_done job ToShare s = Going (Reading s [])
-guard_call_done job (ToLeave t loaded) s = Done (reply.Content loaded)
-guard_call_done job (ToRefuse t) s = Done reply.No
-guard_call_done job (ToUpgrade t) s =
-    if s == 0 then Going (Locking (ToReleaseFirst t) None) else Going (Storing s 0)
-guard_call_done job (ToReleaseFirst t) s = Going (Locking ToClaim None)
-guard_call_done job ToClaim s = claimed job s
+guard_call_done job Share s = Going (Reading s [])
+guard_call_done job (Leave t loaded) s = Done (reply.Content loaded)
+guard_call_done job (Refuse t) s = Done reply.No
+guard_call_done job (Upgrade t) s =
+    if s == 0 then Going (Locking (ReleaseFirst t) None) else Going (Storing s 0)
+guard_call_done job (ReleaseFirst t) s = Going (Locking Claim None)
+guard_call_done job Claim s = claimed job s
 
 abbrev pub passed : Job → GuardCall → PhaseTurn → PlaceTurn
-passed job e (Still seen) = Going (Locking e seen)
-passed job e (Ended r) = guard_call_done job e (stamp_in r)
+passed job e (phases.Going seen) = Going (Locking e seen)
+passed job e (phases.Done r) = guard_call_done job e (stamp_in r)
 
 abbrev pub unchanged : Bounds → ℕ → ℕ → Bool
 unchanged limits first found =
@@ -85,18 +86,18 @@ unchanged limits first found =
 
 abbrev pub all_read : Job → ℕ → List ℕ → PlaceTurn
 all_read job s loaded =
-    if is_get job then Going (Locking (ToLeave s loaded) None)
-    else (if expects job loaded then Going (Locking (ToUpgrade s) None)
-    else Going (Locking (ToRefuse s) None))
+    if is_get job then Going (Locking (Leave s loaded) None)
+    else (if expects job loaded then Going (Locking (Upgrade s) None)
+    else Going (Locking (Refuse s) None))
 
 abbrev pub after : Bounds → ℕ → Job → Place → ℕ → PlaceTurn
 after limits n job LoadingLock found =
     if (counts_at limits found).writers == 0 then Going (Copying found [])
-    else Going (Locking ToShare None)
+    else Going (Locking Share None)
 after limits n job (Copying first loaded) found =
     if nat_lt (length loaded) n then Going (Copying first (loaded ++ found ∷ []))
     else (if unchanged limits first found then Done (reply.Content loaded)
-    else Going (Locking ToShare None))
+    else Going (Locking Share None))
 after limits n job (Locking e seen) found =
     passed job e (phase_after limits (call_for e) seen found)
 after limits n job (Reading s loaded) found =

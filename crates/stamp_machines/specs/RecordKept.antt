@@ -8,20 +8,20 @@ use Rattle.stamp_core.specs.Stamp.{write_stamp, read_stamp}
 use Rattle.stamp_machines.specs.LockNumber.{IsAdmittedAt, counts_at}
 use Rattle.stamp_machines.specs.Job.{Job, content_with, reply_to, new_words, expects, is_get}
 use Rattle.stamp_machines.specs.Place.{Going, Done, Place, LoadingLock, Copying, Locking}
-use Rattle.stamp_machines.specs.Place.{Reading, Checking, Storing, Releasing, ToShare}
-use Rattle.stamp_machines.specs.Place.{ToLeave, ToRefuse, ToUpgrade, ToReleaseFirst, ToClaim}
+use Rattle.stamp_machines.specs.Place.{Reading, Checking, Storing, Releasing, Share}
+use Rattle.stamp_machines.specs.Place.{Leave, Refuse, Upgrade, ReleaseFirst, Claim}
 use Rattle.stamp_machines.specs.Place.{PlaceTurn}
 
 -- how many read and write locks a call at this place holds
 abbrev pub read_by : Place → ℕ
 read_by LoadingLock = 0
 read_by (Copying first loaded) = 0
-read_by (Locking ToShare seen) = 0
-read_by (Locking (ToLeave s loaded) seen) = 1
-read_by (Locking (ToRefuse s) seen) = 1
-read_by (Locking (ToUpgrade s) seen) = 1
-read_by (Locking (ToReleaseFirst s) seen) = 1
-read_by (Locking ToClaim seen) = 0
+read_by (Locking Share seen) = 0
+read_by (Locking (Leave s loaded) seen) = 1
+read_by (Locking (Refuse s) seen) = 1
+read_by (Locking (Upgrade s) seen) = 1
+read_by (Locking (ReleaseFirst s) seen) = 1
+read_by (Locking Claim seen) = 0
 read_by (Reading s loaded) = 1
 read_by (Checking s loaded) = 0
 read_by (Storing s i) = 0
@@ -51,16 +51,16 @@ FitsPlace limits k w content items job (Copying first loaded) =
     (is_get job ≡ true) × ((counts_at limits first).write_count ≤ k)
     × (length loaded ≤ length content)
     × ((counts_at limits first).write_count ≡ k → (w ≡ 0) × (loaded ≡ take (length loaded) content))
-FitsPlace limits k w content items job (Locking ToShare seen) = Unit {0}
-FitsPlace limits k w content items job (Locking (ToLeave s loaded) seen) =
+FitsPlace limits k w content items job (Locking Share seen) = Unit {0}
+FitsPlace limits k w content items job (Locking (Leave s loaded) seen) =
     (is_get job ≡ true) × IsRead limits k s × (loaded ≡ content)
-FitsPlace limits k w content items job (Locking (ToRefuse s) seen) =
+FitsPlace limits k w content items job (Locking (Refuse s) seen) =
     (is_get job ≡ false) × IsRead limits k s × (expects job content ≡ false)
-FitsPlace limits k w content items job (Locking (ToUpgrade s) seen) =
+FitsPlace limits k w content items job (Locking (Upgrade s) seen) =
     (is_get job ≡ false) × IsRead limits k s × (expects job content ≡ true)
-FitsPlace limits k w content items job (Locking (ToReleaseFirst s) seen) =
+FitsPlace limits k w content items job (Locking (ReleaseFirst s) seen) =
     (is_get job ≡ false) × IsRead limits k s
-FitsPlace limits k w content items job (Locking ToClaim seen) = is_get job ≡ false
+FitsPlace limits k w content items job (Locking Claim seen) = is_get job ≡ false
 FitsPlace limits k w content items job (Reading s loaded) =
     IsRead limits k s × Begins loaded content × (length loaded < length content)
 FitsPlace limits k w content items job (Checking s loaded) =

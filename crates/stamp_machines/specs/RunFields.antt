@@ -6,8 +6,8 @@ use Rattle.stamp_machines.specs.Script.{IsSound}
 use Rattle.stamp_machines.specs.World.{execution_of, stamps_of}
 use Rattle.stamp_machines.specs.StateFields.{world_at, stamps_at}
 
-abbrev pub course_of : Inside → RunView
-course_of r = record { script = r.script.now; steps = r.steps.items }
+abbrev pub run_view_of : Inside → RunView
+run_view_of r = record { script = r.script.now; steps = r.steps.items }
 
 -- the words, the threads' calls and the entries are those of the schedule for the steps so far
 pub record IsAt (r : Inside) : Type 0 where

@@ -10,16 +10,16 @@ use Rattle.stamp_core.specs.declared.call.Call.{Call}
 use Rattle.stamp_machines.specs.declared.shape.Shape.{Shape}
 use Rattle.stamp_machines.specs.declared.machine.Turn.{Turn}
 use Rattle.stamp_machines.specs.declared.machine.Turn.TheVariants.{Going, Done}
-use Rattle.stamp_machines.specs.Access.{words_after, seen_by}
+use Rattle.stamp_machines.specs.Access.{words_after, found_by}
 use Rattle.stamp_machines.specs.MachineState.{start}
-use Rattle.stamp_machines.specs.Machine.{next_access, after_access}
+use Rattle.stamp_machines.specs.Machine.{plan_of, after_access}
 
 -- the words and the turn after this many accesses, or after fewer where it has ended
 abbrev pub left_alone : ℕ → List ℕ → Turn → List ℕ × Turn
 left_alone zero words turn = (words, turn)
 left_alone (suc n) words (Done reply) = (words, Done reply)
 left_alone (suc n) words (Going m) =
-    left_alone n (words_after (next_access m) words) (after_access m (seen_by (next_access m) words))
+    left_alone n (words_after (plan_of m) words) (after_access m (found_by (plan_of m) words))
 
 -- the call has ended with its transition's reply, and word 0 represents the events with those
 -- appended

@@ -23,14 +23,14 @@ use Rattle.stamp_machines.specs.declared.script.ScriptCall.TheVariants.{TryUnloc
 use Rattle.stamp_machines.specs.declared.script.ScriptCall.TheVariants.{IsWriteLocked, IsReadLocked}
 use Rattle.stamp_machines.specs.declared.script.ScriptCall.TheVariants.{ReadCount, Get, Put, PutIf}
 use Rattle.stamp_core.specs.declared.entry.Entry.{Entry}
-use Rattle.stamp_machines.specs.Access.{words_after, seen_by}
+use Rattle.stamp_machines.specs.Access.{words_after, found_by}
 use Rattle.stamp_core.specs.Decision.{stamp_in}
 use Rattle.stamp_machines.specs.declared.state.Begun.{Begun}
 use Rattle.stamp_machines.specs.declared.machine.Turn.{Turn}
 use Rattle.stamp_machines.specs.declared.machine.Turn.TheVariants as turned
 use Rattle.stamp_machines.specs.declared.shape.Shape.{Shape}
 use Rattle.stamp_machines.specs.MachineState.{start}
-use Rattle.stamp_machines.specs.Machine.{next_access, after_access}
+use Rattle.stamp_machines.specs.Machine.{plan_of, after_access}
 use Rattle.stamp_machines.specs.Script.{Scripted, calls_of}
 
 -- the common words, each thread's call that has begun and not ended, the finished calls, and the
@@ -70,32 +70,33 @@ abbrev pub number_of : (ℕ → List ℕ) → Arg → ℕ
 number_of stamps (Number n) = n
 number_of stamps (Of thread index) = slice_index (stamps thread) index
 
-abbrev pub call_of : (ℕ → List ℕ) → ScriptCall → Call
-call_of stamps TryWrite = call.TryWrite
-call_of stamps TryRead = call.TryRead
-call_of stamps WriteLock = call.WriteLock
-call_of stamps ReadLock = call.ReadLock
-call_of stamps Optimistic = call.Optimistic
-call_of stamps (Validate a) = call.Validate (number_of stamps a)
-call_of stamps (UnlockWrite a) = call.UnlockWrite (number_of stamps a)
-call_of stamps (UnlockRead a) = call.UnlockRead (number_of stamps a)
-call_of stamps (Unlock a) = call.Unlock (number_of stamps a)
-call_of stamps (ToWrite a) = call.ToWrite (number_of stamps a)
-call_of stamps (ToRead a) = call.ToRead (number_of stamps a)
-call_of stamps (ToOptimistic a) = call.ToOptimistic (number_of stamps a)
-call_of stamps TryUnlockWrite = call.TryUnlockWrite
-call_of stamps TryUnlockRead = call.TryUnlockRead
-call_of stamps IsWriteLocked = call.IsWriteLocked
-call_of stamps IsReadLocked = call.IsReadLocked
-call_of stamps ReadCount = call.ReadCount
-call_of stamps Get = call.Get
-call_of stamps (Put a) = call.Put a
-call_of stamps (PutIf a b) = call.PutIf a b
+-- a script's call, with its argument's number
+abbrev pub resolved : (ℕ → List ℕ) → ScriptCall → Call
+resolved stamps TryWrite = call.TryWrite
+resolved stamps TryRead = call.TryRead
+resolved stamps WriteLock = call.WriteLock
+resolved stamps ReadLock = call.ReadLock
+resolved stamps Optimistic = call.Optimistic
+resolved stamps (Validate a) = call.Validate (number_of stamps a)
+resolved stamps (UnlockWrite a) = call.UnlockWrite (number_of stamps a)
+resolved stamps (UnlockRead a) = call.UnlockRead (number_of stamps a)
+resolved stamps (Unlock a) = call.Unlock (number_of stamps a)
+resolved stamps (ToWrite a) = call.ToWrite (number_of stamps a)
+resolved stamps (ToRead a) = call.ToRead (number_of stamps a)
+resolved stamps (ToOptimistic a) = call.ToOptimistic (number_of stamps a)
+resolved stamps TryUnlockWrite = call.TryUnlockWrite
+resolved stamps TryUnlockRead = call.TryUnlockRead
+resolved stamps IsWriteLocked = call.IsWriteLocked
+resolved stamps IsReadLocked = call.IsReadLocked
+resolved stamps ReadCount = call.ReadCount
+resolved stamps Get = call.Get
+resolved stamps (Put a) = call.Put a
+resolved stamps (PutIf a b) = call.PutIf a b
 
 abbrev pub begin : Shape → (ℕ → List ℕ) → ℕ → Option ScriptCall → Option Begun
 begin shape stamps position None = None
 begin shape stamps position (Some c) =
-    Some (record { machine = start shape (call_of stamps c); first = position })
+    Some (record { machine = start shape (resolved stamps c); first = position })
 
 abbrev pub shape_of : Scripted → Shape
 shape_of script = record { limits = script.limits; width = script.width }
@@ -152,8 +153,8 @@ world_after world thread b words (turned.Done reply) =
 abbrev pub stepped : World → ℕ → Option Begun → World
 stepped world thread None = record world { position = world.position + 1 }
 stepped world thread (Some b) =
-    world_after world thread b (words_after (next_access b.machine) world.words)
-    (after_access b.machine (seen_by (next_access b.machine) world.words))
+    world_after world thread b (words_after (plan_of b.machine) world.words)
+    (after_access b.machine (found_by (plan_of b.machine) world.words))
 
 abbrev pub step : Scripted → World → ℕ → World
 step script world thread = stepped world thread (current script world thread)

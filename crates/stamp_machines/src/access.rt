@@ -1,6 +1,6 @@
 //! One access to one of the common words.
 ghost use Rattle.std.specs.Prelude.{◌≡◌, ◌<◌, length};
-ghost use Rattle.stamp_machines.specs.Access.{place_of, words_after, seen_by};
+ghost use Rattle.stamp_machines.specs.Access.{place_of, words_after, found_by};
 
 /// The place of the lock's word.
 pub(crate) const LOCK: usize = 0;
@@ -12,7 +12,7 @@ pub(crate) const RECORD_LOCK: usize = 1;
 pub(crate) const FIRST_WORD: usize = 2;
 
 /// One access to the word of this place, counted from 0: 0 is the lock's word, 1 that of the
-/// record's own lock, and the record's words come after them. What an access sees is the value that
+/// record's own lock, and the record's words come after them. What an access finds is the value that
 /// stood there before it.
 #[derive(Clone, Copy, Debug, PartialEq, Eq)]
 pub enum Access {
@@ -28,7 +28,7 @@ pub enum Access {
 pub(crate) fn make(words: &mut [u64], access: Access) -> u64
     requires { place_of access < length words.old }
     ensures words { words.new ≡ words_after access words.old }
-    ensures seen { result ≡ seen_by access words.old }
+    ensures found { result ≡ found_by access words.old }
 {
     match access {
         Access::Load(i) => words[i],

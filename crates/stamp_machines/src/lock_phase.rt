@@ -3,7 +3,7 @@
 ghost use Rattle.std.specs.Prelude.{◌≡◌, ◌↔◌, ℕ, Some, IsTrue};
 ghost use Rattle.stamp_core.specs.Word.{IsAdmitted, word_at};
 ghost use Rattle.stamp_machines.specs.LocalAccess.{with_lock, lock_after};
-ghost use Rattle.stamp_machines.specs.LockPhase.{phase_next, phase_after};
+ghost use Rattle.stamp_machines.specs.LockPhase.{phase_plan, phase_after};
 ghost use Rattle.stamp_machines.specs.LockCallSteps.{Plans, LeadsBy};
 ghost use Rattle.stamp_machines.specs.IsLockPhase.{phase_turn, IsLockPhase, IsPhaseTurn};
 
@@ -16,7 +16,7 @@ use std::ops::ControlFlow;
 #[inline(always)]
 pub(crate) fn lock_access(at: usize, limits: Limits, call: &Call, seen: Option<u64>) -> Access
     requires { IsLockPhase limits call.now seen }
-    ensures next { result ≡ with_lock at (phase_next limits call.now seen) }
+    ensures plan { result ≡ with_lock at (phase_plan limits call.now seen) }
     ensures plans { Plans (record { at = at; limits = limits; call = call.now; seen = seen })
         result }
 {
@@ -33,34 +33,34 @@ pub(crate) fn lock_access(at: usize, limits: Limits, call: &Call, seen: Option<u
 
 /// Decides a lock call on the word that its access has found. Gives the word after the access, and
 /// where the call goes on: to an exchange from this word, which was seen, or to a load. Where it
-/// has ended, its reply is written to `answer`.
+/// has ended, its reply is written to `reply`.
 #[inline(always)]
 pub(crate) fn decide_on(
     limits: Limits,
     call: &Call,
     seen: Option<u64>,
     found: u64,
-    answer: &mut Reply,
+    reply: &mut Reply,
 ) -> (u64, ControlFlow<(), Option<u64>>)
     requires phase { IsLockPhase limits call.now seen }
     requires word { IsAdmitted limits (word_at limits found) }
-    ensures word { result.0 ≡ lock_after (phase_next limits call.now seen) found }
-    ensures turn { phase_turn result.1 answer.new ≡ phase_after limits call.now seen found }
-    ensures changing { IsPhaseTurn limits call.now (phase_turn result.1 answer.new) }
+    ensures word { result.0 ≡ lock_after (phase_plan limits call.now seen) found }
+    ensures turn { phase_turn result.1 reply.new ≡ phase_after limits call.now seen found }
+    ensures changing { IsPhaseTurn limits call.now (phase_turn result.1 reply.new) }
     ensures leads { (at : ℕ) →
         LeadsBy (record { at = at; limits = limits; call = call.now; seen = seen }) found
-        (phase_turn result.1 answer.new) }
+        (phase_turn result.1 reply.new) }
 {
     // By this call the prover knows that the limits are in range.
     let _ = limits.layout();
     match decide_lock(limits, limits.word(found), call) {
-        LockDecision::Answer(reply) => {
-            *answer = reply.as_reply();
+        LockDecision::Answer(lock_reply) => {
+            *reply = lock_reply.as_reply();
             (found, ControlFlow::Break(()))
         }
-        LockDecision::Change(new, reply) => {
+        LockDecision::Change(new, lock_reply) => {
             if is_seen(seen, found) {
-                *answer = reply.as_reply();
+                *reply = lock_reply.as_reply();
                 (new.bits(), ControlFlow::Break(()))
             } else {
                 (found, ControlFlow::Continue(Some(found)))

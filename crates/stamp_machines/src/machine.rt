@@ -4,11 +4,11 @@ ghost use Rattle.stamp_core.specs.Call.{is_lock_call, call_suits};
 ghost use Rattle.stamp_machines.specs.LockCallSteps.{Plans, Leads, lock_phase};
 ghost use Rattle.stamp_machines.specs.MachinePhase.{phase_in, phase_of, LeadsIn};
 ghost use Rattle.stamp_machines.specs.MachineState.{start};
-ghost use Rattle.stamp_machines.specs.Machine.{next_access, after_access, IsFound};
+ghost use Rattle.stamp_machines.specs.Machine.{plan_of, after_access, IsFound};
 ghost use Rattle.stamp_core.specs.Word.{IsAdmitted, word_at};
 ghost use Rattle.stamp_machines.specs.Machine.{after_in, IsFoundIn};
 ghost use Rattle.stamp_machines.specs.MachineState.{MachineState, OnLock, record_limits};
-ghost use Rattle.stamp_machines.specs.Access.{place_of, words_after, seen_by};
+ghost use Rattle.stamp_machines.specs.Access.{place_of, words_after, found_by};
 ghost use Rattle.stamp_machines.specs.MachineTurn.{turn_of};
 ghost use Rattle.stamp_machines.specs.MachineFields.{stage_at, turn_in, guard_call_in, IsStage};
 ghost use Rattle.stamp_machines.specs.MachineFields.{IsGuardCall, IsNextStage};
@@ -49,42 +49,42 @@ impl Model for Machine {
 
     ghost Value = { MachineState };
 
-    ghost use Rattle.stamp_machines.specs.MachineFields.{state_in, IsAtStage};
+    ghost use Rattle.stamp_machines.specs.MachineFields.{machine_state_of, IsAtStage};
 
-    ghost view = { state_in };
+    ghost view = { machine_state_of };
 
     ghost invariant = { IsAtStage };
 }
 
-/// Where a lock call goes on after its access has found this at word 0, which is the public lock.
+/// Where a lock call goes on after its access has found this at word 0, the word of the lock.
 #[inline(always)]
-fn after_public(
+fn after_on_lock(
     shape: &Shape,
     call: &Call,
     loaded: &LoadedWords,
     seen: Option<u64>,
     found: u64,
-    answer: &mut Reply,
+    reply: &mut Reply,
 ) -> ControlFlow<(), Stage>
-    requires stage { IsStage shape.now call.now loaded.now (Stage.Public seen) }
-    requires found { IsFoundIn shape.now (stage_at call.now loaded.now (Stage.Public seen)) found }
-    ensures next { turn_in shape.now call.now loaded.now answer.new result
-        ≡ after_in shape.now call.now found (stage_at call.now loaded.now (Stage.Public seen)) }
+    requires stage { IsStage shape.now call.now loaded.now (Stage.OnLock seen) }
+    requires found { IsFoundIn shape.now (stage_at call.now loaded.now (Stage.OnLock seen)) found }
+    ensures next { turn_in shape.now call.now loaded.now reply.new result
+        ≡ after_in shape.now call.now found (stage_at call.now loaded.now (Stage.OnLock seen)) }
     ensures sound { IsNextStage shape.now call.now loaded.now loaded.now result }
     ensures leads { Leads (lock_phase
         (record {
           shape = shape.now;
           call = call.now;
-          stage = stage_at call.now loaded.now (Stage.Public seen);
+          stage = stage_at call.now loaded.now (Stage.OnLock seen);
         })) found
-        (turn_in shape.now call.now loaded.now answer.new result) }
+        (turn_in shape.now call.now loaded.now reply.new result) }
     ensures phase { IfSome
-        (phase_in shape.now call.now (stage_at call.now loaded.now (Stage.Public seen)))
-        (λ p. LeadsIn p found (turn_in shape.now call.now loaded.now answer.new result)) }
+        (phase_in shape.now call.now (stage_at call.now loaded.now (Stage.OnLock seen)))
+        (λ p. LeadsIn p found (turn_in shape.now call.now loaded.now reply.new result)) }
 {
-    let (_, next) = decide_on(shape.limits, call, seen, found, answer);
+    let (_, next) = decide_on(shape.limits, call, seen, found, reply);
     let seen = next?;
-    ControlFlow::Continue(Stage::Public { seen })
+    ControlFlow::Continue(Stage::OnLock { seen })
 }
 
 /// Where a call of the record goes on from a lock call on the record's own lock, after an access
@@ -97,29 +97,29 @@ fn after_locking(
     seen: Option<u64>,
     loaded: &mut LoadedWords,
     found: u64,
-    answer: &mut Reply,
+    reply: &mut Reply,
 ) -> ControlFlow<(), Stage>
     requires stage { IsStage shape.now call.now loaded.old (Stage.Locking guard_call seen) }
     requires found { IsFoundIn shape.now (stage_at call.now loaded.old (Stage.Locking guard_call seen))
         found }
-    ensures next { turn_in shape.now call.now loaded.new answer.new result
+    ensures next { turn_in shape.now call.now loaded.new reply.new result
         ≡ after_in shape.now call.now found
         (stage_at call.now loaded.old (Stage.Locking guard_call seen)) }
     ensures sound { IsNextStage shape.now call.now loaded.old loaded.new result }
     ensures phase { IfSome
         (phase_in shape.now call.now (stage_at call.now loaded.old (Stage.Locking guard_call seen)))
-        (λ p. LeadsIn p found (turn_in shape.now call.now loaded.new answer.new result)) }
+        (λ p. LeadsIn p found (turn_in shape.now call.now loaded.new reply.new result)) }
 {
     let limits = shape.record_limits();
-    let (_, next) = decide_on(limits, &call_for(guard_call), seen, found, answer);
+    let (_, next) = decide_on(limits, &call_for(guard_call), seen, found, reply);
     match next {
         ControlFlow::Continue(seen) => ControlFlow::Continue(Stage::Locking { guard_call, seen }),
-        ControlFlow::Break(()) => ended(shape, call, guard_call, loaded, answer),
+        ControlFlow::Break(()) => ended(shape, call, guard_call, loaded, reply),
     }
 }
 
 /// Where a call goes on from a stage after its access has found this. Where it has ended, its reply
-/// is written to `answer`.
+/// is written to `reply`.
 #[inline(always)]
 fn next(
     shape: &Shape,
@@ -127,11 +127,11 @@ fn next(
     loaded: &mut LoadedWords,
     stage: Stage,
     found: u64,
-    answer: &mut Reply,
+    reply: &mut Reply,
 ) -> ControlFlow<(), Stage>
     requires stage { IsStage shape.now call.now loaded.old stage }
     requires found { IsFoundIn shape.now (stage_at call.now loaded.old stage) found }
-    ensures next { turn_in shape.now call.now loaded.new answer.new result
+    ensures next { turn_in shape.now call.now loaded.new reply.new result
         ≡ after_in shape.now call.now found (stage_at call.now loaded.old stage) }
     ensures sound { IsNextStage shape.now call.now loaded.old loaded.new result }
     ensures leads { IsTrue (is_lock_call call.now) →
@@ -141,16 +141,16 @@ fn next(
           call = call.now;
           stage = stage_at call.now loaded.old stage;
         })) found
-        (turn_in shape.now call.now loaded.new answer.new result) }
+        (turn_in shape.now call.now loaded.new reply.new result) }
     ensures phase { IfSome (phase_in shape.now call.now (stage_at call.now loaded.old stage))
-        (λ p. LeadsIn p found (turn_in shape.now call.now loaded.new answer.new result)) }
+        (λ p. LeadsIn p found (turn_in shape.now call.now loaded.new reply.new result)) }
 {
     match stage {
-        Stage::Public { seen } => after_public(shape, call, loaded, seen, found, answer),
+        Stage::OnLock { seen } => after_on_lock(shape, call, loaded, seen, found, reply),
         Stage::LoadingLock => ControlFlow::Continue(lock_loaded(shape, call, loaded, found)),
-        Stage::Copying { first } => copied(shape, call, first, loaded, found, answer),
+        Stage::Copying { first } => copied(shape, call, first, loaded, found, reply),
         Stage::Locking { guard_call, seen } => {
-            after_locking(shape, call, guard_call, seen, loaded, found, answer)
+            after_locking(shape, call, guard_call, seen, loaded, found, reply)
         }
         Stage::Reading { stamp } => ControlFlow::Continue(read(shape, call, stamp, loaded, found)),
         Stage::Checking { stamp } => {
@@ -160,7 +160,7 @@ fn next(
             ControlFlow::Continue(stored(shape, call, stamp, i, loaded, found))
         }
         Stage::Releasing { is_stored, .. } => {
-            *answer = released_reply(call, is_stored);
+            *reply = released_reply(call, is_stored);
             ControlFlow::Break(())
         }
     }
@@ -194,12 +194,12 @@ impl Machine {
     /// The access that comes next. It is the same until the machine is resumed.
     #[inline(always)]
     pub fn plan(&self) -> Access
-        ensures next { result ≡ next_access self.now }
+        ensures plan { result ≡ plan_of self.now }
         ensures plans { IsTrue (is_lock_call self.now.call) → Plans (lock_phase self.now) result }
         ensures phase { IfSome (phase_of self.now) (λ p. Plans p.state result) }
     {
         match self.stage {
-            Stage::Public { seen } => lock_access(LOCK, self.shape.limits, &self.call, seen),
+            Stage::OnLock { seen } => lock_access(LOCK, self.shape.limits, &self.call, seen),
             Stage::LoadingLock => Access::Load(RECORD_LOCK),
             Stage::Copying { .. } => {
                 if self.loaded.len() < self.shape.word_count() {
@@ -241,36 +241,36 @@ impl Machine {
         ensures phase { IfSome (phase_of self) (λ p. LeadsIn p found result) }
     {
         let mut machine = self;
-        let mut answer = Reply::Done;
-        if machine.go_on(found, &mut answer) {
-            Turn::Done(answer)
+        let mut reply = Reply::Done;
+        if machine.go_on(found, &mut reply) {
+            Turn::Done(reply)
         } else {
             Turn::Going(machine)
         }
     }
 
     /// Makes the planned access and goes on after it, in place. Tells whether the call has ended:
-    /// then its reply stands in `answer`, and where the machine stands is of no account. For speed
+    /// then its reply stands in `reply`, and where the machine stands is of no account. For speed
     /// an access of word 0 has a way of its own: `plan` would decide the lock call on the word
     /// seen, and `go_on` on the word found; here it is decided once, on the word found.
     #[inline(always)]
-    pub(crate) fn access(&mut self, words: &mut [u64], answer: &mut Reply) -> bool
-        requires memory { place_of (next_access self.old) < length words.old }
-        requires word { IsFound self.old (seen_by (next_access self.old) words.old) }
-        ensures words { words.new ≡ words_after (next_access self.old) words.old }
-        ensures after { turn_of self.new answer.new result
-            ≡ after_access self.old (seen_by (next_access self.old) words.old) }
+    pub(crate) fn access(&mut self, words: &mut [u64], reply: &mut Reply) -> bool
+        requires memory { place_of (plan_of self.old) < length words.old }
+        requires word { IsFound self.old (found_by (plan_of self.old) words.old) }
+        ensures words { words.new ≡ words_after (plan_of self.old) words.old }
+        ensures after { turn_of self.new reply.new result
+            ≡ after_access self.old (found_by (plan_of self.old) words.old) }
         ensures call { self.new.call ≡ self.old.call }
     {
-        let Stage::Public { seen } = self.stage else {
+        let Stage::OnLock { seen } = self.stage else {
             let found = make(words, self.plan());
-            return self.go_on(found, answer);
+            return self.go_on(found, reply);
         };
-        let (word, next) = decide_on(self.shape.limits, &self.call, seen, words[LOCK], answer);
+        let (word, next) = decide_on(self.shape.limits, &self.call, seen, words[LOCK], reply);
         words[LOCK] = word;
         match next {
             ControlFlow::Continue(seen) => {
-                self.stage = Stage::Public { seen };
+                self.stage = Stage::OnLock { seen };
                 false
             }
             ControlFlow::Break(()) => true,
@@ -278,15 +278,15 @@ impl Machine {
     }
 
     /// Goes on as `resume` does, in place, and tells whether the call has ended. Then its reply
-    /// stands in `answer`, and where the machine stands is of no account.
+    /// stands in `reply`, and where the machine stands is of no account.
     #[inline(always)]
-    pub(crate) fn go_on(&mut self, found: u64, answer: &mut Reply) -> bool
+    pub(crate) fn go_on(&mut self, found: u64, reply: &mut Reply) -> bool
         requires { IsFound self.old found }
-        ensures after { turn_of self.new answer.new result ≡ after_access self.old found }
+        ensures after { turn_of self.new reply.new result ≡ after_access self.old found }
         ensures leads { IsTrue (is_lock_call self.old.call) →
-            Leads (lock_phase self.old) found (turn_of self.new answer.new result) }
+            Leads (lock_phase self.old) found (turn_of self.new reply.new result) }
         ensures phase { IfSome (phase_of self.old)
-            (λ p. LeadsIn p found (turn_of self.new answer.new result)) }
+            (λ p. LeadsIn p found (turn_of self.new reply.new result)) }
         ensures call { self.new.call ≡ self.old.call }
     {
         match next(
@@ -295,7 +295,7 @@ impl Machine {
             &mut self.loaded,
             self.stage,
             found,
-            answer,
+            reply,
         ) {
             ControlFlow::Continue(stage) => {
                 self.stage = stage;

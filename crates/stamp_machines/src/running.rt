@@ -71,9 +71,9 @@ impl<'a> Model for Run<'a> {
 
     ghost Value = { RunView };
 
-    ghost use Rattle.stamp_machines.specs.RunFields.{course_of, IsAt};
+    ghost use Rattle.stamp_machines.specs.RunFields.{run_view_of, IsAt};
 
-    ghost view = { course_of };
+    ghost view = { run_view_of };
 
     ghost invariant = { IsAt };
 }

@@ -7,7 +7,7 @@ use stamp_core::Limits;
 /// The limits of the lock, and the width of the record in words, 0 for none.
 #[derive(Clone, Copy)]
 pub struct Shape {
-    /// Those of the public lock.
+    /// Those of the lock, and not of the record's own.
     pub limits: Limits,
     /// 0 to 16.
     pub width: u64,

@@ -25,7 +25,7 @@ use std::ops::ControlFlow;
 pub(crate) enum GuardCall {
     /// A read lock to read under.
     Share,
-    /// The words are read, and are the answer.
+    /// The words are read, and are the reply.
     Leave { stamp: u64 },
     /// The words are not those expected.
     Refuse { stamp: u64 },
@@ -41,13 +41,13 @@ pub(crate) enum GuardCall {
 /// to change.
 #[derive(Clone, Copy)]
 pub(crate) enum Stage {
-    /// A lock call, on the public lock.
-    Public {
+    /// A call of the lock, on word 0.
+    OnLock {
         seen: Option<u64>,
     },
-    /// The record's lock has to be seen.
+    /// The record's lock has to be loaded.
     LoadingLock,
-    /// It was seen free, and words are being loaded without a lock.
+    /// It was found free, and words are being loaded without a lock.
     Copying {
         first: u64,
     },
@@ -198,7 +198,7 @@ pub(crate) fn copied(
     first: u64,
     loaded: &mut LoadedWords,
     found: u64,
-    answer: &mut Reply,
+    reply: &mut Reply,
 ) -> ControlFlow<(), Stage>
     requires call { IsRecordCall shape.now call.now }
     requires first { IsAdmitted (record_limits shape.now)
@@ -206,7 +206,7 @@ pub(crate) fn copied(
     requires length { length loaded.old ≤ shape.now.width }
     requires word { shape.now.width ≤ length loaded.old →
         IsAdmitted (record_limits shape.now) (word_at (record_limits shape.now) found) }
-    ensures next { turn_in shape.now call.now loaded.new answer.new result
+    ensures next { turn_in shape.now call.now loaded.new reply.new result
         ≡ record_turn shape.now call.now (job_of call.now)
         (after (record_limits shape.now) shape.now.width (job_of call.now)
         (places.Copying first loaded.old) found) }
@@ -216,7 +216,7 @@ pub(crate) fn copied(
         loaded.push(found);
         ControlFlow::Continue(Stage::Copying { first })
     } else if is_unchanged(shape.record_limits(), first, found) {
-        *answer = Reply::Content(loaded.words());
+        *reply = Reply::Content(loaded.words());
         ControlFlow::Break(())
     } else {
         ControlFlow::Continue(locking(shape, call, loaded, GuardCall::Share))
@@ -370,7 +370,7 @@ fn upgraded(shape: &Shape, call: &Call, stamp: u64, loaded: &LoadedWords, got: u
     requires fits { got < 2 ^ 63 }
     ensures next { going_at shape.now call.now loaded.now result
         ≡ record_turn shape.now call.now (job_of call.now)
-        (guard_call_done (job_of call.now) (places.ToUpgrade stamp) got) }
+        (guard_call_done (job_of call.now) (places.Upgrade stamp) got) }
     ensures sound { IsStage shape.now call.now loaded.now result }
 {
     if got == 0 {
@@ -396,30 +396,30 @@ fn read_locked(shape: &Shape, call: &Call, stamp: u64, loaded: &mut LoadedWords)
 }
 
 /// Where a call goes on after a lock call on the record's lock has ended with the reply that stands
-/// in `answer`. Where the call itself has ended by that, its own reply is written there.
+/// in `reply`. Where the call itself has ended by that, its own reply is written there.
 pub(crate) fn ended(
     shape: &Shape,
     call: &Call,
     guard_call: GuardCall,
     loaded: &mut LoadedWords,
-    answer: &mut Reply,
+    reply: &mut Reply,
 ) -> ControlFlow<(), Stage>
     requires guard_call { IsGuardCall shape.now call.now loaded.old guard_call }
-    requires fits { stamp_in answer.old < 2 ^ 63 }
-    ensures next { turn_in shape.now call.now loaded.new answer.new result
+    requires fits { stamp_in reply.old < 2 ^ 63 }
+    ensures next { turn_in shape.now call.now loaded.new reply.new result
         ≡ record_turn shape.now call.now (job_of call.now)
-        (guard_call_done (job_of call.now) (guard_call_in loaded.old guard_call) (stamp_in answer.old)) }
+        (guard_call_done (job_of call.now) (guard_call_in loaded.old guard_call) (stamp_in reply.old)) }
     ensures sound { IsNextStage shape.now call.now loaded.old loaded.new result }
 {
-    let got = stamp_in(answer);
+    let got = stamp_in(reply);
     match guard_call {
         GuardCall::Share => ControlFlow::Continue(read_locked(shape, call, got, loaded)),
         GuardCall::Leave { .. } => {
-            *answer = Reply::Content(loaded.words());
+            *reply = Reply::Content(loaded.words());
             ControlFlow::Break(())
         }
         GuardCall::Refuse { .. } => {
-            *answer = Reply::No;
+            *reply = Reply::No;
             ControlFlow::Break(())
         }
         GuardCall::Upgrade { stamp } => {
@@ -454,6 +454,6 @@ pub(crate) fn first_stage(shape: &Shape, call: &Call) -> Stage
             guard_call: GuardCall::Share,
             seen: None,
         },
-        _ => Stage::Public { seen: None },
+        _ => Stage::OnLock { seen: None },
     }
 }

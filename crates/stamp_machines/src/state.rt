@@ -36,7 +36,7 @@ pub(crate) struct RunState {
     pub(crate) workers: Vec<Worker>,
     pub(crate) entries: Vec<Entry>,
     /// The reply of the call that has ended last.
-    answer: Reply,
+    reply: Reply,
 }
 
 /// The kind of a step: what `Stepped` says, without the entry, which is expensive to move.
@@ -49,7 +49,7 @@ pub(crate) enum StepKind {
 
 ghost use Rattle.stamp_core.specs.declared.entry.Entry.{Entry};
 ghost use Rattle.stamp_machines.specs.StateFields.{stamps_at, begun_in, HasRoom};
-ghost use Rattle.stamp_machines.specs.World.{number_of, call_of, next_call, opening_word};
+ghost use Rattle.stamp_machines.specs.World.{number_of, resolved, next_call, opening_word};
 
 fn number_of(workers: &[Worker], arg: Arg) -> u64
     ensures { result ≡ number_of (stamps_at workers.now) arg }
@@ -64,7 +64,7 @@ fn number_of(workers: &[Worker], arg: Arg) -> u64
 }
 
 fn resolve(workers: &[Worker], call: &ScriptCall) -> Call
-    ensures { result ≡ call_of (stamps_at workers.now) call.now }
+    ensures { result ≡ resolved (stamps_at workers.now) call.now }
 {
     match call {
         ScriptCall::TryWrite => Call::TryWrite,
@@ -145,13 +145,13 @@ impl Worker {
 
 /// Adds the entry of a call that ends at this position. There is room for it.
 #[inline(never)]
-fn keep(entries: &mut Vec<Entry>, begun: &Begun, thread: usize, answer: &Reply, position: u64)
+fn keep(entries: &mut Vec<Entry>, begun: &Begun, thread: usize, reply: &Reply, position: u64)
     requires { vec_len entries.old < vec_capacity entries.old }
     ensures { entries.new.items ≡ entries.old.items
         ++ record {
           thread = thread;
           call = begun.now.machine.call;
-          reply = answer.now;
+          reply = reply.now;
           first = begun.now.first;
           point = position;
           last = position;
@@ -160,7 +160,7 @@ fn keep(entries: &mut Vec<Entry>, begun: &Begun, thread: usize, answer: &Reply, 
     let entry = Entry {
         thread: thread as u64,
         call: begun.machine.call(),
-        reply: *answer,
+        reply: *reply,
         first: begun.first,
         point: position,
         last: position,
@@ -212,7 +212,7 @@ impl RunState {
             words,
             workers,
             entries: Vec::new(alloc),
-            answer: Reply::Done,
+            reply: Reply::Done,
         })
     }
 
@@ -276,11 +276,11 @@ impl RunState {
         match &mut worker.begun {
             None => StepKind::Idle,
             Some(begun) => {
-                if !begun.machine.access(&mut self.words, &mut self.answer) {
+                if !begun.machine.access(&mut self.words, &mut self.reply) {
                     return StepKind::Going;
                 }
-                keep(&mut self.entries, begun, thread, &self.answer, position);
-                worker.end(stamp_in(&self.answer));
+                keep(&mut self.entries, begun, thread, &self.reply, position);
+                worker.end(stamp_in(&self.reply));
                 StepKind::Ended
             }
         }

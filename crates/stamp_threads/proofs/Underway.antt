@@ -132,12 +132,12 @@ module _ (limits : Bounds) (call : Call) (v : LockPassView) (found : ℕ) (w : L
     -- where the machine stands after its exchange has found this word
     exchanged : (word : ℕ) (b : Bool) → (word == found) ≡ b →
         after_access (on_lock_alone limits call (Some found)) word ≡ lock_turn (lock_alone limits) call
-        (if b then phases.Ended reply else turn_on word (decision limits word call))
+        (if b then phases.Done reply else turn_on word (decision limits word call))
     exchanged word b same =
         ap (λ (d : Decision). lock_turn (lock_alone limits) call (phases.tried limits call found word d))
         (sym is) ∙
         ap (λ (c : Bool). lock_turn (lock_alone limits) call
-        (if c then phases.Ended reply else turn_on word (decision limits word call))) same
+        (if c then phases.Done reply else turn_on word (decision limits word call))) same
 
     -- the exchange found the same word
     pub is_made : (u : LockPassView) → Won limits call w found u → Answered limits call reply v u

@@ -64,7 +64,7 @@ fn key_of(limits: Limits, width: usize, first: Option<Words>, enterable: bool) -
 }
 
 /// The words of a table: the lock word, and these.
-fn row_of(lock_word: u64, words: &[u64]) -> [u64; 17]
+fn table_words(lock_word: u64, words: &[u64]) -> [u64; 17]
     requires { length words.now ≤ 16 }
     ensures { take (length words.now + 1) result ≡ lock_word ∷ words.now }
 {
@@ -132,7 +132,7 @@ impl<P: ContentRule> RuledRecord<P> {
         ensures { IfOk result (λ r. IsNew limits (length first) enterable (Some first) r.0 r.1) }
     {
         let width = first.len();
-        let row = row_of(first_word(limits.layout()), first.as_slice());
+        let row = table_words(first_word(limits.layout()), first.as_slice());
         Self::of_table(alloc, limits, &row[..width + 1], Some(first), enterable)
     }
 

@@ -15,7 +15,7 @@ use Rattle.stamped_c.specs.declared.error.CError.{CError}
 use Rattle.stamped_c.specs.declared.structs.CLimits.{CLimits}
 use Rattle.stamped_c.specs.declared.structs.CDecision.{CDecision}
 use Rattle.stamped_c.specs.declared.structs.CKind.{CKind}
-use Rattle.stamped_c.specs.Codes.{layout_of, error_in_c, decision_in_c, kind_in_c}
+use Rattle.stamped_c.specs.Codes.{layout_by_code, error_in_c, decision_in_c, kind_in_c}
 use Rattle.stamped_c.specs.Checks.{Then, IsLayoutOf, AreLimitsIn, AreLimitsOf, IsWordOf, IsWordUnder, IsCallOf}
 
 -- the core's decision, and no error
@@ -60,7 +60,7 @@ IsOpening layout word = (limits : Bounds) → limits.layout ≡ layout → Repre
 -- the opening word's number; 0 where the number names no layout
 abbrev pub AnswersOpening : ℕ → ℕ → Type 0
 AnswersOpening number opening =
-    MatchOption (layout_of number) (opening ≡ 0) (λ layout. IsOpening layout (word_in layout opening))
+    MatchOption (layout_by_code number) (opening ≡ 0) (λ layout. IsOpening layout (word_in layout opening))
 
 -- the facts above, as C gets them
 abbrev pub AnswersLimits : CLimits → ℕ → Type 0

@@ -9,7 +9,7 @@ use Rattle.stamped_c.specs.declared.error.CError.{CError}
 use Rattle.stamped_c.specs.declared.error.CError.TheVariants.{UnknownLayout, LimitsOutOfRange, NoWord}
 use Rattle.stamped_c.specs.declared.error.CError.TheVariants.{BeyondLimits, UnknownCall}
 use Rattle.stamped_c.specs.declared.structs.CLimits.{CLimits}
-use Rattle.stamped_c.specs.Codes.{layout_of, call_of}
+use Rattle.stamped_c.specs.Codes.{layout_by_code, call_by_code}
 
 -- the first fact's error, or what the second one says of the first one's value
 abbrev pub Then : {A B : Type 0} → (Result A CError → Type 0) → (A → Result B CError → Type 0) →
@@ -18,8 +18,8 @@ Then First Second found = ((error : CError) × First (Err error) × (found ≡ E
     ((a : _) × First (Ok a) × Second a found)
 
 abbrev pub IsLayoutOf : ℕ → Result Layout CError → Type 0
-IsLayoutOf number (Ok layout) = layout_of number ≡ Some layout
-IsLayoutOf number (Err UnknownLayout) = layout_of number ≡ None
+IsLayoutOf number (Ok layout) = layout_by_code number ≡ Some layout
+IsLayoutOf number (Err UnknownLayout) = layout_by_code number ≡ None
 IsLayoutOf number (Err _) = ⊥
 
 abbrev pub AreLimitsIn : Layout → ℕ → ℕ → Result Bounds CError → Type 0
@@ -44,6 +44,6 @@ abbrev pub IsWordOf : CLimits → ℕ → Result LockWord CError → Type 0
 IsWordOf given number = Then (AreLimitsOf given) (λ limits. IsWordUnder limits number)
 
 abbrev pub IsCallOf : ℕ → ℕ → Result Call CError → Type 0
-IsCallOf code stamp (Ok call) = call_of code stamp ≡ Some call
-IsCallOf code stamp (Err UnknownCall) = call_of code stamp ≡ None
+IsCallOf code stamp (Ok call) = call_by_code code stamp ≡ Some call
+IsCallOf code stamp (Err UnknownCall) = call_by_code code stamp ≡ None
 IsCallOf code stamp (Err _) = ⊥

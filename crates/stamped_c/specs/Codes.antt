@@ -21,12 +21,12 @@ use Rattle.stamped_c.specs.declared.error.CError.TheVariants.{BeyondLimits, Unkn
 use Rattle.stamped_c.specs.declared.structs.CDecision.{CDecision}
 use Rattle.stamped_c.specs.declared.structs.CKind.{CKind}
 
-abbrev pub layout_of : ℕ → Option Layout
-layout_of n = if n == 1 then Some One else if n == 2 then Some Two else None
+abbrev pub layout_by_code : ℕ → Option Layout
+layout_by_code n = if n == 1 then Some One else if n == 2 then Some Two else None
 
 -- the call of this number, with this stamp where it takes one
-abbrev pub call_of : ℕ → ℕ → Option Call
-call_of n s =
+abbrev pub call_by_code : ℕ → ℕ → Option Call
+call_by_code n s =
     if n == 1 then Some TryWrite
     else if n == 2 then Some TryRead
     else if n == 3 then Some WriteLock

@@ -3,7 +3,7 @@ ghost use Rattle.std.specs.Prelude.{Err};
 ghost use Rattle.stamp_core.specs.Word.{IsAdmitted, word_at};
 ghost use Rattle.stamped_c.specs.Checks.{IsLayoutOf, AreLimitsIn, AreLimitsOf, IsWordUnder};
 
-use crate::codes::layout_of;
+use crate::codes::layout_by_code;
 use crate::error::CError;
 use crate::structs::CLimits;
 use stamp_core::{Layout, Limits, Word};
@@ -12,7 +12,7 @@ use stamp_core::{Layout, Limits, Word};
 pub(crate) fn checked_layout(number: u32) -> Result<Layout, CError>
     ensures { IsLayoutOf number result }
 {
-    match layout_of(number) {
+    match layout_by_code(number) {
         Some(layout) => Ok(layout),
         None => Err(CError::UnknownLayout),
     }

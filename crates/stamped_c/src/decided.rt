@@ -3,7 +3,7 @@
 ghost use Rattle.std.specs.Prelude.{ℕ, ◌≡◌, Some, IsTrue};
 ghost use Rattle.stamp_core.specs.Call.{is_lock_call};
 ghost use Rattle.stamp_core.specs.Word.{IsAdmitted};
-ghost use Rattle.stamped_c.specs.Codes.{call_of};
+ghost use Rattle.stamped_c.specs.Codes.{call_by_code};
 ghost use Rattle.stamped_c.specs.Answers.{InC, IsDecidedOn, IsDecidedUnder, IsDecidedIn, IsDecided};
 
 use crate::checks::{checked_layout, checked_word, limits_in};
@@ -16,7 +16,7 @@ use stamp_core::{Call, Layout, Limits, Word, decide_lock};
 fn called(limits: Limits, word: Word, call: Call) -> CDecision
     requires admitted { IsAdmitted limits word }
     requires lock_call { IsTrue (is_lock_call call) }
-    ensures { (code stamp : ℕ) → call_of code stamp ≡ Some call
+    ensures { (code stamp : ℕ) → call_by_code code stamp ≡ Some call
         → InC (IsDecidedOn limits word code stamp) word.bits result }
 {
     CDecision::made(word.bits(), decide_lock(limits, word, &call))

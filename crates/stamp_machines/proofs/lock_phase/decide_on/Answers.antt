@@ -13,9 +13,9 @@ returns-then-is_seen-clause-leads c = λ at.
     let p : PhaseState =
     record { at = at; limits = c.args.limits; call = c.args.call.now; seen = c.args.seen } in
     let says : Decides p.limits (word_at p.limits c.args.found) p.call
-    (Change c.in-Change.new (reply_as c.in-Change.reply)) =
+    (Change c.in-Change.new (reply_as c.in-Change.lock_reply)) =
     rw c.word.ensures at c.in-Change.ensures.decides in
-    rw c.as_reply-then-is_seen.ensures (won p c.args.found c.in-Change.new (reply_as c.in-Change.reply)
+    rw c.as_reply-then-is_seen.ensures (won p c.args.found c.in-Change.new (reply_as c.in-Change.lock_reply)
     (c.is_seen.ensures.0 c.if-is_seen.true)
     says)
 
@@ -24,11 +24,11 @@ returns-else-is_seen-clause-leads c = λ at.
     let p : PhaseState =
     record { at = at; limits = c.args.limits; call = c.args.call.now; seen = c.args.seen } in
     let says : Decides p.limits (word_at p.limits c.args.found) p.call
-    (Change c.in-Change.new (reply_as c.in-Change.reply)) =
+    (Change c.in-Change.new (reply_as c.in-Change.lock_reply)) =
     rw c.word.ensures at c.in-Change.ensures.decides in
     let other : c.args.seen ≢ Some c.args.found = λ e. let yes = c.is_seen.ensures.1 e in let no =
     c.if-is_seen.false in cc in
-    lost p c.args.found (Change c.in-Change.new (reply_as c.in-Change.reply)) c.layout.ensures.in_range
+    lost p c.args.found (Change c.in-Change.new (reply_as c.in-Change.lock_reply)) c.layout.ensures.in_range
     c.requires.phase.0 c.requires.word other says
 
 pub returns-in-Wait-clause-leads : goal.returns-in-Wait-clause-leads
@@ -45,7 +45,7 @@ pub returns-else-is_seen-clause-changing : goal.returns-else-is_seen-clause-chan
 returns-else-is_seen-clause-changing c = record {
   admitted = c.requires.word;
   new = c.in-Change.new;
-  reply = reply_as c.in-Change.reply;
+  reply = reply_as c.in-Change.lock_reply;
   decided = sym (rw c.word.ensures at c.in-Change.ensures.number);
 }
 
@@ -53,5 +53,5 @@ pub returns-then-is_seen-clause-word : goal.returns-then-is_seen-clause-word
 returns-then-is_seen-clause-word c =
     rw c.bits.ensures.bits
     (won-word c.args.limits c.args.call.now c.args.seen c.args.found c.in-Change.new
-    (reply_as c.in-Change.reply) (c.is_seen.ensures.0 c.if-is_seen.true)
+    (reply_as c.in-Change.lock_reply) (c.is_seen.ensures.0 c.if-is_seen.true)
     (sym (rw c.word.ensures at c.in-Change.ensures.number)))

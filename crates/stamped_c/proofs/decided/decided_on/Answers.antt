@@ -1,7 +1,7 @@
 use Rattle.std.proofs.Common.{rules, ◌≡◌, refl}
 use Rattle.std.specs.Prelude.{None}
 use Rattle.stamped_c.specs.declared.error.CError.TheVariants.{UnknownCall}
-use Rattle.stamped_c.specs.Codes.{call_of}
+use Rattle.stamped_c.specs.Codes.{call_by_code}
 use Rattle.stamped_c.specs.Checks.{IsCallOf}
 use Rattle.stamped_c.specs.Answers.{IsDecision}
 use Rattle.stamped_c.proofs.Steps.{at_error}
@@ -61,6 +61,6 @@ returns-in-17 g c = c.called-in-17.ensures c.args.code c.args.stamp (rw c.in-17.
 pub returns-in_default : goal.returns-in_default
 returns-in_default g c =
     let a = c.args in
-    let none : call_of a.code a.stamp ≡ None = search rules in
+    let none : call_by_code a.code a.stamp ≡ None = search rules in
     at_error (IsCallOf a.code a.stamp) (λ call. IsDecision a.limits a.word call) _ UnknownCall _ none
     c.error.ensures

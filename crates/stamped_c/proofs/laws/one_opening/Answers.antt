@@ -3,7 +3,7 @@ use Rattle.std.specs.Prelude.{Option, Some, None, MatchOption}
 use Rattle.stamp_core.specs.Limits.{widest}
 use Rattle.stamp_core.specs.Word.{word_in}
 use Rattle.stamp_core.specs.declared.layout.Layout.{Layout}
-use Rattle.stamped_c.specs.Codes.{layout_of}
+use Rattle.stamped_c.specs.Codes.{layout_by_code}
 use Rattle.stamped_c.specs.Answers.{IsOpening}
 use Rattle.stamped_c.proofs.laws.one_opening.Goals as goal
 
@@ -13,4 +13,4 @@ one None a b x y = x ∙ sym y
 one (Some l) a b x y = (x (widest l) refl).spelled ∙ sym (y (widest l) refl).spelled
 
 pub returns : goal.returns
-returns c = λ layout. one (layout_of layout)
+returns c = λ layout. one (layout_by_code layout)

@@ -81,7 +81,7 @@ returns-else-not-access-clause-step g c =
     let words = words_found g at.After-deref_mut in
     let many : length c.access.new.words ≡ mid.words.len = grind (arith, common_steps) in
     step-made g.gone _ _ mid _ c.args.thread c.args.position _ c.end.new.self c.in-Some.begun
-    (Done c.access.new.answer) (next_begun g at.After-index_mut-worker) (is_in_call g at.After-deref_mut) record {
+    (Done c.access.new.reply) (next_begun g at.After-index_mut-worker) (is_in_call g at.After-deref_mut) record {
       words =
           with_items_is mid.words c.access.new.words many
           ∙ rw words at c.if-not-access.ensures.words;

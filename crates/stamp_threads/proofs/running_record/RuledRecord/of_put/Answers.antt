@@ -12,8 +12,8 @@ of_table-requires-clause-kept g c =
     let limits = c.args.limits in
     let words = c.args.first in
     let word = c.first_word.result in
-    let row : take (c.len-width.result + 1) c.row_of-row.result ≡ word ∷ words =
-    rw (c.len-width.ensures.len, ← c.as_slice.ensures) c.row_of-row.ensures in
+    let row : take (c.len-width.result + 1) c.table_words-row.result ≡ word ∷ words =
+    rw (c.len-width.ensures.len, ← c.as_slice.ensures) c.table_words-row.ensures in
     let same : length words ≡ length (word ∷ words) - 1 = omega arith in
     rw row (subst (λ (n : ℕ). IsKept c.args.enterable g.P.ContentRule.holds (record { limits = limits; width = n })
     (opening (word ∷ words) [] (opening_pass (Some words) ∷ []))) same

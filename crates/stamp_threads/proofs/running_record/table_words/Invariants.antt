@@ -1,5 +1,5 @@
 use Rattle.std.proofs.Common.{◌≡◌, ◌+◌, ◌∷◌, length, take}
-use Rattle.stamp_threads.proofs.running_record.row_of.Given as goal
+use Rattle.stamp_threads.proofs.running_record.table_words.Given as goal
 
 abbrev pub invariant-loop-i : goal.invariant-loop-i
 invariant-loop-i l = record {
