@@ -11,7 +11,7 @@ pub mod RuleKept
 pub mod PassMoves
 pub mod NewLock
 pub mod ClosedLock
-pub mod Looks
+pub mod Found
 pub mod CallSteps
 pub mod Underway
 pub mod TwoAccesses

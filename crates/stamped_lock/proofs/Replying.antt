@@ -27,7 +27,8 @@ use Rattle.stamp_core.proofs.StampValidity.{legal_rest}
 use Rattle.stamp_threads.specs.PassView.{entry}
 use Rattle.stamp_threads.specs.LockLog.{LockLog, history_in, events_after, transition_after, Appends}
 use Rattle.stamp_threads.specs.LockPass.{LockPassView, LeavesWord}
-use Rattle.stamp_threads.specs.Answered.{Answered, try_form}
+use Rattle.stamp_threads.specs.Made.{try_form}
+use Rattle.stamp_threads.specs.Made as by_pass
 use Rattle.stamp_threads.specs.LostExchange.{LostExchange}
 use Rattle.stamp_threads.specs.declared.lost.Lost.{Lost}
 use Rattle.stamped_lock.specs.Replies.{MayReply, NeverLoses, IsStampReply, IsSomeStamp, IsTest, IsRelease}
@@ -42,7 +43,7 @@ at_true P Q false is q = cc
 
 -- the reply is the call's after the history before it
 pub replies_of : (limits : Bounds) (call : Call) (reply : Reply) (v w : LockPassView) →
-    IsTrue (is_lock_call call) → (a : Answered limits call reply v w) →
+    IsTrue (is_lock_call call) → (a : by_pass.Made limits call reply v w) →
     Replies (transition limits (events_after limits a.log) call) reply
 replies_of limits call reply v w lock a =
     let legal = subst (IsLegal limits 0)
@@ -174,7 +175,7 @@ row_kind l c (PutIf expected words) reply e = absurd e
 
 -- a call of the lock that was made has a reply of its kind
 pub may_reply : (limits : Bounds) (call : Call) (reply : Reply) (v w : LockPassView) →
-    IsTrue (is_lock_call call) → Answered limits call reply v w → MayReply call reply
+    IsTrue (is_lock_call call) → by_pass.Made limits call reply v w → MayReply call reply
 may_reply limits call reply v w lock a =
     row_kind limits (counts (events_after limits a.log)) call reply
     (replies_of limits call reply v w lock a)
@@ -182,14 +183,14 @@ may_reply limits call reply v w lock a =
 -- so has one that was made as a call which doesn't wait, and is that itself
 pub may_reply_tried : (limits : Bounds) (call : Call) (reply : Reply) (v w : LockPassView) →
     IsTrue (is_lock_call call) → try_form call ≡ call →
-    Answered limits (try_form call) reply v w → MayReply call reply
+    by_pass.Made limits (try_form call) reply v w → MayReply call reply
 may_reply_tried limits call reply v w lock tried a =
     may_reply limits call reply v w lock
-    (subst (λ (c : Call). Answered limits c reply v w) tried a)
+    (subst (λ (c : Call). by_pass.Made limits c reply v w) tried a)
 
 pub may_reply_once : (limits : Bounds) (call : Call) (result : Result Reply Lost) (v w : LockPassView) →
     IsTrue (is_lock_call call) → try_form call ≡ call →
-    IfOk result (λ reply. Answered limits (try_form call) reply v w) →
+    IfOk result (λ reply. by_pass.Made limits (try_form call) reply v w) →
     IfOk result (λ reply. MayReply call reply)
 may_reply_once limits call (Ok reply) v w lock tried a =
     may_reply_tried limits call reply v w lock tried a

@@ -9,7 +9,7 @@ ghost use Rattle.stamp_core.specs.declared.call.Call.TheVariants.{TryUnlockWrite
 ghost use Rattle.stamp_core.specs.declared.call.Call.TheVariants.{IsWriteLocked, IsReadLocked};
 ghost use Rattle.stamp_core.specs.declared.call.Call.TheVariants.{ReadCount};
 ghost use Rattle.stamp_core.specs.declared.reply.Reply.TheVariants.{Count};
-ghost use Rattle.stamp_threads.specs.Answered.{try_form};
+ghost use Rattle.stamp_threads.specs.Made.{try_form};
 ghost use Rattle.stamp_threads.specs.PassView.{after_split, split_off};
 ghost use Rattle.stamped_lock.specs.Made.{Made, MadeOrLost};
 ghost use Rattle.stamped_lock.specs.Replies.{stamped, tested, released, MayReply, NeverLoses};
