@@ -14,6 +14,7 @@ pub mod ClosedLock
 pub mod Found
 pub mod CallSteps
 pub mod Underway
+pub mod Replying
 pub mod TwoAccesses
 pub mod RecordWords
 pub mod RecordLogs

@@ -4,6 +4,7 @@ pub mod Seats
 pub mod LockLog
 pub mod LockPass
 pub mod Made
+pub mod MayReply
 pub mod LostExchange
 pub mod LockPassesMet
 pub mod Closes

@@ -9,6 +9,7 @@ ghost use Rattle.stamp_machines.specs.declared.machine.Turn.TheVariants as Turn;
 ghost use Rattle.stamp_threads.specs.PassView.{after_split, split_off};
 ghost use Rattle.stamp_threads.specs.LockPass.{HasEntered, IsConsistentWith, IsNew};
 ghost use Rattle.stamp_threads.specs.Made.{Made, IsWaiting, AccessesOnceOrTwice, try_form};
+ghost use Rattle.stamp_threads.specs.MayReply.{MayReply};
 ghost use Rattle.stamp_threads.specs.LostExchange.{LostExchange};
 ghost use Rattle.stamp_threads.specs.Underway.{GoesAsMachine, turn_once};
 ghost use Rattle.stamp_threads.specs.LockPassesMet.{LockPassesMet};
@@ -147,6 +148,7 @@ impl RunningLock {
         ensures table { pass.new.table ≡ self.now.table }
         ensures ok { let v = pass.old.view in let w = pass.new.view in
             IfOk result (λ r. Made self.now.limits (try_form call) r v w) }
+        ensures reply { IfOk result (λ r. MayReply (try_form call) r) }
         ensures accesses { OnOk result (AccessesOnceOrTwice self.now.limits pass.old.view pass.new.view) }
         ensures lost { let v = pass.old.view in let w = pass.new.view in
             IfErr result (λ l.
@@ -185,6 +187,7 @@ impl RunningLock {
         requires table { pass.old.table ≡ self.now.table }
         ensures table { pass.new.table ≡ self.now.table }
         ensures made { Made self.now.limits call result pass.old.view pass.new.view }
+        ensures reply { MayReply call result }
         ensures machine { GoesAsMachine self.now.limits call pass.old.view pass.new.view
             (Turn.Done result) }
     {

@@ -20,10 +20,11 @@ use Rattle.stamp_threads.specs.LockPass.{LockPassView}
 use Rattle.stamp_threads.specs.PassView.{entry}
 use Rattle.stamp_threads.specs.Made as by_pass
 use Rattle.stamp_threads.proofs.Beginnings.{begins_more, begins_further}
+use Rattle.stamp_threads.proofs.LockLogs.{history-append}
+use Rattle.stamp_threads.proofs.Replying.{replies_of}
 use Rattle.stamped_lock.specs.LockHandleView.{LockHandleView}
 use Rattle.stamped_lock.specs.Made.{Made}
 use Rattle.stamped_lock.specs.Sections.{IsUnwritten}
-use Rattle.stamped_lock.proofs.Replying.{history-append, replies_of}
 
 -- an optimistic stamp is valid at the version of its issue alone
 same_version : (limits : Bounds) (c c' : Counts) (s : ℕ) →

@@ -5,6 +5,7 @@ use Rattle.stamp_threads.specs.LockPass.{LockView, LockToken}
 use Rattle.stamp_threads.proofs.CallSteps.{exchange_won, exchange_lost}
 use Rattle.stamp_threads.proofs.Underway.{begins, is_made_by_answer, ends_by_answer, is_made_by_change}
 use Rattle.stamp_threads.proofs.Underway.{ends_by_change, loses_exchange, loads_again}
+use Rattle.stamp_threads.proofs.Replying.{may_reply}
 use Rattle.stamp_threads.proofs.running_lock.RunningLock.call.Goals as goal
 
 pub loop-init : goal.loop-init
@@ -27,6 +28,12 @@ returns-in-Answer-clause-made g c =
     rw c.as_reply.ensures
     (is_made_by_answer _ _ _ _ _ c.loop.invariant.underway _ c.in-Answer.ensures.decides)
 
+pub returns-in-Answer-clause-reply : goal.returns-in-Answer-clause-reply
+returns-in-Answer-clause-reply g c =
+    rw c.as_reply.ensures
+    (may_reply _ _ _ _ _ c.requires.lock_call
+    (is_made_by_answer _ _ _ _ _ c.loop.invariant.underway _ c.in-Answer.ensures.decides))
+
 pub returns-in-Answer-clause-machine : goal.returns-in-Answer-clause-machine
 returns-in-Answer-clause-machine g c =
     rw c.as_reply.ensures
@@ -39,6 +46,15 @@ returns-then-found-old-clause-made g c =
     (is_made_by_change _ _ _ _ _ c.loop.invariant.underway _ _ c.in-Change.ensures.decides
     c.in-Change.ensures.number _
     (exchange_won _ _ _ _ _ _ c.if-found-old.true (rw limits at c.exchange-found.ensures.told)))
+
+pub returns-then-found-old-clause-reply : goal.returns-then-found-old-clause-reply
+returns-then-found-old-clause-reply g c =
+    let limits = c.self.invariant.0 ∙ ap (λ (l : LockView). l.limits) c.self.view_is in
+    rw c.as_reply-then-found-old.ensures
+    (may_reply _ _ _ _ _ c.requires.lock_call
+    (is_made_by_change _ _ _ _ _ c.loop.invariant.underway _ _ c.in-Change.ensures.decides
+    c.in-Change.ensures.number _
+    (exchange_won _ _ _ _ _ _ c.if-found-old.true (rw limits at c.exchange-found.ensures.told))))
 
 pub returns-then-found-old-clause-machine : goal.returns-then-found-old-clause-machine
 returns-then-found-old-clause-machine g c =
