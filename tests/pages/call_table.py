@@ -59,7 +59,7 @@ def methods(*files):
 
 def replies_by_contract():
     """The replies that each call may get, by `MayReply`; a call that it doesn't name gets a stamp."""
-    text = text_of("crates/stamped_lock/specs/Replies.antt")
+    text = text_of("crates/stamp_threads/specs/MayReply.antt")
     kinds = dict(re.findall(r"^MayReply \(?(\w+).* = (\w+)$", text, re.M))
     return lambda call: OF_RECORD.get(call) or REPLIES[kinds.get(call, "IsStampReply")]
 

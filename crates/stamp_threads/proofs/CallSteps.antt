@@ -17,14 +17,14 @@ use Rattle.stamp_threads.specs.LockLog.{LockLog, events_after}
 use Rattle.stamp_threads.specs.LockPass.{LockPassView, IsConsistentWith, LeavesWord}
 use Rattle.stamp_threads.specs.LockRule.{Loaded, Won, Exchanged, making, reading, answering}
 use Rattle.stamp_threads.specs.Underway.{WentOn}
-use Rattle.stamp_threads.specs.Answered.{Answered, IsWaiting}
+use Rattle.stamp_threads.specs.Made.{Made, IsWaiting}
 use Rattle.stamp_threads.proofs.SamePass.{no_call_by}
 
 module _ (limits : Bounds) (call : Call) (v : LockPassView) (found : ℕ) (w : LockPassView) where
-  answered_at : (log : LockLog) (reply : Reply) → LeavesWord limits v found log →
+  made_at : (log : LockLog) (reply : Reply) → LeavesWord limits v found log →
       w ≡ adding (finding v found) log (call, reply) → IsConsistentWith limits w →
-      Answered limits call reply v w
-  answered_at log reply left is consistent = record {
+      Made limits call reply v w
+  made_at log reply left is consistent = record {
     log = log;
     word = found;
     left = left;
@@ -50,23 +50,23 @@ module _ (limits : Bounds) (call : Call) (v : LockPassView) (found : ℕ) (w : L
 
   -- the word found answers the call
   pub by_answer : (reply : Reply) → Loaded limits call v found w →
-      Answers limits (word_at limits found) call reply → Answered limits call reply v w
+      Answers limits (word_at limits found) call reply → Made limits call reply v w
   by_answer reply l answers =
       let is : w ≡ adding (finding v found) l.log (call, reply) =
       l.after ∙ ap (λ (o : Option Transition). reading o call (finding v found) l.log)
       (answers (events_after limits l.log) l.left.represents) in
-      answered_at l.log reply l.left is l.consistent
+      made_at l.log reply l.left is l.consistent
 
   -- the call was made by an exchange
   pub by_change_made : (new : LockWord) (reply : Reply) → Won limits call v found w →
-      Changes limits (word_at limits found) call new reply → Answered limits call reply v w
+      Changes limits (word_at limits found) call new reply → Made limits call reply v w
   by_change_made new reply won changes =
       let m : Moves limits (events_after limits won.log) call (word_at limits found) new reply =
       changes (events_after limits won.log) won.left.represents in
       let is : w ≡ adding (finding v found) won.log (call, reply) =
       won.after ∙
       ap (λ (o : Option Transition). making o call (finding v found) won.log) m.transition_is in
-      answered_at won.log reply won.left is won.consistent
+      made_at won.log reply won.left is won.consistent
 
   only_known : (appended : List LockEvent) (reply : Reply) (log : LockLog) → appended ≢ [] →
       answering appended reply call (finding v found) log ≡ knowing (finding v found) log

@@ -11,9 +11,10 @@ pub mod RuleKept
 pub mod PassMoves
 pub mod NewLock
 pub mod ClosedLock
-pub mod Looks
+pub mod Found
 pub mod CallSteps
 pub mod Underway
+pub mod Replying
 pub mod TwoAccesses
 pub mod RecordWords
 pub mod RecordLogs

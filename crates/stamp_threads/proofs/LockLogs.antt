@@ -18,7 +18,7 @@ use Rattle.stamp_threads.specs.PassView.{entry}
 use Rattle.stamp_threads.specs.LockLog.{LockLog, history_in, events_after, transition_after}
 use Rattle.stamp_threads.specs.LockLog.{AreLockCalls, IsLegalLog}
 
-history-append : (xs ys : LockLog) → history_in (xs ++ ys) ≡ history_in xs ++ history_in ys
+pub history-append : (xs ys : LockLog) → history_in (xs ++ ys) ≡ history_in xs ++ history_in ys
 history-append [] ys = refl
 history-append (x ∷ xs) ys = ap (λ (l : History). x.made ∷ l) (history-append xs ys)
 

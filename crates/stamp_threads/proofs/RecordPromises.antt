@@ -17,7 +17,7 @@ use Rattle.stamp_threads.specs.RecordPass.{RecordPassView, Seated, LeavesWord, f
 use Rattle.stamp_threads.specs.RecordRule.{with_phase, starting_to_load, acquiring, LoadedForPut}
 use Rattle.stamp_threads.specs.RecordRule.{Acquired, LoadedForGet, Released}
 use Rattle.stamp_threads.specs.RecordRule.{Confirmed, Overtaken, word_to_confirm, Met}
-use Rattle.stamp_threads.specs.RecordCall.{RecordAnswered, SawWord, WasBusy, WasLost, WasSpent}
+use Rattle.stamp_threads.specs.RecordCall.{MadeOnRecord, KnowsWord, WasBusy, WasLost, WasSpent}
 use Rattle.stamp_threads.specs.RecordCall.{RecordPassesMet}
 use Rattle.stamp_threads.proofs.Beginnings.{begins_further, begins_more}
 use Rattle.stamp_threads.proofs.SamePass.{no_call_by}
@@ -124,10 +124,10 @@ HeldTest shape word b =
 
 -- refusals, and a get that is made; v is the pass before the call
 module _ (shape : RecordShape) (v : RecordPassView) (loaded : ℕ) where
-  load_saw : (me : Seated) → LoadedForPut shape v loaded me → v.phase ≡ Idle →
-      SawWord shape v loaded (first_of me.0)
-  load_saw me t idle =
-      subst (λ (m : Seated). SawWord shape v loaded (first_of m.0)) (sym t.after) (record {
+  knows_by_load : (me : Seated) → LoadedForPut shape v loaded me → v.phase ≡ Idle →
+      KnowsWord shape v loaded (first_of me.0)
+  knows_by_load me t idle =
+      subst (λ (m : Seated). KnowsWord shape v loaded (first_of m.0)) (sym t.after) (record {
         left = t.left;
         others = t.others;
         no_call = no_call_by v _ refl refl refl;
@@ -143,8 +143,8 @@ module _ (shape : RecordShape) (v : RecordPassView) (loaded : ℕ) where
   put_busy : (me : Seated) → LoadedForPut shape v loaded me → v.phase ≡ Idle →
       HeldTest shape loaded true → WasBusy shape v loaded (first_of me.0)
   put_busy me t idle test = record {
-    looks = ap (λ (m : Seated). (first_of m.0).found) t.after;
-    saw = load_saw me t idle;
+    has_found = ap (λ (m : Seated). (first_of m.0).found) t.after;
+    knows = knows_by_load me t idle;
     locked = ap (λ (m : Seated). is_locked (first_of m.0).known) t.after ∙
         locked_of t.log t.left test;
   }
@@ -160,8 +160,8 @@ module _ (shape : RecordShape) (v : RecordPassView) (loaded : ℕ) where
       let few = t.left.few in
       let all : puts t.log ≡ shape.limits.versions = omega arith in
       record {
-        looks = ap (λ (m : Seated). (first_of m.0).found) t.after;
-        saw = load_saw me t idle;
+        has_found = ap (λ (m : Seated). (first_of m.0).found) t.after;
+        knows = knows_by_load me t idle;
         free = ap (λ (m : Seated). is_locked (first_of m.0).known) t.after ∙ free;
         all = ap (λ (m : Seated). puts (first_of m.0).known) t.after ∙ all;
         last = free_word shape v loaded t.log t.left free ∙
@@ -171,26 +171,26 @@ module _ (shape : RecordShape) (v : RecordPassView) (loaded : ℕ) where
   -- the pass that knew the first history has come to know a longer one
   lost_after : (first : RecordLog) (phase : RecordPhase) (found : ℕ) (w : RecordPassView) →
       LeavesWord shape v loaded first → is_locked first ≡ false → found ≢ loaded →
-      SawWord shape (with_phase (knowing (finding v loaded) first) phase) found w →
+      KnowsWord shape (with_phase (knowing (finding v loaded) first) phase) found w →
       HasFound (finding v loaded) (found ∷ []) w → WasLost shape v loaded found w
-  lost_after first phase found w left free differ saw looks = record {
+  lost_after first phase found w left free differ knows has_found = record {
     differ = λ e. differ (sym e);
-    looks = looks ∙ append_assoc v.found (loaded ∷ []) (found ∷ []);
+    has_found = has_found ∙ append_assoc v.found (loaded ∷ []) (found ∷ []);
     first = first;
     at_first = left;
     free = free;
-    longer = saw.left.begins;
-    saw = record {
+    longer = knows.left.begins;
+    knows = record {
       left = record {
-        begins = begins_further v.known first w.known left.begins saw.left.begins;
-        legal = saw.left.legal;
-        word_is = saw.left.word_is;
-        few = saw.left.few;
+        begins = begins_further v.known first w.known left.begins knows.left.begins;
+        legal = knows.left.legal;
+        word_is = knows.left.word_is;
+        few = knows.left.few;
       };
-      others = saw.others;
-      no_call = no_call_by v w saw.no_call.same.name saw.no_call.same.splits saw.no_call.own;
-      idle = saw.idle;
-      consistent = saw.consistent;
+      others = knows.others;
+      no_call = no_call_by v w knows.no_call.same.name knows.no_call.same.splits knows.no_call.own;
+      idle = knows.idle;
+      consistent = knows.consistent;
     };
   }
 
@@ -259,11 +259,11 @@ module _ (shape : RecordShape) (v : RecordPassView) (loaded : ℕ) where
         }) refl)
 
     get_made : (found : ℕ) (me3 : Seated) → Told found me3 (first_of me2.0) → found ≡ loaded →
-        RecordAnswered shape Get (Content words) v (first_of me3.0)
+        MadeOnRecord shape Get (Content words) v (first_of me3.0)
     get_made found me3 told same =
         let o : Confirmed shape reads found me3 P words =
         told_by found me3 true (eq-eqb found loaded same) told in
-        subst (λ (m : Seated). RecordAnswered shape Get (Content words) v (first_of m.0)) (sym o.after)
+        subst (λ (m : Seated). MadeOnRecord shape Get (Content words) v (first_of m.0)) (sym o.after)
         (record {
           log = o.log;
           first = t.log;
@@ -278,7 +278,7 @@ module _ (shape : RecordShape) (v : RecordPassView) (loaded : ℕ) where
           few = (let p = puts_get o.log v.name words in let l = o.left.few in omega arith);
           consistent = o.consistent;
           word = loaded;
-          looks = append_assoc v.found (loaded ∷ []) (found ∷ []) ∙
+          has_found = append_assoc v.found (loaded ∷ []) (found ∷ []) ∙
               ap (λ (n : ℕ). v.found ++ loaded ∷ n ∷ []) same;
         })
 
@@ -295,7 +295,7 @@ module _ (shape : RecordShape) (v : RecordPassView) (loaded : ℕ) where
       me3 ≡ alone (with_phase (first_of me2.0) (Writing (puts got.log) words shape.width)) →
       held ≡ loaded + writer_unit shape.limits.layout →
       Released shape (first_of me3.0) held me4 words →
-      RecordAnswered shape (Put words) Done v (first_of me4.0)
+      MadeOnRecord shape (Put words) Done v (first_of me4.0)
   put_made me me2 me3 me4 words found held t got hit stored up told =
       let u : RecordPassView = knowing (finding v loaded) t.log in
       let is : first_of me.0 ≡ u = ap (λ (m : Seated). first_of m.0) t.after in
@@ -309,9 +309,9 @@ module _ (shape : RecordShape) (v : RecordPassView) (loaded : ℕ) where
       let o : Released shape x held me4 words =
       subst (λ (y : RecordPassView). Released shape y held me4 words) x_is told in
       let mark = entry v.name Mark in
-      subst (λ (m : Seated). RecordAnswered shape (Put words) Done v (first_of m.0)) (sym o.after) (record {
+      subst (λ (m : Seated). MadeOnRecord shape (Put words) Done v (first_of m.0)) (sym o.after) (record {
         word = loaded;
-        looks = ap (λ (l : List ℕ). l ++ held ∷ [])
+        has_found = ap (λ (l : List ℕ). l ++ held ∷ [])
             (append_assoc v.found (loaded ∷ []) (found ∷ [])) ∙
             (append_assoc v.found (loaded ∷ found ∷ []) (held ∷ []) ∙
             (λ i. v.found ++ loaded ∷ hit i ∷ up i ∷ []));
@@ -386,10 +386,10 @@ module _ (key shape : RecordShape) (same : key ≡ shape) (v : RecordPassView) (
       me3 ≡ alone (with_phase (first_of me2.0) (Writing (puts got.log) words key.width)) →
       held ≡ loaded + writer_unit shape.limits.layout →
       Released key (first_of me3.0) held me4 words →
-      RecordAnswered shape (Put words) Done v (first_of me4.0)
+      MadeOnRecord shape (Put words) Done v (first_of me4.0)
   put_made_of me me2 me3 me4 words found held t got hit stored up told =
       subst (λ (z : RecordShape). held ≡ loaded + writer_unit z.limits.layout →
-      RecordAnswered z (Put words) Done v (first_of me4.0)) same
+      MadeOnRecord z (Put words) Done v (first_of me4.0)) same
       (λ is. put_made key v loaded me me2 me3 me4 words found held t got hit stored is told) up
 
   pub get_busy_of : (me : Seated) → LoadedForGet key v loaded me → v.phase ≡ Idle →
@@ -413,10 +413,10 @@ module _ (key shape : RecordShape) (same : key ≡ shape) (v : RecordPassView) (
         WasLost z v loaded found (first_of me3.0)) same
         (λ f. get_lost key v loaded P me me2 words t f loads found me3 told differ) test
 
-    pub get_made_of : found ≡ loaded → RecordAnswered shape Get (Content words) v (first_of me3.0)
+    pub get_made_of : found ≡ loaded → MadeOnRecord shape Get (Content words) v (first_of me3.0)
     get_made_of hit =
         subst (λ (z : RecordShape). HeldTest z loaded false →
-        RecordAnswered z Get (Content words) v (first_of me3.0)) same
+        MadeOnRecord z Get (Content words) v (first_of me3.0)) same
         (λ f. get_made key v loaded P me me2 words t f loads found me3 told hit) test
 
     pub get_obeys_of : found ≡ loaded → P words

@@ -105,12 +105,12 @@ module _ {enterable : Bool} (limits : Bounds) (s : State (Unit {0}) (List LockPa
   leaves_now = record { begins = part_now.known; legal = r.legal; represents = r.represents }
 
   -- the pass once it has found the word that stands there
-  abbrev looked : LockPassView
-  looked = finding v (get_or s.words 0 0)
+  abbrev after_finding : LockPassView
+  after_finding = finding v (get_or s.words 0 0)
 
-  pub knows_all : Steps enterable limits s id (get_or s.words 0 0) (knowing looked r.log)
+  pub knows_all : Steps enterable limits s id (get_or s.words 0 0) (knowing after_finding r.log)
   knows_all =
-      let w : LockPassView = knowing looked r.log in
+      let w : LockPassView = knowing after_finding r.log in
       let same = same_one v w refl refl in
       let grows = grows_none (v ∷ []) r.log in
       let all = only_one (λ k u. (u.known ≡ r.log) × (made_by every u.name r.log ≡ u.own)) w
@@ -126,11 +126,11 @@ module _ {enterable : Bool} (limits : Bounds) (s : State (Unit {0}) (List LockPa
         →
         RepresentsAt limits word (events_after limits
         (r.log ++ entry v.name (call, t.reply) ∷ []))
-        → Steps enterable limits s id word (adding looked r.log (call, t.reply))
+        → Steps enterable limits s id word (adding after_finding r.log (call, t.reply))
     makes_call t word is represents =
         let m : Call × Reply = (call, t.reply) in
         let log' : LockLog = r.log ++ entry v.name m ∷ [] in
-        let w : LockPassView = adding looked r.log m in
+        let w : LockPassView = adding after_finding r.log m in
         let same = same_one v w refl refl in
         let grows = grows_one v r.log m in
         let own = made_by-same every v.name r.log m ∙
@@ -147,7 +147,7 @@ module _ {enterable : Bool} (limits : Bounds) (s : State (Unit {0}) (List LockPa
     by_appended : (appended : List LockEvent) (reply : Reply) →
         transition_after limits r.log call ≡
         Some (record { appended = appended; reply = reply }) →
-        Steps enterable limits s id (get_or s.words 0 0) (answering appended reply call looked r.log)
+        Steps enterable limits s id (get_or s.words 0 0) (answering appended reply call after_finding r.log)
     by_appended [] reply is = makes_call (record { appended = []; reply = reply })
         (get_or s.words 0 0) is (represents_unchanged limits r.log call v.name
         (record { appended = []; reply = reply }) is _ refl r.represents)
@@ -155,16 +155,16 @@ module _ {enterable : Bool} (limits : Bounds) (s : State (Unit {0}) (List LockPa
 
     by_transition : (o : Rattle.std.proofs.Common.Option Transition) →
         transition_after limits r.log call ≡ o →
-        Steps enterable limits s id (get_or s.words 0 0) (reading o call looked r.log)
+        Steps enterable limits s id (get_or s.words 0 0) (reading o call after_finding r.log)
     by_transition None is = knows_all
     by_transition (Some t) is = by_appended t.appended t.reply is
 
-    pub loads : Steps enterable limits s id (get_or s.words 0 0) (after_load limits call looked r.log)
+    pub loads : Steps enterable limits s id (get_or s.words 0 0) (after_load limits call after_finding r.log)
     loads = by_transition (transition_after limits r.log call) refl
 
     pub wins : (old new : ℕ) (reply : Reply) → get_or s.words 0 0 ≡ old →
         Changes limits (word_at limits old) call (word_at limits new) reply →
-        Steps enterable limits s id new (after_win limits call looked r.log)
+        Steps enterable limits s id new (after_win limits call after_finding r.log)
     wins old new reply hit changes =
         let m : Moves limits (events_after limits r.log) call (word_at limits old)
         (word_at limits new) reply = changes (events_after limits r.log)
@@ -173,7 +173,7 @@ module _ {enterable : Bool} (limits : Bounds) (s : State (Unit {0}) (List LockPa
         let made = makes_call t new m.transition_is
         (represents_changed limits r.log call v.name t m.transition_is new m.represented) in
         subst (λ (w : LockPassView). Steps enterable limits s id new w)
-        (sym (ap (λ (o : Rattle.std.proofs.Common.Option Transition). making o call looked r.log)
+        (sym (ap (λ (o : Rattle.std.proofs.Common.Option Transition). making o call after_finding r.log)
         m.transition_is)) made
 
     module _ (me : Seated) (is : me ≡ alone v) where
@@ -184,7 +184,7 @@ module _ {enterable : Bool} (limits : Bounds) (s : State (Unit {0}) (List LockPa
 
       pub load_leaves : Leaves enterable limits s id me (get_or s.words 0 0)
           (Loaded limits call v (get_or s.words 0 0))
-      load_leaves = leaves (get_or s.words 0 0) (after_load limits call looked r.log)
+      load_leaves = leaves (get_or s.words 0 0) (after_load limits call after_finding r.log)
           (Loaded limits call v (get_or s.words 0 0)) loads
           (record { log = r.log; left = leaves_now; after = refl; consistent = loads.1 })
 
@@ -193,7 +193,7 @@ module _ {enterable : Bool} (limits : Bounds) (s : State (Unit {0}) (List LockPa
           Leaves enterable limits s id me new (Won limits call v (get_or s.words 0 0))
       win_leaves old new reply hit changes =
           let t = wins old new reply hit changes in
-          leaves new (after_win limits call looked r.log) (Won limits call v (get_or s.words 0 0)) t
+          leaves new (after_win limits call after_finding r.log) (Won limits call v (get_or s.words 0 0)) t
           (record { log = r.log; left = leaves_now; after = refl; consistent = t.1 })
 
 -- a load

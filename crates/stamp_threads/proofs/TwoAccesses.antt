@@ -10,12 +10,12 @@ use Rattle.stamp_threads.specs.LockLog.{LockLog, events_after, Appends}
 use Rattle.stamp_threads.specs.LockPass.{LockPassView}
 use Rattle.stamp_threads.specs.LockRule.{Loaded, Won}
 use Rattle.stamp_threads.specs.PassView.{entry, HasFound}
-use Rattle.stamp_threads.specs.Answered.{Answered, LooksTwice}
+use Rattle.stamp_threads.specs.Made.{Made, AccessesTwice}
 use Rattle.stamp_threads.specs.LostExchange.{LostExchange}
 use Rattle.stamp_threads.specs.Underway.{WentOn}
 use Rattle.stamp_threads.proofs.Beginnings.{begins_further}
 use Rattle.stamp_threads.proofs.CallSteps.{by_answer, by_change, by_change_made}
-use Rattle.stamp_threads.proofs.Looks.{looks_by_load, looks_by_win, looks_twice}
+use Rattle.stamp_threads.proofs.Found.{found_by_load, found_by_win, found_twice}
 use Rattle.stamp_threads.proofs.SamePass.{no_call_further}
 
 appends : (limits : Bounds) (call : Call) (word : ℕ) (new : LockWord) (reply : Reply) →
@@ -34,14 +34,14 @@ module _ (limits : Bounds) (call : Call) (v : LockPassView) (loaded : ℕ) (u : 
   went = by_change limits call v loaded u new reply load changes
 
   first : HasFound v (loaded ∷ []) u
-  first = looks_by_load limits call v loaded u load
+  first = found_by_load limits call v loaded u load
 
   twice : (found : ℕ) (w : LockPassView) (reply' : Reply) → HasFound u (found ∷ []) w →
-      Answered limits call reply' u w → LooksTwice limits v w
+      Made limits call reply' u w → AccessesTwice limits v w
   twice found w reply' second a = record {
     loaded = loaded;
     found = found;
-    looks = looks_twice v u w loaded found first second;
+    has_found = found_twice v u w loaded found first second;
     first = u.known;
     at_first = went.left;
     log = a.log;
@@ -50,14 +50,14 @@ module _ (limits : Bounds) (call : Call) (v : LockPassView) (loaded : ℕ) (u : 
     known = a.known;
   }
 
-  pub twice_by_win : (w : LockPassView) → Won limits call u loaded w → LooksTwice limits v w
-  twice_by_win w won = twice loaded w reply (looks_by_win limits call u loaded w won)
+  pub twice_by_win : (w : LockPassView) → Won limits call u loaded w → AccessesTwice limits v w
+  twice_by_win w won = twice loaded w reply (found_by_win limits call u loaded w won)
       (by_change_made limits call u loaded w new reply won changes)
 
   pub twice_by_answer : (found : ℕ) (w : LockPassView) (reply' : Reply) → Loaded limits call u found w →
-      Answers limits (word_at limits found) call reply' → LooksTwice limits v w
+      Answers limits (word_at limits found) call reply' → AccessesTwice limits v w
   twice_by_answer found w reply' load' answers =
-      twice found w reply' (looks_by_load limits call u found w load')
+      twice found w reply' (found_by_load limits call u found w load')
       (by_answer limits call u found w reply' load' answers)
 
   -- the exchange found another word, which the call is to change too
@@ -69,7 +69,7 @@ module _ (limits : Bounds) (call : Call) (v : LockPassView) (loaded : ℕ) (u : 
       by_change limits call u found w new' reply' load' changes' in
       record {
         differ = differ;
-        looks = looks_twice v u w loaded found first (looks_by_load limits call u found w load');
+        has_found = found_twice v u w loaded found first (found_by_load limits call u found w load');
         first = u.known;
         at_first = went.left;
         at_second =

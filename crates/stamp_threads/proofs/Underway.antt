@@ -25,11 +25,11 @@ use Rattle.stamp_machines.proofs.TwoKindsOfCall.{lock_none}
 use Rattle.stamp_threads.specs.LockPass.{LockPassView}
 use Rattle.stamp_threads.specs.LockRule.{Loaded, Won}
 use Rattle.stamp_threads.specs.PassView.{entry, HasFound}
-use Rattle.stamp_threads.specs.Answered.{Answered}
+use Rattle.stamp_threads.specs.Made.{Made}
 use Rattle.stamp_threads.specs.Underway.{GoesAsMachine, Underway, Waited, WentOn}
 use Rattle.stamp_threads.proofs.Beginnings.{begins_all, begins_further}
 use Rattle.stamp_threads.proofs.CallSteps.{by_answer, by_change, by_change_made, by_wait}
-use Rattle.stamp_threads.proofs.Looks.{looks_by_load, looks_by_win}
+use Rattle.stamp_threads.proofs.Found.{found_by_load, found_by_win}
 use Rattle.stamp_threads.proofs.SamePass.{same_further, no_call_yet, no_call_further}
 
 -- a machine that goes on finds one word more
@@ -45,18 +45,18 @@ finds_more (first ∷ words) (Done reply) m word after is next = absurd is
 waits_more : (limits : Bounds) (v u : LockPassView) (words : List ℕ) (found : ℕ) (w : LockPassView) →
     Waited v words u → WentOn limits u found w → HasFound u (found ∷ []) w →
     Waited v (words ++ found ∷ []) w
-waits_more limits v u words found w waited went looks = record {
+waits_more limits v u words found w waited went has_found = record {
   begins = begins_further v.known u.known w.known waited.begins went.left.begins;
-  found = looks ∙ (ap (λ (l : List ℕ). l ++ found ∷ []) waited.found ∙
+  has_found = has_found ∙ (ap (λ (l : List ℕ). l ++ found ∷ []) waited.has_found ∙
       append_assoc v.found words (found ∷ []));
   no_call = no_call_further v u w waited.no_call went.no_call;
 }
 
--- a call that has waited, and is answered by the next access
-answered_after : (limits : Bounds) (call : Call) (reply : Reply) (v u : LockPassView) (words : List ℕ)
-    (w : LockPassView) → Waited v words u → Answered limits call reply u w →
-    Answered limits call reply v w
-answered_after limits call reply v u words w waited a = record {
+-- a call that has waited, and is made by the next access
+made_after : (limits : Bounds) (call : Call) (reply : Reply) (v u : LockPassView) (words : List ℕ)
+    (w : LockPassView) → Waited v words u → Made limits call reply u w →
+    Made limits call reply v w
+made_after limits call reply v u words w waited a = record {
   log = a.log;
   word = a.word;
   left = record {
@@ -65,7 +65,7 @@ answered_after limits call reply v u words w waited a = record {
     represents = a.left.represents;
   };
   earlier = words ++ a.earlier;
-  last = a.last ∙ (ap (λ (l : List ℕ). l ++ (a.earlier ++ a.word ∷ [])) waited.found ∙
+  last = a.last ∙ (ap (λ (l : List ℕ). l ++ (a.earlier ++ a.word ∷ [])) waited.has_found ∙
       (append_assoc v.found words (a.earlier ++ a.word ∷ []) ∙
       ap (λ (l : List ℕ). v.found ++ l) (sym (append_assoc words a.earlier (a.word ∷ [])))));
   known = a.known ∙ ap (λ (n : List ℕ). a.log ++ entry n (call, reply) ∷ []) waited.no_call.same.name;
@@ -82,7 +82,7 @@ begins limits call v found w lock loaded = record {
   words = [];
   waited = record {
     begins = begins_all v.known;
-    found = sym (append-nil v.found);
+    has_found = sym (append-nil v.found);
     no_call = no_call_yet v;
   };
   loaded = loaded;
@@ -95,10 +95,10 @@ begins limits call v found w lock loaded = record {
 
 module _ (limits : Bounds) (call : Call) (v : LockPassView) (found : ℕ) (w : LockPassView)
     (underway : Underway limits call v found w) where
-  looks_so_far : HasFound v (underway.words ++ found ∷ []) w
-  looks_so_far =
-      looks_by_load limits call underway.before found w underway.loaded ∙
-      (ap (λ (l : List ℕ). l ++ found ∷ []) underway.waited.found ∙
+  found_so_far : HasFound v (underway.words ++ found ∷ []) w
+  found_so_far =
+      found_by_load limits call underway.before found w underway.loaded ∙
+      (ap (λ (l : List ℕ). l ++ found ∷ []) underway.waited.has_found ∙
       append_assoc v.found underway.words (found ∷ []))
 
   -- the machine stands where the decision on the word found leads
@@ -110,14 +110,14 @@ module _ (limits : Bounds) (call : Call) (v : LockPassView) (found : ℕ) (w : L
       (lock_turn (lock_alone limits) call (turn_on found e))) (sym is) underway.machine
 
   -- the word found answers the call
-  pub is_answered : (reply : Reply) → Answers limits (word_at limits found) call reply →
-      Answered limits call reply v w
-  is_answered reply answers = answered_after limits call reply v underway.before underway.words w
+  pub is_made_by_answer : (reply : Reply) → Answers limits (word_at limits found) call reply →
+      Made limits call reply v w
+  is_made_by_answer reply answers = made_after limits call reply v underway.before underway.words w
       underway.waited (by_answer limits call underway.before found w reply underway.loaded answers)
 
   pub ends_by_answer : (reply : Reply) → Answer reply ≡ decision limits found call →
       GoesAsMachine limits call v w (Done reply)
-  ends_by_answer reply is = (underway.words ++ found ∷ [], looks_so_far, turns (Answer reply) is)
+  ends_by_answer reply is = (underway.words ++ found ∷ [], found_so_far, turns (Answer reply) is)
 
   module _ (new : LockWord) (reply : Reply)
       (changes : Changes limits (word_at limits found) call new reply)
@@ -127,7 +127,7 @@ module _ (limits : Bounds) (call : Call) (v : LockPassView) (found : ℕ) (w : L
 
     waited : Waited v (underway.words ++ found ∷ []) w
     waited = waits_more limits v underway.before underway.words found w underway.waited went
-        (looks_by_load limits call underway.before found w underway.loaded)
+        (found_by_load limits call underway.before found w underway.loaded)
 
     -- where the machine stands after its exchange has found this word
     exchanged : (word : ℕ) (b : Bool) → (word == found) ≡ b →
@@ -140,16 +140,16 @@ module _ (limits : Bounds) (call : Call) (v : LockPassView) (found : ℕ) (w : L
         (if c then phases.Done reply else turn_on word (decision limits word call))) same
 
     -- the exchange found the same word
-    pub is_made : (u : LockPassView) → Won limits call w found u → Answered limits call reply v u
-    is_made u won = answered_after limits call reply v w (underway.words ++ found ∷ []) u waited
+    pub is_made_by_change : (u : LockPassView) → Won limits call w found u → Made limits call reply v u
+    is_made_by_change u won = made_after limits call reply v w (underway.words ++ found ∷ []) u waited
         (by_change_made limits call w found u new reply won changes)
 
     pub ends_by_change : (u : LockPassView) → Won limits call w found u →
         GoesAsMachine limits call v u (Done reply)
     ends_by_change u won = (
       (underway.words ++ found ∷ []) ++ found ∷ [],
-      looks_by_win limits call w found u won ∙
-          (ap (λ (l : List ℕ). l ++ found ∷ []) waited.found ∙
+      found_by_win limits call w found u won ∙
+          (ap (λ (l : List ℕ). l ++ found ∷ []) waited.has_found ∙
           append_assoc v.found (underway.words ++ found ∷ []) (found ∷ [])),
       finds_more (underway.words ++ found ∷ []) (Going (start (lock_alone limits) call))
           (on_lock_alone limits call (Some found)) found (Done reply) (turns (Change new reply) is)
@@ -178,7 +178,7 @@ module _ (limits : Bounds) (call : Call) (v : LockPassView) (found : ℕ) (w : L
     words = underway.words ++ found ∷ [];
     waited = waits_more limits v underway.before underway.words found w underway.waited
         (by_wait limits call underway.before found w underway.loaded none)
-        (looks_by_load limits call underway.before found w underway.loaded);
+        (found_by_load limits call underway.before found w underway.loaded);
     loaded = loaded;
     machine = finds_more (underway.words ++ found ∷ []) (Going (start (lock_alone limits) call))
         (on_lock_alone limits call None) word
@@ -193,6 +193,6 @@ pub goes_to_change : (limits : Bounds) (call : Call) (v : LockPassView) (found :
     GoesAsMachine limits call v w (Going (on_lock_alone limits call (Some found)))
 goes_to_change limits call v found w new reply underway is = (
   underway.words ++ found ∷ [],
-  looks_so_far limits call v found w underway,
+  found_so_far limits call v found w underway,
   turns limits call v found w underway (Change new reply) is,
 )

@@ -3,7 +3,8 @@ pub mod PassView
 pub mod Seats
 pub mod LockLog
 pub mod LockPass
-pub mod Answered
+pub mod Made
+pub mod MayReply
 pub mod LostExchange
 pub mod LockPassesMet
 pub mod Closes

@@ -13,7 +13,7 @@ use Rattle.stamp_threads.specs.LockPass.{LockPassView, IsConsistentWith, LeavesW
 pub record LostExchange (limits : Bounds) (call : Call) (loaded found : ℕ) (v w : LockPassView) : Type 0
   where
     pub differ : loaded ≢ found
-    pub looks : HasFound v (loaded ∷ found ∷ []) w
+    pub has_found : HasFound v (loaded ∷ found ∷ []) w
     pub first : LockLog
     pub at_first : LeavesWord limits v loaded first
     pub at_second : LeavesWord limits v found w.known

@@ -34,10 +34,10 @@ last_found layout _ word = word
 -- a first history goes on from what the pass knew, and leaves the word that its accesses found; the
 -- log goes on from that, and leaves the last of these words. Then comes this call with the reply that
 -- the log gives it, which is one more of the pass's own
-pub record RecordAnswered (shape : RecordShape) (call : Call) (reply : Reply) (v w : RecordPassView) :
+pub record MadeOnRecord (shape : RecordShape) (call : Call) (reply : Reply) (v w : RecordPassView) :
     Type 0 where
   pub word : ℕ
-  pub looks : HasFound v (words_found shape.limits.layout call word) w
+  pub has_found : HasFound v (words_found shape.limits.layout call word) w
   pub first : RecordLog
   pub at_first : LeavesWord shape v word first
   pub log : RecordLog
@@ -53,7 +53,7 @@ pub record RecordAnswered (shape : RecordShape) (call : Call) (reply : Reply) (v
 
 -- the pass has come to know a history that leaves this word, and made no call: where that history
 -- is locked, another pass made its last mark
-pub record SawWord (shape : RecordShape) (v : RecordPassView) (word : ℕ) (w : RecordPassView) :
+pub record KnowsWord (shape : RecordShape) (v : RecordPassView) (word : ℕ) (w : RecordPassView) :
     Type 0 where
   pub left : LeavesWord shape v word w.known
   pub others : is_locked w.known ≡ true → marker_in w.known ≢ v.name
@@ -64,8 +64,8 @@ pub record SawWord (shape : RecordShape) (v : RecordPassView) (word : ℕ) (w : 
 -- somebody else has write mode: the first load found it so, and no other access was made
 pub record WasBusy (shape : RecordShape) (v : RecordPassView) (word : ℕ) (w : RecordPassView) :
     Type 0 where
-  pub looks : HasFound v (word ∷ []) w
-  pub saw : SawWord shape v word w
+  pub has_found : HasFound v (word ∷ []) w
+  pub knows : KnowsWord shape v word w
   pub locked : is_locked w.known ≡ true
 
 -- two histories left the two words that the call found, the first by its first load: that one is
@@ -73,18 +73,18 @@ pub record WasBusy (shape : RecordShape) (v : RecordPassView) (word : ℕ) (w : 
 pub record WasLost (shape : RecordShape) (v : RecordPassView) (loaded found : ℕ)
     (w : RecordPassView) : Type 0 where
   pub differ : loaded ≢ found
-  pub looks : HasFound v (loaded ∷ found ∷ []) w
+  pub has_found : HasFound v (loaded ∷ found ∷ []) w
   pub first : RecordLog
   pub at_first : LeavesWord shape v loaded first
   pub free : is_locked first ≡ false
   pub longer : IsPrefix first w.known
-  pub saw : SawWord shape v found w
+  pub knows : KnowsWord shape v found w
 
 -- as many puts as versions: the first load found it so
 pub record WasSpent (shape : RecordShape) (v : RecordPassView) (word : ℕ) (w : RecordPassView) :
     Type 0 where
-  pub looks : HasFound v (word ∷ []) w
-  pub saw : SawWord shape v word w
+  pub has_found : HasFound v (word ∷ []) w
+  pub knows : KnowsWord shape v word w
   pub free : is_locked w.known ≡ false
   pub all : puts w.known ≡ shape.limits.versions
   pub last : word ≡ word_with shape.limits.layout shape.limits.versions false
@@ -102,7 +102,7 @@ GetRefused shape v (get.Lost loaded found) w = WasLost shape v loaded found w
 -- keep to the rule
 pub record WasGot (P : List ℕ → Type 0) (shape : RecordShape) (words : List ℕ) (v w : RecordPassView) :
     Type 0 where
-  pub answered : RecordAnswered shape Get (Content words) v w
+  pub made : MadeOnRecord shape Get (Content words) v w
   pub long : length words ≡ shape.width
   pub obeys : P words
 

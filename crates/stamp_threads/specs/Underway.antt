@@ -30,7 +30,7 @@ turn_once limits call (Err lost) = Going (on_lock_alone limits call (Some lost.f
 -- the pass has come to know more, found these words, and made no call
 pub record Waited (v : LockPassView) (words : List ℕ) (w : LockPassView) : Type 0 where
   pub begins : IsPrefix v.known w.known
-  pub found : HasFound v words w
+  pub has_found : HasFound v words w
   pub no_call : MadeNoCallSince v w
 
 -- the pass knew the whole history when the access found this word, and made no call

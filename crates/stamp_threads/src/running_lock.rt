@@ -8,7 +8,8 @@ ghost use Rattle.stamp_core.specs.LockDecision.{decision_as};
 ghost use Rattle.stamp_machines.specs.declared.machine.Turn.TheVariants as Turn;
 ghost use Rattle.stamp_threads.specs.PassView.{after_split, split_off};
 ghost use Rattle.stamp_threads.specs.LockPass.{HasEntered, IsConsistentWith, IsNew};
-ghost use Rattle.stamp_threads.specs.Answered.{Answered, IsWaiting, LooksOnceOrTwice, try_form};
+ghost use Rattle.stamp_threads.specs.Made.{Made, IsWaiting, AccessesOnceOrTwice, try_form};
+ghost use Rattle.stamp_threads.specs.MayReply.{MayReply};
 ghost use Rattle.stamp_threads.specs.LostExchange.{LostExchange};
 ghost use Rattle.stamp_threads.specs.Underway.{GoesAsMachine, turn_once};
 ghost use Rattle.stamp_threads.specs.LockPassesMet.{LockPassesMet};
@@ -146,8 +147,9 @@ impl RunningLock {
         requires table { pass.old.table ≡ self.now.table }
         ensures table { pass.new.table ≡ self.now.table }
         ensures ok { let v = pass.old.view in let w = pass.new.view in
-            IfOk result (λ r. Answered self.now.limits (try_form call) r v w) }
-        ensures looks { OnOk result (LooksOnceOrTwice self.now.limits pass.old.view pass.new.view) }
+            IfOk result (λ r. Made self.now.limits (try_form call) r v w) }
+        ensures reply { IfOk result (λ r. MayReply (try_form call) r) }
+        ensures accesses { OnOk result (AccessesOnceOrTwice self.now.limits pass.old.view pass.new.view) }
         ensures lost { let v = pass.old.view in let w = pass.new.view in
             IfErr result (λ l.
             LostExchange self.now.limits (try_form call) l.loaded l.found v w) }
@@ -184,27 +186,28 @@ impl RunningLock {
         requires lock_call { IsTrue (is_lock_call call) }
         requires table { pass.old.table ≡ self.now.table }
         ensures table { pass.new.table ≡ self.now.table }
-        ensures made { Answered self.now.limits call result pass.old.view pass.new.view }
+        ensures made { Made self.now.limits call result pass.old.view pass.new.view }
+        ensures reply { MayReply call result }
         ensures machine { GoesAsMachine self.now.limits call pass.old.view pass.new.view
             (Turn.Done result) }
     {
         let table = &self.table.shared;
         let mut patience = Patience::new();
-        let mut seen = load::<Brand>(table, &mut pass.seat, &call);
+        let mut found = load::<Brand>(table, &mut pass.seat, &call);
         for _ in rt.forever() {
-            match self.decide(&call, seen) {
+            match self.decide(&call, found) {
                 LockDecision::Answer(reply) => return reply.as_reply(),
                 LockDecision::Change(new, reply) => {
-                    let old = seen;
-                    seen = exchange::<Brand>(table, &mut pass.seat, &call, old, new.bits());
-                    if seen == old {
+                    let old = found;
+                    found = exchange::<Brand>(table, &mut pass.seat, &call, old, new.bits());
+                    if found == old {
                         return reply.as_reply();
                     }
                     patience.pause();
                 }
                 LockDecision::Wait => {
-                    patience.wait(rt, table, seen);
-                    seen = load::<Brand>(table, &mut pass.seat, &call);
+                    patience.wait(rt, table, found);
+                    found = load::<Brand>(table, &mut pass.seat, &call);
                 }
             }
         }

@@ -5,7 +5,7 @@ ghost use Rattle.stamp_core.specs.declared.call.Call.TheVariants.{Put};
 ghost use Rattle.stamp_core.specs.declared.reply.Reply.TheVariants.{Done};
 ghost use Rattle.stamp_threads.specs.PassView.{after_split, split_off};
 ghost use Rattle.stamp_threads.specs.RecordPass.{HasEntered, IsConsistentWith};
-ghost use Rattle.stamp_threads.specs.RecordCall.{RecordAnswered, PutRefused};
+ghost use Rattle.stamp_threads.specs.RecordCall.{MadeOnRecord, PutRefused};
 ghost use Rattle.stamp_threads.specs.RecordCall.{WasGot, GetRefused, GotOrRefused, RecordPassesMet};
 ghost use Rattle.stamp_threads.specs.RecordRule.{opening_pass, IsKept, IsNew, MayBegin};
 ghost use Rattle.atomic_table.specs.Table.{opening};
@@ -175,7 +175,7 @@ impl<P: ContentRule> RuledRecord<P> {
         requires good { P.holds words }
         ensures table { pass.new.table ≡ self.now.table }
         ensures ok { let v = pass.old.view in let w = pass.new.view in
-            IfOk result (λ _. RecordAnswered self.now.shape (Put words) Done v w) }
+            IfOk result (λ _. MadeOnRecord self.now.shape (Put words) Done v w) }
         ensures err { let v = pass.old.view in let w = pass.new.view in
             IfErr result (λ fault. PutRefused self.now.shape v fault w) }
     {

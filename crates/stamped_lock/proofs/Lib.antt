@@ -1,4 +1,4 @@
-pub mod Replying
+pub mod NeverLosing
 pub mod Retried
 pub mod Validating
 pub mod Sectioning

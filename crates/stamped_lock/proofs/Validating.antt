@@ -18,12 +18,13 @@ use Rattle.stamp_threads.specs.declared.pass_view.LogEntry.{LogEntry}
 use Rattle.stamp_threads.specs.LockLog.{LockLog, history_in, events_after, transition_after}
 use Rattle.stamp_threads.specs.LockPass.{LockPassView}
 use Rattle.stamp_threads.specs.PassView.{entry}
-use Rattle.stamp_threads.specs.Answered.{Answered}
+use Rattle.stamp_threads.specs.Made as by_pass
 use Rattle.stamp_threads.proofs.Beginnings.{begins_more, begins_further}
+use Rattle.stamp_threads.proofs.LockLogs.{history-append}
+use Rattle.stamp_threads.proofs.Replying.{replies_of}
 use Rattle.stamped_lock.specs.LockHandleView.{LockHandleView}
 use Rattle.stamped_lock.specs.Made.{Made}
 use Rattle.stamped_lock.specs.Sections.{IsUnwritten}
-use Rattle.stamped_lock.proofs.Replying.{history-append, replies_of}
 
 -- an optimistic stamp is valid at the version of its issue alone
 same_version : (limits : Bounds) (c c' : Counts) (s : ℕ) →
@@ -49,7 +50,7 @@ events_after-push limits log e =
 
 -- a call that appends nothing leaves the version
 version_kept : (limits : Bounds) (call : Call) (reply : Reply) (v w : LockPassView)
-    (a : Answered limits call reply v w) → appended_by (transition_after limits a.log call) ≡ [] →
+    (a : by_pass.Made limits call reply v w) → appended_by (transition_after limits a.log call) ≡ [] →
     write_count (events_after limits w.known) ≡ write_count (events_after limits a.log)
 version_kept limits call reply v w a none =
     ap (λ (log : LockLog). write_count (events_after limits log)) a.known ∙
@@ -57,7 +58,7 @@ version_kept limits call reply v w a none =
     rw (none, append-nil)
 
 versions_same : (limits : Bounds) (s : ℕ) (h m n : LockPassView) → 0 < s →
-    Answered limits Optimistic (Stamp s) h m → Answered limits (Validate s) Yes m n →
+    by_pass.Made limits Optimistic (Stamp s) h m → by_pass.Made limits (Validate s) Yes m n →
     write_count (events_after limits n.known) ≡ write_count (events_after limits m.known)
 versions_same limits s h m n some a b =
     let c = counts (events_after limits a.log) in
@@ -70,9 +71,9 @@ versions_same limits s h m n some a b =
 pub unwritten : (s : ℕ) (h m n : LockHandleView) → 0 < s → Made Optimistic (Stamp s) h m →
     Made (Validate s) Yes m n → IsUnwritten m n
 unwritten s h m n some issued valid =
-    let a = subst (λ (l : Bounds). Answered l Optimistic (Stamp s) h.pass m.pass)
-    (ap (λ l. l.limits) (sym issued.same)) issued.answered in
-    let b = valid.answered in
+    let a = subst (λ (l : Bounds). by_pass.Made l Optimistic (Stamp s) h.pass m.pass)
+    (ap (λ l. l.limits) (sym issued.same)) issued.made in
+    let b = valid.made in
     record {
       goes_on = subst (IsPrefix m.pass.known) (sym b.known)
           (begins_further m.pass.known b.log _ b.left.begins (begins_more b.log _));

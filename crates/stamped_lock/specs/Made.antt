@@ -3,7 +3,7 @@ use Rattle.std.specs.Prelude.{◌≡◌, Result, Ok, Err}
 use Rattle.stamp_core.specs.declared.call.Call.{Call}
 use Rattle.stamp_core.specs.declared.reply.Reply.{Reply}
 use Rattle.stamp_core.specs.declared.reply.Reply.TheVariants as reply
-use Rattle.stamp_threads.specs.Answered.{Answered}
+use Rattle.stamp_threads.specs.Made as by_pass
 use Rattle.stamp_threads.specs.LostExchange.{LostExchange}
 use Rattle.stamp_threads.specs.declared.lost.Lost.{Lost}
 use Rattle.stamped_lock.specs.LockHandleView.{LockHandleView}
@@ -14,7 +14,7 @@ use Rattle.stamped_lock.specs.declared.unlock_error.UnlockError.TheVariants as u
 -- ends with this call; h' is the handle after it
 pub record Made (call : Call) (reply : Reply) (h h' : LockHandleView) : Type 0 where
   pub same : h'.running ≡ h.running
-  pub answered : Answered h.running.limits call reply h.pass h'.pass
+  pub made : by_pass.Made h.running.limits call reply h.pass h'.pass
 
 -- the exchange of the call lost: the call was not made, and changed nothing
 pub record HasLost (call : Call) (lost : Lost) (h h' : LockHandleView) : Type 0 where

@@ -8,7 +8,8 @@ use Rattle.stamp_threads.specs.declared.faults.PutFault.TheVariants.{Spent}
 use Rattle.stamp_threads.specs.declared.faults.GetFault.{GetFault}
 use Rattle.stamp_threads.specs.PassView.{MadeNoCallSince}
 use Rattle.stamp_threads.specs.RecordPass.{RecordPassView, RecordView}
-use Rattle.stamp_threads.specs.RecordCall.{RecordAnswered, PutRefused, GetRefused}
+use Rattle.stamp_threads.specs.RecordCall.{PutRefused, GetRefused}
+use Rattle.stamp_threads.specs.RecordCall as by_pass
 
 -- its record, and what its pass knows
 pub record RecordHandleView : Type 0 where
@@ -19,7 +20,7 @@ pub record RecordHandleView : Type 0 where
 -- ends with this call; h' is the handle after it
 pub record MadeOnRecord (call : Call) (reply : Reply) (h h' : RecordHandleView) : Type 0 where
   pub same : h'.running ≡ h.running
-  pub answered : RecordAnswered h.running.shape call reply h.pass h'.pass
+  pub made : by_pass.MadeOnRecord h.running.shape call reply h.pass h'.pass
 
 -- the put was refused, and changed nothing
 pub record RefusesPut (fault : PutFault) (h h' : RecordHandleView) : Type 0 where

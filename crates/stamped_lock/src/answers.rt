@@ -1,8 +1,9 @@
 //! The typed answer in a reply.
 ghost use Rattle.std.specs.Prelude.{◌≡◌, Some};
 ghost use Rattle.stamp_core.specs.declared.reply.Reply.TheVariants.{Count};
-ghost use Rattle.stamped_lock.specs.Replies.{stamped, tested, released, IsStampReply, IsSomeStamp};
-ghost use Rattle.stamped_lock.specs.Replies.{IsTest, IsRelease, IsCount};
+ghost use Rattle.stamp_threads.specs.MayReply.{IsStampReply, IsSomeStamp, IsTest, IsRelease};
+ghost use Rattle.stamp_threads.specs.MayReply.{IsCount};
+ghost use Rattle.stamped_lock.specs.Replies.{stamped, tested, released};
 
 use crate::mismatch::Mismatch;
 use crate::stamp::Stamp;

@@ -1,5 +1,5 @@
 //! The handles of a lock.
-ghost use Rattle.std.specs.Prelude.{◌≡◌, IfOk, IsTrue, Some};
+ghost use Rattle.std.specs.Prelude.{◌≡◌, IsTrue, Some};
 ghost use Rattle.stamp_core.specs.Call.{is_lock_call};
 ghost use Rattle.stamp_core.specs.declared.call.Call.TheVariants.{TryWrite, TryRead, WriteLock};
 ghost use Rattle.stamp_core.specs.declared.call.Call.TheVariants.{ReadLock, Optimistic, Validate};
@@ -9,16 +9,17 @@ ghost use Rattle.stamp_core.specs.declared.call.Call.TheVariants.{TryUnlockWrite
 ghost use Rattle.stamp_core.specs.declared.call.Call.TheVariants.{IsWriteLocked, IsReadLocked};
 ghost use Rattle.stamp_core.specs.declared.call.Call.TheVariants.{ReadCount};
 ghost use Rattle.stamp_core.specs.declared.reply.Reply.TheVariants.{Count};
-ghost use Rattle.stamp_threads.specs.Answered.{try_form};
+ghost use Rattle.stamp_threads.specs.Made.{try_form};
+ghost use Rattle.stamp_threads.specs.MayReply.{MayReply};
 ghost use Rattle.stamp_threads.specs.PassView.{after_split, split_off};
-ghost use Rattle.stamped_lock.specs.Made.{Made, MadeOrLost};
-ghost use Rattle.stamped_lock.specs.Replies.{stamped, tested, released, MayReply, NeverLoses};
+ghost use Rattle.stamped_lock.specs.Made.{Made};
+ghost use Rattle.stamped_lock.specs.Replies.{stamped, tested, released, NeverLoses};
 
 use crate::answers::{count_in, release_in, some_stamp_in, stamp_unless_zero, test_in};
 use crate::mismatch::Mismatch;
 use crate::stamp::Stamp;
 use stamp_core::{Call, Reply};
-use stamp_threads::{Lost, Pass, RunningLock};
+use stamp_threads::{Pass, RunningLock};
 use std::marker::Model;
 use std::sync::Wait;
 
@@ -29,8 +30,8 @@ use std::sync::Wait;
 /// the handle: dropping a handle releases nothing.
 #[derive(Drop)]
 pub struct LockHandle<'a> {
-    running: &'a RunningLock,
-    pass: Pass,
+    pub(crate) running: &'a RunningLock,
+    pub(crate) pass: Pass,
     ghost table: { pass.table ≡ running.now.table },
 }
 
@@ -53,11 +54,11 @@ impl<'a> LockHandle<'a> {
         LockHandle { running, pass }
     }
 
-    /// Makes a call that waits for nobody. `once` is tried first, since its code is inlined and makes
-    /// nearly all calls. Where it lost, `call` goes on: it tries again until an exchange wins, or a word
-    /// that was found answers the call.
+    /// Makes a call that waits for nobody. `RunningLock::once` is tried first, since its code is inlined
+    /// and makes nearly all calls. Where it lost, `RunningLock::call` goes on: it tries again until an
+    /// exchange wins, or a word that was found answers the call.
     #[inline(always)]
-    fn make<R: Wait>(&mut self, rt: &R, call: Call) -> Reply
+    fn once_or_call<R: Wait>(&mut self, rt: &R, call: Call) -> Reply
         requires lock_call { IsTrue (is_lock_call call) }
         requires at_once { try_form call ≡ call }
         ensures made { Made call result self.old self.new }
@@ -65,40 +66,15 @@ impl<'a> LockHandle<'a> {
     {
         // A copy, since the borrow checker covers no struct that is passed by value and used again.
         let again = call;
-        match self.make_once(call) {
+        match self.running.once(&mut self.pass, call) {
             Ok(reply) => reply,
-            Err(_) => self.make_until_done(rt, again),
+            Err(_) => self.running.call(rt, &mut self.pass, again),
         }
     }
 
-    /// Makes the call by `RunningLock::call`: it tries again until the call is made, and waits for
-    /// holders if the call is one that does. To the contract of `call` it adds `reply`, the kind of the
-    /// reply, by which a method reads its typed answer out of it.
+    /// Makes a call that can't lose, by `RunningLock::once`: by one load and at most one exchange.
     #[inline(always)]
-    fn make_until_done<R: Wait>(&mut self, rt: &R, call: Call) -> Reply
-        requires { IsTrue (is_lock_call call) }
-        ensures made { Made call result self.old self.new }
-        ensures reply { MayReply call result }
-    {
-        self.running.call(rt, &mut self.pass, call)
-    }
-
-    /// Makes a call that waits for nobody by `RunningLock::once`: by one load and at most one exchange,
-    /// so it may lose. It adds `reply`, as `make_until_done` does.
-    #[inline(always)]
-    pub(crate) fn make_once(&mut self, call: Call) -> Result<Reply, Lost>
-        requires lock_call { IsTrue (is_lock_call call) }
-        requires at_once { try_form call ≡ call }
-        ensures made { MadeOrLost call (λ r. r) result self.old self.new }
-        ensures reply { IfOk result (λ r. MayReply call r) }
-    {
-        self.running.once(&mut self.pass, call)
-    }
-
-    /// Makes a call that can't lose by `RunningLock::once`: by one load and at most one exchange. It
-    /// adds `reply`, and that the call was made.
-    #[inline(always)]
-    fn make_surely(&mut self, call: Call) -> Reply
+    fn once_surely(&mut self, call: Call) -> Reply
         requires { NeverLoses call }
         ensures made { Made call result self.old self.new }
         ensures reply { MayReply call result }
@@ -114,7 +90,7 @@ impl<'a> LockHandle<'a> {
     pub fn write<R: Wait>(&mut self, rt: &R) -> Option<Stamp>
         ensures { Made WriteLock (stamped result) self.old self.new }
     {
-        stamp_unless_zero(self.make_until_done(rt, Call::WriteLock))
+        stamp_unless_zero(self.running.call(rt, &mut self.pass, Call::WriteLock))
     }
 
     /// Acquires write mode if nobody holds the lock (`tryWriteLock`). None where somebody does, or no
@@ -122,14 +98,14 @@ impl<'a> LockHandle<'a> {
     pub fn try_write<R: Wait>(&mut self, rt: &R) -> Option<Stamp>
         ensures { Made TryWrite (stamped result) self.old self.new }
     {
-        stamp_unless_zero(self.make(rt, Call::TryWrite))
+        stamp_unless_zero(self.once_or_call(rt, Call::TryWrite))
     }
 
     /// Acquires read mode (`readLock`). It waits while there is a writer, or no room for a reader.
     pub fn read<R: Wait>(&mut self, rt: &R) -> Stamp
         ensures { Made ReadLock (stamped (Some result)) self.old self.new }
     {
-        some_stamp_in(self.make_until_done(rt, Call::ReadLock))
+        some_stamp_in(self.running.call(rt, &mut self.pass, Call::ReadLock))
     }
 
     /// Acquires read mode if there is no writer, and room for a reader (`tryReadLock`). It waits for no
@@ -137,7 +113,7 @@ impl<'a> LockHandle<'a> {
     pub fn try_read<R: Wait>(&mut self, rt: &R) -> Option<Stamp>
         ensures { Made TryRead (stamped result) self.old self.new }
     {
-        stamp_unless_zero(self.make(rt, Call::TryRead))
+        stamp_unless_zero(self.once_or_call(rt, Call::TryRead))
     }
 
     /// A stamp to be validated later (`tryOptimisticRead`). None while there is a writer. It holds
@@ -146,7 +122,7 @@ impl<'a> LockHandle<'a> {
     pub fn try_optimistic_read(&mut self) -> Option<Stamp>
         ensures { Made Optimistic (stamped result) self.old self.new }
     {
-        stamp_unless_zero(self.make_surely(Call::Optimistic))
+        stamp_unless_zero(self.once_surely(Call::Optimistic))
     }
 
     /// Whether nobody acquired write mode since the stamp was issued (`validate`). Also true of a stamp
@@ -155,7 +131,7 @@ impl<'a> LockHandle<'a> {
     pub fn validate(&mut self, stamp: Stamp) -> bool
         ensures { Made (Validate stamp) (tested result) self.old self.new }
     {
-        test_in(self.make_surely(Call::Validate(stamp.number())))
+        test_in(self.once_surely(Call::Validate(stamp.number())))
     }
 
     /// Releases write mode (`unlockWrite`). `Mismatch` where the stamp doesn't match it: the lock
@@ -165,7 +141,7 @@ impl<'a> LockHandle<'a> {
     pub fn unlock_write(&mut self, stamp: Stamp) -> Result<(), Mismatch>
         ensures { Made (UnlockWrite stamp) (released result) self.old self.new }
     {
-        release_in(self.make_surely(Call::UnlockWrite(stamp.number())))
+        release_in(self.once_surely(Call::UnlockWrite(stamp.number())))
     }
 
     /// Releases one hold of read mode (`unlockRead`). `Mismatch` where the stamp doesn't match one:
@@ -173,7 +149,7 @@ impl<'a> LockHandle<'a> {
     pub fn unlock_read<R: Wait>(&mut self, rt: &R, stamp: Stamp) -> Result<(), Mismatch>
         ensures { Made (UnlockRead stamp) (released result) self.old self.new }
     {
-        release_in(self.make(rt, Call::UnlockRead(stamp.number())))
+        release_in(self.once_or_call(rt, Call::UnlockRead(stamp.number())))
     }
 
     /// Releases the mode that the stamp matches (`unlock`). `Mismatch` where it matches none that
@@ -181,7 +157,7 @@ impl<'a> LockHandle<'a> {
     pub fn unlock<R: Wait>(&mut self, rt: &R, stamp: Stamp) -> Result<(), Mismatch>
         ensures { Made (Unlock stamp) (released result) self.old self.new }
     {
-        release_in(self.make(rt, Call::Unlock(stamp.number())))
+        release_in(self.once_or_call(rt, Call::Unlock(stamp.number())))
     }
 
     /// Goes on in write mode (`tryConvertToWriteLock`): from write mode with the same stamp, from read
@@ -191,7 +167,7 @@ impl<'a> LockHandle<'a> {
     pub fn try_convert_to_write<R: Wait>(&mut self, rt: &R, stamp: Stamp) -> Option<Stamp>
         ensures { Made (ToWrite stamp) (stamped result) self.old self.new }
     {
-        stamp_unless_zero(self.make(rt, Call::ToWrite(stamp.number())))
+        stamp_unless_zero(self.once_or_call(rt, Call::ToWrite(stamp.number())))
     }
 
     /// Goes on in read mode (`tryConvertToReadLock`): from write mode, from read mode with the same
@@ -200,7 +176,7 @@ impl<'a> LockHandle<'a> {
     pub fn try_convert_to_read<R: Wait>(&mut self, rt: &R, stamp: Stamp) -> Option<Stamp>
         ensures { Made (ToRead stamp) (stamped result) self.old self.new }
     {
-        stamp_unless_zero(self.make(rt, Call::ToRead(stamp.number())))
+        stamp_unless_zero(self.once_or_call(rt, Call::ToRead(stamp.number())))
     }
 
     /// Releases the mode that the stamp matches, and answers an optimistic stamp
@@ -209,7 +185,7 @@ impl<'a> LockHandle<'a> {
     pub fn try_convert_to_optimistic<R: Wait>(&mut self, rt: &R, stamp: Stamp) -> Option<Stamp>
         ensures { Made (ToOptimistic stamp) (stamped result) self.old self.new }
     {
-        stamp_unless_zero(self.make(rt, Call::ToOptimistic(stamp.number())))
+        stamp_unless_zero(self.once_or_call(rt, Call::ToOptimistic(stamp.number())))
     }
 
     /// Releases write mode without a stamp, if it is held (`tryUnlockWrite`). False where it isn't. It
@@ -217,7 +193,7 @@ impl<'a> LockHandle<'a> {
     pub fn try_unlock_write<R: Wait>(&mut self, rt: &R) -> bool
         ensures { Made TryUnlockWrite (tested result) self.old self.new }
     {
-        test_in(self.make(rt, Call::TryUnlockWrite))
+        test_in(self.once_or_call(rt, Call::TryUnlockWrite))
     }
 
     /// Releases one hold of read mode without a stamp, if there is one (`tryUnlockRead`). False where
@@ -225,7 +201,7 @@ impl<'a> LockHandle<'a> {
     pub fn try_unlock_read<R: Wait>(&mut self, rt: &R) -> bool
         ensures { Made TryUnlockRead (tested result) self.old self.new }
     {
-        test_in(self.make(rt, Call::TryUnlockRead))
+        test_in(self.once_or_call(rt, Call::TryUnlockRead))
     }
 
     /// Whether write mode is held (`isWriteLocked`). One load.
@@ -233,7 +209,7 @@ impl<'a> LockHandle<'a> {
     pub fn is_write_locked(&mut self) -> bool
         ensures { Made IsWriteLocked (tested result) self.old self.new }
     {
-        test_in(self.make_surely(Call::IsWriteLocked))
+        test_in(self.once_surely(Call::IsWriteLocked))
     }
 
     /// Whether read mode is held (`isReadLocked`). One load.
@@ -241,7 +217,7 @@ impl<'a> LockHandle<'a> {
     pub fn is_read_locked(&mut self) -> bool
         ensures { Made IsReadLocked (tested result) self.old self.new }
     {
-        test_in(self.make_surely(Call::IsReadLocked))
+        test_in(self.once_surely(Call::IsReadLocked))
     }
 
     /// How many hold read mode (`getReadLockCount`). One load.
@@ -249,7 +225,7 @@ impl<'a> LockHandle<'a> {
     pub fn read_count(&mut self) -> u64
         ensures { Made ReadCount (Count result) self.old self.new }
     {
-        count_in(self.make_surely(Call::ReadCount))
+        count_in(self.once_surely(Call::ReadCount))
     }
 
     /// One more handle of the same lock, which knows as much as this one and has made no call.

@@ -47,7 +47,7 @@ pub returns-clause-ok : goal.returns-clause-ok
 returns-clause-ok g c =
     let test = sym (rw c.layout.ensures.layout at c.has_writer.ensures) ∙ c.if-has_writer.false in
     record {
-      answered = get_made_of _ _ c.requires.shape.0 _ _ _ _ _ _ c.load_for_get-loaded.ensures.told test
+      made = get_made_of _ _ c.requires.shape.0 _ _ _ _ _ _ c.load_for_get-loaded.ensures.told test
           c.load_all.ensures.told _ _ c.confirm-found.ensures.told c.if-found-loaded.false;
       long = c.load_all.ensures.long ∙ c.requires.long;
       obeys = get_obeys_of _ _ c.requires.shape.0 _ _ _ _ _ _ c.load_for_get-loaded.ensures.told test

@@ -3,8 +3,9 @@ use Rattle.stamp_core.specs.LockDecision.{reply_as}
 use Rattle.stamp_machines.proofs.LockCallSteps.{by_number}
 use Rattle.stamp_threads.specs.LockPass.{LockView, LockToken}
 use Rattle.stamp_threads.proofs.CallSteps.{exchange_won, exchange_lost}
-use Rattle.stamp_threads.proofs.Underway.{begins, is_answered, ends_by_answer, is_made}
+use Rattle.stamp_threads.proofs.Underway.{begins, is_made_by_answer, ends_by_answer, is_made_by_change}
 use Rattle.stamp_threads.proofs.Underway.{ends_by_change, loses_exchange, loads_again}
+use Rattle.stamp_threads.proofs.Replying.{may_reply}
 use Rattle.stamp_threads.proofs.running_lock.RunningLock.call.Goals as goal
 
 pub loop-init : goal.loop-init
@@ -12,12 +13,12 @@ loop-init g c =
     let limits = c.self.invariant.0 ∙ ap (λ (l : LockView). l.limits) c.self.view_is in
     let view = ap (λ (p : LockToken). p.view) c.pass.view_is in
     record {
-      seat = c.load-seen.ensures.seat;
-      underway = begins _ _ _ _ _ c.requires.lock_call (rw (limits, view) at c.load-seen.ensures.told);
+      seat = c.load-found.ensures.seat;
+      underway = begins _ _ _ _ _ c.requires.lock_call (rw (limits, view) at c.load-found.ensures.told);
     }
 
-pub exchange-seen-requires-clause-changes : goal.exchange-seen-requires-clause-changes
-exchange-seen-requires-clause-changes g c =
+pub exchange-found-requires-clause-changes : goal.exchange-found-requires-clause-changes
+exchange-found-requires-clause-changes g c =
     let limits = c.self.invariant.0 ∙ ap (λ (l : LockView). l.limits) c.self.view_is in
     rw (c.bits.ensures.bits, limits)
     (reply_as c.in-Change.reply, by_number _ _ _ _ _ c.in-Change.ensures.decides)
@@ -25,35 +26,50 @@ exchange-seen-requires-clause-changes g c =
 pub returns-in-Answer-clause-made : goal.returns-in-Answer-clause-made
 returns-in-Answer-clause-made g c =
     rw c.as_reply.ensures
-    (is_answered _ _ _ _ _ c.loop.invariant.underway _ c.in-Answer.ensures.decides)
+    (is_made_by_answer _ _ _ _ _ c.loop.invariant.underway _ c.in-Answer.ensures.decides)
+
+pub returns-in-Answer-clause-reply : goal.returns-in-Answer-clause-reply
+returns-in-Answer-clause-reply g c =
+    rw c.as_reply.ensures
+    (may_reply _ _ _ _ _ c.requires.lock_call
+    (is_made_by_answer _ _ _ _ _ c.loop.invariant.underway _ c.in-Answer.ensures.decides))
 
 pub returns-in-Answer-clause-machine : goal.returns-in-Answer-clause-machine
 returns-in-Answer-clause-machine g c =
     rw c.as_reply.ensures
     (ends_by_answer _ _ _ _ _ c.loop.invariant.underway _ c.in-Answer.ensures.number)
 
-pub returns-then-seen-old-clause-made : goal.returns-then-seen-old-clause-made
-returns-then-seen-old-clause-made g c =
+pub returns-then-found-old-clause-made : goal.returns-then-found-old-clause-made
+returns-then-found-old-clause-made g c =
     let limits = c.self.invariant.0 ∙ ap (λ (l : LockView). l.limits) c.self.view_is in
-    rw c.as_reply-then-seen-old.ensures
-    (is_made _ _ _ _ _ c.loop.invariant.underway _ _ c.in-Change.ensures.decides
+    rw c.as_reply-then-found-old.ensures
+    (is_made_by_change _ _ _ _ _ c.loop.invariant.underway _ _ c.in-Change.ensures.decides
     c.in-Change.ensures.number _
-    (exchange_won _ _ _ _ _ _ c.if-seen-old.true (rw limits at c.exchange-seen.ensures.told)))
+    (exchange_won _ _ _ _ _ _ c.if-found-old.true (rw limits at c.exchange-found.ensures.told)))
 
-pub returns-then-seen-old-clause-machine : goal.returns-then-seen-old-clause-machine
-returns-then-seen-old-clause-machine g c =
+pub returns-then-found-old-clause-reply : goal.returns-then-found-old-clause-reply
+returns-then-found-old-clause-reply g c =
     let limits = c.self.invariant.0 ∙ ap (λ (l : LockView). l.limits) c.self.view_is in
-    rw c.as_reply-then-seen-old.ensures
+    rw c.as_reply-then-found-old.ensures
+    (may_reply _ _ _ _ _ c.requires.lock_call
+    (is_made_by_change _ _ _ _ _ c.loop.invariant.underway _ _ c.in-Change.ensures.decides
+    c.in-Change.ensures.number _
+    (exchange_won _ _ _ _ _ _ c.if-found-old.true (rw limits at c.exchange-found.ensures.told))))
+
+pub returns-then-found-old-clause-machine : goal.returns-then-found-old-clause-machine
+returns-then-found-old-clause-machine g c =
+    let limits = c.self.invariant.0 ∙ ap (λ (l : LockView). l.limits) c.self.view_is in
+    rw c.as_reply-then-found-old.ensures
     (ends_by_change _ _ _ _ _ c.loop.invariant.underway _ _ c.in-Change.ensures.decides
     c.in-Change.ensures.number _
-    (exchange_won _ _ _ _ _ _ c.if-seen-old.true (rw limits at c.exchange-seen.ensures.told)))
+    (exchange_won _ _ _ _ _ _ c.if-found-old.true (rw limits at c.exchange-found.ensures.told)))
 
 pub loop-preserved-in-Change : goal.loop-preserved-in-Change
 loop-preserved-in-Change g c =
     let limits = c.self.invariant.0 ∙ ap (λ (l : LockView). l.limits) c.self.view_is in
-    let lost = exchange_lost _ _ _ _ _ _ c.if-seen-old.false (rw limits at c.exchange-seen.ensures.told) in
+    let lost = exchange_lost _ _ _ _ _ _ c.if-found-old.false (rw limits at c.exchange-found.ensures.told) in
     record {
-      seat = c.exchange-seen.ensures.seat;
+      seat = c.exchange-found.ensures.seat;
       underway = loses_exchange _ _ _ _ _ c.loop.invariant.underway _ _ c.in-Change.ensures.decides
           c.in-Change.ensures.number _ _ lost.0 lost.1;
     }
@@ -62,7 +78,7 @@ pub loop-preserved : goal.loop-preserved
 loop-preserved g c =
     let limits = c.self.invariant.0 ∙ ap (λ (l : LockView). l.limits) c.self.view_is in
     record {
-      seat = c.load-seen-in-Wait.ensures.seat;
+      seat = c.load-found-in-Wait.ensures.seat;
       underway = loads_again _ _ _ _ _ c.loop.invariant.underway c.in-Wait.ensures.decides
-          c.in-Wait.ensures.number _ _ (rw limits at c.load-seen-in-Wait.ensures.told);
+          c.in-Wait.ensures.number _ _ (rw limits at c.load-found-in-Wait.ensures.told);
     }

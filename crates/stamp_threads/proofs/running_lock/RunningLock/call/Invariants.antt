@@ -11,5 +11,5 @@ ghosts-exchange g a = record { limits = a.table.now.key.limits; call = a.call.no
 abbrev pub invariant-loop : goal.invariant-loop
 invariant-loop g l = record {
   seat : IsAtSeat l.table.table_id l.pass-inside.seat.table_id l.pass-inside.seat.me;
-  underway : Underway l.self.limits l.call l.fn.pass.view l.seen (first_of l.pass-inside.seat.me.0);
+  underway : Underway l.self.limits l.call l.fn.pass.view l.found (first_of l.pass-inside.seat.me.0);
 }

@@ -5,8 +5,9 @@ use Rattle.stamp_threads.specs.LockPass.{LockView, LockToken, first_of}
 use Rattle.stamp_threads.specs.LockRule.{Loaded, Won}
 use Rattle.stamp_threads.specs.Underway.{Underway}
 use Rattle.stamp_threads.proofs.CallSteps.{exchange_won, exchange_lost, never_waits}
-use Rattle.stamp_threads.proofs.Underway.{begins, is_answered, ends_by_answer, is_made}
+use Rattle.stamp_threads.proofs.Underway.{begins, is_made_by_answer, ends_by_answer, is_made_by_change}
 use Rattle.stamp_threads.proofs.Underway.{ends_by_change, loses_exchange, goes_to_change}
+use Rattle.stamp_threads.proofs.Replying.{may_reply}
 use Rattle.stamp_threads.proofs.TwoAccesses.{twice_by_win, twice_by_answer, loses}
 use Rattle.stamp_threads.proofs.running_lock.RunningLock.once.Goals as goal
 use Rattle.stamp_threads.proofs.running_lock.RunningLock.once.Goals.{in-Answer-decide, in-Change-decide}
@@ -25,6 +26,16 @@ returns-in-Answer-clause-machine c =
     let begun = begins _ _ _ _ _ (c.try_form-call.ensures.lock_call c.requires.lock_call) told in
     rw (← c.try_form-call.ensures.form, c.as_reply.ensures)
     (ends_by_answer _ _ _ _ _ begun _ c.in-Answer.ensures.number)
+
+pub returns-in-Answer-clause-reply : goal.returns-in-Answer-clause-reply
+returns-in-Answer-clause-reply c =
+    let limits = c.self.invariant.0 ∙ ap (λ (l : LockView). l.limits) c.self.view_is in
+    let view = ap (λ (p : LockToken). p.view) c.pass.view_is in
+    let told = rw (limits, view) at c.load-loaded.ensures.told in
+    let lock = c.try_form-call.ensures.lock_call c.requires.lock_call in
+    rw (← c.try_form-call.ensures.form, c.as_reply.ensures)
+    (may_reply _ _ _ _ _ lock
+    (is_made_by_answer _ _ _ _ _ (begins _ _ _ _ _ lock told) _ c.in-Answer.ensures.decides))
 
 -- the exchange found the word loaded
 module _ (c : goal.After-as_reply-then-found-loaded) where
@@ -48,10 +59,17 @@ module _ (c : goal.After-as_reply-then-found-loaded) where
 pub returns-then-found-loaded-clause-ok : goal.returns-then-found-loaded-clause-ok
 returns-then-found-loaded-clause-ok c =
     rw (← c.try_form-call.ensures.form, c.as_reply-then-found-loaded.ensures)
-    (is_made _ _ _ _ _ (begun c) _ _ c.in-Change.ensures.decides c.in-Change.ensures.number _ (won c))
+    (is_made_by_change _ _ _ _ _ (begun c) _ _ c.in-Change.ensures.decides c.in-Change.ensures.number _ (won c))
 
-pub returns-then-found-loaded-clause-looks : goal.returns-then-found-loaded-clause-looks
-returns-then-found-loaded-clause-looks c =
+pub returns-then-found-loaded-clause-reply : goal.returns-then-found-loaded-clause-reply
+returns-then-found-loaded-clause-reply c =
+    rw (← c.try_form-call.ensures.form, c.as_reply-then-found-loaded.ensures)
+    (may_reply _ _ _ _ _ (c.try_form-call.ensures.lock_call c.requires.lock_call)
+    (is_made_by_change _ _ _ _ _ (begun c) _ _ c.in-Change.ensures.decides c.in-Change.ensures.number _
+    (won c)))
+
+pub returns-then-found-loaded-clause-accesses : goal.returns-then-found-loaded-clause-accesses
+returns-then-found-loaded-clause-accesses c =
     inr (twice_by_win _ _ _ _ _ _ _ (loaded c) c.in-Change.ensures.decides _ (won c))
 
 pub returns-then-found-loaded-clause-machine : goal.returns-then-found-loaded-clause-machine
@@ -63,8 +81,8 @@ returns-then-found-loaded-clause-machine c =
 pub unreachable-requires : goal.unreachable-requires
 unreachable-requires c =
     let limits = c.self.invariant.0 ∙ ap (λ (l : LockView). l.limits) c.self.view_is in
-    let found = rw limits at c.exchange-found.ensures.told in
-    let lost = exchange_lost _ _ _ _ _ _ c.if-found-loaded.false found in
+    let told = rw limits at c.exchange-found.ensures.told in
+    let lost = exchange_lost _ _ _ _ _ _ c.if-found-loaded.false told in
     never_waits _ _ _ _ _ (c.try_form-call.ensures.lock_call c.requires.lock_call)
     c.try_form-call.ensures.never lost.1 c.in-Wait-decide.ensures.decides
 
@@ -102,12 +120,20 @@ module _ (c : goal.Joined-decide-2) where
 pub returns-after-decide-2-clause-ok : goal.returns-after-decide-2-clause-ok
 returns-after-decide-2-clause-ok c = elim c.match-decide-2.branch [
   | in-Answer-decide w ↦ rw (w.result-is, ← c.try_form-call.ensures.form, w.as_reply-in-Answer-decide.ensures)
-      (is_answered _ _ _ _ _ (underway c) _ w.in-Answer-decide.ensures.decides)
+      (is_made_by_answer _ _ _ _ _ (underway c) _ w.in-Answer-decide.ensures.decides)
   | in-Change-decide w ↦ rw w.result-is tt
 ]
 
-pub returns-after-decide-2-clause-looks : goal.returns-after-decide-2-clause-looks
-returns-after-decide-2-clause-looks c = elim c.match-decide-2.branch [
+pub returns-after-decide-2-clause-reply : goal.returns-after-decide-2-clause-reply
+returns-after-decide-2-clause-reply c = elim c.match-decide-2.branch [
+  | in-Answer-decide w ↦ rw (w.result-is, ← c.try_form-call.ensures.form, w.as_reply-in-Answer-decide.ensures)
+      (may_reply _ _ _ _ _ (c.try_form-call.ensures.lock_call c.requires.lock_call)
+      (is_made_by_answer _ _ _ _ _ (underway c) _ w.in-Answer-decide.ensures.decides))
+  | in-Change-decide w ↦ rw w.result-is tt
+]
+
+pub returns-after-decide-2-clause-accesses : goal.returns-after-decide-2-clause-accesses
+returns-after-decide-2-clause-accesses c = elim c.match-decide-2.branch [
   | in-Answer-decide w ↦ rw w.result-is
       (inr (twice_by_answer _ _ _ _ _ _ _ (told c) c.in-Change.ensures.decides _ _ _ (lost c).1
       w.in-Answer-decide.ensures.decides))

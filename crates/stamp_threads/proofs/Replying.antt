@@ -1,7 +1,7 @@
--- Which kind of reply a call that was made has, and which calls never lose an exchange.
-use Rattle.std.proofs.Common.{◌≡◌, ℕ, Bool, true, false, Option, None, [], ◌∷◌, ◌++◌}
-use Rattle.std.proofs.Common.{arith, ◌==◌, ◌&&◌, if◌then◌else◌, rules, refl, ap, sym, ◌∙◌, subst}
-use Rattle.std.specs.Prelude.{IsTrue, nat_lt, Result, Ok, Err, IfOk}
+-- Which kind of reply a call that was made has.
+use Rattle.std.proofs.Common.{ℕ, Bool, true, false, Option, None, [], ◌∷◌}
+use Rattle.std.proofs.Common.{arith, ◌==◌, ◌&&◌, if◌then◌else◌, ap, sym, ◌∙◌, subst}
+use Rattle.std.specs.Prelude.{IsTrue, nat_lt}
 use Rattle.std.specs.Bool.{MatchBool}
 use Rattle.stamp_core.specs.Limits.{Bounds, units}
 use Rattle.stamp_core.specs.LockEvent.{Counts, counts}
@@ -11,8 +11,7 @@ use Rattle.stamp_core.specs.Content.{zeros}
 use Rattle.stamp_core.specs.Stamp.{optimistic_stamp, read_stamp, is_held_write, is_held_read, is_valid}
 use Rattle.stamp_core.specs.Transition.{Transition, transition, row, answer, change, yes_where}
 use Rattle.stamp_core.specs.Transition.{may_write, next_write, may_read, next_read}
-use Rattle.stamp_core.specs.History.{History, Replies, IsReply, IsLegal, appended_by, content_from}
-use Rattle.stamp_core.specs.History.{events_from}
+use Rattle.stamp_core.specs.History.{Replies, IsReply, IsLegal, content_from, events_from}
 use Rattle.stamp_core.specs.declared.call.Call.{Call}
 use Rattle.stamp_core.specs.declared.call.Call.TheVariants.{TryWrite, TryRead, WriteLock, ReadLock}
 use Rattle.stamp_core.specs.declared.call.Call.TheVariants.{Optimistic, Validate, UnlockWrite}
@@ -25,16 +24,11 @@ use Rattle.stamp_core.specs.declared.reply.Reply.{Reply}
 use Rattle.stamp_core.specs.declared.reply.Reply.TheVariants.{Stamp, Yes, No, Done, Mismatch}
 use Rattle.stamp_core.proofs.StampValidity.{legal_rest}
 use Rattle.stamp_threads.specs.PassView.{entry}
-use Rattle.stamp_threads.specs.LockLog.{LockLog, history_in, events_after, transition_after, Appends}
-use Rattle.stamp_threads.specs.LockPass.{LockPassView, LeavesWord}
-use Rattle.stamp_threads.specs.Answered.{Answered, try_form}
-use Rattle.stamp_threads.specs.LostExchange.{LostExchange}
-use Rattle.stamp_threads.specs.declared.lost.Lost.{Lost}
-use Rattle.stamped_lock.specs.Replies.{MayReply, NeverLoses, IsStampReply, IsSomeStamp, IsTest, IsRelease}
-
-pub history-append : (xs ys : LockLog) → history_in (xs ++ ys) ≡ history_in xs ++ history_in ys
-history-append [] ys = refl
-history-append (x ∷ xs) ys = ap (λ (l : History). x.made ∷ l) (history-append xs ys)
+use Rattle.stamp_threads.specs.LockLog.{history_in, events_after}
+use Rattle.stamp_threads.specs.LockPass.{LockPassView}
+use Rattle.stamp_threads.specs.Made.{Made}
+use Rattle.stamp_threads.specs.MayReply.{MayReply, IsStampReply, IsSomeStamp, IsTest, IsRelease}
+use Rattle.stamp_threads.proofs.LockLogs.{history-append}
 
 at_true : (P Q : Type 0) (b : Bool) → IsTrue b → MatchBool b P Q → P
 at_true P Q true is p = p
@@ -42,7 +36,7 @@ at_true P Q false is q = cc
 
 -- the reply is the call's after the history before it
 pub replies_of : (limits : Bounds) (call : Call) (reply : Reply) (v w : LockPassView) →
-    IsTrue (is_lock_call call) → (a : Answered limits call reply v w) →
+    IsTrue (is_lock_call call) → (a : Made limits call reply v w) →
     Replies (transition limits (events_after limits a.log) call) reply
 replies_of limits call reply v w lock a =
     let legal = subst (IsLegal limits 0)
@@ -174,75 +168,7 @@ row_kind l c (PutIf expected words) reply e = absurd e
 
 -- a call of the lock that was made has a reply of its kind
 pub may_reply : (limits : Bounds) (call : Call) (reply : Reply) (v w : LockPassView) →
-    IsTrue (is_lock_call call) → Answered limits call reply v w → MayReply call reply
+    IsTrue (is_lock_call call) → Made limits call reply v w → MayReply call reply
 may_reply limits call reply v w lock a =
     row_kind limits (counts (events_after limits a.log)) call reply
     (replies_of limits call reply v w lock a)
-
--- so has one that was made as a call which doesn't wait, and is that itself
-pub may_reply_tried : (limits : Bounds) (call : Call) (reply : Reply) (v w : LockPassView) →
-    IsTrue (is_lock_call call) → try_form call ≡ call →
-    Answered limits (try_form call) reply v w → MayReply call reply
-may_reply_tried limits call reply v w lock tried a =
-    may_reply limits call reply v w lock
-    (subst (λ (c : Call). Answered limits c reply v w) tried a)
-
-pub may_reply_once : (limits : Bounds) (call : Call) (result : Result Reply Lost) (v w : LockPassView) →
-    IsTrue (is_lock_call call) → try_form call ≡ call →
-    IfOk result (λ reply. Answered limits (try_form call) reply v w) →
-    IfOk result (λ reply. MayReply call reply)
-may_reply_once limits call (Ok reply) v w lock tried a =
-    may_reply_tried limits call reply v w lock tried a
-may_reply_once limits call (Err lost) v w lock tried a = a
-
-pub never_losing_is_lock_call : (call : Call) → NeverLoses call → IsTrue (is_lock_call call)
-never_losing_is_lock_call Optimistic is = refl
-never_losing_is_lock_call (Validate s) is = refl
-never_losing_is_lock_call (UnlockWrite s) is = refl
-never_losing_is_lock_call IsWriteLocked is = refl
-never_losing_is_lock_call IsReadLocked is = refl
-never_losing_is_lock_call ReadCount is = refl
-never_losing_is_lock_call _ is = absurd is
-
-pub never_losing_is_tried : (call : Call) → NeverLoses call → try_form call ≡ call
-never_losing_is_tried Optimistic is = refl
-never_losing_is_tried (Validate s) is = refl
-never_losing_is_tried (UnlockWrite s) is = refl
-never_losing_is_tried IsWriteLocked is = refl
-never_losing_is_tried IsReadLocked is = refl
-never_losing_is_tried ReadCount is = refl
-never_losing_is_tried _ is = absurd is
-
--- a call that appends nothing makes no exchange
-asks_only : (limits : Bounds) (log : LockLog) (call : Call) →
-    appended_by (transition_after limits log call) ≡ [] → Appends limits log call → ⊥
-asks_only limits log call none appends =
-    appends.some (sym (ap appended_by appends.transition_is) ∙ none)
-
--- the word of a lock that the stamp can release from write mode is the stamp
-held_word : (limits : Bounds) (s word : ℕ) (v : LockPassView) (log : LockLog) →
-    LeavesWord limits v word log → Appends limits log (UnlockWrite s) → word ≡ s
-held_word limits s word v log leaves appends = search rules
-
--- so it can't be that one word and then another
-unlock_write_wins : (limits : Bounds) (s loaded found : ℕ) (v w : LockPassView) →
-    LostExchange limits (UnlockWrite s) loaded found v w → ⊥
-unlock_write_wins limits s loaded found v w lost =
-    lost.differ (held_word limits s loaded v lost.first lost.at_first lost.first_appends ∙
-    sym (held_word limits s found v w.known lost.at_second lost.second_appends))
-
-pub never_loses : (limits : Bounds) (call : Call) (loaded found : ℕ) (v w : LockPassView) →
-    NeverLoses call → LostExchange limits (try_form call) loaded found v w → ⊥
-never_loses limits Optimistic loaded found v w is lost =
-    asks_only limits lost.first Optimistic refl lost.first_appends
-never_loses limits (Validate s) loaded found v w is lost =
-    asks_only limits lost.first (Validate s) refl lost.first_appends
-never_loses limits (UnlockWrite s) loaded found v w is lost =
-    unlock_write_wins limits s loaded found v w lost
-never_loses limits IsWriteLocked loaded found v w is lost =
-    asks_only limits lost.first IsWriteLocked refl lost.first_appends
-never_loses limits IsReadLocked loaded found v w is lost =
-    asks_only limits lost.first IsReadLocked refl lost.first_appends
-never_loses limits ReadCount loaded found v w is lost =
-    asks_only limits lost.first ReadCount refl lost.first_appends
-never_loses limits _ loaded found v w is lost = absurd is

@@ -22,7 +22,7 @@ IsWaiting call = (call ≡ WriteLock) ⊎ (call ≡ ReadLock)
 
 -- the history goes on from what the pass v knew, and leaves the word that the last access found;
 -- then comes this call with its reply, which is one more of the pass's own. w is the pass after it
-pub record Answered (limits : Bounds) (call : Call) (reply : Reply) (v w : LockPassView) : Type 0 where
+pub record Made (limits : Bounds) (call : Call) (reply : Reply) (v w : LockPassView) : Type 0 where
   pub log : LockLog
   pub word : ℕ
   pub left : LeavesWord limits v word log
@@ -35,10 +35,10 @@ pub record Answered (limits : Bounds) (call : Call) (reply : Reply) (v w : LockP
 
 -- two accesses of the word were made. The word that the first found is the one that a history left,
 -- and what came before the last entry goes on from that history
-pub record LooksTwice (limits : Bounds) (v w : LockPassView) : Type 0 where
+pub record AccessesTwice (limits : Bounds) (v w : LockPassView) : Type 0 where
   pub loaded : ℕ
   pub found : ℕ
-  pub looks : HasFound v (loaded ∷ found ∷ []) w
+  pub has_found : HasFound v (loaded ∷ found ∷ []) w
   pub first : LockLog
   pub at_first : LeavesWord limits v loaded first
   pub log : LockLog
@@ -47,5 +47,5 @@ pub record LooksTwice (limits : Bounds) (v w : LockPassView) : Type 0 where
   pub known : w.known ≡ log ++ made ∷ []
 
 -- one access of the word was made, or two
-abbrev pub LooksOnceOrTwice : Bounds → LockPassView → LockPassView → Type 0
-LooksOnceOrTwice limits v w = ((word : ℕ) × HasFound v (word ∷ []) w) ⊎ LooksTwice limits v w
+abbrev pub AccessesOnceOrTwice : Bounds → LockPassView → LockPassView → Type 0
+AccessesOnceOrTwice limits v w = ((word : ℕ) × HasFound v (word ∷ []) w) ⊎ AccessesTwice limits v w

@@ -27,26 +27,26 @@ found-reading None call v log = refl
 found-reading (Some t) call v log = found-answering t.appended t.reply call v log
 
 module _ (limits : Bounds) (call : Call) (v : LockPassView) (found : ℕ) (w : LockPassView) where
-  pub looks_by_load : Loaded limits call v found w → HasFound v (found ∷ []) w
-  looks_by_load l = ap (λ (u : LockPassView). u.found) l.after ∙
+  pub found_by_load : Loaded limits call v found w → HasFound v (found ∷ []) w
+  found_by_load l = ap (λ (u : LockPassView). u.found) l.after ∙
       found-reading (transition_after limits l.log call) call (finding v found) l.log
 
-  pub looks_by_win : Won limits call v found w → HasFound v (found ∷ []) w
-  looks_by_win l = ap (λ (u : LockPassView). u.found) l.after ∙
+  pub found_by_win : Won limits call v found w → HasFound v (found ∷ []) w
+  found_by_win l = ap (λ (u : LockPassView). u.found) l.after ∙
       found-making (transition_after limits l.log call) call (finding v found) l.log
 
   by_test : (b : Bool) →
       MatchBool b (Won limits call v found w) (Loaded limits call v found w) →
       HasFound v (found ∷ []) w
-  by_test true won = looks_by_win won
-  by_test false l = looks_by_load l
+  by_test true won = found_by_win won
+  by_test false l = found_by_load l
 
-  pub looks_by_exchange : (old : ℕ) → Exchanged limits call old v found w →
+  pub found_by_exchange : (old : ℕ) → Exchanged limits call old v found w →
       HasFound v (found ∷ []) w
-  looks_by_exchange old e = by_test (found == old) e
+  found_by_exchange old e = by_test (found == old) e
 
 -- two accesses, one after the other
-pub looks_twice : (v u w : LockPassView) (loaded found : ℕ) → HasFound v (loaded ∷ []) u →
+pub found_twice : (v u w : LockPassView) (loaded found : ℕ) → HasFound v (loaded ∷ []) u →
     HasFound u (found ∷ []) w → HasFound v (loaded ∷ found ∷ []) w
-looks_twice v u w loaded found first second =
+found_twice v u w loaded found first second =
     second ∙ (λ i. first i ++ found ∷ []) ∙ append_assoc v.found (loaded ∷ []) (found ∷ [])
