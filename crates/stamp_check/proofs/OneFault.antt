@@ -107,4 +107,4 @@ one_verdict r (Err a) (Err b) x y = ap (λ (bad : Bad). Err bad) (one_fault r a 
 pub runs_are_accepted : RunsAreAccepted
 runs_are_accepted script sound few =
     let all = (always-in-order script script.steps sound few).linearized in
-    (λ a verdict. one_verdict _ a _ verdict (all, refl), λ a verdict. one_verdict _ a _ verdict (all, refl))
+    (λ a judgement. one_verdict _ a _ judgement (all, refl), λ a judgement. one_verdict _ a _ judgement (all, refl))

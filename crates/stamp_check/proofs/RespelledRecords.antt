@@ -18,7 +18,7 @@ use Rattle.stamp_core.specs.declared.layout.Layout.TheVariants.{One, Two}
 use Rattle.stamp_check.specs.declared.checking.Why.{Why}
 use Rattle.stamp_check.specs.declared.checking.Why.TheVariants.{Interval, Order, Overlap, Reply}
 use Rattle.stamp_check.specs.FirstFault.{Breaks, IsFirstFault}
-use Rattle.stamp_check.specs.SameVerdict.{HaveSameVerdict}
+use Rattle.stamp_check.specs.SameJudgement.{HaveSameJudgement}
 use Rattle.stamp_check.specs.Migration.{respelled_entry, respelled_record, widened, migrated}
 use Rattle.stamp_check.specs.Migration.{migrated_from, CanRespell, AllCanRespell, CanMigrate}
 use Rattle.stamp_check.specs.Migration.{IsFirstForeign}
@@ -257,12 +257,12 @@ migration_keeps_verdicts r known range can (Err bad) = migration_keeps_faults r 
 layout_of : (r : Recorded) (limits : Bounds) → limits ≡ r.limits → limits.layout ≡ One → r.limits.layout ≡ One
 layout_of r limits same one = ap (λ (b : Bounds). b.layout) (sym same) ∙ one
 
-pub same_verdict : (r m : Recorded) (limits : Bounds) (entries : List Entry) → limits ≡ r.limits → limits.layout ≡
+pub same_judgement : (r m : Recorded) (limits : Bounds) (entries : List Entry) → limits ≡ r.limits → limits.layout ≡
     One → AreInRange limits → IsRecorded r → entries ≡ r.entries → AllCanRespell entries → m ≡ respelled_record r →
-    HaveSameVerdict m r
-same_verdict r m limits entries same one range known each can e =
+    HaveSameJudgement m r
+same_judgement r m limits entries same one range known each can e =
     let is : migrated r ≡ m = ap (λ (l : Layout). migrated_from l r) (layout_of r limits same one) ∙ sym e in
-    subst (λ (x : Recorded). HaveSameVerdict x r) is
+    subst (λ (x : Recorded). HaveSameJudgement x r) is
     (migration_keeps_verdicts r known (subst AreInRange same range) (λ _. subst AllCanRespell each can))
 
 pub cannot_migrate : (r : Recorded) (limits : Bounds) (entries : List Entry) (i : ℕ) → limits ≡ r.limits →

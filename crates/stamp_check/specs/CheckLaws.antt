@@ -8,20 +8,20 @@ use Rattle.stamp_machines.specs.World.{finished_calls}
 use Rattle.stamp_check.specs.declared.checking.Bad.{Bad}
 use Rattle.stamp_check.specs.declared.checking.Why.{Why}
 use Rattle.stamp_check.specs.FirstFault.{IsFirstFault}
-use Rattle.stamp_check.specs.Verdict.{IsVerdict}
+use Rattle.stamp_check.specs.Judgement.{IsJudgement}
 
 -- What has a fault is not linearized.
 abbrev pub FaultsAreExact : Type 0
 FaultsAreExact = (r : Recorded) (i : ℕ) (why : Why) → IsFirstFault r i why → ¬ IsLinearized r
 
--- Of each recorded history there is one verdict at most.
+-- Of each recorded history there is one judgement at most.
 abbrev pub OneVerdict : Type 0
-OneVerdict = (r : Recorded) (a b : Result ℕ Bad) → IsVerdict r a → IsVerdict r b → a ≡ b
+OneVerdict = (r : Recorded) (a b : Result ℕ Bad) → IsJudgement r a → IsJudgement r b → a ≡ b
 
--- The verdict on what a script is run to, with or without its report, is the number of its finished calls.
+-- The judgement of what a script is run to, with or without its report, is the number of its finished calls.
 abbrev pub RunsAreAccepted : Type 0
 RunsAreAccepted =
     (script : Scripted) → IsSound script → length script.steps ≤ 1000000 →
     let accepted = Ok (length (finished_calls script script.steps)) in
-    ((a : Result ℕ Bad) → IsVerdict (run_record script) a → a ≡ accepted) ×
-    ((a : Result ℕ Bad) → IsVerdict (reported_record script) a → a ≡ accepted)
+    ((a : Result ℕ Bad) → IsJudgement (run_record script) a → a ≡ accepted) ×
+    ((a : Result ℕ Bad) → IsJudgement (reported_record script) a → a ≡ accepted)

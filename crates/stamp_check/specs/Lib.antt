@@ -1,9 +1,9 @@
 pub mod FirstFault
-pub mod Verdict
+pub mod Judgement
 pub mod GoesOn
 pub mod LockReplies
 pub mod Walk
 pub mod CheckLaws
-pub mod SameVerdict
+pub mod SameJudgement
 pub mod Migration
 pub mod MigrationLaws

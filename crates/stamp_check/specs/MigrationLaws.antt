@@ -6,7 +6,7 @@ use Rattle.stamp_core.specs.Linearized.{IsLinearized}
 use Rattle.stamp_core.specs.Respelling.{IsRespelled}
 use Rattle.stamp_check.specs.declared.checking.Why.{Why}
 use Rattle.stamp_check.specs.FirstFault.{IsFirstFault}
-use Rattle.stamp_check.specs.SameVerdict.{HaveSameVerdict}
+use Rattle.stamp_check.specs.SameJudgement.{HaveSameJudgement}
 use Rattle.stamp_check.specs.Migration.{respelling, migrated, CanMigrate}
 
 -- A stamp is respelled to that of the same kind, version and place; what is none in layout 2 to 0.
@@ -29,4 +29,4 @@ MigrationKeepsFaults =
 abbrev pub MigrationKeepsVerdicts : Type 0
 MigrationKeepsVerdicts =
     (r : Recorded) → IsRecorded r → AreInRange r.limits → CanMigrate r →
-    HaveSameVerdict (migrated r) r
+    HaveSameJudgement (migrated r) r

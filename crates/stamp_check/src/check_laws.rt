@@ -6,7 +6,7 @@ pub fn faults_are_exact()
     ensures { FaultsAreExact }
 {}
 
-/// There is one verdict on a recorded history at most: `check` answers it.
+/// There is one judgement of a recorded history at most: `check` answers it.
 pub fn one_verdict()
     ensures { OneVerdict }
 {}

@@ -1,5 +1,5 @@
 //! Whether a recorded history is linearized by its points.
-ghost use Rattle.stamp_check.specs.Verdict.{IsVerdict};
+ghost use Rattle.stamp_check.specs.Judgement.{IsJudgement};
 
 use crate::walk::Walk;
 use stamp_core::Record;
@@ -52,7 +52,7 @@ impl Error for Bad {}
 /// are linearized by their points, and else the first fault. It takes no memory, and does not look
 /// at the report.
 pub fn check(history: &Record) -> Result<u64, Bad>
-    ensures { IsVerdict history.now result }
+    ensures { IsJudgement history.now result }
 {
     let limits = history.limits();
     let entries = history.entries();

@@ -1,6 +1,6 @@
 //! Recorded histories of layout 1, spelled anew in layout 2.
 ghost use Rattle.std.specs.Prelude.{◌≡◌, ◌↔◌, map, IsOk, IfOk, IfErr, IsTrue, MatchOption};
-ghost use Rattle.stamp_check.specs.SameVerdict.{HaveSameVerdict};
+ghost use Rattle.stamp_check.specs.SameJudgement.{HaveSameJudgement};
 ghost use Rattle.stamp_check.specs.Migration.{respelling, respelled_call, respelled_reply, respelled_entry, respelled_record, widened, migrated, CanRespell, AllCanRespell, CanMigrate, IsFirstForeign, IsBadReply};
 
 use stamp_core::{Call, CoreError, Entry, Layout, Limits, Record, Reply, respell};
@@ -134,7 +134,7 @@ fn in_layout_two(history: Record) -> Record
 pub fn migrate(history: Record) -> Result<Record, BadReply>
     ensures ok { IsOk result ↔ CanMigrate history }
     ensures migrated { IfOk result (λ r. r ≡ migrated history) }
-    ensures verdict { IfOk result (λ r. HaveSameVerdict r history) }
+    ensures judgement { IfOk result (λ r. HaveSameJudgement r history) }
     ensures bad { IfErr result (λ bad. IsBadReply history bad.entry) }
     ensures unchanged { IfErr result (λ bad. bad.unchanged ≡ history) }
 {

@@ -11,7 +11,7 @@ ghost use Rattle.stamp_core.specs.Record.{SuitsRecord};
 ghost use Rattle.stamp_core.specs.Linearized.{history_of, KeepsThreadOrder, RisesAbove, FollowsItsThread, IsAnswered, IsWithin, Fits};
 ghost use Rattle.stamp_check.specs.LockReplies.{LockReplies};
 ghost use Rattle.stamp_check.specs.FirstFault.{Breaks};
-ghost use Rattle.stamp_check.specs.Verdict.{IsVerdict};
+ghost use Rattle.stamp_check.specs.Judgement.{IsJudgement};
 
 use stamp_check::{Bad, Why};
 use stamp_core::{Call, Entry, Limits, Record, Reply, Word, Words, transition};
@@ -162,7 +162,7 @@ fn first_broken(limits: Limits, width: u64, before: &[Entry], entry: &Entry) -> 
 
 /// What `check` answers.
 pub(crate) fn plain_check(history: &Record) -> Result<u64, Bad>
-    ensures { IsVerdict history.now result }
+    ensures { IsJudgement history.now result }
 {
     let limits = history.limits();
     let width = history.width();

@@ -22,7 +22,7 @@ use Rattle.stamp_cli.specs.Answer.{LineView, IsWaitFault, IsReplayAnswer, IsInpu
 use Rattle.stamp_cli.specs.Answer.{IsMigrateAnswer}
 use Rattle.stamp_cli.specs.Answer.{AnswersReplay, AnswersRun, AnswersReportedRun, AnswersCheck, AnswersMigrate}
 use Rattle.stamp_cli.specs.Answer.{IsStampAnswer, IsAccepted, AnswersOrder, IsOrderAnswer}
-use Rattle.stamp_cli.specs.CheckText.{check_verdict_text, verdict_of}
+use Rattle.stamp_cli.specs.CheckText.{judgement_text, verdict_of}
 use Rattle.stamp_cli.specs.Source.{most_bytes}
 use Rattle.stamp_cli.specs.StampText.{kind_text}
 use Rattle.stamp_core.proofs.OneStampKind.{one_kind}
@@ -121,7 +121,7 @@ one_check : (r : Result Recorded ReadError) (a b : Result LineView ServeFault) �
     IsCheckAnswer r b → a ≡ b
 one_check (Ok h) (Ok a) (Ok b) x y =
     let same = one_verdict h x.found y.found x.is y.is in
-    ap Ok (same_line a b (x.says ∙ ap check_verdict_text same ∙ sym y.says)
+    ap Ok (same_line a b (x.says ∙ ap judgement_text same ∙ sym y.says)
     (x.verdict ∙ ap verdict_of same ∙ sym y.verdict))
 one_check (Ok h) (Ok a) (Err e) x y = absurd y
 one_check (Ok h) (Err e) b x y = absurd x

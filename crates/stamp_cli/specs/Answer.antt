@@ -7,7 +7,7 @@ use Rattle.stamp_core.specs.declared.layout.Layout.{Layout}
 use Rattle.stamp_core.specs.declared.layout.Layout.TheVariants.{One}
 use Rattle.stamp_machines.specs.Script.{Scripted}
 use Rattle.stamp_machines.specs.RunRecord.{run_record, reported_record}
-use Rattle.stamp_check.specs.Verdict.{IsVerdict}
+use Rattle.stamp_check.specs.Judgement.{IsJudgement}
 use Rattle.stamp_check.specs.Migration.{CanMigrate, IsBadReply, migrated}
 use Rattle.stamp_check.specs.declared.checking.Bad.{Bad}
 use Rattle.stamp_history.specs.History.{recorded_of}
@@ -23,7 +23,7 @@ use Rattle.stamp_cli.specs.declared.orders.Order.TheVariants as order
 use Rattle.stamp_cli.specs.declared.line.Line as made
 use Rattle.stamp_cli.specs.declared.line.Verdict.{Verdict}
 use Rattle.stamp_cli.specs.declared.line.Verdict.TheVariants.{Accepted}
-use Rattle.stamp_cli.specs.CheckText.{check_verdict_text, verdict_of}
+use Rattle.stamp_cli.specs.CheckText.{judgement_text, verdict_of}
 use Rattle.stamp_cli.specs.Refusal.{refusal}
 use Rattle.stamp_cli.specs.Source.{most_bytes, most_reads, most_taken, Reads, ReadsNone}
 use Rattle.stamp_cli.specs.StampText.{IsStampText}
@@ -53,16 +53,16 @@ abbrev pub script_answer : (Scripted → Recorded) → Result Scripted ReadError
 script_answer record_of (Ok script) = Ok (history_text (record_of script))
 script_answer record_of (Err e) = Err (refusal e)
 
--- a history has this verdict, which the line says
-pub record SaysVerdict (history : Recorded) (line : LineView) : Type 0 where
+-- a history has this judgement, which the line says
+pub record SaysJudgement (history : Recorded) (line : LineView) : Type 0 where
   pub found : Result ℕ Bad
-  pub is : IsVerdict history found
-  pub says : line.text ≡ check_verdict_text found
+  pub is : IsJudgement history found
+  pub says : line.text ≡ judgement_text found
   pub verdict : line.verdict ≡ verdict_of found
 
--- and if that is a history: its verdict
+-- and if that is a history: its judgement
 abbrev pub IsCheckAnswer : Result Recorded ReadError → Result LineView ServeFault → Type 0
-IsCheckAnswer (Ok history) (Ok line) = SaysVerdict history line
+IsCheckAnswer (Ok history) (Ok line) = SaysJudgement history line
 IsCheckAnswer (Ok history) (Err fault) = ⊥
 IsCheckAnswer (Err e) answer = answer ≡ Err (refusal e)
 

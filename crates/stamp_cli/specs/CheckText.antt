@@ -1,4 +1,4 @@
--- The line of a verdict on a history, and what it says.
+-- The line of a judgement of a history, and its verdict.
 use Rattle.std.specs.Prelude.{ℕ, List, ◌++◌, codes, decimal, Result, Ok, Err}
 use Rattle.stamp_check.specs.declared.checking.Bad.{Bad}
 use Rattle.stamp_check.specs.declared.checking.Why.{Why}
@@ -18,9 +18,9 @@ ok_text n = codes "ok " ++ decimal n
 abbrev pub bad_text : Bad → List ℕ
 bad_text bad = codes "bad " ++ decimal bad.entry ++ codes " " ++ why_text bad.why
 
-abbrev pub check_verdict_text : Result ℕ Bad → List ℕ
-check_verdict_text (Ok n) = ok_text n
-check_verdict_text (Err bad) = bad_text bad
+abbrev pub judgement_text : Result ℕ Bad → List ℕ
+judgement_text (Ok n) = ok_text n
+judgement_text (Err bad) = bad_text bad
 
 abbrev pub verdict_of : Result ℕ Bad → Verdict
 verdict_of (Ok n) = verdict.Accepted

@@ -9,7 +9,7 @@ ghost use Rattle.stamp_cli.specs.Source.{TakesAtMost, most_bytes};
 ghost use Rattle.stamp_cli.specs.Answer.{AnswersSource, AnswersOrder, AnswersCheck, AnswersMigrate, AnswersReplay, AnswersReportedRun, AnswersRun};
 ghost use Rattle.stamp_cli.specs.Answer.{OrderReads, LineUnlessMemory, UnlessMemory, line_in, most_reads_of, most_taken_of};
 
-use crate::check_text::line_of_verdict;
+use crate::check_text::line_of_judgement;
 use crate::faults::ServeFault;
 use crate::input::{MOST_BYTES, read_input};
 use crate::line::{Line, accepted};
@@ -67,14 +67,14 @@ fn text_of_reported_run(alloc: Global, input: &[u8]) -> Result<Vec<u8>, ServeFau
     Ok(write_history(alloc, &record)?)
 }
 
-/// The verdict on a history.
+/// The judgement of a history.
 #[tactic(auto, using(crate::proofs::Refusals::inner))]
 fn line_of_check(alloc: Global, input: &[u8]) -> Result<Line, ServeFault>
     ensures answer { LineUnlessMemory (AnswersCheck input.now) result }
     ensures inner { IfErr result (λ e. is_of_end e ≡ false) }
 {
     let history = read_history(alloc, input)?;
-    Ok(line_of_verdict(alloc, check(&history))?)
+    Ok(line_of_judgement(alloc, check(&history))?)
 }
 
 /// A history in layout 2.

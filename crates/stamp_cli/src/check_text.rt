@@ -1,7 +1,7 @@
-//! The line of a verdict on a history.
+//! The line of a judgement of a history.
 
 ghost use Rattle.std.specs.Prelude.{◌≡◌, Some, Ok, Err, IfOk};
-ghost use Rattle.stamp_cli.specs.CheckText.{why_text, bad_text, ok_text, check_verdict_text, verdict_of};
+ghost use Rattle.stamp_cli.specs.CheckText.{why_text, bad_text, ok_text, judgement_text, verdict_of};
 
 use crate::line::{Line, Verdict, accepted};
 use stamp_history::{Bad, Why};
@@ -46,9 +46,9 @@ impl fmt::Display for BadText {
     }
 }
 
-/// The line of a verdict.
-pub(crate) fn line_of_verdict(alloc: Global, found: Result<u64, Bad>) -> Result<Line, AllocError>
-    ensures text { IfOk result (λ line. line.text.items ≡ check_verdict_text found) }
+/// The line of a judgement.
+pub(crate) fn line_of_judgement(alloc: Global, found: Result<u64, Bad>) -> Result<Line, AllocError>
+    ensures text { IfOk result (λ line. line.text.items ≡ judgement_text found) }
     ensures verdict { IfOk result (λ line. line.verdict ≡ verdict_of found) }
 {
     match found {

@@ -9,19 +9,19 @@ use Rattle.std.proofs.lemmas.Option.{none-some, slice_get_within, get_or_from_sl
 use Rattle.stamp_explain.specs.declared.observed.Observation.{Observation}
 use Rattle.stamp_explain.specs.declared.observed.Returned.{Returned}
 use Rattle.stamp_explain.specs.declared.found.Found.{Found}
-use Rattle.stamp_explain.specs.declared.found.Found.TheVariants.{Order, Nothing, Undecided}
+use Rattle.stamp_explain.specs.declared.found.Found.TheVariants.{Linearization, Nothing, Undecided}
 use Rattle.stamp_explain.specs.Observed.{ObservedHistory, IsObserved, HasReturned, IsReturnAt}
 use Rattle.stamp_explain.specs.Explained.{IsEffectOf, AreApart, RespectsBefore, IsExplained, IsExplainedBy}
 use Rattle.stamp_explain.specs.Cut.{cut_entry, cut_entries, returned_by, cut, seen_at, IsStuck}
 use Rattle.stamp_explain.specs.TimelineKeys.{IsSooner, AreEnds, EndsAt}
 use Rattle.stamp_explain.specs.Configuration.{IsGivenUp}
-use Rattle.stamp_explain.specs.Order.{IsOrderOf}
+use Rattle.stamp_explain.specs.Linearization.{IsLinearizationOf}
 use Rattle.stamp_explain.specs.Expand.{IsFoundApart}
 use Rattle.stamp_explain.specs.Answer.{IsUndecided, IsLastOrGivesUp, IsUnexplained, IsNotFound}
 use Rattle.stamp_explain.proofs.Lists.{pairs_none, none_in_empty}
 use Rattle.stamp_explain.proofs.Cutting.{IsLessKnown, cuts_stay_explained, less_known, back}
 use Rattle.stamp_explain.proofs.Seeing.{seen_explains_as_much}
-use Rattle.stamp_explain.specs.declared.order.Taken.{Taken}
+use Rattle.stamp_explain.specs.declared.linearization.Taken.{Taken}
 
 false_true : false ≡ true → ⊥
 false_true h = cc
@@ -148,7 +148,7 @@ explained_by_none h none = record {
 
 -- where no call returned
 pub order_of_none : (h : ObservedHistory) (ends : List (ℕ × ℕ)) → AreEnds h.entries ends → length ends ≡ 0 →
-    IsOrderOf h []
+    IsLinearizationOf h []
 order_of_none h ends are none = record {
   order = [];
   explains = explained_by_none h (λ i e at has. none_in_empty (has.0.last, i)
@@ -458,7 +458,7 @@ unexplained_between h most ends low high p are is le at =
 -- what becomes of the two, and of what is known, by what was found between them
 pub data Narrows (low high : ℕ) (unexplained stuck : Bool) (middle l u : ℕ) (x s : Bool) : Found → Type 0 where
   above : {order : Vec Taken Global} → l ≡ middle + 1 → u ≡ high → x ≡ unexplained → s ≡ stuck →
-      Narrows low high unexplained stuck middle l u x s (Order order)
+      Narrows low high unexplained stuck middle l u x s (Linearization order)
   below : l ≡ low → u ≡ middle → x ≡ true → s ≡ true → Narrows low high unexplained stuck middle l u x s Nothing
   at_least : l ≡ low → u ≡ middle → x ≡ unexplained → s ≡ false →
       Narrows low high unexplained stuck middle l u x s Undecided
@@ -498,7 +498,7 @@ narrowed : (h : ObservedHistory) (most : ℕ) (unexplained : Bool) (ends : List 
     IsBetween h most unexplained ends low high stuck → low ≤ middle → middle < high →
     IsFoundApart (seen_at (get_or ends middle (0, 0)).0 ((get_or ends middle (0, 0)).1 + 1) h) most found →
     Narrows low high unexplained stuck middle l u x s found → IsBetween h most x ends l u s
-narrowed h most unexplained ends low high middle stuck (Order order) l u x s observed are is le less found
+narrowed h most unexplained ends low high middle stuck (Linearization order) l u x s observed are is le less found
     (above l_is u_is x_is s_is) =
     same h most unexplained ends (middle + 1) high stuck l u x s l_is u_is x_is s_is
     (between_above h most unexplained ends low high middle stuck (get_or ends middle (0, 0)) observed are is less

@@ -33,7 +33,7 @@ use Rattle.stamp_explain.proofs.Deepening.{deepens_expanded}
 use Rattle.stamp_explain.proofs.LookingOn.{all_passed, all_passed_over, deepens_on}
 use Rattle.stamp_explain.specs.declared.timeline.Timeline.{Timeline}
 use Rattle.stamp_explain.specs.Timeline.{IsTimeline}
-use Rattle.stamp_explain.specs.Order.{IsEnd}
+use Rattle.stamp_explain.specs.Linearization.{IsEnd}
 
 -- where all that waited was seen, no order explains the history
 deepens_no_more : (h : ObservedHistory) (returns : List ℕ) (store : Store) (waited : List Waiting)

@@ -6,7 +6,7 @@ use Rattle.std.proofs.Math.Seq.{drop-cons}
 use Rattle.std.proofs.lemmas.List.{length-drop}
 use Rattle.stamp_core.specs.declared.reply.Reply.{Reply}
 use Rattle.stamp_explain.specs.declared.node.Node.{Node}
-use Rattle.stamp_explain.specs.declared.order.Taken.{Taken}
+use Rattle.stamp_explain.specs.declared.linearization.Taken.{Taken}
 use Rattle.stamp_explain.specs.Observed.{ObservedHistory}
 use Rattle.stamp_explain.specs.Explained.{Effect}
 use Rattle.stamp_explain.specs.Search.{LockState, StateTransition, IsCompletedBy}
@@ -14,7 +14,7 @@ use Rattle.stamp_explain.specs.Configuration.{Reaches, put_after}
 use Rattle.stamp_explain.specs.Configuration.Reaches.{goes_past, goes_on_by}
 use Rattle.stamp_explain.specs.Node.{StandsFor, IsReached}
 use Rattle.stamp_explain.specs.Expand.{ComesNext, ComesByCall, ComesByReturn, IsLed}
-use Rattle.stamp_explain.specs.Order.{taken_of, RepliesAt}
+use Rattle.stamp_explain.specs.Linearization.{taken_of, RepliesAt}
 use Rattle.stamp_explain.proofs.Completing.{completed_by_none, before_return, puts_first}
 use Rattle.stamp_explain.proofs.Finding.{ArePending, first_of_pending, past_pending, taken_pending}
 use Rattle.stamp_explain.proofs.Expanding.{one_reply}

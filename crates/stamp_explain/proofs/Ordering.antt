@@ -7,11 +7,11 @@ use Rattle.std.proofs.lemmas.Option.{same_Some, slice_get_read, slice_get_within
 use Rattle.stamp_explain.specs.declared.node.Node.{Node}
 use Rattle.stamp_explain.specs.declared.node.Origin.{Origin}
 use Rattle.stamp_explain.specs.declared.store.Store.{Store}
-use Rattle.stamp_explain.specs.declared.order.Taken.{Taken}
+use Rattle.stamp_explain.specs.declared.linearization.Taken.{Taken}
 use Rattle.stamp_explain.specs.Observed.{ObservedHistory}
 use Rattle.stamp_explain.specs.Search.{StateTransition, IsCompletedBy, AreReturns, first_state}
 use Rattle.stamp_explain.specs.Expand.{ComesAfter, IsLed, IsLinkedAt, AreLinked}
-use Rattle.stamp_explain.specs.Order.{IsTakenAt, IsOrderOf, IsEnd}
+use Rattle.stamp_explain.specs.Linearization.{IsTakenAt, IsLinearizationOf, IsEnd}
 use Rattle.stamp_explain.proofs.Finding.{ArePending}
 use Rattle.stamp_explain.proofs.Exploring.{opening_stands, completed_from}
 use Rattle.stamp_explain.proofs.Leading.{EndsFor, Ends, ends_last}
@@ -93,7 +93,7 @@ back_call h returns store at origin node found one way read is = record {
 -- at the first node the order is whole
 pub back_first : (h : ObservedHistory) (returns : List ℕ) (store : Store) (found : List Taken) →
     AreReturns h.entries returns → AreLinked h returns store → GoesBack h returns store 0 found →
-    IsOrderOf h (reverse found)
+    IsLinearizationOf h (reverse found)
 back_first h returns store found are linked way = record {
   order = end.rest;
   explains = completed_from h returns end.rest are

@@ -17,10 +17,10 @@ use Rattle.stamp_core.specs.declared.call.Call.{Call}
 use Rattle.stamp_core.specs.declared.reply.Reply.{Reply}
 use Rattle.stamp_explain.specs.declared.observed.Observation.{Observation}
 use Rattle.stamp_explain.specs.declared.observed.Returned.{Returned}
-use Rattle.stamp_explain.specs.declared.order.Taken.{Taken}
+use Rattle.stamp_explain.specs.declared.linearization.Taken.{Taken}
 use Rattle.stamp_explain.specs.Observed.{ObservedHistory, IsObserved, IsSmall}
 use Rattle.stamp_explain.specs.Explained.{Effect, IsEffectOf, IsExplainedBy, indices_of}
-use Rattle.stamp_explain.specs.Order.{IsOrderOf, taken_of}
+use Rattle.stamp_explain.specs.Linearization.{IsLinearizationOf, taken_of}
 use Rattle.stamp_explain.specs.Points.{IsEntryOf, HasPoints, IsLastTold, EndsAsTold, told_until, told_last_by}
 use Rattle.stamp_explain.specs.Points.{entry_with_point}
 use Rattle.stamp_explain.specs.Points.{ends_at, position_at, there_at}
@@ -100,7 +100,7 @@ pub record PlacesTo (h : ObservedHistory) (taken : List Taken) (end k : ℕ) (en
     pub points : entries ++ points_from end q n (drop k order) ≡ points_from end 0 0 order
 
 pub places_first : (h : ObservedHistory) (taken : List Taken) (end : ℕ) (entries : List Entry) → IsObserved h →
-    IsOrderOf h taken → All (λ (e : Observation). e.first ≤ end) h.entries → entries ≡ [] →
+    IsLinearizationOf h taken → All (λ (e : Observation). e.first ≤ end) h.entries → entries ≡ [] →
     PlacesTo h taken end 0 entries 0 0
 places_first h taken end entries observed is begun empty = record {
   order = is.order;

@@ -14,7 +14,7 @@ use Rattle.stamp_explain.specs.Observed.{ObservedHistory, IsObserved, IsInterval
 use Rattle.stamp_explain.specs.Explained.{IsExplained}
 use Rattle.stamp_explain.specs.Cut.{cut_after, seen_at}
 use Rattle.stamp_explain.specs.declared.found.Found.{Found}
-use Rattle.stamp_explain.specs.declared.found.Found.TheVariants.{Order, Nothing, Undecided}
+use Rattle.stamp_explain.specs.declared.found.Found.TheVariants.{Linearization, Nothing, Undecided}
 use Rattle.stamp_explain.specs.Configuration.{IsGivenUp}
 use Rattle.stamp_explain.specs.Expand.{IsFoundApart}
 use Rattle.stamp_explain.specs.Possible.{IsPossible, IsUndecidedAtReply, returned_with, with_reply}
@@ -22,7 +22,7 @@ use Rattle.stamp_explain.proofs.Seeing.{seen_explains_as_much}
 
 -- what is told of a reply by what a search found
 abbrev pub Tells : ObservedHistory → ℕ → ℕ → Reply → Found → Type 0
-Tells h i most reply (Order order) = IsPossible h i reply
+Tells h i most reply (Linearization order) = IsPossible h i reply
 Tells h i most reply Nothing = ¬ IsPossible h i reply
 Tells h i most reply Undecided = IsUndecidedAtReply h i most reply
 
@@ -170,7 +170,7 @@ pub found_tells : (h seen : ObservedHistory) (i most : ℕ) (e : Observation) (r
     slice_get h.entries i ≡ Some e → e.returned ≡ Some r → IsObserved h → (found : Found) →
     seen ≡ seen_at r.last (i + 1) (with_reply i e r reply h) → IsFoundApart seen most found →
     Tells h i most reply found
-found_tells h seen i most e r reply at returned is (Order order) same found =
+found_tells h seen i most e r reply at returned is (Linearization order) same found =
     seen_is_possible h i e r reply at returned is
     (subst IsExplained same (record { order = found.order; by = found.explains }))
 found_tells h seen i most e r reply at returned is Nothing same found = λ possible.

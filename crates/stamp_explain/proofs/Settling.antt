@@ -5,14 +5,14 @@ use Rattle.std.specs.Prelude.{drop, slice_index}
 use Rattle.std.specs.List.{Contains}
 use Rattle.stamp_explain.specs.declared.node.Node.{Node}
 use Rattle.stamp_explain.specs.declared.node.Next.{Next}
-use Rattle.stamp_explain.specs.declared.order.Taken.{Taken}
+use Rattle.stamp_explain.specs.declared.linearization.Taken.{Taken}
 use Rattle.stamp_explain.specs.Observed.{ObservedHistory}
 use Rattle.stamp_explain.specs.Search.{IsCompletedBy, StateTransition}
 use Rattle.stamp_explain.specs.Expand.{ComesByReturn, ComesNext, ComesAfter, GoesOn, Hope, IsLed, PassesOne, PassesTo}
 use Rattle.stamp_explain.specs.Expand.{Suffice}
 use Rattle.stamp_explain.specs.Expand.{IsNotInEffect}
 use Rattle.stamp_explain.specs.Expand.PassesTo.{passes_none, passes_more}
-use Rattle.stamp_explain.specs.Order.{RepliesAt}
+use Rattle.stamp_explain.specs.Linearization.{RepliesAt}
 use Rattle.stamp_explain.specs.Node.{IsReached}
 use Rattle.stamp_explain.proofs.Lists.{contains_cases, contains_first, none_in_empty}
 use Rattle.stamp_explain.proofs.Completing.{past_return}

@@ -13,14 +13,14 @@ use Rattle.std.proofs.Math.ListN.{drop_of_length-le}
 use Rattle.stamp_core.specs.declared.reply.Reply.{Reply}
 use Rattle.stamp_explain.specs.declared.observed.Observation.{Observation}
 use Rattle.stamp_explain.specs.declared.apart.Subhistory.{Subhistory}
-use Rattle.stamp_explain.specs.declared.order.Taken.{Taken}
+use Rattle.stamp_explain.specs.declared.linearization.Taken.{Taken}
 use Rattle.stamp_explain.specs.Observed.{ObservedHistory, IsObserved, of_lock, of_record, is_of_lock, is_of_record}
 use Rattle.stamp_explain.specs.Explained.{Effect, IsEffectOf, RespectsBefore, IsExplained}
 use Rattle.stamp_explain.specs.declared.found.Found.{Found}
-use Rattle.stamp_explain.specs.declared.found.Found.TheVariants.{Order, Nothing, Undecided}
+use Rattle.stamp_explain.specs.declared.found.Found.TheVariants.{Linearization, Nothing, Undecided}
 use Rattle.stamp_explain.specs.Configuration.{GivesUp, IsGivenUp, IsNotRefused}
 use Rattle.stamp_explain.specs.Expand.{IsFoundApart, IsSearched}
-use Rattle.stamp_explain.specs.Order.{IsOrderOf, taken_of}
+use Rattle.stamp_explain.specs.Linearization.{IsLinearizationOf, taken_of}
 use Rattle.stamp_explain.specs.Apart.{places_where, is_of_object, of_object, IsSubhistoryOf}
 use Rattle.stamp_explain.proofs.Lists.{pairs_none, pairs_cons, pairs_head, pairs_drop}
 use Rattle.stamp_explain.proofs.Merging.IsMerge.{none, left, right}
@@ -38,7 +38,7 @@ not_by_part h observed (inr misses) explained = misses ((judged_apart h observed
 
 -- an order of the entries that pass, in the whole
 abbrev pub in_whole : (h : ObservedHistory) (p : Observation → Bool) (taken : List Taken) →
-    IsOrderOf (record h { entries = kept p h.entries }) taken → PartOrder h p
+    IsLinearizationOf (record h { entries = kept p h.entries }) taken → PartOrder h p
 in_whole h p taken o = restored h p (record { order = o.order; by = o.explains })
 
 abbrev as_taken : Effect → Taken
@@ -54,7 +54,7 @@ pub record IsCallAt (h : ObservedHistory) (p : Observation → Bool) (xs : List 
     pub reply : effect.reply ≡ t.reply
 
 pub call_at : (h : ObservedHistory) (p : Observation → Bool) (taken : List Taken)
-    (o : IsOrderOf (record h { entries = kept p h.entries }) taken) (k : ℕ) (t : Taken) →
+    (o : IsLinearizationOf (record h { entries = kept p h.entries }) taken) (k : ℕ) (t : Taken) →
     slice_get taken k ≡ Some t → IsCallAt h p (in_whole h p taken o).order k t
 call_at h p taken o k t at = by (slice_get o.order k) refl
   where
@@ -77,7 +77,7 @@ call_at h p taken o k t at = by (slice_get o.order k) refl
         }
 
 pub as_long : (h : ObservedHistory) (p : Observation → Bool) (taken : List Taken)
-    (o : IsOrderOf (record h { entries = kept p h.entries }) taken) →
+    (o : IsLinearizationOf (record h { entries = kept p h.entries }) taken) →
     length (in_whole h p taken o).order ≡ length taken
 as_long h p taken o = restored_many h p (record { order = o.order; by = o.explains }) ∙
     sym (length-map o.order as_taken) ∙ ap (λ (xs : List Taken). length xs) (sym o.are)
@@ -158,7 +158,7 @@ BeganFirst es fs t others k = (s : Taken) (e f : Observation) → slice_get othe
     slice_get es t.entry ≡ Some e → slice_get fs s.entry ≡ Some f → e.first ≤ f.first
 
 respects_left : (h : ObservedHistory) (p : Observation → Bool) (others : List Taken)
-    (o : IsOrderOf (record h { entries = kept p h.entries }) others) (k : ℕ) (t : Taken) (x : Effect)
+    (o : IsLinearizationOf (record h { entries = kept p h.entries }) others) (k : ℕ) (t : Taken) (x : Effect)
     (es : List Observation) → IsObserved h → slice_get es t.entry ≡ Some x.entry →
     BeganFirst es (kept p h.entries) t others k → All (RespectsBefore x) (drop k (in_whole h p others o).order)
 respects_left h p others o k t x es observed is first = by (inside_or_past others k)
@@ -185,8 +185,8 @@ respects_left h p others o k t x es observed is first = by (inside_or_past other
 -- the calls found so far, of the first i of the one order and the first j of the other
 pub record UnitesSoFar (h : ObservedHistory) (lock_order record_order : List Taken) (i j : ℕ) (found : List Taken) :
     Type 0 where
-  pub locks : IsOrderOf (of_lock h) lock_order
-  pub records : IsOrderOf (of_record h) record_order
+  pub locks : IsLinearizationOf (of_lock h) lock_order
+  pub records : IsLinearizationOf (of_record h) record_order
   pub locks_within : i ≤ length lock_order
   pub records_within : j ≤ length record_order
   pub merges : MergesSoFar (in_whole h is_of_lock lock_order locks).order
@@ -196,11 +196,11 @@ pub record UnitesSoFar (h : ObservedHistory) (lock_order record_order : List Tak
 
 pub unites_none : (h : ObservedHistory) (of_locks of_records : Subhistory)
     (lock_order record_order found : List Taken) → IsSubhistoryOf h true of_locks →
-    IsSubhistoryOf h false of_records → IsOrderOf of_locks.history lock_order →
-    IsOrderOf of_records.history record_order → found ≡ [] → UnitesSoFar h lock_order record_order 0 0 found
+    IsSubhistoryOf h false of_records → IsLinearizationOf of_locks.history lock_order →
+    IsLinearizationOf of_records.history record_order → found ≡ [] → UnitesSoFar h lock_order record_order 0 0 found
 unites_none h of_locks of_records lock_order record_order found locks records locks_are records_are empty = record {
-  locks = subst (λ (g : ObservedHistory). IsOrderOf g lock_order) locks.history locks_are;
-  records = subst (λ (g : ObservedHistory). IsOrderOf g record_order) records.history records_are;
+  locks = subst (λ (g : ObservedHistory). IsLinearizationOf g lock_order) locks.history locks_are;
+  records = subst (λ (g : ObservedHistory). IsLinearizationOf g record_order) records.history records_are;
   locks_within = omega arith;
   records_within = omega arith;
   merges = λ m. record { whole = m; are = ap (λ (xs : List Taken). xs ++ taken_of m.order) (sym empty) };
@@ -286,7 +286,7 @@ unites_record h of_locks of_records lock_order record_order found i j t new obse
 
 pub united : (h : ObservedHistory) (lock_order record_order found : List Taken) (i j : ℕ) → IsObserved h →
     length lock_order ≤ i → length record_order ≤ j → UnitesSoFar h lock_order record_order i j found →
-    IsOrderOf h found
+    IsLinearizationOf h found
 united h lock_order record_order found i j observed locks_over records_over u = record {
   order = all.whole.order;
   explains = merged_explains h observed (in_whole h is_of_lock lock_order u.locks)
@@ -313,22 +313,24 @@ united h lock_order record_order found i j observed locks_over records_over u = 
 
 -- what is read on the way
 pub call_inside : (h : ObservedHistory) (lock : Bool) (sub : Subhistory) (order : List Taken) (k : ℕ) (t : Taken) →
-    IsSubhistoryOf h lock sub → IsOrderOf sub.history order → slice_get order k ≡ Some t →
+    IsSubhistoryOf h lock sub → IsLinearizationOf sub.history order → slice_get order k ≡ Some t →
     t.entry < length sub.history.entries
 call_inside h lock sub order k t is o at =
     let call : IsCallAt h (is_of_object lock) (in_whole h (is_of_object lock) order
-    (subst (λ (g : ObservedHistory). IsOrderOf g order) is.history o)).order k t =
-    call_at h (is_of_object lock) order (subst (λ (g : ObservedHistory). IsOrderOf g order) is.history o) k t at in
+    (subst (λ (g : ObservedHistory). IsLinearizationOf g order) is.history o)).order k t =
+    call_at h (is_of_object lock) order
+    (subst (λ (g : ObservedHistory). IsLinearizationOf g order) is.history o) k t at in
     subst (λ (es : List Observation). t.entry < length es) (sym (subhistory_entries h lock sub is))
     (slice_get_within (kept (is_of_object lock) h.entries) t.entry call.effect.entry call.is_kept)
 
 pub place_inside : (h : ObservedHistory) (lock : Bool) (sub : Subhistory) (order : List Taken) (k : ℕ) (t : Taken) →
-    IsSubhistoryOf h lock sub → IsOrderOf sub.history order → slice_get order k ≡ Some t →
+    IsSubhistoryOf h lock sub → IsLinearizationOf sub.history order → slice_get order k ≡ Some t →
     t.entry < length sub.places.items
 place_inside h lock sub order k t is o at =
     let call : IsCallAt h (is_of_object lock) (in_whole h (is_of_object lock) order
-    (subst (λ (g : ObservedHistory). IsOrderOf g order) is.history o)).order k t =
-    call_at h (is_of_object lock) order (subst (λ (g : ObservedHistory). IsOrderOf g order) is.history o) k t at in
+    (subst (λ (g : ObservedHistory). IsLinearizationOf g order) is.history o)).order k t =
+    call_at h (is_of_object lock) order
+    (subst (λ (g : ObservedHistory). IsLinearizationOf g order) is.history o) k t at in
     subst (λ (ns : List ℕ). t.entry < length ns) (sym is.places)
     (slice_get_within (places_where (is_of_object lock) 0 h.entries) t.entry
     (0 + place_in_whole (is_of_object lock) h.entries t.entry)
@@ -362,7 +364,7 @@ began_first es fs t s others k a b t_is s_is at le u e f at_u at_e at_f =
 -- what one search finds where there is no record
 pub found_alone : (h : ObservedHistory) (most : ℕ) (found : Found) → IsObserved h → h.width ≡ 0 →
     IsSearched h most found → IsFoundApart h most found
-found_alone h most (Order order) observed without found = found
+found_alone h most (Linearization order) observed without found = found
 found_alone h most Nothing observed without found = found
 found_alone h most Undecided observed without found =
     let given_up : GivesUp (of_lock h) most =
@@ -377,7 +379,7 @@ found_alone h most Undecided observed without found =
 not_refused : (h : ObservedHistory) (most : ℕ) (lock : Bool) (sub : Subhistory) (found : Found) →
     IsSubhistoryOf h lock sub → IsSearched sub.history most found → found ≢ Nothing →
     IsNotRefused (of_object lock h) most
-not_refused h most lock sub (Order order) is found some = inr (subst IsExplained is.history
+not_refused h most lock sub (Linearization order) is found some = inr (subst IsExplained is.history
     (record { order = found.order; by = found.explains }))
 not_refused h most lock sub Nothing is found some = absurd (some refl)
 not_refused h most lock sub Undecided is found some = inl (subst (λ (g : ObservedHistory). GivesUp g most) is.history

@@ -11,7 +11,7 @@ use Rattle.stamp_explain.specs.declared.node.Origin.{Origin}
 use Rattle.stamp_explain.specs.declared.node.Waiting.{Waiting}
 use Rattle.stamp_explain.specs.declared.store.Store.{Store}
 use Rattle.stamp_explain.specs.declared.found.Found.{Found}
-use Rattle.stamp_explain.specs.declared.found.Found.TheVariants.{Order, Nothing, Undecided}
+use Rattle.stamp_explain.specs.declared.found.Found.TheVariants.{Linearization, Nothing, Undecided}
 use Rattle.stamp_explain.specs.declared.timeline.Timeline.{Timeline}
 use Rattle.stamp_explain.specs.Observed.{ObservedHistory, IsObserved, AreOfOneObject}
 use Rattle.stamp_explain.specs.Unchanging.{asks_at}
@@ -22,7 +22,7 @@ use Rattle.stamp_explain.specs.Configuration.{GivesUp, IsGivenUp, IsTried, NoneI
 use Rattle.stamp_explain.specs.Node.{IsStateBy, StandsFor, IsReached, IsFirstNode}
 use Rattle.stamp_explain.specs.Timeline.{IsTimeline, IsAwaitedAt}
 use Rattle.stamp_explain.specs.Store.{IsStored, Keeps}
-use Rattle.stamp_explain.specs.Order.{IsOrderOf}
+use Rattle.stamp_explain.specs.Linearization.{IsLinearizationOf}
 
 -- a node that a search reached, with a return to come
 pub record MayGoOn (h : ObservedHistory) (timeline : Timeline) (node : Node) : Type 0 where
@@ -183,13 +183,13 @@ IsChoice h asked returns node calls awaited i (Some w) = IsChoiceOf h asked retu
 
 -- what a search finds that looks at so many configurations before it gives up
 abbrev pub IsSearched : ObservedHistory → ℕ → Found → Type 0
-IsSearched h most (Order order) = IsOrderOf h order.items
+IsSearched h most (Linearization order) = IsLinearizationOf h order.items
 IsSearched h most Nothing = ¬ IsExplained h
 IsSearched h most Undecided = GivesUp h most
 
 -- what is found where lock and record are searched apart
 abbrev pub IsFoundApart : ObservedHistory → ℕ → Found → Type 0
-IsFoundApart h most (Order order) = IsOrderOf h order.items
+IsFoundApart h most (Linearization order) = IsLinearizationOf h order.items
 IsFoundApart h most Nothing = ¬ IsExplained h
 IsFoundApart h most Undecided = IsGivenUp h most
 

@@ -1,11 +1,11 @@
 //! The subhistories of the lock and of the record, and the merging of their orders.
 ghost use Rattle.std.specs.Prelude.{◌≡◌, ◌<◌, true, false, length, slice_get, Some, IfOk};
 ghost use Rattle.stamp_explain.specs.Observed.{IsObserved};
-ghost use Rattle.stamp_explain.specs.Order.{IsOrderOf};
+ghost use Rattle.stamp_explain.specs.Linearization.{IsLinearizationOf};
 ghost use Rattle.stamp_explain.specs.Apart.{IsSubhistoryOf};
 
+use crate::linearization::Taken;
 use crate::observed::{Observation, Observed};
-use crate::order::Taken;
 use std::alloc::{AllocError, Global};
 
 /// The calls of one object alone, with the place of each in the whole history.
@@ -72,9 +72,9 @@ pub(crate) fn merged(
     requires observed { IsObserved observed.now }
     requires locks { IsSubhistoryOf observed.now true locks.now }
     requires records { IsSubhistoryOf observed.now false records.now }
-    requires lock_order { IsOrderOf locks.now.history lock_order.now }
-    requires record_order { IsOrderOf records.now.history record_order.now }
-    ensures { IfOk result (λ order. IsOrderOf observed.now order.items) }
+    requires lock_order { IsLinearizationOf locks.now.history lock_order.now }
+    requires record_order { IsLinearizationOf records.now.history record_order.now }
+    ensures { IfOk result (λ order. IsLinearizationOf observed.now order.items) }
 {
     let mut order = Vec::with_capacity(alloc, observed.entries().len())?;
     let mut i = 0;

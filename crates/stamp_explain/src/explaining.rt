@@ -96,7 +96,7 @@ pub fn explain(alloc: Global, observed: &Observed, most: u64) -> Result<Record, 
     ensures { IsAnswer observed.now most result }
 {
     match find(alloc, observed, most)? {
-        Found::Order(order) => Ok(record_of(alloc, observed, order.as_slice())?),
+        Found::Linearization(order) => Ok(record_of(alloc, observed, order.as_slice())?),
         Found::Nothing => without_order(alloc, observed, most, true),
         Found::Undecided => without_order(alloc, observed, most, false),
     }

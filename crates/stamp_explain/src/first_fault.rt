@@ -52,7 +52,7 @@ pub(crate) fn first_fault(
     while low < high {
         let middle = low + (high - low) / 2;
         match found_at(alloc, observed, ends[middle], most)? {
-            Found::Order(_) => low = middle + 1,
+            Found::Linearization(_) => low = middle + 1,
             Found::Nothing => {
                 high = middle;
                 unexplained = true;

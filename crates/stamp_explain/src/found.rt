@@ -4,8 +4,8 @@ ghost use Rattle.stamp_explain.specs.Observed.{IsObserved};
 ghost use Rattle.stamp_explain.specs.Expand.{IsFoundApart, IsSearched};
 
 use crate::apart::{merged, subhistory_of};
+use crate::linearization::Taken;
 use crate::observed::Observed;
-use crate::order::Taken;
 use crate::search::search;
 use crate::timeline::timeline_of;
 use std::alloc::{AllocError, Global};
@@ -13,8 +13,8 @@ use std::alloc::{AllocError, Global};
 /// What a search finds.
 #[derive(Drop)]
 pub(crate) enum Found {
-    /// An order that explains the history.
-    Order(Vec<Taken>),
+    /// A linearization: an order of calls that explains the history.
+    Linearization(Vec<Taken>),
     /// None does.
     Nothing,
     /// A search gave up: it had looked at more than `most` configurations.
@@ -47,12 +47,12 @@ pub(crate) fn find(alloc: Global, observed: &Observed, most: u64) -> Result<Foun
         Found::Nothing => Ok(Found::Nothing),
         Found::Undecided => match of_records {
             Found::Nothing => Ok(Found::Nothing),
-            Found::Order(_) | Found::Undecided => Ok(Found::Undecided),
+            Found::Linearization(_) | Found::Undecided => Ok(Found::Undecided),
         },
-        Found::Order(lock_order) => match of_records {
+        Found::Linearization(lock_order) => match of_records {
             Found::Nothing => Ok(Found::Nothing),
             Found::Undecided => Ok(Found::Undecided),
-            Found::Order(record_order) => Ok(Found::Order(merged(
+            Found::Linearization(record_order) => Ok(Found::Linearization(merged(
                 alloc,
                 observed,
                 &locks,

@@ -97,7 +97,7 @@ fn is_possible(
     let asked = with_reply(alloc, observed, entry, *observation, *returned, reply)?;
     let seen = seen_at(alloc, &asked, returned.last, entry + 1)?;
     match find(alloc, &seen, most)? {
-        Found::Order(_) => Ok(true),
+        Found::Linearization(_) => Ok(true),
         Found::Nothing => Ok(false),
         Found::Undecided => Err(PossibleError::Undecided),
     }

@@ -3,11 +3,11 @@ ghost use Rattle.std.specs.Prelude.{◌≡◌, ◌≤◌, ◌<◌, [], IfOk};
 ghost use Rattle.std.specs.List.{All};
 ghost use Rattle.stamp_core.specs.Record.{recorded, IsRecorded};
 ghost use Rattle.stamp_explain.specs.Observed.{IsObserved, IsLow};
-ghost use Rattle.stamp_explain.specs.Order.{IsOrderOf};
+ghost use Rattle.stamp_explain.specs.Linearization.{IsLinearizationOf};
 ghost use Rattle.stamp_explain.specs.Points.{HasPoints, IsLastTold, told_until, entry_with_point, position_at, there_at};
 
+use crate::linearization::Taken;
 use crate::observed::{Observation, Observed};
-use crate::order::Taken;
 use stamp_core::{Entry, Record, Reply};
 use std::alloc::{AllocError, Global};
 
@@ -81,7 +81,7 @@ fn entry_of(entry: &Observation, reply: Reply, end: u64, point: u64) -> Entry
 /// The entries of the calls of an order, with their points.
 fn entries_of(alloc: Global, observed: &Observed, order: &[Taken]) -> Result<Vec<Entry>, AllocError>
     requires observed { IsObserved observed.now }
-    requires order { IsOrderOf observed.now order.now }
+    requires order { IsLinearizationOf observed.now order.now }
     ensures points { IfOk result (λ es. HasPoints observed.now
         (recorded observed.now.limits observed.now.width es.items [])) }
     ensures recorded { IfOk result (λ es. IsRecorded (recorded observed.now.limits observed.now.width es.items [])) }
@@ -114,7 +114,7 @@ pub(crate) fn record_of(
     order: &[Taken],
 ) -> Result<Record, AllocError>
     requires observed { IsObserved observed.now }
-    requires order { IsOrderOf observed.now order.now }
+    requires order { IsLinearizationOf observed.now order.now }
     ensures { IfOk result (λ made. HasPoints observed.now made) }
 {
     let entries = entries_of(alloc, observed, order)?;

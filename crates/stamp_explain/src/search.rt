@@ -11,9 +11,9 @@ ghost use Rattle.stamp_explain.specs.Expand.{MayGoOn, Expands, Took, PassesTo, I
 
 use crate::ahead::gives_way;
 use crate::found::Found;
+use crate::linearization::linearization_to;
 use crate::node::{Next, Node, Origin, Waiting, has_bit, with_bit, without_bit};
 use crate::observed::{Observed, are_of_one_object};
-use crate::order::order_to;
 use crate::store::Store;
 use crate::timeline::Timeline;
 use crate::transition::transition_of;
@@ -222,8 +222,8 @@ pub(crate) fn search(
         let place = store.nodes.len() - 1;
         let node = store.nodes[place];
         if node.past >= returns.len() {
-            let order = order_to(alloc, observed, timeline, &store, place)?;
-            return Ok(Found::Order(order));
+            let order = linearization_to(alloc, observed, timeline, &store, place)?;
+            return Ok(Found::Linearization(order));
         }
         successors(observed, timeline, &node, &mut nexts)?;
         leave(&mut waiting, place, nexts.as_slice())?;

@@ -4,7 +4,7 @@ use Rattle.std.specs.declared.alloc.Global.{Global}
 use Rattle.serde_json.specs.Data.{Data}
 use Rattle.stamp_core.specs.Limits.{Bounds}
 use Rattle.stamp_core.specs.declared.call.Call.{Call}
-use Rattle.stamp_history.specs.SmallCall.{small_calls}
+use Rattle.stamp_history.specs.SmallCall.{core_calls}
 use Rattle.stamp_history.specs.declared.small_call.SmallCall.{SmallCall}
 use Rattle.stamp_history.specs.declared.read_error.ReadError.{ReadError}
 use Rattle.stamp_history.specs.declared.text_kind.TextKind.TheVariants as text
@@ -34,4 +34,4 @@ abbrev pub replay_view : Bounds × Vec Call Global → Replay
 replay_view found = record { limits = found.0; calls = found.1.items }
 
 abbrev pub small_view : Bounds × Vec SmallCall Global → Replay
-small_view found = record { limits = found.0; calls = small_calls found.1 }
+small_view found = record { limits = found.0; calls = core_calls found.1 }

@@ -1,4 +1,4 @@
--- The calls that small calls are.
+-- The core's calls that small calls are.
 use Rattle.std.specs.Prelude.{List, map, Vec}
 use Rattle.std.specs.declared.alloc.Global.{Global}
 use Rattle.stamp_core.specs.declared.call.Call.{Call}
@@ -15,24 +15,24 @@ use Rattle.stamp_history.specs.declared.small_call.SmallCall.TheVariants.{TryUnl
 use Rattle.stamp_history.specs.declared.small_call.SmallCall.TheVariants.{IsWriteLocked}
 use Rattle.stamp_history.specs.declared.small_call.SmallCall.TheVariants.{IsReadLocked, ReadCount}
 
-abbrev pub call_of : SmallCall → Call
-call_of TryWrite = call.TryWrite
-call_of TryRead = call.TryRead
-call_of WriteLock = call.WriteLock
-call_of ReadLock = call.ReadLock
-call_of Optimistic = call.Optimistic
-call_of (Validate stamp) = call.Validate stamp
-call_of (UnlockWrite stamp) = call.UnlockWrite stamp
-call_of (UnlockRead stamp) = call.UnlockRead stamp
-call_of (Unlock stamp) = call.Unlock stamp
-call_of (ToWrite stamp) = call.ToWrite stamp
-call_of (ToRead stamp) = call.ToRead stamp
-call_of (ToOptimistic stamp) = call.ToOptimistic stamp
-call_of TryUnlockWrite = call.TryUnlockWrite
-call_of TryUnlockRead = call.TryUnlockRead
-call_of IsWriteLocked = call.IsWriteLocked
-call_of IsReadLocked = call.IsReadLocked
-call_of ReadCount = call.ReadCount
+abbrev pub core_call : SmallCall → Call
+core_call TryWrite = call.TryWrite
+core_call TryRead = call.TryRead
+core_call WriteLock = call.WriteLock
+core_call ReadLock = call.ReadLock
+core_call Optimistic = call.Optimistic
+core_call (Validate stamp) = call.Validate stamp
+core_call (UnlockWrite stamp) = call.UnlockWrite stamp
+core_call (UnlockRead stamp) = call.UnlockRead stamp
+core_call (Unlock stamp) = call.Unlock stamp
+core_call (ToWrite stamp) = call.ToWrite stamp
+core_call (ToRead stamp) = call.ToRead stamp
+core_call (ToOptimistic stamp) = call.ToOptimistic stamp
+core_call TryUnlockWrite = call.TryUnlockWrite
+core_call TryUnlockRead = call.TryUnlockRead
+core_call IsWriteLocked = call.IsWriteLocked
+core_call IsReadLocked = call.IsReadLocked
+core_call ReadCount = call.ReadCount
 
-abbrev pub small_calls : Vec SmallCall Global → List Call
-small_calls small = map call_of small.items
+abbrev pub core_calls : Vec SmallCall Global → List Call
+core_calls small = map core_call small.items

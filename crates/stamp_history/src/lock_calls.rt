@@ -4,17 +4,26 @@ ghost use Rattle.std.specs.Prelude.{◌≡◌, option_and_then, option_map};
 ghost use Rattle.serde_json.specs.View.{view};
 ghost use Rattle.stamp_history.specs.HistoryCall as history;
 ghost use Rattle.stamp_history.specs.LockCall as spec;
-ghost use Rattle.stamp_history.specs.SmallCall.{call_of};
+ghost use Rattle.stamp_history.specs.SmallCall.{core_call};
 
-use crate::history_calls::plain_number;
 use crate::script_calls::script_call_of;
 use crate::small_call::SmallCall;
 use serde_json::Value;
-use stamp_machines::ScriptCall;
+use stamp_machines::{Arg, ScriptCall};
+
+/// The stamp, if it is a number.
+fn plain_number(stamp: Arg) -> Option<u64>
+    ensures { result ≡ history.plain_number stamp }
+{
+    match stamp {
+        Arg::Number(number) => Some(number),
+        Arg::Of(_, _) => None,
+    }
+}
 
 /// The call, if it is the lock's and its stamp is a number.
-fn small_call(call: ScriptCall) -> Option<SmallCall>
-    ensures { option_map call_of result ≡ option_and_then spec.if_of_lock (history.as_call call) }
+pub(crate) fn small_call(call: ScriptCall) -> Option<SmallCall>
+    ensures { option_map core_call result ≡ option_and_then spec.if_of_lock (history.as_call call) }
 {
     match call {
         ScriptCall::TryWrite => Some(SmallCall::TryWrite),
@@ -41,7 +50,7 @@ fn small_call(call: ScriptCall) -> Option<SmallCall>
 /// Reads a call of the lock from a JSON value; `None` where it is none of the seventeen, or its stamp is no
 /// number.
 pub(crate) fn lock_call_of(value: &Value) -> Option<SmallCall>
-    ensures { option_map call_of result ≡ spec.lock_call (view value.now) }
+    ensures { option_map core_call result ≡ spec.lock_call (view value.now) }
 {
     small_call(script_call_of(value)?)
 }

@@ -2,7 +2,7 @@
 
 ghost use Rattle.std.specs.Prelude.{◌≡◌, ◌<◌, length, map, IfErr};
 ghost use Rattle.stamp_history.specs.ReplayAnswer.{AnswersReplayText, RepliesTo};
-ghost use Rattle.stamp_history.specs.SmallCall.{call_of};
+ghost use Rattle.stamp_history.specs.SmallCall.{core_call};
 
 use crate::answer_error::AnswerError;
 use crate::json_text::{push_comma, push_reply, push_text};
@@ -19,7 +19,7 @@ fn push_replies_to(
     limits: Limits,
     calls: &[SmallCall],
 ) -> Result<Word, AnswerError>
-    ensures { RepliesTo limits (map call_of calls.now) text.old.items text.new.items result }
+    ensures { RepliesTo limits (map core_call calls.now) text.old.items text.new.items result }
 {
     push_text(text, "[")?;
     let mut word = Word::opening_in(limits.layout());

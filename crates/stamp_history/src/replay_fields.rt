@@ -2,7 +2,7 @@
 
 ghost use Rattle.std.specs.Prelude.{◌≡◌};
 ghost use Rattle.serde_json.specs.View.{view, items_view};
-ghost use Rattle.stamp_history.specs.SmallCall.{call_of, small_calls};
+ghost use Rattle.stamp_history.specs.SmallCall.{core_call, core_calls};
 ghost use Rattle.stamp_history.specs.Gives.{Gives};
 ghost use Rattle.stamp_history.specs.JsonReading.{each};
 ghost use Rattle.stamp_history.specs.ReplayFields as field;
@@ -45,13 +45,13 @@ fn listed_calls(value: &Value) -> Result<&[Value], ReadError>
 }
 
 fn call_at(index: u64, value: &Value) -> Result<SmallCall, ReadError>
-    ensures { Gives ReadError.Memory call_of result (field.call_at index (view value.now)) }
+    ensures { Gives ReadError.Memory core_call result (field.call_at index (view value.now)) }
 {
     lock_call_of(value).ok_or(TextKind::Replay.mistake(Field::Call(index)))
 }
 
 fn calls_in(alloc: Global, list: &[Value]) -> Result<Vec<SmallCall>, ReadError>
-    ensures { Gives ReadError.Memory small_calls result
+    ensures { Gives ReadError.Memory core_calls result
         (each field.call_at 0 (items_view list.now)) }
 {
     let mut calls = Vec::with_capacity(alloc, list.len())?;
@@ -64,7 +64,7 @@ fn calls_in(alloc: Global, list: &[Value]) -> Result<Vec<SmallCall>, ReadError>
 /// The calls under the key `calls`, in little room.
 #[tactic(auto, unfolding(crate::specs::ReplayFields::calls))]
 pub(crate) fn read_calls(alloc: Global, value: &Value) -> Result<Vec<SmallCall>, ReadError>
-    ensures { Gives ReadError.Memory small_calls result (field.calls (view value.now)) }
+    ensures { Gives ReadError.Memory core_calls result (field.calls (view value.now)) }
 {
     calls_in(alloc, listed_calls(value)?)
 }

@@ -5,7 +5,7 @@ ghost use Rattle.std.specs.List.{All};
 ghost use Rattle.stamp_core.specs.Call.{is_lock_call};
 ghost use Rattle.stamp_history.specs.Gives.{Gives};
 ghost use Rattle.stamp_history.specs.Replay.{replay_of, replay_view, small_view};
-ghost use Rattle.stamp_history.specs.SmallCall.{call_of};
+ghost use Rattle.stamp_history.specs.SmallCall.{core_call};
 
 use crate::json_values::json;
 use crate::limit_fields::read_limits;
@@ -34,7 +34,7 @@ pub(crate) fn read_small_calls(
 }
 
 fn calls_of(alloc: Global, small: &[SmallCall]) -> Result<Vec<Call>, AllocError>
-    ensures calls { IfOk result (λ calls. calls.items ≡ map call_of small.now) }
+    ensures calls { IfOk result (λ calls. calls.items ≡ map core_call small.now) }
     ensures lock_call { IfOk result (λ calls. All (λ call. IsTrue (is_lock_call call)) calls.items) }
 {
     let mut calls = Vec::with_capacity(alloc, small.len())?;

@@ -2,7 +2,7 @@
 
 ghost use Rattle.std.specs.Prelude.{◌≡◌, IsTrue};
 ghost use Rattle.stamp_core.specs.Call.{is_lock_call};
-ghost use Rattle.stamp_history.specs.SmallCall.{call_of};
+ghost use Rattle.stamp_history.specs.SmallCall.{core_call};
 
 use stamp_core::Call;
 
@@ -49,7 +49,7 @@ pub(crate) enum SmallCall {
 impl SmallCall {
     /// The call that it is.
     pub(crate) fn call(self) -> Call
-        ensures call { result ≡ call_of self }
+        ensures call { result ≡ core_call self }
         ensures lock_call { IsTrue (is_lock_call result) }
     {
         match self {

@@ -26,9 +26,9 @@ pub record IsFirstFault (h : ObservedHistory) (i : ℕ) (why : ObservedWhy) : Ty
   pub breaks : Breaks (take i h.entries) entry why
 
 -- it may be observed; or its first fault
-abbrev pub IsObservedVerdict : ObservedHistory → Option ObservedFault → Type 0
-IsObservedVerdict h None = IsObserved h
-IsObservedVerdict h (Some fault) = IsFirstFault h fault.entry fault.why
+abbrev pub IsObservedJudgement : ObservedHistory → Option ObservedFault → Type 0
+IsObservedJudgement h None = IsObserved h
+IsObservedJudgement h (Some fault) = IsFirstFault h fault.entry fault.why
 
 -- the calls before this place are intervals, and the one there, if there is one, is none
 pub record AreIntervalsTo (entries : List Observation) (place : ℕ) : Type 0 where

@@ -4,7 +4,7 @@ ghost use Rattle.std.specs.Prelude.{◌<◌, IfOk, MatchOption};
 ghost use Rattle.std.specs.List.{All, AllPairs};
 ghost use Rattle.stamp_explain.specs.Observed.{IsLow, IsInterval, DoNotOverlap};
 ghost use Rattle.stamp_observed.specs.Suited.{AreSuited};
-ghost use Rattle.stamp_observed.specs.ObservedFault.{IsObservedVerdict, AreIntervalsTo, IsFirstOverlap};
+ghost use Rattle.stamp_observed.specs.ObservedFault.{IsObservedJudgement, AreIntervalsTo, IsFirstOverlap};
 
 use crate::spans::are_apart;
 use stamp_explain::{Observation, Observed, is_interval};
@@ -71,7 +71,7 @@ fn first_overlap(alloc: Global, entries: &[Observation]) -> Result<Option<usize>
 /// sorts the entries, some twenty times where two overlap. It refuses only for want of memory.
 pub fn fault_of(alloc: Global, observed: &Observed) -> Result<Option<ObservedFault>, AllocError>
     requires { AreSuited observed.now }
-    ensures { IfOk result (λ found. IsObservedVerdict observed.now found) }
+    ensures { IfOk result (λ found. IsObservedJudgement observed.now found) }
 {
     let entries = observed.entries();
     let count = intervals_of(entries);

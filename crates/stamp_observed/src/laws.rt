@@ -7,7 +7,7 @@ pub fn faults_are_exact()
     ensures { ObservedFaultsAreExact }
 {}
 
-/// There is one verdict at most: `fault_of` answers it.
+/// There is one judgement at most: `fault_of` answers it.
 pub fn one_verdict()
     ensures { OneObservedVerdict }
 {}

@@ -3,7 +3,7 @@ use Rattle.std.specs.Prelude.{ℕ, ◌≡◌, ◌<◌, ◌+◌, List, ◌++◌, 
 use Rattle.std.specs.Prelude.{codes, decimal}
 use Rattle.stamp_core.specs.Record.{Recorded}
 use Rattle.stamp_core.specs.declared.entry.Entry.{Entry}
-use Rattle.stamp_check.specs.Verdict.{IsVerdict}
+use Rattle.stamp_check.specs.Judgement.{IsJudgement}
 use Rattle.stamp_picture.specs.declared.bar.Bar.{Bar}
 use Rattle.stamp_picture.specs.declared.picture.Fault.{Fault}
 use Rattle.stamp_picture.specs.declared.picture.PictureError.{PictureError}
@@ -26,8 +26,8 @@ pub record Drawn : Type 0 where
 -- the verdict is the one that a check finds; of a bad history, also the call of its first fault, and what was due
 -- to it
 abbrev pub IsJudged : Recorded → Result ℕ Fault → Type 0
-IsJudged r (Ok n) = IsVerdict r (Ok n)
-IsJudged r (Err fault) = IsVerdict r (Err fault.bad) ×
+IsJudged r (Ok n) = IsJudgement r (Ok n)
+IsJudged r (Err fault) = IsJudgement r (Err fault.bad) ×
     ((e : Entry) → slice_get r.entries fault.bad.entry ≡ Some e →
     (fault.call ≡ e.call) × IsReplyDue r.limits r.width (take fault.bad.entry r.entries) e.call fault.due)
 

@@ -25,14 +25,17 @@ fn order_given(rt: &(impl Env + AllocGlobal)) -> Result<Result<Order, CommandFau
 }
 
 /// Serves the order between standard input and standard output.
-fn run(rt: &(impl Input + Print + AllocGlobal), order: Order) -> Result<Verdict, ServeFault> {
+fn answer_input(
+    rt: &(impl Input + Print + AllocGlobal),
+    order: Order,
+) -> Result<Verdict, ServeFault> {
     let mut source = ReadSource::new(rt.reader());
     let mut sink = WriteSink::new(io::writer(rt));
     serve(rt.alloc(), order, &mut source, &mut sink)
 }
 
 /// Prints the fault's line, if there is memory for it.
-fn report(rt: &(impl Eprint + AllocGlobal), fault: &ServeFault) {
+fn print_fault(rt: &(impl Eprint + AllocGlobal), fault: &ServeFault) {
     if let Ok(line) = fault_line(rt.alloc(), fault) {
         let _ = rt.eprintln(line);
     }
@@ -46,15 +49,15 @@ fn main(rt: HostRuntime) -> ExitCode {
             return ExitCode::from(2);
         }
         Err(AllocError) => {
-            report(&rt, &ServeFault::Memory);
+            print_fault(&rt, &ServeFault::Memory);
             return ExitCode::FAILURE;
         }
     };
-    match run(&rt, order) {
+    match answer_input(&rt, order) {
         Ok(Verdict::Accepted) => ExitCode::SUCCESS,
         Ok(Verdict::Bad) => ExitCode::FAILURE,
         Err(fault) => {
-            report(&rt, &fault);
+            print_fault(&rt, &fault);
             ExitCode::FAILURE
         }
     }

@@ -24,14 +24,17 @@ fn most_given(rt: &(impl Env + AllocGlobal)) -> Result<Result<u64, CommandFault>
 }
 
 /// Explains what comes from standard input to standard output.
-fn run(rt: &(impl Input + Print + AllocGlobal), most: u64) -> Result<Explanation, ServeFault> {
+fn answer_input(
+    rt: &(impl Input + Print + AllocGlobal),
+    most: u64,
+) -> Result<Explanation, ServeFault> {
     let mut source = ReadSource::new(rt.reader());
     let mut sink = WriteSink::new(io::writer(rt));
     serve_explanation(rt.alloc(), most, &mut source, &mut sink)
 }
 
 /// Prints the fault's line, if there is memory for it.
-fn report(rt: &(impl Eprint + AllocGlobal), fault: &ServeFault) {
+fn print_fault(rt: &(impl Eprint + AllocGlobal), fault: &ServeFault) {
     if let Ok(line) = fault_line(rt.alloc(), fault) {
         let _ = rt.eprintln(line);
     }
@@ -45,14 +48,14 @@ fn main(rt: HostRuntime) -> ExitCode {
             return ExitCode::from(2);
         }
         Err(AllocError) => {
-            report(&rt, &ServeFault::Memory);
+            print_fault(&rt, &ServeFault::Memory);
             return ExitCode::FAILURE;
         }
     };
-    let Explanation { verdict, note } = match run(&rt, most) {
+    let Explanation { verdict, note } = match answer_input(&rt, most) {
         Ok(explanation) => explanation,
         Err(fault) => {
-            report(&rt, &fault);
+            print_fault(&rt, &fault);
             return ExitCode::FAILURE;
         }
     };

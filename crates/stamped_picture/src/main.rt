@@ -35,7 +35,7 @@ fn order_given(
 }
 
 /// Serves the order between standard input and standard output.
-fn run(
+fn answer_input(
     rt: &(impl Input + Print + AllocGlobal),
     order: PictureOrder,
 ) -> Result<Verdict, PictureFault> {
@@ -45,7 +45,7 @@ fn run(
 }
 
 /// Prints the fault's line, if there is memory for it.
-fn report(rt: &(impl Eprint + AllocGlobal), fault: &PictureFault) {
+fn print_fault(rt: &(impl Eprint + AllocGlobal), fault: &PictureFault) {
     if let Ok(line) = fault_line(rt.alloc(), fault) {
         let _ = rt.eprintln(line);
     }
@@ -59,15 +59,15 @@ fn main(rt: HostRuntime) -> ExitCode {
             return ExitCode::from(2);
         }
         Err(AllocError) => {
-            report(&rt, &PictureFault::Serve(ServeFault::Memory));
+            print_fault(&rt, &PictureFault::Serve(ServeFault::Memory));
             return ExitCode::FAILURE;
         }
     };
-    match run(&rt, order) {
+    match answer_input(&rt, order) {
         Ok(Verdict::Accepted) => ExitCode::SUCCESS,
         Ok(Verdict::Bad) => ExitCode::FAILURE,
         Err(fault) => {
-            report(&rt, &fault);
+            print_fault(&rt, &fault);
             ExitCode::FAILURE
         }
     }

@@ -1,10 +1,10 @@
 use Rattle.std.proofs.Common.{◌∙◌, sym}
-use Rattle.stamp_check.proofs.RespelledRecords.{same_verdict, cannot_migrate}
+use Rattle.stamp_check.proofs.RespelledRecords.{same_judgement, cannot_migrate}
 use Rattle.stamp_check.proofs.migration.migrate.Goals as goal
 
-pub returns-in-None-clause-verdict : goal.returns-in-None-clause-verdict
-returns-in-None-clause-verdict c =
-    same_verdict c.args.history c.in_layout_two.result c.limits.result c.entries.result.now c.limits.ensures
+pub returns-in-None-clause-judgement : goal.returns-in-None-clause-judgement
+returns-in-None-clause-judgement c =
+    same_judgement c.args.history c.in_layout_two.result c.limits.result c.entries.result.now c.limits.ensures
     (sym c.layout.ensures.layout ∙ c.in-One.is) c.layout.ensures.in_range c.entries.ensures.known
     c.entries.ensures.entries c.in-None.ensures c.in_layout_two.ensures
 

@@ -3,7 +3,7 @@ use Rattle.std.proofs.Common.{◌∙◌, ◌+◌, ◌++◌, ◌∷◌, []}
 use Rattle.std.specs.Prelude.{slice_get, nat_lt, nat_le, ◌==◌, ◌≢◌, ◌≤◌}
 use Rattle.std.proofs.lemmas.Option.{slice_get_read}
 use Rattle.std.proofs.lemmas.Bool.Decides.{nat_tests}
-use Rattle.stamp_explain.specs.declared.order.Taken.{Taken}
+use Rattle.stamp_explain.specs.declared.linearization.Taken.{Taken}
 use Rattle.stamp_explain.proofs.Uniting.{UnitesSoFar, BeganFirst, unites_none, unites_lock, unites_record, united}
 use Rattle.stamp_explain.proofs.Uniting.{IsFirstOf, call_inside, place_inside, none_is_next, began_first, read_again}
 use Rattle.stamp_explain.proofs.apart.merged.Goals as goal

@@ -3,7 +3,8 @@ use Rattle.stamp_explain.proofs.Faulting.{IsBetween, between_at_first, stuck_bet
 use Rattle.stamp_explain.proofs.Faulting.{unexplained_between}
 use Rattle.stamp_explain.proofs.Faulting.{middle_inside, end_at, end_is_entry, halved, narrows_so}
 use Rattle.stamp_explain.proofs.first_fault.first_fault.Goals as goal
-use Rattle.stamp_explain.proofs.first_fault.first_fault.Goals.{Joined-branch-2, in-Order, in-Nothing, in-Undecided}
+use Rattle.stamp_explain.proofs.first_fault.first_fault.Goals.{Joined-branch-2, in-Linearization, in-Nothing}
+use Rattle.stamp_explain.proofs.first_fault.first_fault.Goals.{in-Undecided}
 use Rattle.stamp_explain.proofs.Faulting.Narrows.{above, below, at_least}
 
 pub loop-low-init : goal.loop-low-init
@@ -24,7 +25,7 @@ narrower : (c : Joined-branch-2) → IsBetween c.args.observed.now c.args.most c
 narrower c = halved c.requires.observed c.requires.ends c.loop-low.invariant c.loop-low-test.true
     c.in_ok-found_at.ensures
     (elim c.match-branch-2.branch [
-      | in-Order w ↦ narrows_so w.in-Order.is (above w.low-is w.high-is w.unexplained-is w.stuck-is)
+      | in-Linearization w ↦ narrows_so w.in-Linearization.is (above w.low-is w.high-is w.unexplained-is w.stuck-is)
       | in-Nothing w ↦ narrows_so w.in-Nothing.is (below w.low-is w.high-is w.unexplained-is w.stuck-is)
       | in-Undecided w ↦ narrows_so w.in-Undecided.is (at_least w.low-is w.high-is w.unexplained-is w.stuck-is)
     ])

@@ -20,9 +20,9 @@ find-requires c = subst IsObserved (sym c.in_ok-seen.ensures)
     (read_at c.args.observed.now c.args.entry c.index-entries-entry.result c.entries.result.now c.requires.returned
     c.index-entries-entry.is c.entries.ensures.entries) c.in-Some.is c.requires.observed))).0
 
-pub returns-in-Order-clause-ok : goal.returns-in-Order-clause-ok
-returns-in-Order-clause-ok c = (
-  λ _. subst (λ (f : Found). Tells c.args.observed.now c.args.entry c.args.most c.args.reply f) c.in-Order.is
+pub returns-in-Linearization-clause-ok : goal.returns-in-Linearization-clause-ok
+returns-in-Linearization-clause-ok c = (
+  λ _. subst (λ (f : Found). Tells c.args.observed.now c.args.entry c.args.most c.args.reply f) c.in-Linearization.is
       (found_tells c.args.observed.now c.in_ok-seen.seen c.args.entry c.args.most c.index-entries-entry.result
       c.in-Some.returned c.args.reply (read_at c.args.observed.now c.args.entry c.index-entries-entry.result
       c.entries.result.now c.requires.returned c.index-entries-entry.is c.entries.ensures.entries) c.in-Some.is

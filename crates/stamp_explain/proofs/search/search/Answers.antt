@@ -13,8 +13,8 @@ loop-init c = subst (λ (ws : List Waiting). IsAtLast c.args.observed.now c.args
     (deepens_first c.args.observed.now c.args.timeline.now.returns.items c.in_ok-store.store c.opening.result
     c.in_ok-store.ensures c.opening.ensures)
 
-pub order_to-requires-clause-end : goal.order_to-requires-clause-end
-order_to-requires-clause-end c = last_ends (last_read c.loop.invariant c.len-place.ensures c.index.ensures)
+pub linearization_to-requires-clause-end : goal.linearization_to-requires-clause-end
+linearization_to-requires-clause-end c = last_ends (last_read c.loop.invariant c.len-place.ensures c.index.ensures)
     c.as_slice-returns.ensures.value c.if-node-returns.true
 
 pub successors-requires : goal.successors-requires

@@ -1,10 +1,10 @@
--- The order that a search found.
+-- The linearization that a search found: an order of calls that explains the history.
 use Rattle.std.specs.Prelude.{ℕ, ◌≡◌, ◌≤◌, List, length, map, slice_get, Option, Some, None}
 use Rattle.stamp_core.specs.History.{IsReply}
 use Rattle.stamp_explain.specs.declared.observed.Observation.{Observation}
 use Rattle.stamp_explain.specs.declared.node.Node.{Node}
 use Rattle.stamp_explain.specs.declared.store.Store.{Store}
-use Rattle.stamp_explain.specs.declared.order.Taken.{Taken}
+use Rattle.stamp_explain.specs.declared.linearization.Taken.{Taken}
 use Rattle.stamp_explain.specs.Observed.{ObservedHistory}
 use Rattle.stamp_explain.specs.Explained.{Effect, IsExplainedBy}
 use Rattle.stamp_explain.specs.Search.{LockState}
@@ -14,8 +14,8 @@ use Rattle.stamp_explain.specs.Node.{IsStateBy}
 abbrev pub taken_of : List Effect → List Taken
 taken_of order = map (λ (x : Effect). record { entry = x.index; reply = x.reply }) order
 
--- these are the entries and replies of an order that explains the history
-pub record IsOrderOf (h : ObservedHistory) (taken : List Taken) : Type 0 where
+-- these are the entries and replies of an order that explains the history: a linearization of it
+pub record IsLinearizationOf (h : ObservedHistory) (taken : List Taken) : Type 0 where
   pub order : List Effect
   pub explains : IsExplainedBy h order
   pub are : taken ≡ taken_of order

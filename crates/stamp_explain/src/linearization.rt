@@ -1,10 +1,10 @@
-//! The order that a search found.
+//! The linearization that a search found: an order of calls that explains the history.
 ghost use Rattle.std.specs.Prelude.{ℕ, ◌≡◌, ◌≤◌, ◌<◌, IfOk, Some, slice_get, length};
 ghost use Rattle.stamp_explain.specs.Observed.{IsObserved};
 ghost use Rattle.stamp_explain.specs.Node.{IsReached};
 ghost use Rattle.stamp_explain.specs.Timeline.{IsTimeline};
 ghost use Rattle.stamp_explain.specs.Expand.{AreLinked, IsLed, IsLedBy};
-ghost use Rattle.stamp_explain.specs.Order.{IsOrderOf, IsTakenAt, IsEnd, RepliesAt};
+ghost use Rattle.stamp_explain.specs.Linearization.{IsLinearizationOf, IsTakenAt, IsEnd, RepliesAt};
 
 use crate::node::Node;
 use crate::observed::Observed;
@@ -57,8 +57,8 @@ fn taken_at(observed: &Observed, node: &Node, took: Option<usize>) -> Option<Tak
     }
 }
 
-/// The calls that took effect on the way to the last node of an order.
-pub(crate) fn order_to(
+/// The calls that took effect on the way to the last node of a linearization.
+pub(crate) fn linearization_to(
     alloc: Global,
     observed: &Observed,
     timeline: &Timeline,
@@ -69,7 +69,7 @@ pub(crate) fn order_to(
     requires timeline { IsTimeline observed.now timeline.now }
     requires linked { AreLinked observed.now timeline.now.returns.items store.now }
     requires end { IsEnd timeline.now.returns.items store.now place }
-    ensures { IfOk result (λ order. IsOrderOf observed.now order.items) }
+    ensures { IfOk result (λ order. IsLinearizationOf observed.now order.items) }
 {
     let mut order = Vec::with_capacity(alloc, observed.entries().len())?;
     let mut at = place;

@@ -1,5 +1,5 @@
 use Rattle.stamp_explain.proofs.Ordering.{GoesBack}
-use Rattle.stamp_explain.proofs.order.order_to.Given as goal
+use Rattle.stamp_explain.proofs.linearization.linearization_to.Given as goal
 
 abbrev pub invariant-loop-at : goal.invariant-loop-at
 invariant-loop-at l = GoesBack l.observed l.timeline.returns.items l.store l.at l.order.items

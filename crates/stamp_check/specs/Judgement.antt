@@ -6,6 +6,6 @@ use Rattle.stamp_check.specs.declared.checking.Bad.{Bad}
 use Rattle.stamp_check.specs.FirstFault.{IsFirstFault}
 
 -- the number of the entries, which are linearized; or their first fault
-abbrev pub IsVerdict : Recorded → Result ℕ Bad → Type 0
-IsVerdict r (Ok n) = IsLinearized r × (n ≡ length r.entries)
-IsVerdict r (Err bad) = IsFirstFault r bad.entry bad.why
+abbrev pub IsJudgement : Recorded → Result ℕ Bad → Type 0
+IsJudgement r (Ok n) = IsLinearized r × (n ≡ length r.entries)
+IsJudgement r (Err bad) = IsFirstFault r bad.entry bad.why

@@ -1,11 +1,11 @@
 use Rattle.std.proofs.Common.{ℕ, Option, Some, refl, sym, ◌∙◌, ap, subst}
 use Rattle.stamp_core.specs.Limits.{AreInRange}
 use Rattle.stamp_explain.specs.declared.observed.Observation.{Observation}
-use Rattle.stamp_explain.specs.declared.order.Taken.{Taken}
+use Rattle.stamp_explain.specs.declared.linearization.Taken.{Taken}
 use Rattle.stamp_explain.specs.Expand.{IsLed}
-use Rattle.stamp_explain.specs.Order.{IsTakenAt}
+use Rattle.stamp_explain.specs.Linearization.{IsTakenAt}
 use Rattle.stamp_explain.proofs.Replied.{replied_read}
-use Rattle.stamp_explain.proofs.order.taken_at.Goals as goal
+use Rattle.stamp_explain.proofs.linearization.taken_at.Goals as goal
 
 pub returns-in-Some-returned : goal.returns-in-Some-returned
 returns-in-Some-returned c =

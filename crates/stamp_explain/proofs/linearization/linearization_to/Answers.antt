@@ -1,9 +1,9 @@
 use Rattle.std.proofs.Common.{◌≡◌, ◌<◌, ℕ, List, sym, subst, arith}
-use Rattle.stamp_explain.specs.declared.order.Taken.{Taken}
-use Rattle.stamp_explain.specs.Order.{IsOrderOf}
+use Rattle.stamp_explain.specs.declared.linearization.Taken.{Taken}
+use Rattle.stamp_explain.specs.Linearization.{IsLinearizationOf}
 use Rattle.stamp_explain.proofs.Ordering.{GoesBack, Reads, back_last, back_past, back_call, back_first}
 use Rattle.stamp_explain.proofs.Ordering.{origin_inside, node_inside, reads_there}
-use Rattle.stamp_explain.proofs.order.order_to.Goals as goal
+use Rattle.stamp_explain.proofs.linearization.linearization_to.Goals as goal
 
 pub loop-at-init : goal.loop-at-init
 loop-at-init c = back_last c.args.observed.now c.args.timeline.now.returns.items c.args.store.now c.args.place
@@ -65,7 +65,7 @@ loop-at-preserved c =
 pub returns : goal.returns
 returns c =
     let none : c.loop-at.at ≡ 0 = omega (arith, c.loop-at-test.false) in
-    subst (λ (xs : List Taken). IsOrderOf c.args.observed.now xs) (sym c.reverse.ensures.items)
+    subst (λ (xs : List Taken). IsLinearizationOf c.args.observed.now xs) (sym c.reverse.ensures.items)
     (back_first c.args.observed.now c.args.timeline.now.returns.items c.args.store.now c.loop-at.order.items
     c.requires.timeline.are c.requires.linked
     (subst (λ (n : ℕ). GoesBack c.args.observed.now c.args.timeline.now.returns.items c.args.store.now n
