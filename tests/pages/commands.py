@@ -71,6 +71,8 @@ def main():
             check_page(page, programs, room)
     check_quoted("README.md", "crates/five_calls/stdout")
     check_quoted("docs/TOUR.md", "examples/first.json")
+    for example in ["point", "price_board", "observed_handles"]:
+        check_quoted("docs/EXAMPLES.md", f"crates/{example}/stdout")
 
 
 main()
