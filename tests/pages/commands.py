@@ -56,9 +56,9 @@ def check_page(page, programs, room):
 
 
 def check_quoted(page, file):
-    """The lines of the file stand on the page, indented, one below the other."""
+    """The lines of the file, indented, are a block of the page."""
     lines = "".join(INDENT + line + "\n" for line in text_of(file).splitlines())
-    if "\n\n" + lines + "\n" not in text_of(page):
+    if "\n\n" + lines + "\n" not in text_of(page) + "\n":
         sys.exit(f"{page} doesn't have the lines of {file}")
 
 
