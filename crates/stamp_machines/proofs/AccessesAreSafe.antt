@@ -8,7 +8,7 @@ use Rattle.stamp_core.specs.Limits.{Bounds}
 use Rattle.stamp_core.specs.declared.call.Call.{Call}
 use Rattle.stamp_core.specs.declared.decision.Decision.{Decision}
 use Rattle.stamp_core.specs.declared.decision.Decision.TheVariants.{Answer, Change, Wait}
-use Rattle.stamp_machines.specs.Access.{place_of, found_by}
+use Rattle.stamp_machines.specs.Access.{index_of, found_by}
 use Rattle.stamp_machines.specs.LockNumber.{IsAdmittedAt}
 use Rattle.stamp_core.specs.CountedDecision.{decision}
 use Rattle.stamp_machines.specs.Job.{Job}
@@ -23,11 +23,11 @@ use Rattle.stamp_machines.specs.RecordKept.{FitsPlace}
 
 -- a lock phase is on its lock's word
 phase-place : (i : ℕ) (limits : Bounds) (call : Call) (seen : Option ℕ) →
-    place_of (with_lock i (phase_plan limits call seen)) ≡ i
+    index_of (with_lock i (phase_plan limits call seen)) ≡ i
 phase-place i limits call None = refl
 phase-place i limits call (Some word) = go (decision limits word call)
   where
-    go : (d : Decision) → place_of (with_lock i (plan_on word d)) ≡ i
+    go : (d : Decision) → index_of (with_lock i (plan_on word d)) ≡ i
     go (Answer r) = refl
     go (Change new r) = refl
     go Wait = refl
@@ -35,7 +35,7 @@ phase-place i limits call (Some word) = go (decision limits word call)
 -- the access is within the memory, and what it finds may be resumed with
 abbrev pub IsSafeIn : Shape → Call → Stage → List ℕ → Type 0
 IsSafeIn shape call stage words =
-    (place_of (plan_in shape call stage) < length words)
+    (index_of (plan_in shape call stage) < length words)
     × IsFoundIn shape stage (found_by (plan_in shape call stage) words)
 
 copying-safe : (shape : Shape) (call : Call) (job : Job) (first : ℕ) (loaded : List ℕ)
@@ -45,7 +45,7 @@ copying-safe : (shape : Shape) (call : Call) (job : Job) (first : ℕ) (loaded :
 copying-safe shape call job first loaded words n w = go (nat_lt (length loaded) shape.width) refl
   where
     go : (b : Bool) → nat_lt (length loaded) shape.width ≡ b →
-        (place_of (with_lock 1 (if b then LoadItem (length loaded) else LoadLock)) < length words)
+        (index_of (with_lock 1 (if b then LoadItem (length loaded) else LoadLock)) < length words)
         × (shape.width ≤ length loaded →
         IsAdmittedAt (record_limits shape)
         (found_by (with_lock 1 (if b then LoadItem (length loaded) else LoadLock)) words))
@@ -66,7 +66,7 @@ record-safe shape call limits k wr content items job (places.Copying first loade
     v f = copying-safe shape call job first loaded words n w
 record-safe shape call limits k wr content items job (places.Locking e seen) words n l w
     v f =
-    let at : place_of (with_lock 1 (phase_plan (record_limits shape) (call_for e) seen)) ≡ 1 =
+    let at : index_of (with_lock 1 (phase_plan (record_limits shape) (call_for e) seen)) ≡ 1 =
     phase-place 1 (record_limits shape) (call_for e) seen in (
       omega (arith, at, n),
       (
@@ -89,7 +89,7 @@ pub lock-safe : (shape : Shape) (call : Call) (seen : Option ℕ) (words : List 
     length words ≡ 2 + shape.width → IsAdmittedAt shape.limits (slice_index words 0) →
     IsSafeIn shape call (OnLock seen) words
 lock-safe shape call seen words n w =
-    let at : place_of (with_lock 0 (phase_plan shape.limits call seen)) ≡ 0 =
+    let at : index_of (with_lock 0 (phase_plan shape.limits call seen)) ≡ 0 =
     phase-place 0 shape.limits call seen in (
       omega (arith, at, n),
       subst (λ (i : ℕ). IsAdmittedAt shape.limits (slice_index words i)) (sym at) w,

@@ -20,7 +20,7 @@ use Rattle.stamp_machines.specs.Stepped.{AnswersStep}
 use Rattle.stamp_machines.specs.declared.running.Stepped.TheVariants.{Ended}
 use Rattle.stamp_machines.specs.declared.state.StepKind.{StepKind}
 use Rattle.stamp_machines.specs.declared.state.StepKind.TheVariants as kind
-use Rattle.stamp_machines.specs.StepKind.{IsOfKind, told_by}
+use Rattle.stamp_machines.specs.StepKind.{IsOfKind, outcome_of}
 use Rattle.stamp_machines.specs.StateStep.{IsStep}
 use Rattle.stamp_core.specs.Decision.{stamp_in}
 use Rattle.stamp_machines.specs.Script.{IsSound}
@@ -57,12 +57,12 @@ begun-next script world stamps t b none same is =
     let f : (λ (u : ℕ). stamps u) ≡ (λ (u : ℕ). stamps_of u world.entries) =
     same_stamps stamps (λ (u : ℕ). stamps_of u world.entries) same in
     let none' : slice_index_or world.begun t None ≡ None =
-    none-told (slice_index_or world.begun t None) none in
+    none-left (slice_index_or world.begun t None) none in
     rw none' (sym (is ∙ ap (λ (g : ℕ → List ℕ). next_call script g world.position t) f))
   where
-    none-told : (o : Option Begun) → is_some o ≡ false → o ≡ None
-    none-told None e = refl
-    none-told (Some x) e = cc
+    none-left : (o : Option Begun) → is_some o ≡ false → o ≡ None
+    none-left None e = refl
+    none-left (Some x) e = cc
 
 pub stamps_of-append : (t : ℕ) (entries : List Entry) (e : Entry) →
     stamps_of t (entries ++ e ∷ []) ≡ (if t == e.thread
@@ -279,13 +279,13 @@ last-one es e = let here : length (es ++ e ∷ []) - 1 ≡ length es = rw length
     go (x ∷ xs) = go xs
 
 -- with the last entry again
-pub told-answers : (script : Scripted) (world : World) (t : ℕ) (p : StepKind) (entries : List Entry) →
+pub outcome-answers : (script : Scripted) (world : World) (t : ℕ) (p : StepKind) (entries : List Entry) →
     entries ≡ (step script world t).entries → IsOfKind script world t p →
-    AnswersStep script world t (told_by entries p)
-told-answers script world t kind.Idle entries is r = r
-told-answers script world t kind.Going entries is r = r
-told-answers script world t kind.Ended entries is r =
+    AnswersStep script world t (outcome_of entries p)
+outcome-answers script world t kind.Idle entries is r = r
+outcome-answers script world t kind.Going entries is r = r
+outcome-answers script world t kind.Ended entries is r =
     let here : slice_get entries (length entries - 1) ≡ Some r.0 =
     rw (is, r.1) (last-one world.entries r.0) in
-    let told_it : told_by entries kind.Ended ≡ Ended r.0 = rw here refl in
-    rw told_it r.1
+    let outcome_is : outcome_of entries kind.Ended ≡ Ended r.0 = rw here refl in
+    rw outcome_is r.1

@@ -22,7 +22,7 @@ with_entry None = stepped.Idle
 with_entry (Some e) = stepped.Ended e
 
 -- with the last entry
-abbrev pub told_by : List Entry → StepKind → Stepped
-told_by entries Idle = stepped.Idle
-told_by entries Going = stepped.Going
-told_by entries Ended = with_entry (slice_get entries (length entries - 1))
+abbrev pub outcome_of : List Entry → StepKind → Stepped
+outcome_of entries Idle = stepped.Idle
+outcome_of entries Going = stepped.Going
+outcome_of entries Ended = with_entry (slice_get entries (length entries - 1))

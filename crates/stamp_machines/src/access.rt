@@ -1,19 +1,18 @@
 //! One access to one of the common words.
 ghost use Rattle.std.specs.Prelude.{◌≡◌, ◌<◌, length};
-ghost use Rattle.stamp_machines.specs.Access.{place_of, words_after, found_by};
+ghost use Rattle.stamp_machines.specs.Access.{index_of, words_after, found_by};
 
-/// The place of the lock's word.
+/// The index of the lock's word.
 pub(crate) const LOCK: usize = 0;
 
-/// The place of the word of the record's own lock.
+/// The index of the word of the record's own lock.
 pub(crate) const RECORD_LOCK: usize = 1;
 
-/// The place of the record's first word.
+/// The index of the record's first word.
 pub(crate) const FIRST_WORD: usize = 2;
 
-/// One access to the word of this place, counted from 0: 0 is the lock's word, 1 that of the
-/// record's own lock, and the record's words come after them. What an access finds is the value that
-/// stood there before it.
+/// One access to the word of this index: 0 is the lock's word, 1 that of the record's own lock, and the
+/// record's words come after them. What an access finds is the value that stood there before it.
 #[derive(Clone, Copy, Debug, PartialEq, Eq)]
 pub enum Access {
     /// Leaves the word.
@@ -26,7 +25,7 @@ pub enum Access {
 
 /// Makes the access, and gives what stood there before.
 pub(crate) fn make(words: &mut [u64], access: Access) -> u64
-    requires { place_of access < length words.old }
+    requires { index_of access < length words.old }
     ensures words { words.new ≡ words_after access words.old }
     ensures found { result ≡ found_by access words.old }
 {

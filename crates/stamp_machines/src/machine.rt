@@ -8,7 +8,7 @@ ghost use Rattle.stamp_machines.specs.Machine.{plan_of, after_access, IsFound};
 ghost use Rattle.stamp_core.specs.Word.{IsAdmitted, word_at};
 ghost use Rattle.stamp_machines.specs.Machine.{after_in, IsFoundIn};
 ghost use Rattle.stamp_machines.specs.MachineState.{MachineState, OnLock, record_limits};
-ghost use Rattle.stamp_machines.specs.Access.{place_of, words_after, found_by};
+ghost use Rattle.stamp_machines.specs.Access.{index_of, words_after, found_by};
 ghost use Rattle.stamp_machines.specs.MachineTurn.{turn_of};
 ghost use Rattle.stamp_machines.specs.MachineFields.{stage_at, turn_in, guard_call_in, IsStage};
 ghost use Rattle.stamp_machines.specs.MachineFields.{IsGuardCall, IsNextStage};
@@ -227,7 +227,7 @@ impl Machine {
         }
     }
 
-    /// Goes on after the planned access. `found` is the value that stood at its place before it.
+    /// Goes on after the planned access. `found` is the value that stood there before it.
     ///
     /// A value found at a lock's word has to be a word that the lock's limits admit. The limits of
     /// the record's own lock are the widest of the layout. Where a call of the record is in a lock
@@ -255,7 +255,7 @@ impl Machine {
     /// seen, and `go_on` on the word found; here it is decided once, on the word found.
     #[inline(always)]
     pub(crate) fn access(&mut self, words: &mut [u64], reply: &mut Reply) -> bool
-        requires memory { place_of (plan_of self.old) < length words.old }
+        requires memory { index_of (plan_of self.old) < length words.old }
         requires word { IsFound self.old (found_by (plan_of self.old) words.old) }
         ensures words { words.new ≡ words_after (plan_of self.old) words.old }
         ensures after { turn_of self.new reply.new result

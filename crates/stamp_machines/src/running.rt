@@ -86,7 +86,7 @@ impl<'a> Run<'a> {
     ghost use Rattle.stamp_machines.specs.Script.{IsSound};
     ghost use Rattle.stamp_machines.specs.RunView.{with_step, HasNoStepLeft};
     ghost use Rattle.stamp_machines.specs.Stepped.{AnswersStep};
-    ghost use Rattle.stamp_machines.specs.StepKind.{IsOfKind, told_by};
+    ghost use Rattle.stamp_machines.specs.StepKind.{IsOfKind, outcome_of};
     ghost use Rattle.stamp_machines.specs.Tally.{tally_of, IsTallied};
 
     /// The run before its first step. It refuses as 6 `Memory` alone.
@@ -114,7 +114,7 @@ impl<'a> Run<'a> {
         ensures full { (result ≡ Err RunError.TooManySteps) ↔ HasNoStepLeft self.old }
     {
         let kind = self.make_step(thread)?;
-        Ok(self.state.told(kind))
+        Ok(self.state.outcome(kind))
     }
 
     /// One access, of which the kind alone is told: the entry of a call that has ended by it is the

@@ -188,7 +188,7 @@ impl RunState {
     ghost use Rattle.stamp_machines.specs.World.{stamps_of, current, begun_with, opening_of};
     ghost use Rattle.stamp_machines.specs.StateFields.{world_at, SameState};
     ghost use Rattle.stamp_machines.specs.StateStep.{IsStep};
-    ghost use Rattle.stamp_machines.specs.StepKind.{told_by};
+    ghost use Rattle.stamp_machines.specs.StepKind.{outcome_of};
     ghost use Rattle.stamp_machines.specs.Invariant.{Invariant};
     ghost use Rattle.stamp_machines.specs.Script.{IsSound};
 
@@ -287,8 +287,8 @@ impl RunState {
     }
 
     /// What a step of this kind did, with the entry of the call that has ended by it.
-    pub(crate) fn told(&self, kind: StepKind) -> Stepped
-        ensures { result ≡ told_by self.now.entries.items kind }
+    pub(crate) fn outcome(&self, kind: StepKind) -> Stepped
+        ensures { result ≡ outcome_of self.now.entries.items kind }
     {
         match kind {
             StepKind::Idle => Stepped::Idle,

@@ -1,7 +1,7 @@
 use Rattle.std.proofs.Common.{◌≡◌, ◌∙◌, ap}
 use Rattle.stamp_machines.specs.RunView.{RunView}
 use Rattle.stamp_machines.specs.World.{World, execution_of, finished_calls, step}
-use Rattle.stamp_machines.proofs.StateSteps.{told-answers}
+use Rattle.stamp_machines.proofs.StateSteps.{outcome-answers}
 use Rattle.stamp_machines.proofs.StepsKeep.{execution_of-more}
 use Rattle.stamp_machines.proofs.running.Run.step.Goals as goal
 
@@ -16,6 +16,6 @@ returns-clause-stepped c =
     kept ∙ ap (λ (r : RunView). finished_calls r.script r.steps) c.in_ok-kind.ensures.ok
     ∙ ap (λ (w : World). w.entries)
     (execution_of-more c.args.self.now.script c.args.self.now.steps c.args.thread) in
-    rw c.told.ensures
-    (told-answers c.args.self.now.script world c.args.thread c.in_ok-kind.kind _ entries
+    rw c.outcome.ensures
+    (outcome-answers c.args.self.now.script world c.args.thread c.in_ok-kind.kind _ entries
     c.in_ok-kind.ensures.kind)
