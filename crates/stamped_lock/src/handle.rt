@@ -1,5 +1,5 @@
 //! The handles of a lock.
-ghost use Rattle.std.specs.Prelude.{◌≡◌, IsTrue, Some};
+ghost use Rattle.std.specs.Prelude.{◌≡◌, IfOk, IsTrue, Some};
 ghost use Rattle.stamp_core.specs.Call.{is_lock_call};
 ghost use Rattle.stamp_core.specs.declared.call.Call.TheVariants.{TryWrite, TryRead, WriteLock};
 ghost use Rattle.stamp_core.specs.declared.call.Call.TheVariants.{ReadLock, Optimistic, Validate};
@@ -12,14 +12,14 @@ ghost use Rattle.stamp_core.specs.declared.reply.Reply.TheVariants.{Count};
 ghost use Rattle.stamp_threads.specs.Made.{try_form};
 ghost use Rattle.stamp_threads.specs.MayReply.{MayReply};
 ghost use Rattle.stamp_threads.specs.PassView.{after_split, split_off};
-ghost use Rattle.stamped_lock.specs.Made.{Made};
+ghost use Rattle.stamped_lock.specs.Made.{Made, MadeOrLost};
 ghost use Rattle.stamped_lock.specs.Replies.{stamped, tested, released, NeverLoses};
 
 use crate::answers::{count_in, release_in, some_stamp_in, stamp_unless_zero, test_in};
 use crate::mismatch::Mismatch;
 use crate::stamp::Stamp;
 use stamp_core::{Call, Reply};
-use stamp_threads::{Pass, RunningLock};
+use stamp_threads::{Lost, Pass, RunningLock};
 use std::marker::Model;
 use std::sync::Wait;
 
@@ -66,10 +66,32 @@ impl<'a> LockHandle<'a> {
     {
         // A copy, since the borrow checker covers no struct that is passed by value and used again.
         let again = call;
-        match self.running.once(&mut self.pass, call) {
+        match self.by_once(call) {
             Ok(reply) => reply,
-            Err(_) => self.running.call(rt, &mut self.pass, again),
+            Err(_) => self.by_call(rt, again),
         }
+    }
+
+    /// Makes the call by `RunningLock::once`. This and `by_call` are functions of their own, built in,
+    /// for speed: so a call that `once_or_call` might need again is put into memory only where it lost.
+    #[inline(always)]
+    fn by_once(&mut self, call: Call) -> Result<Reply, Lost>
+        requires lock_call { IsTrue (is_lock_call call) }
+        requires at_once { try_form call ≡ call }
+        ensures made { MadeOrLost call (λ r. r) result self.old self.new }
+        ensures reply { IfOk result (λ r. MayReply call r) }
+    {
+        self.running.once(&mut self.pass, call)
+    }
+
+    /// Makes the call by `RunningLock::call`.
+    #[inline(always)]
+    fn by_call<R: Wait>(&mut self, rt: &R, call: Call) -> Reply
+        requires { IsTrue (is_lock_call call) }
+        ensures made { Made call result self.old self.new }
+        ensures reply { MayReply call result }
+    {
+        self.running.call(rt, &mut self.pass, call)
     }
 
     /// Makes a call that can't lose, by `RunningLock::once`: by one load and at most one exchange.
