@@ -1,4 +1,4 @@
--- One entry of a record, in its place.
+-- One entry of a recorded history, with those before it.
 use Rattle.std.proofs.Common.{◌≡◌, ℕ, ◌<◌, List, length, get_or, take, refl, sym, subst, Some}
 use Rattle.std.specs.Prelude.{slice_get}
 use Rattle.std.specs.List.{All}

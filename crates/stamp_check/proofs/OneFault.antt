@@ -74,8 +74,8 @@ same_entry : (entries : List Entry) (i j : ℕ) (d e : Entry) → i ≡ j → sl
     slice_get entries j ≡ Some e → d ≡ e
 same_entry entries i j d e same x y = cc
 
-same_place : (r : Recorded) (i j : ℕ) (a b : Why) → IsFirstFault r i a → IsFirstFault r j b → i ≡ j → a ≡ b
-same_place r i j a b x y same =
+fault_there : (r : Recorded) (i j : ℕ) (a b : Why) → IsFirstFault r i a → IsFirstFault r j b → i ≡ j → a ≡ b
+fault_there r i j a b x y same =
     let before = take i r.entries in
     let breaks : Breaks r.limits r.width before y.entry b =
     subst (λ (k : ℕ). Breaks r.limits r.width (take k r.entries) y.entry b) (sym same) y.breaks in
@@ -96,7 +96,7 @@ one_fault r a b x y = by (order a.entry b.entry)
     by : (a.entry < b.entry) ⊎ (b.entry < a.entry) ⊎ (a.entry ≡ b.entry) → a ≡ b
     by (inl lt) = absurd (not_before r a.entry b.entry a.why b.why x y lt)
     by (inr (inl gt)) = absurd (not_before r b.entry a.entry b.why a.why y x gt)
-    by (inr (inr e)) = same a b e (same_place r a.entry b.entry a.why b.why x y e)
+    by (inr (inr e)) = same a b e (fault_there r a.entry b.entry a.why b.why x y e)
 
 pub one_verdict : OneVerdict
 one_verdict r (Ok n) (Ok m) x y = ap (λ (k : ℕ). Ok k) (x.1 ∙ sym y.1)

@@ -200,24 +200,24 @@ no_number s h k (inr (inl r)) = let e = r.number in let few = r.most in let most
     beyond s h (omega arith) (omega arith)
 no_number s h k (inr (inr o)) = let e = o.number in let most = o.version in beyond s h (omega arith) (omega arith)
 
-no_place : (s : ℕ) → 128 < s % 256 → HasKind narrow s Neither
-no_place s far k (inl w) = let e = w.number in omega arith
-no_place s far k (inr (inl r)) = let e = r.number in let few = r.most in omega arith
-no_place s far k (inr (inr o)) = let e = o.number in omega arith
+no_kind : (s : ℕ) → 128 < s % 256 → HasKind narrow s Neither
+no_kind s far k (inl w) = let e = w.number in omega arith
+no_kind s far k (inr (inl r)) = let e = r.number in let few = r.most in omega arith
+no_kind s far k (inr (inr o)) = let e = o.number in omega arith
 
 some_kind : (s : ℕ) → (kind : StampKind) × HasKind narrow s kind
-some_kind s = by (nat_le 256 s && nat_lt s 9223372036854775680) refl (places (s % 256))
+some_kind s = by (nat_le 256 s && nat_lt s 9223372036854775680) refl (rests (s % 256))
   where
-    places : (m : ℕ) → (m ≡ 128) ⊎ (m ≡ 0) ⊎ ((1 ≤ m) × (m < 128)) ⊎ (128 < m)
-    places m = grind arith
+    rests : (m : ℕ) → (m ≡ 128) ⊎ (m ≡ 0) ⊎ ((1 ≤ m) × (m < 128)) ⊎ (128 < m)
+    rests m = grind arith
 
     by : (b : Bool) → (nat_le 256 s && nat_lt s 9223372036854775680) ≡ b → (s % 256 ≡ 128) ⊎ (s % 256 ≡ 0) ⊎
         ((1 ≤ s % 256) × (s % 256 < 128)) ⊎ (128 < s % 256) → (kind : StampKind) × HasKind narrow s kind
-    by false h place = (Neither, no_number s h)
+    by false h rest = (Neither, no_number s h)
     by true h (inl writer) = (Write (s / 256), write_number s h (grind (arith, nat_tests)))
     by true h (inr (inl none)) = (Optimistic (s / 256 - 1), optimistic_number s h none)
     by true h (inr (inr (inl some))) = (Read (s / 256 - 1) (s % 256), read_number s h some.0 some.1)
-    by true h (inr (inr (inr far))) = (Neither, no_place s far)
+    by true h (inr (inr (inr far))) = (Neither, no_kind s far)
 
 -- so there is one number that it is respelled to
 pub one_respelling : (s t : ℕ) → IsRespelled s t → t ≡ respelling s

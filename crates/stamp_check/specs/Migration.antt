@@ -25,7 +25,7 @@ fits_layout_two s =
     nat_le (counts_of narrow s).write_count wide.versions
 
 -- the number of the same counts in layout 2, or 0
--- (migration_laws.respelling_is_of_stamps: it is the stamp of the same kind, version and place)
+-- (migration_laws.respelling_is_of_stamps: it is the stamp of the same kind, version and count)
 unfoldable pub respelling : ℕ → ℕ
 respelling s = if fits_layout_two s then word_number wide (counts_of narrow s) else 0
 

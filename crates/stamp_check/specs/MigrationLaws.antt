@@ -9,7 +9,7 @@ use Rattle.stamp_check.specs.FirstFault.{IsFirstFault}
 use Rattle.stamp_check.specs.SameJudgement.{HaveSameJudgement}
 use Rattle.stamp_check.specs.Migration.{respelling, migrated, CanMigrate}
 
--- A stamp is respelled to that of the same kind, version and place; what is none in layout 2 to 0.
+-- A stamp is respelled to that of the same kind, version and count; what is none in layout 2 to 0.
 abbrev pub RespellingIsOfStamps : Type 0
 RespellingIsOfStamps = (s : ℕ) → IsRespelled s (respelling s)
 

@@ -126,10 +126,10 @@ fn in_layout_two(history: Record) -> Record
 }
 
 /// The history spelled in layout 2: stamps that calls take and replies keep their kind, version and
-/// place there, and a number that is no stamp, or is of a version that layout 2 has not, becomes 0.
+/// count there, and a number that is no stamp, or is of a version that layout 2 has not, becomes 0.
 /// The limits become those of layout 2 with the same readers and the smaller of the two numbers of
 /// versions. A history of layout 2 comes back as it is. One of layout 1 is refused exactly where some
-/// call was answered a number other than 0 that is no stamp with a place in layout 2; the refusal
+/// call was answered a number other than 0 that is no stamp which layout 2 can spell; the refusal
 /// returns the history.
 pub fn migrate(history: Record) -> Result<Record, BadReply>
     ensures ok { IsOk result ↔ CanMigrate history }

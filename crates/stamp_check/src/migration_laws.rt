@@ -2,7 +2,7 @@
 //! alone.
 ghost use Rattle.stamp_check.specs.MigrationLaws.{RespellingIsOfStamps, MigrationKeepsLinearized, MigrationKeepsFaults, MigrationKeepsVerdicts};
 
-/// A stamp is respelled to the stamp of the same kind, version and place in layout 2, and a number
+/// A stamp is respelled to the stamp of the same kind, version and count in layout 2, and a number
 /// that is none there to 0.
 pub fn respelling_is_of_stamps()
     ensures { RespellingIsOfStamps }

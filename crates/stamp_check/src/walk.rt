@@ -76,8 +76,8 @@ impl Walk {
         if !is_above(self.point, entry.point) {
             return Some(Why::Order);
         }
-        let place = entry.thread as usize;
-        if !is_above(self.lasts[place], entry.first) {
+        let thread = entry.thread as usize;
+        if !is_above(self.lasts[thread], entry.first) {
             return Some(Why::Overlap);
         }
         if entry.call.is_lock_call() {
@@ -92,7 +92,7 @@ impl Walk {
             self.content = content;
         }
         self.point = Some(entry.point);
-        self.lasts[place] = Some(entry.last);
+        self.lasts[thread] = Some(entry.last);
         None
     }
 }

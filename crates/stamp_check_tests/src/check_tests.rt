@@ -245,18 +245,18 @@ fn an_overlap_is_told_past_entries_of_other_threads(rt: HostRuntime) -> Result<(
     Ok(())
 }
 
-/// Calls of one thread, each at one position, of which the one at this place has this reply.
+/// Calls of one thread, each at one position, of which the one of this index has this reply.
 fn in_a_row(
     alloc: Global,
     calls: &[Call],
     replies: &[Reply],
-    place: usize,
+    index: usize,
     other: &Reply,
 ) -> Result<Vec<Entry>, Fail> {
     let mut entries = Vec::new(alloc);
     for (i, (call, reply)) in calls.iter().zip(replies.iter()).enumerate() {
-        let told = if i == place { other } else { reply };
-        entries.push(entry_at(0, *call, *told, i as u64))?;
+        let answered = if i == index { other } else { reply };
+        entries.push(entry_at(0, *call, *answered, i as u64))?;
     }
     Ok(entries)
 }

@@ -77,7 +77,7 @@ fn a_history_is_spelled_in_layout_two(rt: HostRuntime) -> Result<(), Fail> {
 }
 
 #[test]
-fn stamps_keep_kind_version_and_place(rt: HostRuntime) -> Result<(), Fail> {
+fn stamps_keep_kind_version_and_count(rt: HostRuntime) -> Result<(), Fail> {
     for (narrow, wide) in [
         (256, 131_072),
         (257, 131_073),

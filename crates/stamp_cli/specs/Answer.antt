@@ -66,7 +66,7 @@ IsCheckAnswer (Ok history) (Ok line) = SaysJudgement history line
 IsCheckAnswer (Ok history) (Err fault) = ⊥
 IsCheckAnswer (Err e) answer = answer ≡ Err (refusal e)
 
--- an entry's stamp has no place in layout 2, and the fault names the first such
+-- layout 2 can't spell an entry's stamp, and the fault names the first such
 pub record IsBadReplyFault (history : Recorded) (fault : ServeFault) : Type 0 where
   pub entry : ℕ
   pub foreign : IsBadReply history entry

@@ -33,7 +33,7 @@ pub enum ServeFault {
     #[error("a write failed")]
     WriteFault,
     /// 7: this entry of the history, counted from 0, is the first that was answered a number other
-    /// than 0 that is no stamp with a place in layout 2.
+    /// than 0 that is no stamp which layout 2 can spell.
     #[error("bad reply at entry {0}")]
     BadReply(u64),
 }

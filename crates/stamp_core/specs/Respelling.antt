@@ -10,7 +10,7 @@ use Rattle.stamp_core.specs.declared.stamps.StampKind.TheVariants.{Write, Read, 
 abbrev pub if_version : ℕ → ℕ → ℕ
 if_version k s = if nat_le k wide.versions then s else 0
 
--- the same kind, version and place in layout 2
+-- the same kind, version and count in layout 2
 abbrev pub respelled : StampKind → ℕ
 respelled (Write k) = if_version k (write_stamp wide k)
 respelled (Read k c) = if_version k (read_stamp wide k c)

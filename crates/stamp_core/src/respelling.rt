@@ -22,7 +22,7 @@ fn spelled(kind: StampKind, stamp: u64) -> u64
     }
 }
 
-/// The stamp of the same kind, version and place in layout 2; 0 for a number that is no stamp of
+/// The stamp of the same kind, version and count in layout 2; 0 for a number that is no stamp of
 /// layout 1, and for a version that layout 2 has not.
 #[tactic(auto, unfolding(crate::specs::Layout::units_of))]
 pub fn respell(stamp: u64) -> u64

@@ -93,7 +93,7 @@ state_text s = mode_text s.mode ++ (codes ", version " ++ (decimal s.version ++ 
 abbrev pub brief_text : State → List ℕ
 brief_text s = short_mode_text s.mode ++ (codes " v " ++ (decimal s.version ++ behind_text s.content))
 
--- what was due in place of a wrong reply
+-- what was due instead of a wrong reply
 abbrev pub due_text : Option Reply → List ℕ
 due_text None = codes "it would wait here"
 due_text (Some r) = codes "due here: " ++ reply_text r

@@ -45,7 +45,7 @@ lane_text verdict t there lane =
 abbrev pub lanes_text : Result ℕ Fault → ℕ → List Bar → ℕ → List ℕ
 lanes_text verdict t there lanes = concat (map (lane_text verdict t there) (range_with_len 0 lanes))
 
--- a position, at the right of six places
+-- a position, right-aligned in six characters
 abbrev pub time_text : ℕ → List ℕ
 time_text t = padded_integral (format_spec 32 3 0 6 (2 ^ 64 - 1)) false [] (decimal t)
 

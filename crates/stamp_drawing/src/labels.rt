@@ -173,7 +173,7 @@ impl fmt::Display for BriefLabel {
     }
 }
 
-/// What was due in place of a wrong reply.
+/// What was due instead of a wrong reply.
 #[derive(Drop)]
 struct DueLabel(Option<Reply>);
 

@@ -14,40 +14,41 @@ use Rattle.stamp_explain_cli.specs.declared.finding.Finding.{Finding}
 use Rattle.stamp_explain_cli.specs.Finding.{IsFinding}
 use Rattle.stamp_explain_cli.specs.FindingText.{finding_text, finding_verdict}
 use Rattle.stamp_explain_cli.specs.Note.{IsNote}
-use Rattle.stamp_explain_cli.specs.declared.answer.Told as made
+use Rattle.stamp_explain_cli.specs.declared.answer.LineAndNote as made
 
 -- a line and what is said beside it, as contracts see them
-pub record ToldView : Type 0 where
+pub record LineAndNoteView : Type 0 where
   pub line : LineView
   pub note : Result (Option (String Global)) AllocError
 
-abbrev pub told_in : made.Told → ToldView
-told_in told = record { line = line_in told.line; note = told.note }
+abbrev pub view_in : made.LineAndNote → LineAndNoteView
+view_in answer = record { line = line_in answer.line; note = answer.note }
 
 -- this is found of an observed history, the line says it, and this is said of it
-pub record IsTold (h : ObservedHistory) (most : ℕ) (told : ToldView) : Type 0 where
+pub record SaysWhatIsFound (h : ObservedHistory) (most : ℕ) (answer : LineAndNoteView) : Type 0 where
   pub found : Finding
   pub is : IsFinding h most found
-  pub says : told.line.text ≡ finding_text found
-  pub verdict : told.line.verdict ≡ finding_verdict found
-  pub note : IsNote h most found told.note
+  pub says : answer.line.text ≡ finding_text found
+  pub verdict : answer.line.verdict ≡ finding_verdict found
+  pub note : IsNote h most found answer.note
 
 -- the answer to what an input reads as
-abbrev pub IsExplainAnswer : ℕ → Result ObservedHistory ReadError → Result ToldView ServeFault → Type 0
-IsExplainAnswer most (Ok h) (Ok told) = IsTold h most told
+abbrev pub IsExplainAnswer : ℕ → Result ObservedHistory ReadError → Result LineAndNoteView ServeFault → Type 0
+IsExplainAnswer most (Ok h) (Ok answer) = SaysWhatIsFound h most answer
 IsExplainAnswer most (Ok h) (Err fault) = ⊥
 IsExplainAnswer most (Err e) answer = answer ≡ Err (refusal e)
 
 -- without the line feed
-abbrev pub AnswersExplain : ℕ → List ℕ → Result ToldView ServeFault → Type 0
+abbrev pub AnswersExplain : ℕ → List ℕ → Result LineAndNoteView ServeFault → Type 0
 AnswersExplain most input answer = IsExplainAnswer most (observed_of input) answer
 
 -- a source was read as input, and this is the answer
-abbrev pub AnswersSource : ℕ → Option (List ℕ) → Option (List ℕ) → ℕ → Result ToldView ServeFault → Type 0
+abbrev pub AnswersSource : ℕ → Option (List ℕ) → Option (List ℕ) → ℕ → Result LineAndNoteView ServeFault → Type 0
 AnswersSource most old new taken answer =
     AnswersRead (Reads old new) (IsInputAnswer (AnswersExplain most)) taken answer
 
 -- memory aside, the fact holds of what a function returned
-abbrev pub ToldUnlessMemory : (Result ToldView ServeFault → Type 0) → Result made.Told ServeFault → Type 0
-ToldUnlessMemory P (Ok told) = P (Ok (told_in told))
-ToldUnlessMemory P (Err e) = e ≢ Memory → P (Err e)
+abbrev pub HoldsUnlessMemory : (Result LineAndNoteView ServeFault → Type 0) →
+    Result made.LineAndNote ServeFault → Type 0
+HoldsUnlessMemory P (Ok answer) = P (Ok (view_in answer))
+HoldsUnlessMemory P (Err e) = e ≢ Memory → P (Err e)

@@ -33,15 +33,15 @@ abbrev pub possibilities_text : Option (List Reply) → List ℕ
 possibilities_text None = codes "; what was possible is undecided"
 possibilities_text (Some replies) = possible_text replies
 
-abbrev pub place_text : ℕ → ℕ → List ℕ
-place_text i thread = codes "stamped: entry " ++ (decimal i ++ (codes " of thread " ++ decimal thread))
+abbrev pub entry_text : ℕ → ℕ → List ℕ
+entry_text i thread = codes "stamped: entry " ++ (decimal i ++ (codes " of thread " ++ decimal thread))
 
 abbrev pub answer_text : Call → Reply → List ℕ
 answer_text call reply = codes ": " ++ (call_text call ++ (codes " answered " ++ reply_text reply))
 
 -- what the call answered, and what was possible
 abbrev pub stuck_text : ℕ → Observation → Reply → Option (List Reply) → List ℕ
-stuck_text i e reply replies = place_text i e.thread ++ answer_text e.call reply ++ possibilities_text replies
+stuck_text i e reply replies = entry_text i e.thread ++ answer_text e.call reply ++ possibilities_text replies
 
 pub record IsStuckNote (h : ObservedHistory) (most i : ℕ) (text : List ℕ) : Type 0 where
   pub at : IsReturnAt h.entries i

@@ -6,7 +6,7 @@ ghost use Rattle.stamp_cli.specs.Refusal.{is_of_end};
 ghost use Rattle.stamp_cli.specs.Results.{taken_since};
 ghost use Rattle.stamp_cli.specs.Serving.{HasRead};
 ghost use Rattle.stamp_cli.specs.Source.{most_reads, most_taken};
-ghost use Rattle.stamp_explain_cli.specs.Answer.{AnswersSource, AnswersExplain, ToldUnlessMemory, told_in};
+ghost use Rattle.stamp_explain_cli.specs.Answer.{AnswersSource, AnswersExplain, HoldsUnlessMemory, view_in};
 
 use crate::finding::finding_of;
 use crate::finding_text::line_of_finding;
@@ -27,7 +27,7 @@ pub struct Explanation {
 
 /// The line that answers an observed history, and what is said of it on standard error.
 #[derive(Drop)]
-pub(crate) struct Told {
+pub(crate) struct LineAndNote {
     /// The line that answers.
     pub(crate) line: Line,
     /// What is said, as in `Explanation`.
@@ -36,32 +36,32 @@ pub(crate) struct Told {
 
 /// The line that answers what was read, and what is said of it.
 #[tactic(auto, using(stamp_cli::proofs::Refusals::inner))]
-fn told_on(alloc: Global, most: u64, input: &[u8]) -> Result<Told, ServeFault>
-    ensures answer { ToldUnlessMemory (IsInputAnswer (AnswersExplain most) input.now) result }
+fn line_and_note_on(alloc: Global, most: u64, input: &[u8]) -> Result<LineAndNote, ServeFault>
+    ensures answer { HoldsUnlessMemory (IsInputAnswer (AnswersExplain most) input.now) result }
     ensures inner { IfErr result (λ e. is_of_end e ≡ false) }
 {
     let observed = read_observed(alloc, within(input)?)?;
     let finding = finding_of(alloc, &observed, most)?;
     let line = line_of_finding(alloc, &finding)?;
     let note = note_of(alloc, &observed, &finding, most);
-    Ok(Told { line, note })
+    Ok(LineAndNote { line, note })
 }
 
 /// The line that answers an observed history, without its line feed, and what is said of it.
-pub(crate) fn told_of<S: Source>(
+pub(crate) fn line_and_note_of<S: Source>(
     alloc: Global,
     most: u64,
     source: &mut S,
-) -> Result<Told, ServeFault>
+) -> Result<LineAndNote, ServeFault>
     ensures reads { HasRead ServeFault.ReadFault ServeFault.Memory (S.left source.old) (S.left source.new)
         (S.reads source.old) (S.reads source.new) most_reads most_taken result }
-    ensures ok { IfOk result (λ told. AnswersSource most (S.left source.old) (S.left source.new)
-        (taken_since (S.reads source.old) (S.reads source.new)) (Ok (told_in told))) }
+    ensures ok { IfOk result (λ answer. AnswersSource most (S.left source.old) (S.left source.new)
+        (taken_since (S.reads source.old) (S.reads source.new)) (Ok (view_in answer))) }
     ensures err { IfErr result (λ e. e ≢ ServeFault.ReadFault → e ≢ ServeFault.Memory
         → AnswersSource most (S.left source.old) (S.left source.new)
         (taken_since (S.reads source.old) (S.reads source.new)) (Err e)) }
     ensures not_written { result ≢ Err ServeFault.WriteFault }
 {
     let input = read_input(alloc, source)?;
-    told_on(alloc, most, &input)
+    line_and_note_on(alloc, most, &input)
 }

@@ -4,7 +4,7 @@
 ghost use Rattle.std.specs.Prelude.{◌≡◌, ◌++◌, IfOk, Some, slice_get, string_bytes};
 ghost use Rattle.stamp_explain.specs.Observed.{IsObserved, IsReturnAt};
 ghost use Rattle.stamp_explain_cli.specs.Finding.{IsFinding};
-ghost use Rattle.stamp_explain_cli.specs.Note.{IsNote, IsStuckNote, ArePossibleAt, answer_text, others_text, place_text, possible_text, possibilities_text, stuck_text, replies_in, unexplained_text};
+ghost use Rattle.stamp_explain_cli.specs.Note.{IsNote, IsStuckNote, ArePossibleAt, answer_text, others_text, entry_text, possible_text, possibilities_text, stuck_text, replies_in, unexplained_text};
 
 use crate::finding::Finding;
 use stamp_core::{Call, Reply};
@@ -38,7 +38,7 @@ fn possible_text(alloc: Global, replies: &[Reply]) -> Result<String, AllocError>
 }
 
 /// What was possible, as a text: these replies, or that it is undecided.
-fn told_text(alloc: Global, replies: &Option<Vec<Reply>>) -> Result<String, AllocError>
+fn possibilities_text(alloc: Global, replies: &Option<Vec<Reply>>) -> Result<String, AllocError>
     ensures { IfOk result (λ text. string_bytes text ≡ possibilities_text (replies_in replies.now)) }
 {
     match replies {
@@ -49,10 +49,10 @@ fn told_text(alloc: Global, replies: &Option<Vec<Reply>>) -> Result<String, Allo
 
 /// Which call it is.
 #[derive(Drop)]
-struct PlaceText(usize, u64);
+struct EntryText(usize, u64);
 
-impl fmt::Display for PlaceText {
-    ghost output = { λ text. Some (place_text text.0 text.1) };
+impl fmt::Display for EntryText {
+    ghost output = { λ text. Some (entry_text text.0 text.1) };
 
     fn fmt<W: fmt::Write>(&self, f: &mut fmt::Formatter<W>) -> fmt::Result {
         write!(f, "stamped: entry {} of thread {}", self.0, self.1)
@@ -82,13 +82,13 @@ fn stuck_text(
     ensures { IfOk result (λ text. string_bytes text
         ≡ stuck_text entry observation.now reply (replies_in replies.now)) }
 {
-    let mut text = PlaceText(entry, observation.thread).to_string(alloc)?;
+    let mut text = EntryText(entry, observation.thread).to_string(alloc)?;
     text.push_str(&AnswerText(observation.call, reply).to_string(alloc)?)?;
-    text.push_str(&told_text(alloc, replies)?)?;
+    text.push_str(&possibilities_text(alloc, replies)?)?;
     Ok(text)
 }
 
-/// The replies that the call at this place could have had; none where that is undecided.
+/// The replies that the call of this entry could have had; none where that is undecided.
 fn replies_at(
     alloc: Global,
     observed: &Observed,

@@ -6,9 +6,9 @@ ghost use Rattle.stamp_cli.specs.Sink.{AppendsFront};
 ghost use Rattle.stamp_cli.specs.Results.{Makes, MakesAtMost, taken_since};
 ghost use Rattle.stamp_cli.specs.Serving.{HasRead, HasWritten};
 ghost use Rattle.stamp_cli.specs.Source.{most_reads, most_taken};
-ghost use Rattle.stamp_explain_cli.specs.Answer.{ToldView, AnswersSource};
+ghost use Rattle.stamp_explain_cli.specs.Answer.{LineAndNoteView, AnswersSource};
 
-use crate::answer::{Explanation, Told, told_of};
+use crate::answer::{Explanation, LineAndNote, line_and_note_of};
 use stamp_cli::{Line, ServeFault, Sink, Source, write_text};
 use std::alloc::Global;
 
@@ -31,12 +31,12 @@ pub fn serve_explanation<S: Source, K: Sink>(
 
     // The answer to all that was read is written with a line feed, and nothing else; the verdict and what is
     // said of a history that no order explains are its.
-    ensures ok { IfOk result (λ found. (told : ToldView)
+    ensures ok { IfOk result (λ found. (answer : LineAndNoteView)
         × AnswersSource most (S.left source.old) (S.left source.new)
-        (taken_since (S.reads source.old) (S.reads source.new)) (Ok told)
-        × (found.verdict ≡ told.line.verdict) × (found.note ≡ told.note)
-        × Appends (K.sent sink.old) (K.sent sink.new) (told.line.text ++ 10 ∷ [])
-        × Makes (K.writes sink.old) (K.writes sink.new) (length told.line.text + 1)) }
+        (taken_since (S.reads source.old) (S.reads source.new)) (Ok answer)
+        × (found.verdict ≡ answer.line.verdict) × (found.note ≡ answer.note)
+        × Appends (K.sent sink.old) (K.sent sink.new) (answer.line.text ++ 10 ∷ [])
+        × Makes (K.writes sink.old) (K.writes sink.new) (length answer.line.text + 1)) }
 
     // All that was read is refused so.
     ensures refused { IfErr result (λ e. e ≢ ServeFault.ReadFault → e ≢ ServeFault.WriteFault
@@ -46,14 +46,14 @@ pub fn serve_explanation<S: Source, K: Sink>(
     // A write that failed leaves a front of the line and is the last, and no other refusal writes.
     ensures writes { HasWritten ServeFault.WriteFault (K.sent sink.old) (K.sent sink.new)
         (K.writes sink.old) (K.writes sink.new) result }
-    ensures front { result ≡ Err ServeFault.WriteFault → ((told : ToldView)
+    ensures front { result ≡ Err ServeFault.WriteFault → ((answer : LineAndNoteView)
         × AnswersSource most (S.left source.old) (S.left source.new)
-        (taken_since (S.reads source.old) (S.reads source.new)) (Ok told)
-        × AppendsFront (K.sent sink.old) (K.sent sink.new) (told.line.text ++ 10 ∷ [])
-        × MakesAtMost (K.writes sink.old) (K.writes sink.new) (length told.line.text + 1)
-        (length told.line.text + 1)) }
+        (taken_since (S.reads source.old) (S.reads source.new)) (Ok answer)
+        × AppendsFront (K.sent sink.old) (K.sent sink.new) (answer.line.text ++ 10 ∷ [])
+        × MakesAtMost (K.writes sink.old) (K.writes sink.new) (length answer.line.text + 1)
+        (length answer.line.text + 1)) }
 {
-    let Told { line, note } = told_of(alloc, most, source)?;
+    let LineAndNote { line, note } = line_and_note_of(alloc, most, source)?;
     let Line { mut text, verdict } = line;
     text.push(b'\n')?;
     write_text(sink, &text)?;

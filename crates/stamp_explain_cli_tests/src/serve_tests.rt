@@ -29,7 +29,7 @@ const SEEN: &str = r#"{"entries":[
 const FOUND: &str =
     "{\"entries\":[{\"call\":[\"try_write\"],\"first\":0,\"last\":191,\"point\":0,\"reply\":384,\"thread\":0},{\"call\":[\"optimistic\"],\"first\":64,\"last\":319,\"point\":64,\"reply\":0,\"thread\":1},{\"call\":[\"unlock\",384],\"first\":192,\"last\":383,\"point\":192,\"reply\":\"done\",\"thread\":0}],\"format\":1,\"readers\":1,\"versions\":1,\"width\":0}\n";
 
-/// What is put in the place of what, the most configurations, and the line that is told.
+/// What is replaced by what, the most configurations, and the line that is printed.
 const TOLD: [(&str, &str, u64, &str); 6] = [
     ("384", "384", MOST, FOUND),
     ("\"reply\":0", "\"reply\":768", MOST, "stuck 2\n"),

@@ -12,20 +12,20 @@ use Rattle.stamp_machines.specs.Access.{index_of, found_by}
 use Rattle.stamp_machines.specs.LockNumber.{IsAdmittedAt}
 use Rattle.stamp_core.specs.CountedDecision.{decision}
 use Rattle.stamp_machines.specs.Job.{Job}
-use Rattle.stamp_machines.specs.Place as places
-use Rattle.stamp_machines.specs.Place.{Place, GuardCall, call_for}
+use Rattle.stamp_machines.specs.RecordStage as on_record
+use Rattle.stamp_machines.specs.RecordStage.{RecordStage, OwnLockCall, call_for}
 use Rattle.stamp_machines.specs.LocalAccess.{LoadLock, LoadItem, with_lock}
 use Rattle.stamp_machines.specs.LockPhase.{phase_plan, plan_on}
 use Rattle.stamp_machines.specs.declared.shape.Shape.{Shape}
 use Rattle.stamp_machines.specs.MachineState.{Stage, OnLock, OnRecord, record_limits}
 use Rattle.stamp_machines.specs.Machine.{plan_in, IsFoundIn, HasVersionLeft}
-use Rattle.stamp_machines.specs.RecordKept.{FitsPlace}
+use Rattle.stamp_machines.specs.RecordKept.{FitsRecordStage}
 
 -- a lock phase is on its lock's word
-phase-place : (i : ℕ) (limits : Bounds) (call : Call) (seen : Option ℕ) →
+phase-index : (i : ℕ) (limits : Bounds) (call : Call) (seen : Option ℕ) →
     index_of (with_lock i (phase_plan limits call seen)) ≡ i
-phase-place i limits call None = refl
-phase-place i limits call (Some word) = go (decision limits word call)
+phase-index i limits call None = refl
+phase-index i limits call (Some word) = go (decision limits word call)
   where
     go : (d : Decision) → index_of (with_lock i (plan_on word d)) ≡ i
     go (Answer r) = refl
@@ -41,7 +41,7 @@ IsSafeIn shape call stage words =
 copying-safe : (shape : Shape) (call : Call) (job : Job) (first : ℕ) (loaded : List ℕ)
     (words : List ℕ) → length words ≡ 2 + shape.width →
     IsAdmittedAt (record_limits shape) (slice_index words 1) →
-    IsSafeIn shape call (OnRecord job (places.Copying first loaded)) words
+    IsSafeIn shape call (OnRecord job (on_record.Copying first loaded)) words
 copying-safe shape call job first loaded words n w = go (nat_lt (length loaded) shape.width) refl
   where
     go : (b : Bool) → nat_lt (length loaded) shape.width ≡ b →
@@ -55,33 +55,33 @@ copying-safe shape call job first loaded words n w = go (nat_lt (length loaded) 
     go false q = (omega (arith, n), λ k. w)
 
 pub record-safe : (shape : Shape) (call : Call) (limits : Bounds) (k wr : ℕ)
-    (content items : List ℕ) (job : Job) (place : Place) (words : List ℕ) →
+    (content items : List ℕ) (job : Job) (stage : RecordStage) (words : List ℕ) →
     length words ≡ 2 + shape.width → length content ≡ shape.width →
     IsAdmittedAt (record_limits shape) (slice_index words 1) →
-    HasVersionLeft shape (slice_index words 1) → FitsPlace limits k wr content items job place →
-    IsSafeIn shape call (OnRecord job place) words
-record-safe shape call limits k wr content items job places.LoadingLock words n l w v f =
+    HasVersionLeft shape (slice_index words 1) → FitsRecordStage limits k wr content items job stage →
+    IsSafeIn shape call (OnRecord job stage) words
+record-safe shape call limits k wr content items job on_record.LoadingLock words n l w v f =
     (omega (arith, n), w)
-record-safe shape call limits k wr content items job (places.Copying first loaded) words n l w
+record-safe shape call limits k wr content items job (on_record.Copying first loaded) words n l w
     v f = copying-safe shape call job first loaded words n w
-record-safe shape call limits k wr content items job (places.Locking e seen) words n l w
+record-safe shape call limits k wr content items job (on_record.Locking e seen) words n l w
     v f =
     let at : index_of (with_lock 1 (phase_plan (record_limits shape) (call_for e) seen)) ≡ 1 =
-    phase-place 1 (record_limits shape) (call_for e) seen in (
+    phase-index 1 (record_limits shape) (call_for e) seen in (
       omega (arith, at, n),
       (
         subst (λ (i : ℕ). IsAdmittedAt (record_limits shape) (slice_index words i)) (sym at) w,
         subst (λ (i : ℕ). HasVersionLeft shape (slice_index words i)) (sym at) v,
       ),
     )
-record-safe shape call limits k wr content items job (places.Reading s loaded) words n l w
+record-safe shape call limits k wr content items job (on_record.Reading s loaded) words n l w
     v f =
     (omega (arith, n, l, f.2), tt)
-record-safe shape call limits k wr content items job (places.Checking s loaded) words n l w
+record-safe shape call limits k wr content items job (on_record.Checking s loaded) words n l w
     v f = (omega (arith, n, l, f.4), tt)
-record-safe shape call limits k wr content items job (places.Storing s i) words n l w v f =
+record-safe shape call limits k wr content items job (on_record.Storing s i) words n l w v f =
     (omega (arith, n, l, f.3), tt)
-record-safe shape call limits k wr content items job (places.Releasing s a) words n l w v
+record-safe shape call limits k wr content items job (on_record.Releasing s a) words n l w v
     f =
     (omega (arith, n), tt)
 
@@ -90,7 +90,7 @@ pub lock-safe : (shape : Shape) (call : Call) (seen : Option ℕ) (words : List 
     IsSafeIn shape call (OnLock seen) words
 lock-safe shape call seen words n w =
     let at : index_of (with_lock 0 (phase_plan shape.limits call seen)) ≡ 0 =
-    phase-place 0 shape.limits call seen in (
+    phase-index 0 shape.limits call seen in (
       omega (arith, at, n),
       subst (λ (i : ℕ). IsAdmittedAt shape.limits (slice_index words i)) (sym at) w,
     )

@@ -1,4 +1,4 @@
--- The call that a thread is in: one that has begun, or its next one.
+-- A thread's current call: its call under way, or else its next one.
 use Rattle.std.proofs.Common.{◌≡◌, ℕ, ◌<◌, true, List, [], ◌∷◌, length, Option, Some, None, zero}
 use Rattle.std.proofs.Common.{suc, refl, sym, subst, arith, ◌⊎◌, inl, inr}
 use Rattle.std.specs.Prelude.{slice_index_or, slice_get, All}
@@ -17,27 +17,27 @@ use Rattle.stamp_machines.specs.declared.script.ScriptCall.TheVariants.{TryUnloc
 use Rattle.stamp_machines.specs.declared.script.ScriptCall.TheVariants.{IsWriteLocked, IsReadLocked}
 use Rattle.stamp_machines.specs.declared.script.ScriptCall.TheVariants.{ReadCount, Get, Put, PutIf}
 use Rattle.stamp_machines.specs.Job.{Job, Getting, Putting, PuttingIf, job_in, new_words, is_get}
-use Rattle.stamp_machines.specs.Place.{first_place}
+use Rattle.stamp_machines.specs.RecordStage.{first_record_stage}
 use Rattle.stamp_machines.specs.declared.shape.Shape.{Shape}
 use Rattle.stamp_machines.specs.MachineState.{first_stage, start}
 use Rattle.stamp_machines.specs.Script.{Scripted, Suits, calls_of}
 use Rattle.stamp_machines.specs.declared.state.Begun.{Begun}
 use Rattle.stamp_machines.specs.World.{World, current_of, begin, resolved, shape_of, stamps_of}
 use Rattle.stamp_machines.specs.Invariant.{doing_at, doing_in, IsOf}
-use Rattle.stamp_machines.specs.RecordKept.{read_by, written_by, read_in, written_in, FitsPlace, FitsIn}
+use Rattle.stamp_machines.specs.RecordKept.{read_by, written_by, read_in, written_in, FitsRecordStage, FitsIn}
 
-first_place_reads : (job : Job) → read_by (first_place job) ≡ 0
+first_place_reads : (job : Job) → read_by (first_record_stage job) ≡ 0
 first_place_reads Getting = refl
 first_place_reads (Putting a) = refl
 first_place_reads (PuttingIf a b) = refl
 
-first_place_writes : (job : Job) → written_by (first_place job) ≡ 0
+first_place_writes : (job : Job) → written_by (first_record_stage job) ≡ 0
 first_place_writes Getting = refl
 first_place_writes (Putting a) = refl
 first_place_writes (PuttingIf a b) = refl
 
 first_place_fits : (limits : Bounds) (k w : ℕ) (content items : List ℕ) (job : Job) →
-    FitsPlace limits k w content items job (first_place job)
+    FitsRecordStage limits k w content items job (first_record_stage job)
 first_place_fits limits k w content items Getting = refl
 first_place_fits limits k w content items (Putting a) = refl
 first_place_fits limits k w content items (PuttingIf a b) = tt
@@ -69,7 +69,7 @@ suits-job stamps width Get s = (s, inl refl)
 suits-job stamps width (Put a) s = (s.0, inr s.1)
 suits-job stamps width (PutIf a b) s = (s.0, inr s.2)
 
--- what is known of the call that a thread is in, beside the one that it had begun
+-- what is known of a thread's current call, beside its call under way
 pub record Ready (limits : Bounds) (shape : Shape) (k w : ℕ) (content items : List ℕ)
     (slot : Option Begun) (b : Begun) : Type 0 where
   pub of : IsOf shape (Some b)

@@ -31,8 +31,8 @@ use Rattle.stamp_machines.specs.declared.shape.Shape.{Shape}
 use Rattle.stamp_machines.specs.Job.{Job}
 use Rattle.stamp_machines.specs.LockPhase as phases
 use Rattle.stamp_machines.specs.LockPhase.{PhaseTurn}
-use Rattle.stamp_machines.specs.Place as places
-use Rattle.stamp_machines.specs.Place.{PlaceTurn}
+use Rattle.stamp_machines.specs.RecordStage as on_record
+use Rattle.stamp_machines.specs.RecordStage.{RecordStageTurn}
 use Rattle.stamp_machines.specs.MachineState.{MachineState, Stage, OnLock, OnRecord, start}
 use Rattle.stamp_machines.specs.Machine.{after_access, after_in, lock_turn, record_turn}
 use Rattle.stamp_machines.specs.Script.{Scripted, IsSound, Suits, calls_of}
@@ -64,7 +64,7 @@ total_same (suc n) f g k each below =
     let at : f n ≡ g n + 0 = each n ∙ ap (λ (b : Bool). g n + one_where b) other in
     omega (arith, at, total_same n f g k each (omega (arith, below)))
 
--- one more at one place below n is one more in all
+-- one more at one index below n is one more in all
 total_more : (n : ℕ) (f g : ℕ → ℕ) (k : ℕ) → ((t : ℕ) → f t ≡ g t + one_where (t == k)) → k < n →
     total n f ≡ total n g + 1
 total_more zero f g k each lt = absurd (omega (arith, lt))
@@ -222,17 +222,17 @@ lock_same : (shape : Shape) (call : Call) (p : PhaseTurn) → IsStillOf call (lo
 lock_same shape call (phases.Going seen) = refl
 lock_same shape call (phases.Done r) = tt
 
-record_same : (shape : Shape) (call : Call) (job : Job) (p : PlaceTurn) →
+record_same : (shape : Shape) (call : Call) (job : Job) (p : RecordStageTurn) →
     IsStillOf call (record_turn shape call job p)
-record_same shape call job (places.Going place) = refl
-record_same shape call job (places.Done r) = tt
+record_same shape call job (on_record.Going stage) = refl
+record_same shape call job (on_record.Done r) = tt
 
 pub after_same : (s : MachineState) (found : ℕ) → IsStillOf s.call (after_access s found)
 after_same s found = by s.stage
   where
     by : (stage : Stage) → IsStillOf s.call (after_in s.shape s.call found stage)
     by (OnLock last) = lock_same s.shape s.call _
-    by (OnRecord job place) = record_same s.shape s.call job _
+    by (OnRecord job stage) = record_same s.shape s.call job _
 
 lands-counted : (script : Scripted) (world : World) (t : ℕ) (b : Begun) (words : List ℕ)
     (turned : Turn) → IsCounted script world → IsOneOf script world.entries t (Some b) →

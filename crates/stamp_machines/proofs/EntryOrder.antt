@@ -66,13 +66,13 @@ each_slot P xs i v others set none k = by (k == i) refl
         [ inl h ↦ subst (P i) (sym h) set | inr h ↦ subst (P i) (sym h) none ])
 
 -- the entries of this thread had ended before
-abbrev pub HasEnded : ℕ → ℕ → List Entry → Type 0
-HasEnded thread first entries = All (λ (d : Entry). d.thread ≡ thread → d.last < first) entries
+abbrev pub EndedBefore : ℕ → ℕ → List Entry → Type 0
+EndedBefore thread first entries = All (λ (d : Entry). d.thread ≡ thread → d.last < first) entries
 
 -- a call that has begun did so at a step already made, after its thread's entries
 abbrev pub IsSince : ℕ → List Entry → ℕ → Option Begun → Type 0
 IsSince position entries thread None = Unit {0}
-IsSince position entries thread (Some b) = (b.first ≤ position) × HasEnded thread b.first entries
+IsSince position entries thread (Some b) = (b.first ≤ position) × EndedBefore thread b.first entries
 
 pub record InOrder (script : Scripted) (world : World) : Type 0 where
   pub linearized : AreLinearized script.limits script.width world.entries
@@ -80,7 +80,7 @@ pub record InOrder (script : Scripted) (world : World) : Type 0 where
   pub ended : All (λ (d : Entry). d.last < world.position) world.entries
   pub begun : (t : ℕ) → IsSince world.position world.entries t (slice_index_or world.begun t None)
 
--- the call that a thread is in
+-- a thread's current call
 current-since : (script : Scripted) (world : World) (t : ℕ) (b : Begun) → InOrder script world →
     current script world t ≡ Some b → IsSince world.position world.entries t (Some b)
 current-since script world t b o = by (slice_index_or world.begun t None) refl

@@ -188,7 +188,7 @@ handed-on script old new made t Ended none entries until told =
     (sym (stepped-last (world_at gone old made) t (current script (world_at gone old made) t) told.0 told.1)) in
     rw (one, rest, ended) refl
 
-pub step-made : (script : Scripted) (old new : RunState) (made t : ℕ) (p : StepKind) →
+pub step-passed : (script : Scripted) (old new : RunState) (made t : ℕ) (p : StepKind) →
     IsAfter script old made → made < length script.steps → old.entries.items ≡ [] →
     take (made + 1) script.steps ≡ take made script.steps ++ t ∷ [] →
     world_at (calls_until script made) new (made + 1)
@@ -197,7 +197,7 @@ pub step-made : (script : Scripted) (old new : RunState) (made t : ℕ) (p : Ste
     ((u : ℕ) → stamps_at new.workers.items u
     ≡ stamps_of u (calls_until script made ++ new.entries.items)) →
     IsOfKind script (world_at (calls_until script made) old made) t p → StepMade script new made p
-step-made script old new made t p after left none taken world workers stamps told =
+step-passed script old new made t p after left none taken world workers stamps told =
     let until' : List Entry = calls_until script (made + 1) in
     let here : world_at (calls_until script made) new (made + 1)
     ≡ execution_of script (take (made + 1) script.steps) =

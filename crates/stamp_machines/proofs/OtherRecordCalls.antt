@@ -7,10 +7,10 @@ use Rattle.std.proofs.lemmas.List.Sums.{sum_by-set, sum_by-cons}
 use Rattle.stamp_core.specs.Limits.{Bounds}
 use Rattle.stamp_machines.specs.LockNumber.{counts_at}
 use Rattle.stamp_machines.specs.Job.{Job}
-use Rattle.stamp_machines.specs.Place.{Place, LoadingLock, Copying, Locking, Reading, Checking}
-use Rattle.stamp_machines.specs.Place.{Storing, Releasing, Share, Leave, Refuse}
-use Rattle.stamp_machines.specs.Place.{Upgrade, ReleaseFirst, Claim}
-use Rattle.stamp_machines.specs.RecordKept.{read_by, written_by, FitsPlace, FitsIn, Doing, read_in}
+use Rattle.stamp_machines.specs.RecordStage.{RecordStage, LoadingLock, Copying, Locking, Reading, Checking}
+use Rattle.stamp_machines.specs.RecordStage.{Storing, Releasing, Share, Leave, Refuse}
+use Rattle.stamp_machines.specs.RecordStage.{Upgrade, ReleaseFirst, Claim}
+use Rattle.stamp_machines.specs.RecordKept.{read_by, written_by, FitsRecordStage, FitsIn, Doing, read_in}
 use Rattle.stamp_machines.specs.RecordKept.{written_in, RecordKept, Moved, SameFor, AloneFor}
 
 pub le_sum : (f : Option Doing → ℕ) (xs : List (Option Doing)) (j : ℕ) → f None ≡ 0 →
@@ -19,7 +19,7 @@ le_sum f [] j z = omega (arith, z)
 le_sum f (x ∷ xs) zero z = omega (arith, sum_by-cons f x xs)
 le_sum f (x ∷ xs) (suc j) z = omega (arith, sum_by-cons f x xs, le_sum f xs j z)
 
--- where one place has the whole sum, each other has nothing of it
+-- where one index has the whole sum, each other has nothing of it
 zero_elsewhere : (f : Option Doing → ℕ) (xs : List (Option Doing)) (i j : ℕ) → f None ≡ 0 →
     sum_by f xs ≡ f (slice_index_or xs i None) → (i == j) ≡ false → f (slice_index_or xs j None) ≡ 0
 zero_elsewhere f [] i j z h n = z
@@ -30,9 +30,9 @@ zero_elsewhere f (x ∷ xs) (suc i) (suc j) z h n =
     zero_elsewhere f xs i j z (omega (arith, sum_by-cons f x xs, le_sum f xs i z)) (grind arith)
 
 quiet-fits : (limits : Bounds) (k w k' w' : ℕ) (content content' items items' : List ℕ) (job : Job)
-    (place : Place) → length content' ≡ length content → read_by place ≡ 0 → written_by place ≡ 0 →
-    (k' ≡ k + 1) ⊎ ((w ≡ 1) × (k' ≡ k)) → FitsPlace limits k w content items job place →
-    FitsPlace limits k' w' content' items' job place
+    (stage : RecordStage) → length content' ≡ length content → read_by stage ≡ 0 → written_by stage ≡ 0 →
+    (k' ≡ k + 1) ⊎ ((w ≡ 1) × (k' ≡ k)) → FitsRecordStage limits k w content items job stage →
+    FitsRecordStage limits k' w' content' items' job stage
 quiet-fits limits k w k' w' content content' items items' job LoadingLock l r s e h = h
 quiet-fits limits k w k' w' content content' items items' job (Copying first loaded) l r s e h = (
   h.0,
@@ -70,7 +70,7 @@ quiet-fits_in limits k w k' w' content content' items items' None l r s e h = tt
 quiet-fits_in limits k w k' w' content content' items items' (Some d) l r s e h = (
   rw l h.0,
   rw l h.1,
-  quiet-fits limits k w k' w' content content' items items' d.job d.place l r
+  quiet-fits limits k w k' w' content content' items items' d.job d.stage l r
       s e h.2,
 )
 
@@ -95,7 +95,7 @@ at_set_other (x ∷ xs) (suc i) (suc j) v n = at_set_other xs i j v (grind arith
 
 -- one access keeps what holds of the record
 pub moved-kept : (limits : Bounds) (lock : ℕ) (items content : List ℕ) (doing : List (Option Doing))
-    (t : ℕ) (before : Place) (lock' : ℕ) (items' content' : List ℕ) (now : Option Doing) →
+    (t : ℕ) (before : RecordStage) (lock' : ℕ) (items' content' : List ℕ) (now : Option Doing) →
     RecordKept limits lock items content doing → t < length doing →
     read_in (slice_index_or doing t None) ≡ read_by before →
     written_in (slice_index_or doing t None) ≡ written_by before →

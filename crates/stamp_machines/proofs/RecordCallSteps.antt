@@ -28,29 +28,29 @@ use Rattle.stamp_machines.specs.LockNumber.{IsAdmittedAt, RepresentsAt, counts_a
 use Rattle.stamp_core.specs.CountedDecision.{decision}
 use Rattle.stamp_machines.specs.Job.{Job, Getting, Putting, PuttingIf, content_with, reply_to}
 use Rattle.stamp_machines.specs.Job.{new_words, expects, is_get, stored_reply}
-use Rattle.stamp_machines.specs.Place.{Going, Done, Place, GuardCall, LoadingLock, Copying, Locking}
-use Rattle.stamp_machines.specs.Place.{Reading, Checking, Storing, Releasing, Share}
-use Rattle.stamp_machines.specs.Place.{Leave, Refuse, Upgrade, ReleaseFirst, Claim, plan}
-use Rattle.stamp_machines.specs.Place.{after, call_for, passed, guard_call_done, all_read}
-use Rattle.stamp_machines.specs.Place.{unchanged}
+use Rattle.stamp_machines.specs.RecordStage.{Going, Done, RecordStage, OwnLockCall, LoadingLock, Copying, Locking}
+use Rattle.stamp_machines.specs.RecordStage.{Reading, Checking, Storing, Releasing, Share}
+use Rattle.stamp_machines.specs.RecordStage.{Leave, Refuse, Upgrade, ReleaseFirst, Claim, plan}
+use Rattle.stamp_machines.specs.RecordStage.{after, call_for, passed, own_call_done, all_read}
+use Rattle.stamp_machines.specs.RecordStage.{unchanged}
 use Rattle.stamp_machines.specs.LockPhase as phases
 use Rattle.stamp_machines.specs.LockPhase.{plan_on, phase_plan, phase_after}
 use Rattle.stamp_machines.specs.LockPhase.{PhaseTurn}
 use Rattle.stamp_machines.specs.LocalAccess.{LoadLock, LoadItem, lock_after, items_after}
 use Rattle.stamp_machines.specs.LocalAccess.{local_found}
-use Rattle.stamp_machines.specs.RecordKept.{read_by, written_by, FitsPlace, SameFor, AloneFor, MovedRightly}
+use Rattle.stamp_machines.specs.RecordKept.{read_by, written_by, FitsRecordStage, SameFor, AloneFor, MovedRightly}
 use Rattle.stamp_machines.specs.RecordKept.{Stands, IsRead}
 use Rattle.stamp_machines.proofs.LockPhaseSteps.{PhaseLeaves, phase-leaves, CallLeaves, left-admitted}
 use Rattle.stamp_machines.proofs.LockPhaseSteps.{counts-of, shared_at, left_at, claimed_at}
 use Rattle.stamp_machines.proofs.LockPhaseSteps.{upgraded_at}
 
 -- an access that changes nothing, after which the call holds what it held
-stays : (limits : Bounds) (job : Job) (place to : Place) (lock : ℕ) (items content : List ℕ) →
-    Stands limits job place lock items content → read_by to ≡ read_by place →
-    written_by to ≡ written_by place →
-    FitsPlace limits (counts_at limits lock).write_count (counts_at limits lock).writers content items
-    job to → MovedRightly limits job place lock items content lock items (Going to)
-stays limits job place to lock items content s r w f = (
+stays : (limits : Bounds) (job : Job) (stage to : RecordStage) (lock : ℕ) (items content : List ℕ) →
+    Stands limits job stage lock items content → read_by to ≡ read_by stage →
+    written_by to ≡ written_by stage →
+    FitsRecordStage limits (counts_at limits lock).write_count (counts_at limits lock).writers content items
+    job to → MovedRightly limits job stage lock items content lock items (Going to)
+stays limits job stage to lock items content s r w f = (
   record {
     admitted = s.admitted;
     writers = omega (arith, w);
@@ -264,8 +264,8 @@ storing limits n job t i lock items content s e = go (nat_lt (i + 1) n) refl
         ++ drop (i + 1) content
     more = stored_more (new_words job) items content i s.fits.4 s.fits.3 words
 
-    moved : (to : Place) → read_by to ≡ 0 → written_by to ≡ 1 →
-        FitsPlace limits (counts_at limits lock).write_count (counts_at limits lock).writers content
+    moved : (to : RecordStage) → read_by to ≡ 0 → written_by to ≡ 1 →
+        FitsRecordStage limits (counts_at limits lock).write_count (counts_at limits lock).writers content
         (slice_set items i (slice_index (new_words job) i)) job to →
         MovedRightly limits job (Storing t i) lock items content lock
         (slice_set items i (slice_index (new_words job) i)) (Going to)
@@ -438,7 +438,7 @@ items_same limits call (Some word) items = go (decision limits word call)
     go Wait = refl
 
 -- a lock step goes on with another word seen
-still : (limits : Bounds) (job : Job) (e : GuardCall) (seen now : Option ℕ) (lock : ℕ)
+still : (limits : Bounds) (job : Job) (e : OwnLockCall) (seen now : Option ℕ) (lock : ℕ)
     (items content : List ℕ) → Stands limits job (Locking e seen) lock items content →
     MovedRightly limits job (Locking e seen) lock items content lock items (Going (Locking e now))
 still limits job Share seen now lock items content s =
@@ -461,17 +461,17 @@ still limits job Claim seen now lock items content s =
     s.fits
 
 -- an exchange on the lock, after which the call goes on
-goes : (limits : Bounds) (job : Job) (place to : Place) (lock lock' : ℕ) (items content : List ℕ) →
-    Stands limits job place lock items content → IsAdmittedAt limits lock' →
-    (counts_at limits lock').writers + written_by place ≡ (counts_at limits lock).writers
-    + written_by to → (counts_at limits lock').readers + read_by place
+goes : (limits : Bounds) (job : Job) (stage to : RecordStage) (lock lock' : ℕ) (items content : List ℕ) →
+    Stands limits job stage lock items content → IsAdmittedAt limits lock' →
+    (counts_at limits lock').writers + written_by stage ≡ (counts_at limits lock).writers
+    + written_by to → (counts_at limits lock').readers + read_by stage
     ≡ (counts_at limits lock).readers + read_by to →
     ((counts_at limits lock').writers ≡ 0 → items ≡ content) →
-    FitsPlace limits (counts_at limits lock').write_count (counts_at limits lock').writers content items
+    FitsRecordStage limits (counts_at limits lock').write_count (counts_at limits lock').writers content items
     job to → SameFor limits lock items content lock' items content
-    ⊎ AloneFor limits place lock lock' →
-    MovedRightly limits job place lock items content lock' items (Going to)
-goes limits job place to lock lock' items content s a w r f g e = (
+    ⊎ AloneFor limits stage lock lock' →
+    MovedRightly limits job stage lock items content lock' items (Going to)
+goes limits job stage to lock lock' items content s a w r f g e = (
   record {
     admitted = a;
     writers = w;
@@ -544,13 +544,13 @@ left_counts limits lock lock' t r u i h =
     )
 
 -- an unlock that ends a call which changes nothing
-leaves : (limits : Bounds) (job : Job) (place : Place) (lock lock' t : ℕ) (items content : List ℕ)
-    (r : Reply) (a : Reply) → Stands limits job place lock items content → read_by place ≡ 1 →
-    written_by place ≡ 0 → CallLeaves limits (UnlockRead t) lock lock' r →
+leaves : (limits : Bounds) (job : Job) (stage : RecordStage) (lock lock' t : ℕ) (items content : List ℕ)
+    (r : Reply) (a : Reply) → Stands limits job stage lock items content → read_by stage ≡ 1 →
+    written_by stage ≡ 0 → CallLeaves limits (UnlockRead t) lock lock' r →
     IsRead limits (counts_at limits lock).write_count t → a ≡ reply_to content job →
     content_with content job ≡ content →
-    MovedRightly limits job place lock items content lock' items (Done a)
-leaves limits job place lock lock' t items content r a s rd wr u i right same =
+    MovedRightly limits job stage lock items content lock' items (Done a)
+leaves limits job stage lock lock' t items content r a s rd wr u i right same =
     let l = left_counts limits lock lock' t r u i (omega (arith, s.reads, rd)) in
     let free : items ≡ content =
     s.free (no_writer limits lock s.range s.admitted (omega (arith, s.reads, rd))) in (
@@ -580,27 +580,27 @@ refused_no (Putting a) content g x = cc
 refused_no (PuttingIf a b) content g x = (rw x refl, rw x refl)
 
 -- write mode was got, by a call that holds nothing or the only read lock
-claims : (limits : Bounds) (job : Job) (place to : Place) (lock lock' st : ℕ)
-    (items content : List ℕ) → Stands limits job place lock items content →
-    IsAdmittedAt limits lock' → written_by place ≡ 0 → (counts_at limits lock).writers ≡ 0 →
-    (counts_at limits lock).readers ≡ read_by place →
+claims : (limits : Bounds) (job : Job) (stage to : RecordStage) (lock lock' st : ℕ)
+    (items content : List ℕ) → Stands limits job stage lock items content →
+    IsAdmittedAt limits lock' → written_by stage ≡ 0 → (counts_at limits lock).writers ≡ 0 →
+    (counts_at limits lock).readers ≡ read_by stage →
     counts_at limits lock' ≡ record {
       write_count = (counts_at limits lock).write_count + 1;
       writers = 1;
       readers = 0;
     } → read_by to ≡ 0 → written_by to ≡ 1 →
-    FitsPlace limits ((counts_at limits lock).write_count + 1) 1 content items job to →
-    MovedRightly limits job place lock items content lock' items (Going to)
-claims limits job place to lock lock' st items content s a wr free alone cs r w f =
+    FitsRecordStage limits ((counts_at limits lock).write_count + 1) 1 content items job to →
+    MovedRightly limits job stage lock items content lock' items (Going to)
+claims limits job stage to lock lock' st items content s a wr free alone cs r w f =
     let k : (counts_at limits lock').write_count ≡ (counts_at limits lock).write_count + 1 =
     ap (λ (c : Counts). c.write_count) cs in
     let n : (counts_at limits lock').writers ≡ 1 = ap (λ (c : Counts). c.writers) cs in
     let m : (counts_at limits lock').readers ≡ 0 = ap (λ (c : Counts). c.readers) cs in
-    let P : ℕ → ℕ → Type 0 = λ x y. FitsPlace limits x y content items job to in
-    goes limits job place to lock lock' items content s a (omega (arith, n, wr, free, w))
+    let P : ℕ → ℕ → Type 0 = λ x y. FitsRecordStage limits x y content items job to in
+    goes limits job stage to lock lock' items content s a (omega (arith, n, wr, free, w))
     (omega (arith, m, alone, r)) (λ z. absurd (omega (arith, n, z)))
-    (subst (λ (x : ℕ). FitsPlace limits x (counts_at limits lock').writers content items job to) (sym k)
-    (subst (λ (y : ℕ). FitsPlace limits ((counts_at limits lock).write_count + 1) y content items
+    (subst (λ (x : ℕ). FitsRecordStage limits x (counts_at limits lock').writers content items job to) (sym k)
+    (subst (λ (y : ℕ). FitsRecordStage limits ((counts_at limits lock).write_count + 1) y content items
     job to) (sym n) f))
     (inr (free ∙ sym wr, alone, inl k))
 
@@ -619,7 +619,7 @@ upgraded : (limits : Bounds) (job : Job) (u : ℕ) (seen : Option ℕ) (lock loc
     Stands limits job (Locking (Upgrade u) seen) lock items content →
     CallLeaves limits (ToWrite u) lock lock' r →
     MovedRightly limits job (Locking (Upgrade u) seen) lock items content lock' items
-    (guard_call_done job (Upgrade u) (stamp_in r))
+    (own_call_done job (Upgrade u) (stamp_in r))
 upgraded limits job u seen lock lock' items content r s t =
     go (upgraded_at limits (counts_at limits lock) u t.taken t.transition free
     (omega (arith, s.reads)))
@@ -633,7 +633,7 @@ upgraded limits job u seen lock lock' items content r s t =
         ≡ reply.Stamp (write_stamp (units limits) ((counts_at limits lock).write_count + 1))))
         ⊎ ((t.taken.appended ≡ []) × (t.taken.reply ≡ reply.Stamp 0)) →
         MovedRightly limits job (Locking (Upgrade u) seen) lock items content lock' items
-        (guard_call_done job (Upgrade u) (stamp_in r))
+        (own_call_done job (Upgrade u) (stamp_in r))
     go (inl h) =
         let st : stamp_in r ≡ write_stamp (units limits) ((counts_at limits lock).write_count + 1) =
         ap stamp_in (sym t.reply ∙ h.2) in
@@ -658,23 +658,23 @@ upgraded limits job u seen lock lock' items content r s t =
         (omega (arith, n)) (λ _. s.free free)
         (s.fits.0, rw k s.fits.1) (inl (k, w, refl, refl)))
 
-claimed : (limits : Bounds) (job : Job) (seen : Option ℕ) (lock lock' : ℕ) (items content : List ℕ)
+claim-ends : (limits : Bounds) (job : Job) (seen : Option ℕ) (lock lock' : ℕ) (items content : List ℕ)
     (r : Reply) → Stands limits job (Locking Claim seen) lock items content →
     CallLeaves limits WriteLock lock lock' r →
     MovedRightly limits job (Locking Claim seen) lock items content lock' items
-    (guard_call_done job Claim (stamp_in r))
-claimed limits Getting seen lock lock' items content r s t = absurd (true_false s.fits)
+    (own_call_done job Claim (stamp_in r))
+claim-ends limits Getting seen lock lock' items content r s t = absurd (true_false s.fits)
   where
     true_false : true ≡ false → ⊥
     true_false e = cc
-claimed limits (Putting a) seen lock lock' items content r s t =
+claim-ends limits (Putting a) seen lock lock' items content r s t =
     let h = claimed_at limits (counts_at limits lock) t.taken t.transition s.room in
     claims limits (Putting a) (Locking Claim seen) (Storing (stamp_in r) 0) lock lock' 0 items
     content s (left-admitted _ _ _ _ _ s.admitted t) refl h.0 h.1
     (t.counts ∙ ap (after_events (counts_at limits lock)) h.2
     ∙ claim_counts (counts_at limits lock) h.0 h.1) refl refl
     (refl, ap stamp_in (sym t.reply ∙ h.3), refl, s.some, s.free h.0)
-claimed limits (PuttingIf a b) seen lock lock' items content r s t =
+claim-ends limits (PuttingIf a b) seen lock lock' items content r s t =
     let h = claimed_at limits (counts_at limits lock) t.taken t.transition s.room in
     claims limits (PuttingIf a b) (Locking Claim seen) (Checking (stamp_in r) []) lock lock' 0
     items content s (left-admitted _ _ _ _ _ s.admitted t) refl h.0 h.1
@@ -682,11 +682,11 @@ claimed limits (PuttingIf a b) seen lock lock' items content r s t =
     ∙ claim_counts (counts_at limits lock) h.0 h.1) refl refl
     (refl, ap stamp_in (sym t.reply ∙ h.3), s.free h.0, (omega arith, refl), s.some)
 
-ended : (limits : Bounds) (job : Job) (e : GuardCall) (seen : Option ℕ) (lock lock' : ℕ)
+ended : (limits : Bounds) (job : Job) (e : OwnLockCall) (seen : Option ℕ) (lock lock' : ℕ)
     (items content : List ℕ) (r : Reply) → Stands limits job (Locking e seen) lock items content →
     CallLeaves limits (call_for e) lock lock' r →
     MovedRightly limits job (Locking e seen) lock items content lock' items
-    (guard_call_done job e (stamp_in r))
+    (own_call_done job e (stamp_in r))
 ended limits job Share seen lock lock' items content r s t =
     read_locked limits job seen lock lock' items content r s t
 ended limits job (Leave u loaded) seen lock lock' items content r s t =
@@ -705,9 +705,9 @@ ended limits job (ReleaseFirst u) seen lock lock' items content r s t =
 ended limits job (Upgrade u) seen lock lock' items content r s t =
     upgraded limits job u seen lock lock' items content r s t
 ended limits job Claim seen lock lock' items content r s t =
-    claimed limits job seen lock lock' items content r s t
+    claim-ends limits job seen lock lock' items content r s t
 
-locking : (limits : Bounds) (job : Job) (e : GuardCall) (seen : Option ℕ) (lock : ℕ)
+locking : (limits : Bounds) (job : Job) (e : OwnLockCall) (seen : Option ℕ) (lock : ℕ)
     (items content : List ℕ) → Stands limits job (Locking e seen) lock items content →
     MovedRightly limits job (Locking e seen) lock items content
     (lock_after (phase_plan limits (call_for e) seen) lock)
@@ -725,16 +725,16 @@ locking limits job e seen lock items content s =
     go lock' (phases.Done r) t = ended limits job e seen lock lock' items content r s t
 
 -- one access of a record call
-pub own-step : (limits : Bounds) (n : ℕ) (job : Job) (place : Place) (lock : ℕ)
-    (items content : List ℕ) → Stands limits job place lock items content → n ≡ length content →
-    MovedRightly limits job place lock items content (lock_after (plan limits n job place) lock)
-    (items_after (plan limits n job place) items)
-    (after limits n job place (local_found (plan limits n job place) lock items))
+pub own-step : (limits : Bounds) (n : ℕ) (job : Job) (stage : RecordStage) (lock : ℕ)
+    (items content : List ℕ) → Stands limits job stage lock items content → n ≡ length content →
+    MovedRightly limits job stage lock items content (lock_after (plan limits n job stage) lock)
+    (items_after (plan limits n job stage) items)
+    (after limits n job stage (local_found (plan limits n job stage) lock items))
 own-step limits n job LoadingLock lock items content s e = loading-lock limits n job lock items content s e
 own-step limits n job (Copying first loaded) lock items content s e =
     copying limits n job first loaded lock items content s e
-own-step limits n job (Locking guard_call seen) lock items content s e =
-    locking limits job guard_call seen lock items content s
+own-step limits n job (Locking own_call seen) lock items content s e =
+    locking limits job own_call seen lock items content s
 own-step limits n job (Reading t loaded) lock items content s e =
     reading limits n job t loaded lock items content s e
 own-step limits n job (Checking t loaded) lock items content s e =

@@ -75,7 +75,7 @@ stamps_of-append t entries e = simp (filter-append, map-append) (go (t == e.thre
     go true = refl
     go false = append-nil _
 
--- the call that the thread is in once its next one was begun, if it was in none
+-- a thread's call under way once its next one was begun, if it had none
 begun-current : (script : Scripted) (world mid : World) (t : ℕ) → t < length world.begun →
     mid ≡ begun_with world t (current script world t) →
     slice_index_or mid.begun t None ≡ current script world t
@@ -125,7 +125,7 @@ has-begun gone script old mid t position h many entries before stamps world =
       worker = omega (arith, n', many, h);
     }
 
--- the call that its worker is in
+-- its worker's call under way
 worker-current : (gone : List Entry) (script : Scripted) (old mid : RunState) (t position : ℕ)
     (d : Worker) → HasBegun gone script old mid t position →
     (slice_index_or mid.workers.items t d).begun ≡ current script (world_at gone old position) t
@@ -148,7 +148,7 @@ worker-safe gone script old mid t position d b h kept sound few is =
     let words : mid.words.items ≡ old.words.items = ap (λ (w : World). w.words) m in
     rw words (current-safe script (world_at gone old position) t b kept sound few e)
 
--- what a turn of the thread's call leaves: the call that it is in, its stamps, and the entries
+-- what a turn of the thread's call leaves: its call under way, its stamps, and the entries
 abbrev pub begun_after : Begun → Turn → Option Begun
 begun_after b (Going machine) = Some (record { machine = machine; first = b.first })
 begun_after b (Done reply) = None
@@ -222,7 +222,7 @@ turned-kind : (script : Scripted) (world : World) (t : ℕ) (b : Begun) (turned 
 turned-kind script world t b (Going m) e is = (rw e refl, rw (e, is) refl)
 turned-kind script world t b (Done reply) e is = (entry_of world t b reply, rw (e, is) refl)
 
--- a step of a thread that is in a call
+-- a step of a thread with a call under way
 pub step-made : (gone : List Entry) (script : Scripted) (old mid new : RunState) (t position : ℕ)
     (d w : Worker) (b : Begun) (turned : Turn) → HasBegun gone script old mid t position →
     (slice_index_or mid.workers.items t d).begun ≡ Some b →

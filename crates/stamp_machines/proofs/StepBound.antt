@@ -64,7 +64,7 @@ abbrev pub BoundedStage : Bounds → Call → ℕ → ℕ → ℕ → Stage → 
 BoundedStage limits call word own changes (OnLock None) = own ≡ 0
 BoundedStage limits call word own changes (OnLock (Some w)) =
     (own ≤ changes + 1) × (word ≢ w → own ≤ changes) × IsChange (decision limits w call)
-BoundedStage limits call word own changes (OnRecord job place) = Unit {0}
+BoundedStage limits call word own changes (OnRecord job stage) = Unit {0}
 
 -- the same once the access is made
 abbrev pub BoundedTurn : Bounds → Call → ℕ → ℕ → ℕ → PhaseTurn → Type 0
@@ -115,7 +115,7 @@ pub other-bound : (limits : Bounds) (call : Call) (word now own changes : ℕ) (
     BoundedStage limits call word own changes stage →
     BoundedStage limits call now own (changes + (if not (now == word) then 1 else 0)) stage
 other-bound limits call word now own changes (OnLock None) b = b
-other-bound limits call word now own changes (OnRecord job place) b = tt
+other-bound limits call word now own changes (OnRecord job stage) b = tt
 other-bound limits call word now own changes (OnLock (Some w)) b = on (now == word) refl
   where
     on : (x : Bool) → (now == word) ≡ x →
@@ -229,7 +229,7 @@ all-older : (script : Scripted) (steps : List ℕ) (n : ℕ) (entries : List Ent
 all-older script steps n entries all =
     λ k d lt. older script steps n (slice_index_or entries k d) (all k d lt)
 
--- the call that a thread is in
+-- a thread's current call
 current-bounded : (script : Scripted) (steps : List ℕ) (n : ℕ) (b : Begun) → AreBounded script steps →
     current script (execution_of script steps) n ≡ Some b → BoundedSlot script steps n (Some b)
 current-bounded script steps n b all = by (slice_index_or (execution_of script steps).begun n None) refl
@@ -297,7 +297,7 @@ turn-bounded : (script : Scripted) (world : World) (b : Begun) (stage : Stage) (
     BoundedMachine script.limits b.machine.call
     (slice_index (words_after (plan_of b.machine) world.words) 0) (own + 1) changes
     (after_access b.machine (found_by (plan_of b.machine) world.words))
-turn-bounded script world b (OnRecord job place) own changes k sound shape kind never at bounded =
+turn-bounded script world b (OnRecord job stage) own changes k sound shape kind never at bounded =
     let none : job_in b.machine.call ≡ None = lock_none b.machine.call never.lock in
     let some : job_in b.machine.call ≡ Some job = kind ∙ ap job_at at in
     let apart : None ≡ Some job = sym none ∙ some in
@@ -481,14 +481,14 @@ steps_are_bounded script steps sound few =
     ((steps-bounded script [] steps sound (omega (arith, few)) (none-bounded script)).entries k d lt).2
     never
 
--- a call that has begun and not ended
+-- a call under way
 under-way : (limits : Bounds) (call : Call) (word own changes : ℕ) (stage : Stage) →
     job_in call ≡ job_at stage → NeverWaits call →
     BoundedStage limits call word own changes stage → own < changes + 2
 under-way limits call word own changes (OnLock None) kind never bounded = omega (arith, bounded)
 under-way limits call word own changes (OnLock (Some w)) kind never bounded = let h = bounded.0 in
     omega (arith, h)
-under-way limits call word own changes (OnRecord job place) kind never bounded =
+under-way limits call word own changes (OnRecord job stage) kind never bounded =
     let none : job_in call ≡ None = lock_none call never.lock in
     let apart : None ≡ Some job = sym none ∙ kind in
     cc

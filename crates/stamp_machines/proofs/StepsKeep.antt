@@ -23,8 +23,8 @@ use Rattle.stamp_machines.specs.LockNumber.{RepresentsAt, IsAdmittedAt, counts_a
 use Rattle.stamp_machines.specs.Job.{Job, job_in, content_with, reply_to}
 use Rattle.stamp_core.specs.History.{IsLegal, History, IsReply, appended_by, content_after}
 use Rattle.stamp_core.specs.History.{events_of}
-use Rattle.stamp_machines.specs.Place as places
-use Rattle.stamp_machines.specs.Place.{Place, PlaceTurn}
+use Rattle.stamp_machines.specs.RecordStage as on_record
+use Rattle.stamp_machines.specs.RecordStage.{RecordStage, RecordStageTurn}
 use Rattle.stamp_machines.specs.LockPhase as phases
 use Rattle.stamp_machines.specs.LockPhase.{phase_plan, phase_after, PhaseTurn}
 use Rattle.stamp_machines.specs.LocalAccess.{LocalAccess, lock_after, with_lock, local_found}
@@ -113,7 +113,7 @@ pub history_more : (entries : List Entry) (e : Entry) →
 history_more entries e = map-append (λ (x : Entry). (x.call, x.reply)) entries (e ∷ [])
 
 -- what a finished call makes of the history
-pub record Ends (script : Scripted) (world : World) (call : Call) (r : Reply)
+pub record AnswersAtEnd (script : Scripted) (world : World) (call : Call) (r : Reply)
     (events : List LockEvent) (content : List ℕ) : Type 0 where
   pub answered : IsReply script.limits (events_in script world) (content_in script world) call r
   pub events_are : events_in script world
@@ -122,7 +122,7 @@ pub record Ends (script : Scripted) (world : World) (call : Call) (r : Reply)
 
 done-kept : (script : Scripted) (world : World) (t : ℕ) (b : Begun) (words : List ℕ) (r : Reply)
     (events : List LockEvent) (content : List ℕ) → Invariant script world →
-    Ends script world b.machine.call r events content →
+    AnswersAtEnd script world b.machine.call r events content →
     RepresentsAt script.limits (slice_index words 0) events →
     RecordKept (record_limits (shape_of script)) (slice_index words 1) (drop 2 words) content
     (map doing_in (slice_set world.begun t None)) → length content ≡ script.width →
@@ -153,7 +153,7 @@ done-kept script world t b words r events content k ends s rk w n f =
 lock-ends : (script : Scripted) (world : World) (call : Call) (r : Reply) (taken : Transition) →
     job_in call ≡ None → transition script.limits (events_in script world) call ≡ Some taken →
     taken.reply ≡ r →
-    Ends script world call r (events_in script world ++ taken.appended) (content_in script world)
+    AnswersAtEnd script world call r (events_in script world ++ taken.appended) (content_in script world)
 lock-ends script world call r taken j e q =
     let of : OfLock call = of_lock call j in
     record {
@@ -165,7 +165,7 @@ lock-ends script world call r taken j e q =
 -- a call of the record
 record-ends : (script : Scripted) (world : World) (call : Call) (job : Job) (r : Reply) →
     job_in call ≡ Some job → r ≡ reply_to (content_in script world) job →
-    Ends script world call r (events_in script world) (content_with (content_in script world) job)
+    AnswersAtEnd script world call r (events_in script world) (content_with (content_in script world) job)
 record-ends script world call job r j e =
     let of : OfRecord call job = of_record call job j in
     rw e (record {
@@ -208,17 +208,17 @@ lock-step script world t b now words (phases.Done r) k sound o j z w n l =
     (rw w (let f = k.few in omega (arith, f)))
 
 -- a step of a call of the record
-record-step : (script : Scripted) (world : World) (t : ℕ) (b : Begun) (job : Job) (place : Place)
-    (lock : ℕ) (items words : List ℕ) (turned : PlaceTurn) → Invariant script world →
+record-step : (script : Scripted) (world : World) (t : ℕ) (b : Begun) (job : Job) (stage : RecordStage)
+    (lock : ℕ) (items words : List ℕ) (turned : RecordStageTurn) → Invariant script world →
     t < length world.begun → b.machine.shape ≡ shape_of script → job_in b.machine.call ≡ Some job →
-    read_in (doing_in (slice_index_or world.begun t None)) ≡ read_by place →
-    written_in (doing_in (slice_index_or world.begun t None)) ≡ written_by place →
+    read_in (doing_in (slice_index_or world.begun t None)) ≡ read_by stage →
+    written_in (doing_in (slice_index_or world.begun t None)) ≡ written_by stage →
     words ≡ slice_index world.words 0 ∷ lock ∷ items → length words ≡ 2 + script.width →
     (counts_at (record_limits (shape_of script)) lock).write_count ≤ world.position + 1 →
-    MovedRightly (record_limits (shape_of script)) job place (slice_index world.words 1) (drop 2 world.words)
+    MovedRightly (record_limits (shape_of script)) job stage (slice_index world.words 1) (drop 2 world.words)
     (content_in script world) lock items turned →
     Invariant script (world_after world t b words (record_turn b.machine.shape b.machine.call job turned))
-record-step script world t b job place lock items words (places.Going to) k h o j rd wr w n f
+record-step script world t b job stage lock items words (on_record.Going to) k h o j rd wr w n f
     s =
     going-kept script world t b words (record b.machine { stage = OnRecord job to }) k (o, j) n
     (rw w refl)
@@ -230,15 +230,15 @@ record-step script world t b job place lock items words (places.Going to) k h o 
             first = b.first;
           })),
     )
-    (moved-kept _ _ _ _ (map doing_in world.begun) t place _ _ _ _ k.record_kept
+    (moved-kept _ _ _ _ (map doing_in world.begun) t stage _ _ _ _ k.record_kept
     (rw (length-map world.begun) h) (rw (map-index world.begun t) rd)
     (rw (map-index world.begun t) wr) s.0))
     (rw w f)
-record-step script world t b job place lock items words (places.Done r) k h o j rd wr w n f s =
+record-step script world t b job stage lock items words (on_record.Done r) k h o j rd wr w n f s =
     done-kept script world t b words r _ _ k (record-ends script world b.machine.call job r j s.1)
     (rw w k.represented)
     (rw (w, map-set doing_in world.begun t None)
-    (moved-kept _ _ _ _ (map doing_in world.begun) t place _ _ _ _ k.record_kept
+    (moved-kept _ _ _ _ (map doing_in world.begun) t stage _ _ _ _ k.record_kept
     (rw (length-map world.begun) h) (rw (map-index world.begun t) rd)
     (rw (map-index world.begun t) wr) s.0))
     (s.0.same_width ∙ k.width) n
@@ -253,7 +253,7 @@ length-words_after (Cas i old new) words = go (slice_index words i == old)
     go false = refl
 length-words_after (Store i value) words = length-set words i value
 
-at_most_one_more : (limits : Bounds) (before : Place) (lock lock' : ℕ)
+at_most_one_more : (limits : Bounds) (before : RecordStage) (lock lock' : ℕ)
     (items content items' content' : List ℕ) →
     SameFor limits lock items content lock' items' content' ⊎ AloneFor limits before lock lock' →
     (counts_at limits lock').write_count ≤ (counts_at limits lock).write_count + 1
@@ -261,7 +261,7 @@ at_most_one_more limits before lock lock' items content items' content' (inl e) 
 at_most_one_more limits before lock lock' items content items' content' (inr e) =
     elim e.2 [ inl p ↦ omega (arith, p) | inr p ↦ omega (arith, p.1) ]
 
--- what is known of the call that a thread is in
+-- what is known of a thread's current call
 abbrev pub ReadyAt : Scripted → World → ℕ → Begun → Type 0
 ReadyAt script world t b =
     let limits : Bounds = record_limits (shape_of script) in
@@ -282,20 +282,20 @@ call-ready script world t b k sound e =
 
 -- what a call of the record may rely on where it stands
 pub record-stands : (script : Scripted) (world : World) (t : ℕ) (b : Begun) (job : Job)
-    (place : Place) → Invariant script world → world.position < 1000000 →
-    ReadyAt script world t b → b.machine.stage ≡ OnRecord job place →
-    Stands (record_limits (shape_of script)) job place (slice_index world.words 1)
+    (stage : RecordStage) → Invariant script world → world.position < 1000000 →
+    ReadyAt script world t b → b.machine.stage ≡ OnRecord job stage →
+    Stands (record_limits (shape_of script)) job stage (slice_index world.words 1)
     (drop 2 world.words) (content_in script world)
-record-stands script world t b job place k room ready e =
+record-stands script world t b job stage k room ready e =
     let limits : Bounds = record_limits (shape_of script) in
-    let d : doing_at b.machine.stage ≡ Some (record { job = job; place = place }) = ap doing_at e in
-    let rd : read_in (doing_in (slice_index_or world.begun t None)) ≡ read_by place =
+    let d : doing_at b.machine.stage ≡ Some (record { job = job; stage = stage }) = ap doing_at e in
+    let rd : read_in (doing_in (slice_index_or world.begun t None)) ≡ read_by stage =
     ready.reads ∙ ap read_in d in
-    let wr : written_in (doing_in (slice_index_or world.begun t None)) ≡ written_by place =
+    let wr : written_in (doing_in (slice_index_or world.begun t None)) ≡ written_by stage =
     ready.writes ∙ ap written_in d in
     let f : FitsIn limits (counts_at limits (slice_index world.words 1)).write_count
     (counts_at limits (slice_index world.words 1)).writers (content_in script world)
-    (drop 2 world.words) (Some (record { job = job; place = place })) = rw d at ready.fits in
+    (drop 2 world.words) (Some (record { job = job; stage = stage })) = rw d at ready.fits in
     let rk = k.record_kept in
     record {
       range = record_range script.limits.layout;
@@ -343,32 +343,32 @@ begun-kept script world t b (OnLock seen) k sound room h ready e =
     (phase_after script.limits b.machine.call seen
     (local_found a (slice_index world.words 0) []))))) ready.of.0
     (lock-step script world t b _ _ _ k sound ready.of.0 j slot m.after n l))
-begun-kept script world t b (OnRecord job place) k sound room h ready e =
+begun-kept script world t b (OnRecord job stage) k sound room h ready e =
     let limits : Bounds = record_limits (shape_of script) in
-    let a : LocalAccess = places.plan limits script.width job place in
+    let a : LocalAccess = on_record.plan limits script.width job stage in
     let m = record-moves world.words script.width a k.memory in
-    let d : doing_at b.machine.stage ≡ Some (record { job = job; place = place }) = ap doing_at e in
+    let d : doing_at b.machine.stage ≡ Some (record { job = job; stage = stage }) = ap doing_at e in
     let j : job_in b.machine.call ≡ Some job = ready.of.1 ∙ ap job_at e in
-    let rd : read_in (doing_in (slice_index_or world.begun t None)) ≡ read_by place =
+    let rd : read_in (doing_in (slice_index_or world.begun t None)) ≡ read_by stage =
     ready.reads ∙ ap read_in d in
-    let wr : written_in (doing_in (slice_index_or world.begun t None)) ≡ written_by place =
+    let wr : written_in (doing_in (slice_index_or world.begun t None)) ≡ written_by stage =
     ready.writes ∙ ap written_in d in
-    let st = record-stands script world t b job place k room ready e in
-    let s = own-step limits script.width job place (slice_index world.words 1) (drop 2 world.words)
+    let st = record-stands script world t b job stage k room ready e in
+    let s = own-step limits script.width job stage (slice_index world.words 1) (drop 2 world.words)
     (content_in script world) st (sym k.width) in
     let n : length (words_after (with_lock 1 a) world.words) ≡ 2 + script.width =
     length-words_after (with_lock 1 a) world.words ∙ k.memory in
     let few : (counts_at limits (lock_after a (slice_index world.words 1))).write_count
     ≤ world.position + 1 =
-    (let one = at_most_one_more limits place (slice_index world.words 1) _ (drop 2 world.words)
+    (let one = at_most_one_more limits stage (slice_index world.words 1) _ (drop 2 world.words)
     (content_in script world) _ _ s.0.effect in let f = k.few in omega (arith, one, f)) in
     rw m.found (subst
     (λ (x : Shape). Invariant script
     (world_after world t b (words_after (with_lock 1 a) world.words)
     (record_turn x b.machine.call job
-    (places.after limits script.width job place
+    (on_record.after limits script.width job stage
     (local_found a (slice_index world.words 1) (drop 2 world.words)))))) ready.of.0
-    (record-step script world t b job place _ _ _ _ k h ready.of.0 j rd wr m.after n few s))
+    (record-step script world t b job stage _ _ _ _ k h ready.of.0 j rd wr m.after n few s))
 
 -- a machine of another shape is none of the script's
 of-shape : (script : Scripted) (world : World) (t : ℕ) (b : Begun) → b.machine.shape ≡ shape_of script →
@@ -495,9 +495,9 @@ stage-safe : (script : Scripted) (world : World) (call : Call) (stage : Stage) �
 stage-safe script world call (OnLock seen) k room f =
     lock-safe (shape_of script) call seen world.words k.memory
     (record { events = (events_in script world); represented = k.represented })
-stage-safe script world call (OnRecord job place) k room f =
+stage-safe script world call (OnRecord job stage) k room f =
     record-safe (shape_of script) call (record_limits (shape_of script)) _ _ (content_in script world)
-    (drop 2 world.words) job place world.words k.memory k.width k.record_kept.admitted
+    (drop 2 world.words) job stage world.words k.memory k.width k.record_kept.admitted
     (let v = record_room script.limits.layout in let few = k.few in omega (arith, v, few, room)) f.2
 
 -- what a thread's step needs
@@ -512,12 +512,12 @@ current-safe script world t b k sound room e =
 -- the exchange that releases finds what it expects
 releases : (script : Scripted) (world : World) (t : ℕ) (b : Begun) (job : Job) (s : ℕ) (r : Reply) →
     Invariant script world → IsSound script → world.position < 1000000 → current script world t ≡ Some b →
-    b.machine.stage ≡ OnRecord job (places.Releasing s r) →
+    b.machine.stage ≡ OnRecord job (on_record.Releasing s r) →
     (plan_of b.machine ≡ Cas 1 s (s + (units script.limits).writer))
     × (slice_index world.words 1 ≡ s)
 releases script world t b job s r k sound room e at =
     let ready = (call-ready script world t b k sound e).1 in
-    let stands = record-stands script world t b job (places.Releasing s r) k room ready at in
+    let stands = record-stands script world t b job (on_record.Releasing s r) k room ready at in
     (rw (at, ready.of.0) refl, releasing-wins _ job s r _ _ _ stands)
 
 position-after : (script : Scripted) (world : World) (steps : List ℕ) →
@@ -543,7 +543,7 @@ pub execution_of-more : (script : Scripted) (steps : List ℕ) (t : ℕ) →
 unfolding execution_of
 execution_of-more script steps t = fold-append (step script) (opening script) steps (t ∷ [])
 
--- the call that a thread is in is of the script's shape, and its stage is one of its call
+-- a call under way is of the script's shape, and its stage is one of its call
 pub current-of : (script : Scripted) (world : World) (t : ℕ) (b : Begun) → Invariant script world →
     IsSound script → current script world t ≡ Some b → IsOf (shape_of script) (Some b)
 current-of script world t b k sound e =

@@ -384,7 +384,7 @@ none-tallied script threads same = record {
     idle-all (suc k) zero = refl
     idle-all (suc k) (suc t) = idle-all k t
 
--- no more steps in a call than in all
+-- a call under way has made no more steps than all have
 pub meter_few : (script : Scripted) (steps : List ℕ) (changes t : ℕ) (slot : Option Begun)
     (m : Meter) → IsMetered script steps changes t slot m → m.steps ≤ length steps
 meter_few script steps changes t None m metered = let none : m.steps ≡ 0 =

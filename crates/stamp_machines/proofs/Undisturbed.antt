@@ -24,9 +24,6 @@ first shape call = record { shape = shape; call = call; stage = OnLock None }
 seeing : Shape → Call → ℕ → MachineState
 seeing shape call w = record { shape = shape; call = call; stage = OnLock (Some w) }
 
-itself : (w : ℕ) → (w == w) ≡ true
-itself w = grind arith
-
 -- the exchange finds the word that was loaded
 wins : (shape : Shape) (call : Call) (w : ℕ) (rest : List ℕ) (events : List LockEvent)
     (new : LockWord) (r : Rattle.stamp_core.specs.declared.reply.Reply.Reply) →
@@ -34,12 +31,14 @@ wins : (shape : Shape) (call : Call) (w : ℕ) (rest : List ℕ) (events : List 
     Moves shape.limits events call (word_at shape.limits w) (word_at shape.limits new.bits) r →
     HasEnded shape.limits events call
     (left_alone 1 (w ∷ rest) (Going (record { shape = shape; call = call; stage = OnLock (Some w) })))
-wins shape call w rest events new r is moves = rw (is, itself w) (record {
-  taken = record { appended = moves.appended; reply = r };
-  taken_is = moves.transition_is;
-  done = refl;
-  represented = moves.represented;
-})
+wins shape call w rest events new r is moves =
+    let itself : (w == w) ≡ true = grind arith in
+    rw (is, itself) (record {
+      taken = record { appended = moves.appended; reply = r };
+      taken_is = moves.transition_is;
+      done = refl;
+      represented = moves.represented;
+    })
 
 by_decision : (shape : Shape) (call : Call) (w : ℕ) (rest : List ℕ) (events : List LockEvent)
     (d : Decision) → decision shape.limits w call ≡ d →

@@ -74,13 +74,13 @@ room-set [] i w h = tt
 room-set (x ∷ ws) zero w h = h
 room-set (x ∷ ws) (suc i) w h = room-set ws i w h
 
-pub begun-kept : (ws : List Worker) (i : ℕ) (w d : Worker) → i < length ws →
+pub begun-same : (ws : List Worker) (i : ℕ) (w d : Worker) → i < length ws →
     begun_in w ≡ begun_in (slice_index_or ws i d) →
     map begun_in (slice_set ws i w) ≡ map begun_in ws
-begun-kept [] i w d h e = refl
-begun-kept (x ∷ ws) zero w d h e = ap (λ b. b ∷ map begun_in ws) e
-begun-kept (x ∷ ws) (suc i) w d h e =
-    ap (λ bs. begun_in x ∷ bs) (begun-kept ws i w d (omega arith) e)
+begun-same [] i w d h e = refl
+begun-same (x ∷ ws) zero w d h e = ap (λ b. b ∷ map begun_in ws) e
+begun-same (x ∷ ws) (suc i) w d h e =
+    ap (λ bs. begun_in x ∷ bs) (begun-same ws i w d (omega arith) e)
 
 pub same_stamps : (f g : ℕ → List ℕ) → ((t : ℕ) → f t ≡ g t) → f ≡ g
 same_stamps f g h = λ i t. h t i

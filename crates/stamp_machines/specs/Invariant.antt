@@ -16,7 +16,7 @@ use Rattle.stamp_machines.specs.RecordKept.{Doing, RecordKept}
 -- the record's call that a stage is of
 abbrev pub doing_at : Stage → Option Doing
 doing_at (OnLock seen) = None
-doing_at (OnRecord job place) = Some (record { job = job; place = place })
+doing_at (OnRecord job stage) = Some (record { job = job; stage = stage })
 
 abbrev pub doing_in : Option Begun → Option Doing
 doing_in None = None
@@ -24,7 +24,7 @@ doing_in (Some b) = doing_at b.machine.stage
 
 abbrev pub job_at : Stage → Option Job
 job_at (OnLock seen) = None
-job_at (OnRecord job place) = Some job
+job_at (OnRecord job stage) = Some job
 
 -- a call's machine has the script's shape, and its stage is one of its call
 abbrev pub IsOf : Shape → Option Begun → Type 0

@@ -1,4 +1,4 @@
--- What a lock call on its way keeps to, and what its accesses lead to.
+-- What a lock call under way keeps to, and what its accesses lead to.
 use Rattle.std.specs.Prelude.{◌≡◌, ℕ, ◌<◌, ◌^◌, Option, Some, None, true}
 use Rattle.std.specs.declared.ops.ControlFlow.{ControlFlow}
 use Rattle.std.specs.declared.ops.ControlFlow.TheVariants.{Continue, Break}
@@ -29,7 +29,7 @@ abbrev pub IsChanging : Bounds → Call → Option ℕ → Type 0
 IsChanging limits call None = Unit {0}
 IsChanging limits call (Some old) = Changing limits call old
 
--- a lock call on its way, which has seen such a word, or has seen none
+-- a lock call under way, which has seen such a word, or has seen none
 abbrev pub IsLockPhase : Bounds → Call → Option ℕ → Type 0
 IsLockPhase limits call seen = (is_lock_call call ≡ true) × IsChanging limits call seen
 

@@ -13,7 +13,7 @@ use Rattle.stamp_core.specs.declared.reply.Reply.TheVariants.{Stamp, Yes, Conten
 use Rattle.stamp_machines.specs.declared.access.Access.TheVariants.{Cas}
 use Rattle.stamp_machines.specs.declared.state.Begun.{Begun}
 use Rattle.stamp_machines.specs.Job.{Job}
-use Rattle.stamp_machines.specs.Place.{Releasing}
+use Rattle.stamp_machines.specs.RecordStage.{Releasing}
 use Rattle.stamp_machines.specs.MachineState.{OnRecord}
 use Rattle.stamp_machines.specs.Machine.{plan_of}
 use Rattle.stamp_machines.specs.Script.{Scripted, IsSound}

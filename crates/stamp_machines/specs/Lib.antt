@@ -3,7 +3,7 @@ pub mod LockNumber
 pub mod Job
 pub mod LocalAccess
 pub mod LockPhase
-pub mod Place
+pub mod RecordStage
 pub mod MachineState
 pub mod Machine
 pub mod PhaseState

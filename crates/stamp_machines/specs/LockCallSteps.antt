@@ -54,7 +54,7 @@ on_lock limits call seen = record { at = 0; limits = limits; call = call; seen =
 -- the lock phase that the machine of a lock call is: on word 0
 abbrev pub seen_in : Stage → Option ℕ
 seen_in (OnLock seen) = seen
-seen_in (OnRecord job place) = None
+seen_in (OnRecord job stage) = None
 
 abbrev pub lock_phase : MachineState → PhaseState
 lock_phase m = record { at = 0; limits = m.shape.limits; call = m.call; seen = seen_in m.stage }

@@ -1,4 +1,4 @@
--- A lock call on its way: a load, and then exchanges until one wins or the word found decides the
+-- A lock call under way: a load, and then exchanges until one wins or the word found decides the
 -- call.
 use Rattle.std.specs.Prelude.{ℕ, ◌==◌, Option, Some, None, if◌then◌else◌}
 use Rattle.stamp_core.specs.Limits.{Bounds}

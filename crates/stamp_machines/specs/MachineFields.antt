@@ -1,4 +1,4 @@
--- How a machine's fields are read as a call on its way.
+-- How a machine's fields are read as a call under way.
 use Rattle.std.specs.Prelude.{◌≡◌, ◌⊎◌, ◌<◌, ◌≤◌, ◌^◌, ℕ, Bool, true, false, List, length, Option}
 use Rattle.std.specs.Prelude.{Some, None, if◌then◌else◌}
 use Rattle.std.specs.declared.ops.ControlFlow.{ControlFlow}
@@ -10,8 +10,8 @@ use Rattle.stamp_core.specs.declared.reply.Reply.TheVariants.{No}
 use Rattle.stamp_machines.specs.LockNumber.{IsAdmittedAt}
 use Rattle.stamp_machines.specs.IsLockPhase.{IsChanging, IsLockPhase}
 use Rattle.stamp_machines.specs.Job.{Job, Getting, job_in, is_get, new_words, stored_reply}
-use Rattle.stamp_machines.specs.Place as places
-use Rattle.stamp_machines.specs.Place.{call_for}
+use Rattle.stamp_machines.specs.RecordStage as on_record
+use Rattle.stamp_machines.specs.RecordStage.{call_for}
 use Rattle.stamp_machines.specs.MachineState as states
 use Rattle.stamp_machines.specs.MachineState.{MachineState, OnRecord, record_limits}
 use Rattle.stamp_machines.specs.declared.shape.Shape.{Shape}
@@ -19,9 +19,9 @@ use Rattle.stamp_machines.specs.declared.stage.Stage.{Stage}
 use Rattle.stamp_machines.specs.declared.stage.Stage.TheVariants.{OnLock, LoadingLock, Copying}
 use Rattle.stamp_machines.specs.declared.stage.Stage.TheVariants.{Locking, Reading, Checking}
 use Rattle.stamp_machines.specs.declared.stage.Stage.TheVariants.{Storing, Releasing}
-use Rattle.stamp_machines.specs.declared.stage.GuardCall.{GuardCall}
-use Rattle.stamp_machines.specs.declared.stage.GuardCall.TheVariants.{Share, Leave, Refuse, Upgrade}
-use Rattle.stamp_machines.specs.declared.stage.GuardCall.TheVariants.{ReleaseFirst, Claim}
+use Rattle.stamp_machines.specs.declared.stage.OwnLockCall.{OwnLockCall}
+use Rattle.stamp_machines.specs.declared.stage.OwnLockCall.TheVariants.{Share, Leave, Refuse, Upgrade}
+use Rattle.stamp_machines.specs.declared.stage.OwnLockCall.TheVariants.{ReleaseFirst, Claim}
 use Rattle.stamp_machines.specs.declared.machine.Turn.{Turn}
 use Rattle.stamp_machines.specs.declared.machine.Turn.TheVariants.{Going}
 use Rattle.stamp_machines.specs.declared.machine.Turn.TheVariants as turned
@@ -35,13 +35,13 @@ abbrev pub job_of : Call → Job
 job_of call = job_or (job_in call)
 
 -- with these words loaded
-abbrev pub guard_call_in : List ℕ → GuardCall → places.GuardCall
-guard_call_in loaded Share = places.Share
-guard_call_in loaded (Leave stamp) = places.Leave stamp loaded
-guard_call_in loaded (Refuse stamp) = places.Refuse stamp
-guard_call_in loaded (Upgrade stamp) = places.Upgrade stamp
-guard_call_in loaded (ReleaseFirst stamp) = places.ReleaseFirst stamp
-guard_call_in loaded Claim = places.Claim
+abbrev pub own_call_in : List ℕ → OwnLockCall → on_record.OwnLockCall
+own_call_in loaded Share = on_record.Share
+own_call_in loaded (Leave stamp) = on_record.Leave stamp loaded
+own_call_in loaded (Refuse stamp) = on_record.Refuse stamp
+own_call_in loaded (Upgrade stamp) = on_record.Upgrade stamp
+own_call_in loaded (ReleaseFirst stamp) = on_record.ReleaseFirst stamp
+own_call_in loaded Claim = on_record.Claim
 
 -- its reply once its write lock is released
 abbrev pub released_reply : Job → Bool → Reply
@@ -49,15 +49,15 @@ released_reply job is_stored = if is_stored then stored_reply job else No
 
 abbrev pub stage_at : Call → List ℕ → Stage → states.Stage
 stage_at call loaded (OnLock seen) = states.OnLock seen
-stage_at call loaded LoadingLock = OnRecord (job_of call) places.LoadingLock
-stage_at call loaded (Copying first) = OnRecord (job_of call) (places.Copying first loaded)
-stage_at call loaded (Locking guard_call seen) =
-    OnRecord (job_of call) (places.Locking (guard_call_in loaded guard_call) seen)
-stage_at call loaded (Reading stamp) = OnRecord (job_of call) (places.Reading stamp loaded)
-stage_at call loaded (Checking stamp) = OnRecord (job_of call) (places.Checking stamp loaded)
-stage_at call loaded (Storing stamp stored) = OnRecord (job_of call) (places.Storing stamp stored)
+stage_at call loaded LoadingLock = OnRecord (job_of call) on_record.LoadingLock
+stage_at call loaded (Copying first) = OnRecord (job_of call) (on_record.Copying first loaded)
+stage_at call loaded (Locking own_call seen) =
+    OnRecord (job_of call) (on_record.Locking (own_call_in loaded own_call) seen)
+stage_at call loaded (Reading stamp) = OnRecord (job_of call) (on_record.Reading stamp loaded)
+stage_at call loaded (Checking stamp) = OnRecord (job_of call) (on_record.Checking stamp loaded)
+stage_at call loaded (Storing stamp stored) = OnRecord (job_of call) (on_record.Storing stamp stored)
 stage_at call loaded (Releasing stamp is_stored) =
-    OnRecord (job_of call) (places.Releasing stamp (released_reply (job_of call) is_stored))
+    OnRecord (job_of call) (on_record.Releasing stamp (released_reply (job_of call) is_stored))
 
 abbrev pub machine_state_of : Inside → MachineState
 machine_state_of m = record { shape = m.shape; call = m.call; stage = stage_at m.call m.loaded m.stage }
@@ -84,13 +84,13 @@ IsWriter shape call =
     (is_lock_call call ≡ false) × (0 < shape.width) × (shape.width ≤ 16)
     × (is_get (job_of call) ≡ false) × (length (new_words (job_of call)) ≡ shape.width)
 
-abbrev pub IsGuardCall : Shape → Call → List ℕ → GuardCall → Type 0
-IsGuardCall shape call loaded Share = IsRecordCall shape call
-IsGuardCall shape call loaded (Leave stamp) = IsRecordCall shape call × (1 ≤ length loaded)
-IsGuardCall shape call loaded (Refuse stamp) = IsRecordCall shape call
-IsGuardCall shape call loaded (Upgrade stamp) = IsWriter shape call
-IsGuardCall shape call loaded (ReleaseFirst stamp) = IsWriter shape call
-IsGuardCall shape call loaded Claim = IsWriter shape call
+abbrev pub IsOwnLockCall : Shape → Call → List ℕ → OwnLockCall → Type 0
+IsOwnLockCall shape call loaded Share = IsRecordCall shape call
+IsOwnLockCall shape call loaded (Leave stamp) = IsRecordCall shape call × (1 ≤ length loaded)
+IsOwnLockCall shape call loaded (Refuse stamp) = IsRecordCall shape call
+IsOwnLockCall shape call loaded (Upgrade stamp) = IsWriter shape call
+IsOwnLockCall shape call loaded (ReleaseFirst stamp) = IsWriter shape call
+IsOwnLockCall shape call loaded Claim = IsWriter shape call
 
 abbrev pub IsStage : Shape → Call → List ℕ → Stage → Type 0
 IsStage shape call loaded (OnLock seen) = IsLockPhase shape.limits call seen
@@ -98,9 +98,9 @@ IsStage shape call loaded LoadingLock = IsRecordCall shape call
 IsStage shape call loaded (Copying first) =
     IsRecordCall shape call × IsAdmittedAt (record_limits shape) first
     × (length loaded ≤ shape.width)
-IsStage shape call loaded (Locking guard_call seen) =
-    IsGuardCall shape call loaded guard_call
-    × IsChanging (record_limits shape) (call_for (guard_call_in loaded guard_call)) seen
+IsStage shape call loaded (Locking own_call seen) =
+    IsOwnLockCall shape call loaded own_call
+    × IsChanging (record_limits shape) (call_for (own_call_in loaded own_call)) seen
 IsStage shape call loaded (Reading stamp) = IsRecordCall shape call × (length loaded < shape.width)
 IsStage shape call loaded (Checking stamp) =
     IsWriter shape call × (length loaded < shape.width) × (stamp < 2 ^ 63)

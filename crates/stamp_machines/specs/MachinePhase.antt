@@ -6,7 +6,7 @@ use Rattle.stamp_machines.specs.LockPhase.{PhaseTurn}
 use Rattle.stamp_machines.specs.Machine.{lock_turn, record_turn}
 use Rattle.stamp_machines.specs.MachineState.{MachineState, Stage, OnLock, OnRecord, record_limits}
 use Rattle.stamp_machines.specs.PhaseState.{PhaseState}
-use Rattle.stamp_machines.specs.Place.{GuardCall, Locking, call_for, passed}
+use Rattle.stamp_machines.specs.RecordStage.{OwnLockCall, Locking, call_for, passed}
 use Rattle.stamp_machines.specs.declared.machine.Turn.{Turn}
 use Rattle.stamp_machines.specs.declared.shape.Shape.{Shape}
 
@@ -15,20 +15,20 @@ pub record MachinePhase : Type 0 where
   pub state : PhaseState
   pub turn : PhaseTurn → Turn
 
--- where a guard call of a call of the record is, whose lock has word 1
-abbrev pub on_record_lock : Shape → GuardCall → Option ℕ → PhaseState
-on_record_lock shape guard_call seen =
-    record { at = 1; limits = record_limits shape; call = call_for guard_call; seen = seen }
+-- where a call on the record's own lock, word 1, is
+abbrev pub on_record_lock : Shape → OwnLockCall → Option ℕ → PhaseState
+on_record_lock shape own_call seen =
+    record { at = 1; limits = record_limits shape; call = call_for own_call; seen = seen }
 
 abbrev pub phase_in : Shape → Call → Stage → Option MachinePhase
 phase_in shape call (OnLock seen) =
     Some (record { state = on_lock shape.limits call seen; turn = lock_turn shape call })
-phase_in shape call (OnRecord job (Locking guard_call seen)) =
+phase_in shape call (OnRecord job (Locking own_call seen)) =
     Some (record {
-      state = on_record_lock shape guard_call seen;
-      turn = λ t. record_turn shape call job (passed job guard_call t);
+      state = on_record_lock shape own_call seen;
+      turn = λ t. record_turn shape call job (passed job own_call t);
     })
-phase_in shape call (OnRecord job place) = None
+phase_in shape call (OnRecord job stage) = None
 
 -- none between its phases, at the record's words
 abbrev pub phase_of : MachineState → Option MachinePhase

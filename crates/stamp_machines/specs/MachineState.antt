@@ -1,15 +1,15 @@
--- A call on its way.
+-- A call under way.
 use Rattle.std.specs.Prelude.{ℕ, Option, Some, None}
 use Rattle.stamp_core.specs.Limits.{Bounds, widest}
 use Rattle.stamp_core.specs.declared.call.Call.{Call}
 use Rattle.stamp_machines.specs.Job.{Job, job_in}
-use Rattle.stamp_machines.specs.Place.{Place, first_place}
+use Rattle.stamp_machines.specs.RecordStage.{RecordStage, first_record_stage}
 use Rattle.stamp_machines.specs.declared.shape.Shape.{Shape}
 
 -- where a call stands between two of its accesses
 pub data Stage : Type 0 where
   OnLock : Option ℕ → Stage  -- a lock phase on word 0, with the word that it decided on
-  OnRecord : Job → Place → Stage  -- a call of the record
+  OnRecord : Job → RecordStage → Stage  -- a call of the record
 
 pub record MachineState : Type 0 where
   pub shape : Shape
@@ -18,7 +18,7 @@ pub record MachineState : Type 0 where
 
 abbrev pub first_stage : Option Job → Stage
 first_stage None = OnLock None
-first_stage (Some job) = OnRecord job (first_place job)
+first_stage (Some job) = OnRecord job (first_record_stage job)
 
 abbrev pub start : Shape → Call → MachineState
 start shape call = record { shape = shape; call = call; stage = first_stage (job_in call) }

@@ -1,4 +1,4 @@
--- A lock call on its way on one of the locks' words.
+-- A lock call under way on one of the locks' words.
 use Rattle.std.specs.Prelude.{ℕ, Option}
 use Rattle.stamp_core.specs.Limits.{Bounds}
 use Rattle.stamp_core.specs.declared.call.Call.{Call}

@@ -7,13 +7,13 @@ use Rattle.stamp_core.specs.Limits.{Bounds, units, AreInRange}
 use Rattle.stamp_core.specs.Stamp.{write_stamp, read_stamp}
 use Rattle.stamp_machines.specs.LockNumber.{IsAdmittedAt, counts_at}
 use Rattle.stamp_machines.specs.Job.{Job, content_with, reply_to, new_words, expects, is_get}
-use Rattle.stamp_machines.specs.Place.{Going, Done, Place, LoadingLock, Copying, Locking}
-use Rattle.stamp_machines.specs.Place.{Reading, Checking, Storing, Releasing, Share}
-use Rattle.stamp_machines.specs.Place.{Leave, Refuse, Upgrade, ReleaseFirst, Claim}
-use Rattle.stamp_machines.specs.Place.{PlaceTurn}
+use Rattle.stamp_machines.specs.RecordStage.{Going, Done, RecordStage, LoadingLock, Copying, Locking}
+use Rattle.stamp_machines.specs.RecordStage.{Reading, Checking, Storing, Releasing, Share}
+use Rattle.stamp_machines.specs.RecordStage.{Leave, Refuse, Upgrade, ReleaseFirst, Claim}
+use Rattle.stamp_machines.specs.RecordStage.{RecordStageTurn}
 
--- how many read and write locks a call at this place holds
-abbrev pub read_by : Place → ℕ
+-- how many read and write locks a call at this stage holds
+abbrev pub read_by : RecordStage → ℕ
 read_by LoadingLock = 0
 read_by (Copying first loaded) = 0
 read_by (Locking Share seen) = 0
@@ -27,7 +27,7 @@ read_by (Checking s loaded) = 0
 read_by (Storing s i) = 0
 read_by (Releasing s a) = 0
 
-abbrev pub written_by : Place → ℕ
+abbrev pub written_by : RecordStage → ℕ
 written_by LoadingLock = 0
 written_by (Copying first loaded) = 0
 written_by (Locking e seen) = 0
@@ -45,52 +45,52 @@ abbrev pub IsRead : Bounds → ℕ → ℕ → Type 0
 IsRead limits k s =
     (read_stamp (units limits) k 1 ≤ s) × (s ≤ read_stamp (units limits) k (units limits).readers)
 
-abbrev pub FitsPlace : Bounds → ℕ → ℕ → List ℕ → List ℕ → Job → Place → Type 0
-FitsPlace limits k w content items job LoadingLock = is_get job ≡ true
-FitsPlace limits k w content items job (Copying first loaded) =
+abbrev pub FitsRecordStage : Bounds → ℕ → ℕ → List ℕ → List ℕ → Job → RecordStage → Type 0
+FitsRecordStage limits k w content items job LoadingLock = is_get job ≡ true
+FitsRecordStage limits k w content items job (Copying first loaded) =
     (is_get job ≡ true) × ((counts_at limits first).write_count ≤ k)
     × (length loaded ≤ length content)
     × ((counts_at limits first).write_count ≡ k → (w ≡ 0) × (loaded ≡ take (length loaded) content))
-FitsPlace limits k w content items job (Locking Share seen) = Unit {0}
-FitsPlace limits k w content items job (Locking (Leave s loaded) seen) =
+FitsRecordStage limits k w content items job (Locking Share seen) = Unit {0}
+FitsRecordStage limits k w content items job (Locking (Leave s loaded) seen) =
     (is_get job ≡ true) × IsRead limits k s × (loaded ≡ content)
-FitsPlace limits k w content items job (Locking (Refuse s) seen) =
+FitsRecordStage limits k w content items job (Locking (Refuse s) seen) =
     (is_get job ≡ false) × IsRead limits k s × (expects job content ≡ false)
-FitsPlace limits k w content items job (Locking (Upgrade s) seen) =
+FitsRecordStage limits k w content items job (Locking (Upgrade s) seen) =
     (is_get job ≡ false) × IsRead limits k s × (expects job content ≡ true)
-FitsPlace limits k w content items job (Locking (ReleaseFirst s) seen) =
+FitsRecordStage limits k w content items job (Locking (ReleaseFirst s) seen) =
     (is_get job ≡ false) × IsRead limits k s
-FitsPlace limits k w content items job (Locking Claim seen) = is_get job ≡ false
-FitsPlace limits k w content items job (Reading s loaded) =
+FitsRecordStage limits k w content items job (Locking Claim seen) = is_get job ≡ false
+FitsRecordStage limits k w content items job (Reading s loaded) =
     IsRead limits k s × Begins loaded content × (length loaded < length content)
-FitsPlace limits k w content items job (Checking s loaded) =
+FitsRecordStage limits k w content items job (Checking s loaded) =
     (is_get job ≡ false) × (s ≡ write_stamp (units limits) k) × (items ≡ content)
     × Begins loaded content × (length loaded < length content)
-FitsPlace limits k w content items job (Storing s i) =
+FitsRecordStage limits k w content items job (Storing s i) =
     (is_get job ≡ false) × (s ≡ write_stamp (units limits) k) × (expects job content ≡ true)
     × (i < length content)
     × (items ≡ take i (new_words job) ++ drop i content)
-FitsPlace limits k w content items job (Releasing s a) =
+FitsRecordStage limits k w content items job (Releasing s a) =
     (s ≡ write_stamp (units limits) k) × (a ≡ reply_to content job)
     × (items ≡ content_with content job)
 
 pub record Doing : Type 0 where
   pub job : Job
-  pub place : Place
+  pub stage : RecordStage
 
 abbrev pub read_in : Option Doing → ℕ
 read_in None = 0
-read_in (Some d) = read_by d.place
+read_in (Some d) = read_by d.stage
 
 abbrev pub written_in : Option Doing → ℕ
 written_in None = 0
-written_in (Some d) = written_by d.place
+written_in (Some d) = written_by d.stage
 
 abbrev pub FitsIn : Bounds → ℕ → ℕ → List ℕ → List ℕ → Option Doing → Type 0
 FitsIn limits k w content items None = Unit {0}
 FitsIn limits k w content items (Some d) =
     (0 < length content) × ((is_get d.job ≡ true) ⊎ (length (new_words d.job) ≡ length content))
-    × FitsPlace limits k w content items d.job d.place
+    × FitsRecordStage limits k w content items d.job d.stage
 
 -- what holds of the record after every step, by the content that the finished calls leave
 pub record RecordKept (limits : Bounds) (lock : ℕ) (items : List ℕ) (content : List ℕ)
@@ -110,7 +110,7 @@ SameFor limits lock items content lock' items' content' =
     × ((counts_at limits lock').writers ≡ (counts_at limits lock).writers)
     × (content' ≡ content) × (items' ≡ items)
 
-abbrev pub AloneFor : Bounds → Place → ℕ → ℕ → Type 0
+abbrev pub AloneFor : Bounds → RecordStage → ℕ → ℕ → Type 0
 AloneFor limits before lock lock' =
     ((counts_at limits lock).writers ≡ written_by before)
     × ((counts_at limits lock).readers ≡ read_by before)
@@ -119,7 +119,7 @@ AloneFor limits before lock lock' =
     × ((counts_at limits lock').write_count ≡ (counts_at limits lock).write_count)))
 
 -- what the access of one thread, whose call stood at `before`, makes of the record
-pub record Moved (limits : Bounds) (before : Place) (lock : ℕ) (items : List ℕ) (content : List ℕ)
+pub record Moved (limits : Bounds) (before : RecordStage) (lock : ℕ) (items : List ℕ) (content : List ℕ)
     (lock' : ℕ) (items' : List ℕ) (content' : List ℕ) (now : Option Doing) : Type 0 where
   pub admitted : IsAdmittedAt limits lock'
   pub writers : (counts_at limits lock').writers + written_by before
@@ -136,25 +136,25 @@ pub record Moved (limits : Bounds) (before : Place) (lock : ℕ) (items : List �
       ⊎ AloneFor limits before lock lock'
 
 -- the call after an access, the content after it, and that what it answered is right
-abbrev pub now_of : Job → PlaceTurn → Option Doing
-now_of job (Going place) = Some (record { job = job; place = place })
+abbrev pub now_of : Job → RecordStageTurn → Option Doing
+now_of job (Going stage) = Some (record { job = job; stage = stage })
 now_of job (Done a) = None
 
-abbrev pub content_of : List ℕ → Job → PlaceTurn → List ℕ
-content_of content job (Going place) = content
+abbrev pub content_of : List ℕ → Job → RecordStageTurn → List ℕ
+content_of content job (Going stage) = content
 content_of content job (Done a) = content_with content job
 
-abbrev pub RightIn : List ℕ → Job → PlaceTurn → Type 0
-RightIn content job (Going place) = Unit {0}
+abbrev pub RightIn : List ℕ → Job → RecordStageTurn → Type 0
+RightIn content job (Going stage) = Unit {0}
 RightIn content job (Done a) = a ≡ reply_to content job
 
-abbrev pub MovedRightly : Bounds → Job → Place → ℕ → List ℕ → List ℕ → ℕ → List ℕ → PlaceTurn → Type 0
-MovedRightly limits job place lock items content lock' items' turned =
-    Moved limits place lock items content lock' items' (content_of content job turned)
+abbrev pub MovedRightly : Bounds → Job → RecordStage → ℕ → List ℕ → List ℕ → ℕ → List ℕ → RecordStageTurn → Type 0
+MovedRightly limits job stage lock items content lock' items' turned =
+    Moved limits stage lock items content lock' items' (content_of content job turned)
     (now_of job turned) × RightIn content job turned
 
 -- what a call may rely on as it steps
-pub record Stands (limits : Bounds) (job : Job) (place : Place) (lock : ℕ) (items : List ℕ)
+pub record Stands (limits : Bounds) (job : Job) (stage : RecordStage) (lock : ℕ) (items : List ℕ)
     (content : List ℕ) : Type 0 where
   pub range : AreInRange limits
   pub admitted : IsAdmittedAt limits lock
@@ -162,8 +162,8 @@ pub record Stands (limits : Bounds) (job : Job) (place : Place) (lock : ℕ) (it
   pub width : length items ≡ length content
   pub some : 0 < length content
   pub free : (counts_at limits lock).writers ≡ 0 → items ≡ content
-  pub reads : read_by place ≤ (counts_at limits lock).readers
-  pub writes : written_by place ≤ (counts_at limits lock).writers
+  pub reads : read_by stage ≤ (counts_at limits lock).readers
+  pub writes : written_by stage ≤ (counts_at limits lock).writers
   pub words : (is_get job ≡ true) ⊎ (length (new_words job) ≡ length content)
-  pub fits : FitsPlace limits (counts_at limits lock).write_count (counts_at limits lock).writers content
-      items job place
+  pub fits : FitsRecordStage limits (counts_at limits lock).write_count (counts_at limits lock).writers content
+      items job stage

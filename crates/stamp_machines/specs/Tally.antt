@@ -48,7 +48,7 @@ tally_after s thread change (Ended e) =
       report = s.report ++ (m.steps, s.changes + change - m.before) ∷ [];
     }
 
--- the meter of a thread that is in this call, or in none
+-- the meter of a thread with this call under way, or with none
 abbrev pub IsMetered : Scripted → List ℕ → ℕ → ℕ → Option Begun → Meter → Type 0
 IsMetered script steps changes t None m = m ≡ idle_meter
 IsMetered script steps changes t (Some b) m =

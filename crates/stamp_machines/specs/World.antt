@@ -33,7 +33,7 @@ use Rattle.stamp_machines.specs.MachineState.{start}
 use Rattle.stamp_machines.specs.Machine.{plan_of, after_access}
 use Rattle.stamp_machines.specs.Script.{Scripted, calls_of}
 
--- the common words, each thread's call that has begun and not ended, the finished calls, and the
+-- the common words, each thread's call under way, the finished calls, and the
 -- steps made
 pub record World : Type 0 where
   pub words : List ℕ
@@ -111,13 +111,13 @@ abbrev pub current_of : Scripted → (ℕ → List ℕ) → ℕ → ℕ → Opti
 current_of script stamps position thread (Some b) = Some b
 current_of script stamps position thread None = next_call script stamps position thread
 
--- the call that a thread is in: the one that it has begun, or else its next one
+-- a thread's current call: its call under way, or else its next one
 abbrev pub current : Scripted → World → ℕ → Option Begun
 current script world thread =
     current_of script (λ t. stamps_of t world.entries) world.position thread
     (slice_index_or world.begun thread None)
 
--- the world in which the thread is in this call, or is left as it is
+-- the world in which the thread has this call under way, or is left as it is
 abbrev pub begun_with : World → ℕ → Option Begun → World
 begun_with world thread None = world
 begun_with world thread (Some b) = record world { begun = slice_set world.begun thread (Some b) }

@@ -1,4 +1,4 @@
-//! A lock call on its way: a load, and exchanges until one wins or the word found decides the call.
+//! A lock call under way: a load, and exchanges until one wins or the word found decides the call.
 //! It has seen the word that it is to change, or has seen none, and then has to load it.
 ghost use Rattle.std.specs.Prelude.{◌≡◌, ◌↔◌, ℕ, Some, IsTrue};
 ghost use Rattle.stamp_core.specs.Word.{IsAdmitted, word_at};

@@ -10,16 +10,16 @@ ghost use Rattle.stamp_machines.specs.Machine.{after_in, IsFoundIn};
 ghost use Rattle.stamp_machines.specs.MachineState.{MachineState, OnLock, record_limits};
 ghost use Rattle.stamp_machines.specs.Access.{index_of, words_after, found_by};
 ghost use Rattle.stamp_machines.specs.MachineTurn.{turn_of};
-ghost use Rattle.stamp_machines.specs.MachineFields.{stage_at, turn_in, guard_call_in, IsStage};
-ghost use Rattle.stamp_machines.specs.MachineFields.{IsGuardCall, IsNextStage};
-ghost use Rattle.stamp_machines.specs.Place.{call_for};
+ghost use Rattle.stamp_machines.specs.MachineFields.{stage_at, turn_in, own_call_in, IsStage};
+ghost use Rattle.stamp_machines.specs.MachineFields.{IsOwnLockCall, IsNextStage};
+ghost use Rattle.stamp_machines.specs.RecordStage.{call_for};
 
 use crate::access::{Access, FIRST_WORD, LOCK, RECORD_LOCK, make};
 use crate::loaded_words::LoadedWords;
 use crate::lock_phase::{decide_on, lock_access};
 use crate::shape::Shape;
 use crate::stage::{
-    GuardCall, Stage, call_for, checked, copied, ended, first_stage, lock_loaded, new_word, read,
+    OwnLockCall, Stage, call_for, checked, copied, ended, first_stage, lock_loaded, new_word, read,
     released_reply, stored,
 };
 use stamp_core::{Call, Reply};
@@ -93,28 +93,28 @@ fn after_on_lock(
 fn after_locking(
     shape: &Shape,
     call: &Call,
-    guard_call: GuardCall,
+    own_call: OwnLockCall,
     seen: Option<u64>,
     loaded: &mut LoadedWords,
     found: u64,
     reply: &mut Reply,
 ) -> ControlFlow<(), Stage>
-    requires stage { IsStage shape.now call.now loaded.old (Stage.Locking guard_call seen) }
-    requires found { IsFoundIn shape.now (stage_at call.now loaded.old (Stage.Locking guard_call seen))
+    requires stage { IsStage shape.now call.now loaded.old (Stage.Locking own_call seen) }
+    requires found { IsFoundIn shape.now (stage_at call.now loaded.old (Stage.Locking own_call seen))
         found }
     ensures next { turn_in shape.now call.now loaded.new reply.new result
         ≡ after_in shape.now call.now found
-        (stage_at call.now loaded.old (Stage.Locking guard_call seen)) }
+        (stage_at call.now loaded.old (Stage.Locking own_call seen)) }
     ensures sound { IsNextStage shape.now call.now loaded.old loaded.new result }
     ensures phase { IfSome
-        (phase_in shape.now call.now (stage_at call.now loaded.old (Stage.Locking guard_call seen)))
+        (phase_in shape.now call.now (stage_at call.now loaded.old (Stage.Locking own_call seen)))
         (λ p. LeadsIn p found (turn_in shape.now call.now loaded.new reply.new result)) }
 {
     let limits = shape.record_limits();
-    let (_, next) = decide_on(limits, &call_for(guard_call), seen, found, reply);
+    let (_, next) = decide_on(limits, &call_for(own_call), seen, found, reply);
     match next {
-        ControlFlow::Continue(seen) => ControlFlow::Continue(Stage::Locking { guard_call, seen }),
-        ControlFlow::Break(()) => ended(shape, call, guard_call, loaded, reply),
+        ControlFlow::Continue(seen) => ControlFlow::Continue(Stage::Locking { own_call, seen }),
+        ControlFlow::Break(()) => ended(shape, call, own_call, loaded, reply),
     }
 }
 
@@ -149,8 +149,8 @@ fn next(
         Stage::OnLock { seen } => after_on_lock(shape, call, loaded, seen, found, reply),
         Stage::LoadingLock => ControlFlow::Continue(lock_loaded(shape, call, loaded, found)),
         Stage::Copying { first } => copied(shape, call, first, loaded, found, reply),
-        Stage::Locking { guard_call, seen } => {
-            after_locking(shape, call, guard_call, seen, loaded, found, reply)
+        Stage::Locking { own_call, seen } => {
+            after_locking(shape, call, own_call, seen, loaded, found, reply)
         }
         Stage::Reading { stamp } => ControlFlow::Continue(read(shape, call, stamp, loaded, found)),
         Stage::Checking { stamp } => {
@@ -208,9 +208,9 @@ impl Machine {
                     Access::Load(RECORD_LOCK)
                 }
             }
-            Stage::Locking { guard_call, seen } => {
+            Stage::Locking { own_call, seen } => {
                 let limits = self.shape.record_limits();
-                lock_access(RECORD_LOCK, limits, &call_for(guard_call), seen)
+                lock_access(RECORD_LOCK, limits, &call_for(own_call), seen)
             }
             Stage::Reading { .. } | Stage::Checking { .. } => {
                 Access::Load(FIRST_WORD + self.loaded.len())

@@ -6,14 +6,14 @@ ghost use Rattle.stamp_core.specs.Decision.{stamp_in};
 ghost use Rattle.stamp_core.specs.Word.{IsAdmitted, word_at};
 ghost use Rattle.stamp_machines.specs.LockNumber.{counts_at};
 ghost use Rattle.stamp_machines.specs.Job.{job_in, new_words, is_get, expects, stored_reply};
-ghost use Rattle.stamp_machines.specs.Place.{after, unchanged, all_read, guard_call_done};
-ghost use Rattle.stamp_machines.specs.Place.{claimed, call_for};
-ghost use Rattle.stamp_machines.specs.Place as places;
+ghost use Rattle.stamp_machines.specs.RecordStage.{after, unchanged, all_read, own_call_done};
+ghost use Rattle.stamp_machines.specs.RecordStage.{claimed, call_for};
+ghost use Rattle.stamp_machines.specs.RecordStage as on_record;
 ghost use Rattle.stamp_machines.specs.MachineState.{first_stage, record_limits};
 ghost use Rattle.stamp_machines.specs.Machine.{record_turn};
-ghost use Rattle.stamp_machines.specs.MachineFields.{stage_at, going_at, turn_in, guard_call_in};
+ghost use Rattle.stamp_machines.specs.MachineFields.{stage_at, going_at, turn_in, own_call_in};
 ghost use Rattle.stamp_machines.specs.MachineFields.{job_of, released_reply, IsStage, IsNextStage};
-ghost use Rattle.stamp_machines.specs.MachineFields.{IsRecordCall, IsWriter, IsGuardCall};
+ghost use Rattle.stamp_machines.specs.MachineFields.{IsRecordCall, IsWriter, IsOwnLockCall};
 
 use crate::loaded_words::LoadedWords;
 use crate::shape::Shape;
@@ -22,7 +22,7 @@ use std::ops::ControlFlow;
 
 /// A lock call on the record's lock, and what its end leads to.
 #[derive(Clone, Copy)]
-pub(crate) enum GuardCall {
+pub(crate) enum OwnLockCall {
     /// A read lock to read under.
     Share,
     /// The words are read, and are the reply.
@@ -53,7 +53,7 @@ pub(crate) enum Stage {
     },
     /// A lock call on the record's lock.
     Locking {
-        guard_call: GuardCall,
+        own_call: OwnLockCall,
         seen: Option<u64>,
     },
     /// Words are being loaded under a read lock.
@@ -106,7 +106,7 @@ fn is_get(call: &Call) -> bool
     !matches!(call, Call::Put(_) | Call::PutIf(_, _))
 }
 
-/// The word that the call stores at this place.
+/// The word of this index that the call stores.
 #[inline(always)]
 pub(crate) fn new_word(call: &Call, i: usize) -> u64
     requires { i < length (new_words (job_of call.now)) }
@@ -120,17 +120,17 @@ pub(crate) fn new_word(call: &Call, i: usize) -> u64
 
 /// The call that this is.
 #[inline(always)]
-pub(crate) fn call_for(guard_call: GuardCall) -> Call
-    ensures call { (loaded : List ℕ) → result ≡ call_for (guard_call_in loaded guard_call) }
+pub(crate) fn call_for(own_call: OwnLockCall) -> Call
+    ensures call { (loaded : List ℕ) → result ≡ call_for (own_call_in loaded own_call) }
     ensures lock_call { IsTrue (is_lock_call result) }
 {
-    match guard_call {
-        GuardCall::Share => Call::ReadLock,
-        GuardCall::Leave { stamp }
-        | GuardCall::Refuse { stamp }
-        | GuardCall::ReleaseFirst { stamp } => { Call::UnlockRead(stamp) }
-        GuardCall::Upgrade { stamp } => Call::ToWrite(stamp),
-        GuardCall::Claim => Call::WriteLock,
+    match own_call {
+        OwnLockCall::Share => Call::ReadLock,
+        OwnLockCall::Leave { stamp }
+        | OwnLockCall::Refuse { stamp }
+        | OwnLockCall::ReleaseFirst { stamp } => { Call::UnlockRead(stamp) }
+        OwnLockCall::Upgrade { stamp } => Call::ToWrite(stamp),
+        OwnLockCall::Claim => Call::WriteLock,
     }
 }
 
@@ -157,15 +157,15 @@ fn is_unchanged(limits: Limits, first: u64, found: u64) -> bool
 }
 
 /// A lock call on the record's lock, before its first access.
-fn locking(shape: &Shape, call: &Call, loaded: &LoadedWords, guard_call: GuardCall) -> Stage
-    requires { IsGuardCall shape.now call.now loaded.now guard_call }
+fn locking(shape: &Shape, call: &Call, loaded: &LoadedWords, own_call: OwnLockCall) -> Stage
+    requires { IsOwnLockCall shape.now call.now loaded.now own_call }
     ensures next { going_at shape.now call.now loaded.now result
         ≡ record_turn shape.now call.now (job_of call.now)
-        (places.Going (places.Locking (guard_call_in loaded.now guard_call) None)) }
+        (on_record.Going (on_record.Locking (own_call_in loaded.now own_call) None)) }
     ensures sound { IsStage shape.now call.now loaded.now result }
 {
     Stage::Locking {
-        guard_call,
+        own_call,
         seen: None,
     }
 }
@@ -177,7 +177,7 @@ pub(crate) fn lock_loaded(shape: &Shape, call: &Call, loaded: &mut LoadedWords, 
     requires word { IsAdmitted (record_limits shape.now) (word_at (record_limits shape.now) found) }
     ensures next { going_at shape.now call.now loaded.new result
         ≡ record_turn shape.now call.now (job_of call.now)
-        (after (record_limits shape.now) shape.now.width (job_of call.now) (places.LoadingLock)
+        (after (record_limits shape.now) shape.now.width (job_of call.now) (on_record.LoadingLock)
         found) }
     ensures sound { IsStage shape.now call.now loaded.new result }
 {
@@ -185,7 +185,7 @@ pub(crate) fn lock_loaded(shape: &Shape, call: &Call, loaded: &mut LoadedWords, 
     if is_free(shape.record_limits(), found) {
         Stage::Copying { first: found }
     } else {
-        locking(shape, call, loaded, GuardCall::Share)
+        locking(shape, call, loaded, OwnLockCall::Share)
     }
 }
 
@@ -209,7 +209,7 @@ pub(crate) fn copied(
     ensures next { turn_in shape.now call.now loaded.new reply.new result
         ≡ record_turn shape.now call.now (job_of call.now)
         (after (record_limits shape.now) shape.now.width (job_of call.now)
-        (places.Copying first loaded.old) found) }
+        (on_record.Copying first loaded.old) found) }
     ensures sound { IsNextStage shape.now call.now loaded.old loaded.new result }
 {
     if loaded.len() < shape.word_count() {
@@ -219,7 +219,7 @@ pub(crate) fn copied(
         *reply = Reply::Content(loaded.words());
         ControlFlow::Break(())
     } else {
-        ControlFlow::Continue(locking(shape, call, loaded, GuardCall::Share))
+        ControlFlow::Continue(locking(shape, call, loaded, OwnLockCall::Share))
     }
 }
 
@@ -237,7 +237,7 @@ pub(crate) fn read(
     ensures next { going_at shape.now call.now loaded.new result
         ≡ record_turn shape.now call.now (job_of call.now)
         (after (record_limits shape.now) shape.now.width (job_of call.now)
-        (places.Reading stamp loaded.old) found) }
+        (on_record.Reading stamp loaded.old) found) }
     ensures sound { IsStage shape.now call.now loaded.new result }
 {
     loaded.push(found);
@@ -257,11 +257,11 @@ fn all_read(shape: &Shape, call: &Call, stamp: u64, loaded: &LoadedWords) -> Sta
     ensures sound { IsStage shape.now call.now loaded.now result }
 {
     if is_get(call) {
-        locking(shape, call, loaded, GuardCall::Leave { stamp })
+        locking(shape, call, loaded, OwnLockCall::Leave { stamp })
     } else if expects(call, &loaded.words()) {
-        locking(shape, call, loaded, GuardCall::Upgrade { stamp })
+        locking(shape, call, loaded, OwnLockCall::Upgrade { stamp })
     } else {
-        locking(shape, call, loaded, GuardCall::Refuse { stamp })
+        locking(shape, call, loaded, OwnLockCall::Refuse { stamp })
     }
 }
 
@@ -281,7 +281,7 @@ pub(crate) fn checked(
     ensures next { going_at shape.now call.now loaded.new result
         ≡ record_turn shape.now call.now (job_of call.now)
         (after (record_limits shape.now) shape.now.width (job_of call.now)
-        (places.Checking stamp loaded.old) found) }
+        (on_record.Checking stamp loaded.old) found) }
     ensures sound { IsStage shape.now call.now loaded.new result }
 {
     loaded.push(found);
@@ -318,7 +318,7 @@ pub(crate) fn released_reply(call: &Call, is_stored: bool) -> Reply
     }
 }
 
-/// Where a call goes on after it has stored the word at this place.
+/// Where a call goes on after it has stored the word of this index.
 #[inline(always)]
 pub(crate) fn stored(
     shape: &Shape,
@@ -334,7 +334,7 @@ pub(crate) fn stored(
     ensures next { going_at shape.now call.now loaded.now result
         ≡ record_turn shape.now call.now (job_of call.now)
         (after (record_limits shape.now) shape.now.width (job_of call.now)
-        (places.Storing stamp stored) found) }
+        (on_record.Storing stamp stored) found) }
     ensures sound { IsStage shape.now call.now loaded.now result }
 {
     if stored + 1 < shape.word_count() {
@@ -370,11 +370,11 @@ fn upgraded(shape: &Shape, call: &Call, stamp: u64, loaded: &LoadedWords, got: u
     requires fits { got < 2 ^ 63 }
     ensures next { going_at shape.now call.now loaded.now result
         ≡ record_turn shape.now call.now (job_of call.now)
-        (guard_call_done (job_of call.now) (places.Upgrade stamp) got) }
+        (own_call_done (job_of call.now) (on_record.Upgrade stamp) got) }
     ensures sound { IsStage shape.now call.now loaded.now result }
 {
     if got == 0 {
-        locking(shape, call, loaded, GuardCall::ReleaseFirst { stamp })
+        locking(shape, call, loaded, OwnLockCall::ReleaseFirst { stamp })
     } else {
         Stage::Storing {
             stamp: got,
@@ -388,7 +388,7 @@ fn read_locked(shape: &Shape, call: &Call, stamp: u64, loaded: &mut LoadedWords)
     requires { IsRecordCall shape.now call.now }
     ensures next { going_at shape.now call.now loaded.new result
         ≡ record_turn shape.now call.now (job_of call.now)
-        (places.Going (places.Reading stamp [])) }
+        (on_record.Going (on_record.Reading stamp [])) }
     ensures sound { IsStage shape.now call.now loaded.new result }
 {
     loaded.clear();
@@ -400,38 +400,38 @@ fn read_locked(shape: &Shape, call: &Call, stamp: u64, loaded: &mut LoadedWords)
 pub(crate) fn ended(
     shape: &Shape,
     call: &Call,
-    guard_call: GuardCall,
+    own_call: OwnLockCall,
     loaded: &mut LoadedWords,
     reply: &mut Reply,
 ) -> ControlFlow<(), Stage>
-    requires guard_call { IsGuardCall shape.now call.now loaded.old guard_call }
+    requires own_call { IsOwnLockCall shape.now call.now loaded.old own_call }
     requires fits { stamp_in reply.old < 2 ^ 63 }
     ensures next { turn_in shape.now call.now loaded.new reply.new result
         ≡ record_turn shape.now call.now (job_of call.now)
-        (guard_call_done (job_of call.now) (guard_call_in loaded.old guard_call) (stamp_in reply.old)) }
+        (own_call_done (job_of call.now) (own_call_in loaded.old own_call) (stamp_in reply.old)) }
     ensures sound { IsNextStage shape.now call.now loaded.old loaded.new result }
 {
     let got = stamp_in(reply);
-    match guard_call {
-        GuardCall::Share => ControlFlow::Continue(read_locked(shape, call, got, loaded)),
-        GuardCall::Leave { .. } => {
+    match own_call {
+        OwnLockCall::Share => ControlFlow::Continue(read_locked(shape, call, got, loaded)),
+        OwnLockCall::Leave { .. } => {
             *reply = Reply::Content(loaded.words());
             ControlFlow::Break(())
         }
-        GuardCall::Refuse { .. } => {
+        OwnLockCall::Refuse { .. } => {
             *reply = Reply::No;
             ControlFlow::Break(())
         }
-        GuardCall::Upgrade { stamp } => {
+        OwnLockCall::Upgrade { stamp } => {
             ControlFlow::Continue(upgraded(shape, call, stamp, loaded, got))
         }
-        GuardCall::ReleaseFirst { .. } => ControlFlow::Continue(locking(
+        OwnLockCall::ReleaseFirst { .. } => ControlFlow::Continue(locking(
             shape,
             call,
             loaded,
-            GuardCall::Claim,
+            OwnLockCall::Claim,
         )),
-        GuardCall::Claim => ControlFlow::Continue(claimed(shape, call, got, loaded)),
+        OwnLockCall::Claim => ControlFlow::Continue(claimed(shape, call, got, loaded)),
     }
 }
 
@@ -447,11 +447,11 @@ pub(crate) fn first_stage(shape: &Shape, call: &Call) -> Stage
     match call {
         Call::Get => Stage::LoadingLock,
         Call::Put(_) => Stage::Locking {
-            guard_call: GuardCall::Claim,
+            own_call: OwnLockCall::Claim,
             seen: None,
         },
         Call::PutIf(_, _) => Stage::Locking {
-            guard_call: GuardCall::Share,
+            own_call: OwnLockCall::Share,
             seen: None,
         },
         _ => Stage::OnLock { seen: None },

@@ -13,14 +13,14 @@ use crate::stage::stamp_in;
 use stamp_core::{Call, Entry, Reply, Word};
 use std::alloc::{AllocError, Global};
 
-/// A call that has begun and not ended.
+/// A call under way: it has begun, and has not ended.
 #[derive(Drop)]
 pub(crate) struct Begun {
     pub(crate) machine: Machine,
     pub(crate) first: u64,
 }
 
-/// A thread: the call that it is in, and what its finished calls answered.
+/// A thread: its call under way, and what its finished calls answered.
 #[derive(Drop)]
 pub(crate) struct Worker {
     pub(crate) begun: Option<Begun>,
@@ -101,8 +101,8 @@ fn next_call(script: &Script, workers: &[Worker], thread: usize, first: u64) -> 
     Some(Begun { machine, first })
 }
 
-/// Whether the thread is in a call.
-fn is_in_call(workers: &[Worker], thread: usize) -> bool
+/// Whether the thread has a call under way.
+fn has_call_under_way(workers: &[Worker], thread: usize) -> bool
     requires { thread < length workers.now }
     ensures { result ≡ is_some (slice_index_or (map begun_in workers.now) thread None) }
 {
@@ -119,7 +119,7 @@ fn reserve_stamp(workers: &mut [Worker], thread: usize) -> Result<(), AllocError
     workers[thread].stamps.reserve(1)
 }
 
-/// The thread is in this call from now on.
+/// The thread has this call under way from now on.
 fn set_begun(workers: &mut [Worker], thread: usize, begun: Begun)
     requires { thread < length workers.old }
     ensures begun { map begun_in workers.new
@@ -131,7 +131,7 @@ fn set_begun(workers: &mut [Worker], thread: usize, begun: Begun)
 }
 
 impl Worker {
-    /// The thread is in no call any more. There is room for the stamp that it answered.
+    /// The thread has no call under way any more. There is room for the stamp that it answered.
     #[inline(never)]
     fn end(&mut self, stamp: u64)
         requires { vec_len self.old.stamps < vec_capacity self.old.stamps }
@@ -227,7 +227,7 @@ impl RunState {
         reserve_stamp(&mut self.workers, thread)
     }
 
-    /// Begins the thread's next call, if it is in none and has one left.
+    /// Begins the thread's next call, if none is under way and one is left.
     #[inline(always)]
     fn begin(&mut self, script: &Script, thread: usize, position: u64)
         ghost gone: { List Entry }
@@ -245,7 +245,7 @@ impl RunState {
             HasRoom (slice_get self.new.workers.items thread) }
         ensures entries { self.new.entries ≡ self.old.entries }
     {
-        if is_in_call(&self.workers, thread) {
+        if has_call_under_way(&self.workers, thread) {
             return;
         }
         let Some(begun) = next_call(script, &self.workers, thread, position) else {

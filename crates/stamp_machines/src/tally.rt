@@ -8,7 +8,7 @@ use crate::running::Stepped;
 use stamp_core::Call;
 use std::alloc::{AllocError, Global};
 
-/// The call that a thread is in: its steps so far, 0 where it is in none, and the changes of the
+/// A thread's call under way: its steps so far, 0 where there is none, and the changes of the
 /// lock's word that are not for others to count: those before its first step, and its own since.
 #[derive(Clone, Copy)]
 pub(crate) struct Meter {
@@ -26,7 +26,7 @@ pub(crate) struct Tally {
 }
 
 impl Meter {
-    /// The meter of a thread that is in no call.
+    /// The meter of a thread with no call under way.
     fn idle() -> Meter
         ensures { result ≡ idle_meter }
     {

@@ -30,7 +30,7 @@ impl Cost {
         }
     }
 
-    /// A change counts where the thread is in a call.
+    /// A change counts where the thread has a call under way.
     fn one_change_more(self) -> Cost {
         if self.steps == 0 {
             return self;

@@ -69,9 +69,9 @@ same_why before e Interval Overlap x y = absurd (x y.0)
 same_why before e Overlap Interval x y = absurd (y x.0)
 same_why before e Overlap Overlap x y = refl
 
-same_place : (h : ObservedHistory) (i j : ℕ) (a b : ObservedWhy) → IsFirstFault h i a → IsFirstFault h j b → i ≡ j →
+fault_there : (h : ObservedHistory) (i j : ℕ) (a b : ObservedWhy) → IsFirstFault h i a → IsFirstFault h j b → i ≡ j →
     a ≡ b
-same_place h i j a b x y same =
+fault_there h i j a b x y same =
     same_why (take i h.entries) x.entry a b x.breaks
     (subst (λ (e : Observation). Breaks (take i h.entries) e b) entry
     (subst (λ (k : ℕ). Breaks (take k h.entries) y.entry b) (sym same) y.breaks))
@@ -94,7 +94,7 @@ one_fault h a b x y = by (order a.entry b.entry)
     by : (a.entry < b.entry) ⊎ (b.entry < a.entry) ⊎ (a.entry ≡ b.entry) → a ≡ b
     by (inl lt) = absurd (not_before h a.entry b.entry a.why b.why x y lt)
     by (inr (inl gt)) = absurd (not_before h b.entry a.entry b.why a.why y x gt)
-    by (inr (inr e)) = same a b e (same_place h a.entry b.entry a.why b.why x y e)
+    by (inr (inr e)) = same a b e (fault_there h a.entry b.entry a.why b.why x y e)
 
 pub one_verdict : OneObservedVerdict
 one_verdict h None None x y = refl

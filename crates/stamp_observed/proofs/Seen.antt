@@ -14,7 +14,7 @@ use Rattle.stamp_observed.specs.declared.judging.ObservedWhy.TheVariants.{Interv
 use Rattle.stamp_observed.specs.ObservedFault.{AreSeen, IsFirstFault, AreIntervalsTo, IsFirstOverlap}
 use Rattle.stamp_observed.specs.Suited.{AreSuited}
 
--- between these places the first overlap is
+-- between these indices the first overlap is
 pub record IsBetween (entries : List Observation) (apart too_many : ℕ) : Type 0 where
   pub below : apart < too_many
   pub within : too_many ≤ length entries
@@ -43,7 +43,7 @@ first_between entries apart too_many is le = record {
       subst (λ (n : ℕ). ¬ AllPairs DoNotOverlap (take n entries)) next is.broken;
 }
 
--- the call at a place
+-- the call of an index
 call_at : (es : List Observation) (i : ℕ) → i < length es → (e : Observation) × (slice_get es i ≡ Some e)
 call_at [] i lt = absurd (omega arith)
 call_at (e ∷ es) i lt = (get_or (e ∷ es) i e, slice_get-get_or (e ∷ es) i e lt)

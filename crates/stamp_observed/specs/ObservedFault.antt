@@ -30,14 +30,14 @@ abbrev pub IsObservedJudgement : ObservedHistory → Option ObservedFault → Ty
 IsObservedJudgement h None = IsObserved h
 IsObservedJudgement h (Some fault) = IsFirstFault h fault.entry fault.why
 
--- the calls before this place are intervals, and the one there, if there is one, is none
-pub record AreIntervalsTo (entries : List Observation) (place : ℕ) : Type 0 where
-  pub within : place ≤ length entries
-  pub before : All IsInterval (take place entries)
-  pub broken : (e : Observation) → slice_get entries place ≡ Some e → ¬ IsInterval e
+-- the calls before this index are intervals, and the one there, if there is one, is none
+pub record AreIntervalsTo (entries : List Observation) (index : ℕ) : Type 0 where
+  pub within : index ≤ length entries
+  pub before : All IsInterval (take index entries)
+  pub broken : (e : Observation) → slice_get entries index ≡ Some e → ¬ IsInterval e
 
--- the calls before this place are apart, and with the one there they are not
-pub record IsFirstOverlap (entries : List Observation) (place : ℕ) : Type 0 where
-  pub within : place < length entries
-  pub before : AllPairs DoNotOverlap (take place entries)
-  pub broken : ¬ AllPairs DoNotOverlap (take (place + 1) entries)
+-- the calls before this index are apart, and with the one there they are not
+pub record IsFirstOverlap (entries : List Observation) (index : ℕ) : Type 0 where
+  pub within : index < length entries
+  pub before : AllPairs DoNotOverlap (take index entries)
+  pub broken : ¬ AllPairs DoNotOverlap (take (index + 1) entries)

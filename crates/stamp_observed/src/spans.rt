@@ -68,11 +68,11 @@ fn follow(spans: &[Span]) -> bool
 {
     let mut free = [0; 64];
     for span in spans {
-        let place = span.thread as usize;
-        if span.first < free[place] {
+        let thread = span.thread as usize;
+        if span.first < free[thread] {
             return false;
         }
-        free[place] = span.free;
+        free[thread] = span.free;
     }
     true
 }

@@ -113,7 +113,7 @@ fn a_record_takes_a_put_for_each_version_and_still_gives_the_last(
     Ok(())
 }
 
-/// Whether a get into a place of the caller's gives these words.
+/// Whether a get into the caller's own room gives these words.
 fn gives_into(shared: &RunningRecord, pass: &mut RecordPass, words: &Words) -> bool
     requires table { pass.old.table ≡ shared.now.table }
     requires width { length words.now ≡ shared.now.shape.width }

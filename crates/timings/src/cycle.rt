@@ -8,7 +8,7 @@ use stamp_core::Call;
 /// How many calls there are before they come again.
 pub const CYCLE: u64 = 20;
 
-/// The call at this place of the cycle. Those that take a stamp are given this one.
+/// The call of this index in the cycle. Those that take a stamp are given this one.
 pub fn call_at(at: u64, stamp: u64) -> Call
     requires { at < CYCLE }
     ensures call { slice_get (cycle stamp) at ≡ Some result }

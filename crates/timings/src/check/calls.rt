@@ -19,7 +19,7 @@ fn record_call(at: u64, width: u64, number: u64) -> Option<Call> {
     }
 }
 
-/// The call at this place of the cycle. Those that take a stamp are given this one; words are of this number.
+/// The call of this index in the cycle. Those that take a stamp are given this one; words are of this number.
 pub fn call_at(at: u64, width: u64, stamp: u64, number: u64) -> Option<Call> {
     if at < CYCLE {
         Some(cycle::call_at(at, stamp))

@@ -55,8 +55,8 @@ fn record_answers(width: u64, at: At, call: &Call) -> Option<(At, Reply)> {
 }
 
 /// The call, its reply, and where it leaves lock and record; nothing where it waits.
-fn answered(limits: Limits, width: u64, at: At, place: u64) -> Option<(At, Call, Reply)> {
-    let call = call_at(place, width, at.stamp, at.number.wrapping_add(1))?;
+fn answered(limits: Limits, width: u64, at: At, index: u64) -> Option<(At, Call, Reply)> {
+    let call = call_at(index, width, at.stamp, at.number.wrapping_add(1))?;
     let (next, reply) = if call.is_lock_call() {
         lock_answers(limits, at, &call)?
     } else {

@@ -39,7 +39,7 @@ pub fn gets(shared: &RunningRecord, calls: u64) -> u64
     good
 }
 
-/// Gets the words into the same place.
+/// Gets the words into the same room.
 pub fn gets_into(shared: &RunningRecord, into: &mut [u64], calls: u64) -> u64
     requires enterable { shared.now.enterable ≡ true }
     requires width { length into.old ≡ shared.now.shape.width }

@@ -9,7 +9,7 @@ use Rattle.stamp_machines.specs.World.{stamps_of}
 use Rattle.stamp_machines.specs.StateFields.{stamps_at}
 use Rattle.stamp_machines.specs.CompletionsFields.{IsAfter, calls_until}
 use Rattle.stamp_machines.specs.declared.state.RunState.{RunState}
-use Rattle.stamp_machines.proofs.FinishedCalls.{step-made, after-reserved, kept-after}
+use Rattle.stamp_machines.proofs.FinishedCalls.{step-passed, after-reserved, kept-after}
 use Rattle.stamp_machines.proofs.completions.make_step.Goals as goal
 
 pub step-requires : goal.step-requires
@@ -49,7 +49,7 @@ returns-clause-ok c =
     let taken : take (made + 1) script.steps
     ≡ take made script.steps ++ get_or c.steps.result.now made 0 ∷ [] =
     rw c.steps.ensures.steps (take_more script.steps made 0 c.requires.few) in
-    step-made script old c.step.new.self made (get_or c.steps.result.now made 0) c.step.result
+    step-passed script old c.step.new.self made (get_or c.steps.result.now made 0) c.step.result
     (after-reserved script c.args.state.now old made same c.requires.after) c.requires.few
     (same.entries ∙ c.requires.none) taken c.step.ensures.step.world c.step.ensures.workers
     c.step.ensures.step.stamps c.step.ensures.step.of_kind

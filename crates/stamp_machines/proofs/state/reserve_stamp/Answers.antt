@@ -1,12 +1,12 @@
 use Rattle.std.proofs.Common.{sym, ◌∙◌, refl, arith}
 use Rattle.std.proofs.lemmas.Result.{on_ok_weaker}
-use Rattle.stamp_machines.proofs.WorkerStamps.{stamps_at-kept, stamps_at-index, begun-kept}
+use Rattle.stamp_machines.proofs.WorkerStamps.{stamps_at-kept, stamps_at-index, begun-same}
 use Rattle.stamp_machines.proofs.WorkerStamps.{room-set}
 use Rattle.stamp_machines.proofs.state.reserve_stamp.Goals as goal
 
 pub returns-clause-begun : goal.returns-clause-begun
 returns-clause-begun c =
-    begun-kept c.args.workers.now c.args.thread _ c.index-workers-thread.result c.requires refl
+    begun-same c.args.workers.now c.args.thread _ c.index-workers-thread.result c.requires refl
 
 pub returns-clause-stamps : goal.returns-clause-stamps
 returns-clause-stamps c =

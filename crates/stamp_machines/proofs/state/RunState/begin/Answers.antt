@@ -18,7 +18,7 @@ returns-clause-world g c =
     grind (arith, common_steps) in
     let none : is_some
     (slice_index_or (map begun_in c.args.self.now.workers.items) c.args.thread None) ≡ false =
-    rw (← first) (sym c.is_in_call.ensures ∙ c.if-is_in_call.false) in
+    rw (← first) (sym c.has_call_under_way.ensures ∙ c.if-has_call_under_way.false) in
     let is : current c.args.script.now (world_at g.gone c.args.self.now c.args.position)
     c.args.thread ≡ Some c.in-Some.begun =
     begun-next c.args.script.now (world_at g.gone c.args.self.now c.args.position)

@@ -30,11 +30,11 @@ returns-in-None-clause-step g c =
     (ap (λ (w : Worker). slice_set mid.workers.items c.args.thread w) value
     ∙ set-get_or mid.workers.items c.args.thread worker) refl
 
--- the call that the worker is in
-is_in_call : (g : Over) (c : After-deref_mut g) →
+-- the worker's call under way
+has_call_under_way : (g : Over) (c : After-deref_mut g) →
     (slice_index_or c.begin.new.self.workers.items c.args.thread c.index_mut-worker.result.now).begun
     ≡ Some c.in-Some.begun
-is_in_call g c = rw (← c.index_mut-worker.ensures.value) c.in-Some.is
+has_call_under_way g c = rw (← c.index_mut-worker.ensures.value) c.in-Some.is
 
 -- the words that its access finds
 words_found : (g : Over) (c : After-deref_mut g) → c.deref_mut.result.now ≡ c.begin.new.self.words.items
@@ -46,7 +46,7 @@ access_is_safe : (g : Over) (c : After-deref_mut g) →
     let machine = c.in-Some.begun.machine in
     IsSafeIn machine.shape machine.call machine.stage c.deref_mut.result.now
 access_is_safe g c begun = rw (words_found g c)
-    (worker-safe g.gone _ _ _ _ _ _ _ begun c.requires.1.0 c.requires.0 c.requires.1.1.0 (is_in_call g c))
+    (worker-safe g.gone _ _ _ _ _ _ _ begun c.requires.1.0 c.requires.0 c.requires.1.1.0 (has_call_under_way g c))
 
 pub access-requires-clause-memory : goal.access-requires-clause-memory
 access-requires-clause-memory g c = let at = goal.at.access-requires-clause-memory g c in
@@ -63,7 +63,7 @@ returns-then-not-access-clause-step g c =
     let words = words_found g at.After-deref_mut in
     let many : length c.access.new.words ≡ mid.words.len = grind (arith, common_steps) in
     step-made g.gone _ _ mid _ c.args.thread c.args.position _ _ c.in-Some.begun (Going c.access.new.self)
-    (next_begun g at.After-index_mut-worker) (is_in_call g at.After-deref_mut) record {
+    (next_begun g at.After-index_mut-worker) (has_call_under_way g at.After-deref_mut) record {
       words =
           with_items_is mid.words c.access.new.words many
           ∙ rw words at c.if-not-access.ensures.words;
@@ -81,7 +81,8 @@ returns-else-not-access-clause-step g c =
     let words = words_found g at.After-deref_mut in
     let many : length c.access.new.words ≡ mid.words.len = grind (arith, common_steps) in
     step-made g.gone _ _ mid _ c.args.thread c.args.position _ c.end.new.self c.in-Some.begun
-    (Done c.access.new.reply) (next_begun g at.After-index_mut-worker) (is_in_call g at.After-deref_mut) record {
+    (Done c.access.new.reply)
+    (next_begun g at.After-index_mut-worker) (has_call_under_way g at.After-deref_mut) record {
       words =
           with_items_is mid.words c.access.new.words many
           ∙ rw words at c.if-not-access.ensures.words;

@@ -16,28 +16,28 @@ use Rattle.stamp_machines.specs.LockPhase as phases
 use Rattle.stamp_machines.specs.LockPhase.{PhaseTurn, phase_plan, phase_after}
 
 -- a lock call on the record's lock, and what its end leads to
-pub data GuardCall : Type 0 where
-  Share : GuardCall  -- read lock of a get or a put_if
-  Leave : ℕ → List ℕ → GuardCall  -- unlock after a get has read these words
-  Refuse : ℕ → GuardCall  -- unlock of a put_if that read other words
-  Upgrade : ℕ → GuardCall  -- conversion of a put_if that read its words
-  ReleaseFirst : ℕ → GuardCall  -- unlock of a put_if whose conversion gave nothing
-  Claim : GuardCall  -- write lock of a put or a put_if
+pub data OwnLockCall : Type 0 where
+  Share : OwnLockCall  -- read lock of a get or a put_if
+  Leave : ℕ → List ℕ → OwnLockCall  -- unlock after a get has read these words
+  Refuse : ℕ → OwnLockCall  -- unlock of a put_if that read other words
+  Upgrade : ℕ → OwnLockCall  -- conversion of a put_if that read its words
+  ReleaseFirst : ℕ → OwnLockCall  -- unlock of a put_if whose conversion gave nothing
+  Claim : OwnLockCall  -- write lock of a put or a put_if
 
-pub data Place : Type 0 where
-  LoadingLock : Place
-  Copying : ℕ → List ℕ → Place  -- the lock word first found, the words loaded
-  Locking : GuardCall → Option ℕ → Place  -- a lock phase, with the word that it decided on
-  Reading : ℕ → List ℕ → Place  -- under a read stamp
-  Checking : ℕ → List ℕ → Place  -- under a write stamp, of a put_if
-  Storing : ℕ → ℕ → Place  -- under a write stamp, this many words stored
-  Releasing : ℕ → Reply → Place
+pub data RecordStage : Type 0 where
+  LoadingLock : RecordStage
+  Copying : ℕ → List ℕ → RecordStage  -- the lock word first found, the words loaded
+  Locking : OwnLockCall → Option ℕ → RecordStage  -- a lock phase, with the word that it decided on
+  Reading : ℕ → List ℕ → RecordStage  -- under a read stamp
+  Checking : ℕ → List ℕ → RecordStage  -- under a write stamp, of a put_if
+  Storing : ℕ → ℕ → RecordStage  -- under a write stamp, this many words stored
+  Releasing : ℕ → Reply → RecordStage
 
-pub data PlaceTurn : Type 0 where
-  Going : Place → PlaceTurn
-  Done : Reply → PlaceTurn
+pub data RecordStageTurn : Type 0 where
+  Going : RecordStage → RecordStageTurn
+  Done : Reply → RecordStageTurn
 
-abbrev pub call_for : GuardCall → Call
+abbrev pub call_for : OwnLockCall → Call
 call_for Share = ReadLock
 call_for (Leave s loaded) = UnlockRead s
 call_for (Refuse s) = UnlockRead s
@@ -45,12 +45,12 @@ call_for (Upgrade s) = ToWrite s
 call_for (ReleaseFirst s) = UnlockRead s
 call_for Claim = WriteLock
 
-abbrev pub first_place : Job → Place
-first_place Getting = LoadingLock
-first_place (Putting a) = Locking Claim None
-first_place (PuttingIf a b) = Locking Share None
+abbrev pub first_record_stage : Job → RecordStage
+first_record_stage Getting = LoadingLock
+first_record_stage (Putting a) = Locking Claim None
+first_record_stage (PuttingIf a b) = Locking Share None
 
-abbrev pub plan : Bounds → ℕ → Job → Place → LocalAccess
+abbrev pub plan : Bounds → ℕ → Job → RecordStage → LocalAccess
 plan limits n job LoadingLock = LoadLock
 plan limits n job (Copying first loaded) =
     if nat_lt (length loaded) n then LoadItem (length loaded) else LoadLock
@@ -61,36 +61,36 @@ plan limits n job (Storing s i) = StoreItem i (slice_index (new_words job) i)
 plan limits n job (Releasing s a) = CasLock s (s + (units limits).writer)
 
 -- after the write lock
-abbrev pub claimed : Job → ℕ → PlaceTurn
+abbrev pub claimed : Job → ℕ → RecordStageTurn
 claimed Getting s = Going (Storing s 0)
 claimed (Putting a) s = Going (Storing s 0)
 claimed (PuttingIf a b) s = Going (Checking s [])
 
-abbrev pub guard_call_done : Job → GuardCall → ℕ → PlaceTurn
-guard_call_done job Share s = Going (Reading s [])
-guard_call_done job (Leave t loaded) s = Done (reply.Content loaded)
-guard_call_done job (Refuse t) s = Done reply.No
-guard_call_done job (Upgrade t) s =
+abbrev pub own_call_done : Job → OwnLockCall → ℕ → RecordStageTurn
+own_call_done job Share s = Going (Reading s [])
+own_call_done job (Leave t loaded) s = Done (reply.Content loaded)
+own_call_done job (Refuse t) s = Done reply.No
+own_call_done job (Upgrade t) s =
     if s == 0 then Going (Locking (ReleaseFirst t) None) else Going (Storing s 0)
-guard_call_done job (ReleaseFirst t) s = Going (Locking Claim None)
-guard_call_done job Claim s = claimed job s
+own_call_done job (ReleaseFirst t) s = Going (Locking Claim None)
+own_call_done job Claim s = claimed job s
 
-abbrev pub passed : Job → GuardCall → PhaseTurn → PlaceTurn
+abbrev pub passed : Job → OwnLockCall → PhaseTurn → RecordStageTurn
 passed job e (phases.Going seen) = Going (Locking e seen)
-passed job e (phases.Done r) = guard_call_done job e (stamp_in r)
+passed job e (phases.Done r) = own_call_done job e (stamp_in r)
 
 abbrev pub unchanged : Bounds → ℕ → ℕ → Bool
 unchanged limits first found =
     ((counts_at limits found).writers == 0)
     && ((counts_at limits found).write_count == (counts_at limits first).write_count)
 
-abbrev pub all_read : Job → ℕ → List ℕ → PlaceTurn
+abbrev pub all_read : Job → ℕ → List ℕ → RecordStageTurn
 all_read job s loaded =
     if is_get job then Going (Locking (Leave s loaded) None)
     else (if expects job loaded then Going (Locking (Upgrade s) None)
     else Going (Locking (Refuse s) None))
 
-abbrev pub after : Bounds → ℕ → Job → Place → ℕ → PlaceTurn
+abbrev pub after : Bounds → ℕ → Job → RecordStage → ℕ → RecordStageTurn
 after limits n job LoadingLock found =
     if (counts_at limits found).writers == 0 then Going (Copying found [])
     else Going (Locking Share None)
