@@ -110,83 +110,85 @@ fn add(replies: &mut Vec<Reply>, reply: Reply) -> Result<(), AllocError>
     Ok(())
 }
 
-/// The one node that comes next, where another open call takes effect that changes nothing.
-fn unchanging_beside(asking: &Asking, node: &Node) -> Option<Next>
-    requires { MayGoOnBeside asking.now node.now }
-    ensures leads { IfSome result (λ next. ComesNextBeside asking.now node.now next) }
-    ensures one { IfSome result (λ next. SufficeBeside asking.now node.now (next ∷ [])) }
-    ensures none { IfNone result (NoneIsAtOnceBeside asking.now node.now) }
-{
-    for i in asking.timeline.opens[node.past].as_slice() {
-        if *i != asking.place && is_unchanging_at(&asking.seen, *i) {
-            if let Some(next) = take_of(&asking.seen, node, *i) {
-                return Some(settled(&asking.seen, &asking.timeline, &next));
+impl Asking {
+    /// The one node that comes next, where another open call takes effect that changes nothing.
+    fn at_once(&self, node: &Node) -> Option<Next>
+        requires { MayGoOnBeside self.now node.now }
+        ensures leads { IfSome result (λ next. ComesNextBeside self.now node.now next) }
+        ensures one { IfSome result (λ next. SufficeBeside self.now node.now (next ∷ [])) }
+        ensures none { IfNone result (NoneIsAtOnceBeside self.now node.now) }
+    {
+        for i in self.timeline.opens[node.past].as_slice() {
+            if *i != self.place && is_unchanging_at(&self.seen, *i) {
+                if let Some(next) = take_of(&self.seen, node, *i) {
+                    return Some(settled(&self.seen, &self.timeline, &next));
+                }
             }
         }
+        None
     }
-    None
-}
 
-/// The nodes that come next where another open call takes effect, one for each choice.
-fn choices_beside(asking: &Asking, node: &Node, nexts: &mut Vec<Next>) -> Result<(), AllocError>
-    requires at { MayGoOnBeside asking.now node.now }
-    requires at_once { NoneIsAtOnceBeside asking.now node.now }
-    ensures leads { IfOk result (λ _. AreLed asking.now node.now nexts.new.items) }
-    ensures whole { IfOk result (λ _. (reply : Reply) (h : ObservedHistory) → IsSeenWith asking.now reply h
-        → Took h asking.now.timeline.returns.items node.now asking.now.place None
-        → Suffice h asking.now.timeline.returns.items node.now nexts.new.items) }
-{
-    nexts.clear();
-    let awaited = asking.timeline.returns[node.past];
-    let calls = asking.timeline.opens[node.past].as_slice();
-    for k in 0..calls.len() {
-        let i = calls[calls.len() - 1 - k];
-        if i != asking.place {
-            let asked = Some(asking.place);
-            if let Some(next) = choice_of(&asking.seen, asked, node, calls, awaited, i) {
-                nexts.push(settled(&asking.seen, &asking.timeline, &next))?;
+    /// The nodes that come next where another open call takes effect, one for each choice.
+    fn choices(&self, node: &Node, nexts: &mut Vec<Next>) -> Result<(), AllocError>
+        requires at { MayGoOnBeside self.now node.now }
+        requires at_once { NoneIsAtOnceBeside self.now node.now }
+        ensures leads { IfOk result (λ _. AreLed self.now node.now nexts.new.items) }
+        ensures whole { IfOk result (λ _. (reply : Reply) (h : ObservedHistory) → IsSeenWith self.now reply h
+            → Took h self.now.timeline.returns.items node.now self.now.place None
+            → Suffice h self.now.timeline.returns.items node.now nexts.new.items) }
+    {
+        nexts.clear();
+        let awaited = self.timeline.returns[node.past];
+        let calls = self.timeline.opens[node.past].as_slice();
+        for k in 0..calls.len() {
+            let i = calls[calls.len() - 1 - k];
+            if i != self.place {
+                let asked = Some(self.place);
+                if let Some(next) = choice_of(&self.seen, asked, node, calls, awaited, i) {
+                    nexts.push(settled(&self.seen, &self.timeline, &next))?;
+                }
             }
         }
+        Ok(())
     }
-    Ok(())
-}
 
-/// Adds the reply that the call gets here, where it is open and doesn't wait.
-fn ask(asking: &Asking, node: &Node, replies: &mut Vec<Reply>) -> Result<(), AllocError>
-    requires { MayGoOnBeside asking.now node.now }
-    ensures { IfOk result (λ _. AreAsked asking.now node.now replies.old.items replies.new.items) }
-{
-    let entries = asking.seen.entries();
-    let awaited = &entries[asking.timeline.returns[node.past]];
-    if is_before(awaited, &entries[asking.place]) {
-        return Ok(());
+    /// Adds the reply that the call gets here, where it is open and doesn't wait.
+    fn ask(&self, node: &Node, replies: &mut Vec<Reply>) -> Result<(), AllocError>
+        requires { MayGoOnBeside self.now node.now }
+        ensures { IfOk result (λ _. AreAsked self.now node.now replies.old.items replies.new.items) }
+    {
+        let entries = self.seen.entries();
+        let awaited = &entries[self.timeline.returns[node.past]];
+        if is_before(awaited, &entries[self.place]) {
+            return Ok(());
+        }
+        if let Some(transition) = transition_of(&self.before, node.bits, node.writer, self.place) {
+            add(replies, transition.reply)?;
+        }
+        Ok(())
     }
-    if let Some(transition) = transition_of(&asking.before, node.bits, node.writer, asking.place) {
-        add(replies, transition.reply)?;
-    }
-    Ok(())
-}
 
-/// The nodes that come next without the call, and the reply that it gets here.
-fn go_on(
-    asking: &Asking,
-    node: &Node,
-    nexts: &mut Vec<Next>,
-    replies: &mut Vec<Reply>,
-) -> Result<(), AllocError>
-    requires { MayGoOnBeside asking.now node.now }
-    ensures leads { IfOk result (λ _. AreLed asking.now node.now nexts.new.items) }
-    ensures more { IfOk result (λ _. AreMore replies.old.items replies.new.items) }
-    ensures gets { IfOk result (λ _. GetsMore asking.now replies.old.items replies.new.items) }
-    ensures whole { IfOk result (λ _. SufficeUnless asking.now node.now nexts.new.items replies.new.items) }
-{
-    nexts.clear();
-    if let Some(next) = unchanging_beside(asking, node) {
-        nexts.push(next)?;
-        return Ok(());
+    /// The nodes that come next without the call, and the reply that it gets here.
+    fn go_on(
+        &self,
+        node: &Node,
+        nexts: &mut Vec<Next>,
+        replies: &mut Vec<Reply>,
+    ) -> Result<(), AllocError>
+        requires { MayGoOnBeside self.now node.now }
+        ensures leads { IfOk result (λ _. AreLed self.now node.now nexts.new.items) }
+        ensures more { IfOk result (λ _. AreMore replies.old.items replies.new.items) }
+        ensures gets { IfOk result (λ _. GetsMore self.now replies.old.items replies.new.items) }
+        ensures whole { IfOk result (λ _. SufficeUnless self.now node.now nexts.new.items replies.new.items) }
+    {
+        nexts.clear();
+        if let Some(next) = self.at_once(node) {
+            nexts.push(next)?;
+            return Ok(());
+        }
+        self.ask(node, replies)?;
+        self.choices(node, nexts)
     }
-    ask(asking, node, replies)?;
-    choices_beside(asking, node, nexts)
 }
 
 /// Adds the nodes that were not seen, which come from this place, to those seen, and their places to
@@ -238,7 +240,7 @@ pub(crate) fn replies_of(
             return Ok(Some(replies));
         };
         let node = store.nodes[place];
-        go_on(asking, &node, &mut nexts, &mut replies)?;
+        asking.go_on(&node, &mut nexts, &mut replies)?;
         add_unseen(&mut store, &mut waiting, place, nexts.as_slice())?;
     }
     if waiting.is_empty() {
