@@ -16,8 +16,9 @@ EndsAt e n = (r : Returned) × ((e.returned ≡ Some r) × (r.last ≡ n))
 abbrev pub BeginsAt : Observation → ℕ → Type 0
 BeginsAt e n = e.first ≡ n
 
-abbrev pub places_of : List (ℕ × ℕ) → List ℕ
-places_of keys = map (λ (p : ℕ × ℕ). p.1) keys
+-- the indices of keys, each of which is a number and an index
+abbrev pub key_indices : {K : Type 0} → List (K × ℕ) → List ℕ
+key_indices {K} keys = map (λ (p : K × ℕ). p.1) keys
 
 -- a number beside the place of each call that has one, of the first k calls
 pub record AreKeys (Has : Observation → ℕ → Type 0) (entries : List Observation) (k : ℕ)
@@ -25,7 +26,7 @@ pub record AreKeys (Has : Observation → ℕ → Type 0) (entries : List Observ
   pub each : (p : ℕ × ℕ) → Contains keys p → (e : Observation) × ((slice_get entries p.1 ≡ Some e) × Has e p.0)
   pub whole : (i : ℕ) (e : Observation) (n : ℕ) → i < k → slice_get entries i ≡ Some e → Has e n → Contains keys (n, i)
   pub below : (p : ℕ × ℕ) → Contains keys p → p.1 < k
-  pub once : AllPairs (λ (i j : ℕ). i ≢ j) (places_of keys)
+  pub once : AllPairs (λ (i j : ℕ). i ≢ j) (key_indices keys)
 
 -- the same, in the order of the numbers
 pub record AreRising (keys sorted : List (ℕ × ℕ)) : Type 0 where
@@ -52,7 +53,7 @@ pub record AreTimelineKeys (h : ObservedHistory) (ends begins : List (ℕ × ℕ
   pub begin_keys : List (ℕ × ℕ)
   pub begins_are : AreKeys BeginsAt h.entries (length h.entries) begin_keys
   pub begins_rise : AreRising begin_keys begins
-  pub ranked : AreRanks h.entries (places_of ends) ranks
+  pub ranked : AreRanks h.entries (key_indices ends) ranks
 
 -- for each return, the calls that are open before it
 pub record AreOpens (h : ObservedHistory) (returns : List ℕ) (opens : List (Vec ℕ Global)) : Type 0 where
