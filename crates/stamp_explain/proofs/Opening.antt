@@ -22,18 +22,18 @@ use Rattle.stamp_explain.specs.TimelineKeys.{IsBegun, BeginsMore, EndsAt, Begins
 use Rattle.stamp_explain.proofs.Lists.{none_in_empty, contains_cases, contains_first, contains_rest}
 use Rattle.stamp_explain.proofs.Ending.{pair_cmp, sorted_rise}
 use Rattle.stamp_explain.proofs.AddingUnseen.{read_last}
-use Rattle.stamp_explain.proofs.Keyed.{placed_once, rising_has, rising_from, placed_pairs, key_of_place, place_of_key}
+use Rattle.stamp_explain.proofs.Keyed.{indices_once, rising_has, rising_from, index_pairs, key_of_index, index_of_key}
 
 -- the returned calls in the order of their returns
 pub returns_in_order : (h : ObservedHistory) (keys sorted : List (ℕ × ℕ)) →
     AreKeys EndsAt h.entries (length h.entries) keys → AreRising keys sorted →
     AreReturns h.entries (key_indices sorted)
 returns_in_order h keys sorted are rises = record {
-  each = λ k d lt. return_at (get_or (key_indices sorted) k d) (key_of_place sorted (get_or (key_indices sorted) k d)
+  each = λ k d lt. return_at (get_or (key_indices sorted) k d) (key_of_index sorted (get_or (key_indices sorted) k d)
       (Contains-get_or (key_indices sorted) k d lt));
-  whole = λ i e at has. place_of_key sorted (has.0.last, i) (rising_has keys sorted (has.0.last, i) rises
+  whole = λ i e at has. index_of_key sorted (has.0.last, i) (rising_has keys sorted (has.0.last, i) rises
       (are.whole i e has.0.last (slice_get_within h.entries i e at) at (has.0, (has.1, refl))));
-  in_order = placed_pairs (AreInOrder h.entries) sorted (λ p q has_p has_q le a b at_a at_b. later p q le a b
+  in_order = index_pairs (AreInOrder h.entries) sorted (λ p q has_p has_q le a b at_a at_b. later p q le a b
       (ends p has_p) (ends q has_q) at_a at_b) rises.rising;
 }
   where
@@ -69,12 +69,12 @@ returns_in_order h keys sorted are rises = record {
         (ap (λ (o : Observation). o.returned) (same_Some b f (sym at_b ∙ at_f)) ∙ has_y)
         (omega (arith, le, last_x, last_y))
 
--- places are those of calls
-pub places_inside : (Has : Observation → ℕ → Type 0) (entries : List Observation) (keys sorted : List (ℕ × ℕ)) →
+-- the indices are those of calls
+pub indices_inside : (Has : Observation → ℕ → Type 0) (entries : List Observation) (keys sorted : List (ℕ × ℕ)) →
     AreKeys Has entries (length entries) keys → AreRising keys sorted →
     All (λ (i : ℕ). i < length entries) (key_indices sorted)
-places_inside Has entries keys sorted are rises = λ k d lt. inside (get_or (key_indices sorted) k d)
-    (key_of_place sorted (get_or (key_indices sorted) k d) (Contains-get_or (key_indices sorted) k d lt))
+indices_inside Has entries keys sorted are rises = λ k d lt. inside (get_or (key_indices sorted) k d)
+    (key_of_index sorted (get_or (key_indices sorted) k d) (Contains-get_or (key_indices sorted) k d lt))
   where
     inside : (i : ℕ) → (n : ℕ) × Contains sorted (n, i) → i < length entries
     inside i (n, has) = are.below (n, i) (rising_from keys sorted (n, i) rises has)
@@ -101,16 +101,16 @@ last_is h ends begins ranks k d a is lt at =
     (found.1.1.0, (ap (λ (o : Observation). o.returned) (sym same) ∙ found.1.1.1.0, found.1.1.1.1))
 
 -- the returns, read by their keys
-pub place_read : (ends : List (ℕ × ℕ)) (k : ℕ) (d : ℕ × ℕ) (c : ℕ) → k < length ends →
+pub key_read : (ends : List (ℕ × ℕ)) (k : ℕ) (d : ℕ × ℕ) (c : ℕ) → k < length ends →
     get_or (key_indices ends) k c ≡ (get_or ends k d).1
-place_read [] k d c lt = absurd (omega arith)
-place_read (p ∷ ends) zero d c lt = refl
-place_read (p ∷ ends) (suc k) d c lt = place_read ends k d c (omega arith)
+key_read [] k d c lt = absurd (omega arith)
+key_read (p ∷ ends) zero d c lt = refl
+key_read (p ∷ ends) (suc k) d c lt = key_read ends k d c (omega arith)
 
-pub places_many : (ends : List (ℕ × ℕ)) → length (key_indices ends) ≡ length ends
-places_many ends = length-map ends (λ (p : ℕ × ℕ). p.1)
+pub indices_many : (ends : List (ℕ × ℕ)) → length (key_indices ends) ≡ length ends
+indices_many ends = length-map ends (λ (p : ℕ × ℕ). p.1)
 
--- the calls from one place to another have begun by this position
+-- of those in the order of their beginnings, the calls from one index to another have begun by this position
 pub record BeginsTo (begins : List (ℕ × ℕ)) (ranks : List ℕ) (last from to : ℕ) (old new : List (ℕ × ℕ)) : Type 0
   where
     pub further : from ≤ to
@@ -242,10 +242,10 @@ opens_at h ends begins ranks k from to c old more sorted is lt kept begins_more 
         (omega (arith, le));
   };
   calls = record {
-    each = λ i has. calls i (key_of_place sorted i has);
+    each = λ i has. calls i (key_of_index sorted i has);
     whole = λ i it. whole i it (begin_of i it);
-    in_order = placed_pairs (λ (i j : ℕ). ¬ StandsBefore (key_indices ends) j i) sorted
-        (λ p q has_p has_q le before. no_sooner p q has_p has_q le before.place before.first before.later)
+    in_order = index_pairs (λ (i j : ℕ). ¬ StandsBefore (key_indices ends) j i) sorted
+        (λ p q has_p has_q le before. no_sooner p q has_p has_q le before.index before.first before.later)
         (sorted_rise sorted orders);
   };
 }
@@ -317,7 +317,7 @@ opens_at h ends begins ranks k from to c old more sorted is lt kept begins_more 
         which (inr after) = begins_more.whole j d after less
 
     many : length (key_indices ends) ≡ length ends
-    many = places_many ends
+    many = indices_many ends
 
     calls : (i : ℕ) → (n : ℕ) × Contains sorted (n, i) → IsOpenAt h (key_indices ends) k i
     calls i (n, has) =
@@ -333,7 +333,7 @@ opens_at h ends begins ranks k from to c old more sorted is lt kept begins_more 
             found.1,
           ));
           begun = λ a at before. not_before a it.entry (last_is h ends begins ranks k c a is lt
-              (ap (λ (x : ℕ). slice_get h.entries x) (sym (place_read ends k c 0 lt)) ∙ at))
+              (ap (λ (x : ℕ). slice_get h.entries x) (sym (key_read ends k c 0 lt)) ∙ at))
               (it.begun k c (omega arith) lt) before;
         }
       where
@@ -413,7 +413,7 @@ opens_at h ends begins ranks k from to c old more sorted is lt kept begins_more 
         which (inl less) =
             let le : k ≤ rank_of j key = subst (λ (x : ℕ). k ≤ get_or ranks x 0) (sym here) rank in
             subst (λ (x : ℕ). Contains (key_indices sorted) x) here
-            (place_of_key sorted (rank_of j key, (get_or begins j key).1)
+            (index_of_key sorted (rank_of j key, (get_or begins j key).1)
             (to_sorted (rank_of j key, (get_or begins j key).1) (begun_in j key less le) le))
         which (inr after) =
             let a : (e : Observation) × ((slice_get h.entries (get_or ends k c).1 ≡ Some e) ×
@@ -425,7 +425,7 @@ opens_at h ends begins ranks k from to c old more sorted is lt kept begins_more 
               is.begins_rise.rising to j key after within,
               ap (λ (p : ℕ × ℕ). p.0) read,
             ) in
-            absurd (it.begun a.0 (ap (λ (x : ℕ). slice_get h.entries x) (place_read ends k c 0 lt) ∙ a.1.0)
+            absurd (it.begun a.0 (ap (λ (x : ℕ). slice_get h.entries x) (key_read ends k c 0 lt) ∙ a.1.0)
             (subst (λ (o : Option Returned). MatchOption o ⊥ (λ (x : Returned). x.last < it.entry.first))
             (sym a.1.1.1.0) (omega (arith, less, a.1.1.1.1))))
 
@@ -486,8 +486,8 @@ pub timeline_is_made : (h : ObservedHistory) (timeline : Timeline) (keys ends : 
 timeline_is_made h timeline keys ends es same are rises returns many opens = record {
   are = subst (AreReturns h.entries) (sym returns) (returns_in_order h keys ends
       (subst (λ (xs : List Observation). AreKeys EndsAt xs (length xs) keys) same are) rises);
-  once = subst (AllPairs (λ (i j : ℕ). i ≢ j)) (sym returns) (placed_once keys ends rises are.once);
-  many = many ∙ sym (places_many ends) ∙ ap (λ (xs : List ℕ). length xs) (sym returns);
+  once = subst (AllPairs (λ (i j : ℕ). i ≢ j)) (sym returns) (indices_once keys ends rises are.once);
+  many = many ∙ sym (indices_many ends) ∙ ap (λ (xs : List ℕ). length xs) (sym returns);
   opens = λ k calls at. subst (λ (xs : List ℕ). AreOpen h xs k calls.items) (sym returns) (opens.each k calls at);
 }
 

@@ -16,7 +16,7 @@ pub(crate) struct Timeline {
     pub(crate) opens: Vec<Vec<usize>>,
 }
 
-/// Where each returned call returned, and its place.
+/// Where each returned call returned, and its index.
 fn returns_of(alloc: Global, entries: &[Observation]) -> Result<Vec<(u64, usize)>, AllocError>
     ensures { IfOk result (λ keys. AreKeys EndsAt entries.now (length entries.now) keys.items) }
 {
@@ -29,7 +29,7 @@ fn returns_of(alloc: Global, entries: &[Observation]) -> Result<Vec<(u64, usize)
     Ok(keys)
 }
 
-/// Where each returned call returned, and its place, in the order of the positions; of two calls that return
+/// Where each returned call returned, and its index, in the order of the positions; of two calls that return
 /// at one, that which is listed first comes first.
 pub(crate) fn ends_of(
     alloc: Global,
@@ -42,7 +42,7 @@ pub(crate) fn ends_of(
     Ok(ends)
 }
 
-/// Where each call began, and its place.
+/// Where each call began, and its index.
 fn begins_of(alloc: Global, entries: &[Observation]) -> Result<Vec<(u64, usize)>, AllocError>
     ensures { IfOk result (λ keys. AreKeys BeginsAt entries.now (length entries.now) keys.items) }
 {
@@ -60,7 +60,7 @@ fn key_indices<K: Copy>(alloc: Global, keys: &[(K, usize)]) -> Result<Vec<usize>
     keys.iter().map(|key| key.1).collect(alloc)
 }
 
-/// Positions with their places, in the order of the positions.
+/// Positions, each with the index of its call, in the order of the positions.
 fn in_order(keys: Vec<(u64, usize)>) -> Result<Vec<(u64, usize)>, AllocError>
     ensures { IfOk result (λ sorted. AreRising keys.items sorted.items) }
 {
@@ -69,7 +69,7 @@ fn in_order(keys: Vec<(u64, usize)>) -> Result<Vec<(u64, usize)>, AllocError>
     Ok(sorted)
 }
 
-/// The place of each call among the returns; one that is under way has a place behind all.
+/// The rank of each call: its index among the returns; one that is under way has one behind all.
 fn ranks_of(alloc: Global, calls: usize, returns: &[usize]) -> Result<Vec<usize>, AllocError>
     requires calls { All (λ i. i < calls) returns.now }
     requires once { AllPairs (λ i j. i ≢ j) returns.now }
@@ -96,10 +96,10 @@ fn begin_more(
     requires ranks { All (λ (p : ℕ × ℕ). p.1 < length ranks.now) begins.now }
     ensures { IfOk result (λ to. BeginsMore begins.now ranks.now last from to kept.old.items kept.new.items) }
 {
-    for place in from..begins.len() {
-        let (first, call) = begins[place];
+    for index in from..begins.len() {
+        let (first, call) = begins[index];
         if last < first {
-            return Ok(place);
+            return Ok(index);
         }
         kept.push((ranks[call], call))?;
     }

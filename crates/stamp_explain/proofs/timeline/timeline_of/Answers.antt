@@ -2,8 +2,8 @@ use Rattle.std.proofs.Common.{◌≡◌, ◌≢◌, ◌<◌, ℕ, List, length, 
 use Rattle.std.specs.List.{All, AllPairs}
 use Rattle.stamp_explain.specs.TimelineKeys.{AreKeys, AreRanked, AreTimelineKeys, AreOpens, EndsAt}
 use Rattle.stamp_explain.specs.TimelineKeys.{key_indices}
-use Rattle.stamp_explain.proofs.Keyed.{placed_once}
-use Rattle.stamp_explain.proofs.Opening.{places_inside, timeline_is_made, all_keys_are}
+use Rattle.stamp_explain.proofs.Keyed.{indices_once}
+use Rattle.stamp_explain.proofs.Opening.{indices_inside, timeline_is_made, all_keys_are}
 use Rattle.stamp_explain.proofs.timeline.timeline_of.Goals as goal
 
 pub ranks_of-requires-clause-calls : goal.ranks_of-requires-clause-calls
@@ -11,7 +11,7 @@ ranks_of-requires-clause-calls c =
     let same : c.as_slice-2.result.now ≡ key_indices c.in_ok-ends.ends.items = c.as_slice-2.ensures.value ∙
     c.in_ok-returns.ensures ∙ ap (λ (ks : List (ℕ × ℕ)). key_indices ks) c.as_slice.ensures.value in
     subst (All (λ (i : ℕ). i < length c.entries-entries.result.now)) (sym same)
-    (places_inside EndsAt c.entries-entries.result.now c.in_ok-returns_of.field-0.items c.in_ok-ends.ends.items
+    (indices_inside EndsAt c.entries-entries.result.now c.in_ok-returns_of.field-0.items c.in_ok-ends.ends.items
     c.in_ok-returns_of.ensures c.in_ok-ends.ensures)
 
 pub ranks_of-requires-clause-once : goal.ranks_of-requires-clause-once
@@ -21,7 +21,7 @@ ranks_of-requires-clause-once c =
     let es = c.entries-entries.result.now in
     let keys : AreKeys EndsAt es (length es) c.in_ok-returns_of.field-0.items = c.in_ok-returns_of.ensures in
     subst (AllPairs (λ (i j : ℕ). i ≢ j)) (sym same)
-    (placed_once c.in_ok-returns_of.field-0.items c.in_ok-ends.ends.items c.in_ok-ends.ensures keys.once)
+    (indices_once c.in_ok-returns_of.field-0.items c.in_ok-ends.ends.items c.in_ok-ends.ensures keys.once)
 
 pub opens_of-requires : goal.opens_of-requires
 opens_of-requires c =

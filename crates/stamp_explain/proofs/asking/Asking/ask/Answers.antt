@@ -11,7 +11,7 @@ pub returns-then-is_before : goal.returns-then-is_before
 returns-then-is_before c =
     asked_not_begun c.args.self.now c.args.node.now
     (get_or c.entries-entries.result.now c.index.result.now c.index-entries-index.result)
-    (get_or c.entries-entries.result.now c.args.self.now.place c.index-entries-self.result)
+    (get_or c.entries-entries.result.now c.args.self.now.index c.index-entries-self.result)
     c.args.replies.now.items c.requires.asks
     (awaits_of c.args.self.now.seen c.args.self.now.timeline c.args.node.now c.index.result.now
     c.entries-entries.result.now c.index-entries-index.result c.requires.asks.observed c.requires.asks.timeline
@@ -20,7 +20,7 @@ returns-then-is_before c =
     (asked_read c.args.self.now c.entries-entries.result.now c.index-entries-self.result c.requires.asks
     c.entries-entries.ensures.entries)
     (subst (λ (o : Observation). IsBefore o
-    (get_or c.entries-entries.result.now c.args.self.now.place c.index-entries-self.result))
+    (get_or c.entries-entries.result.now c.args.self.now.index c.index-entries-self.result))
     c.index-entries-index.is (subst (λ (o : Observation). IsBefore c.index-entries-index.result o)
     c.index-entries-self.is (c.is_before.ensures.0 c.if-is_before.true)))
 
@@ -37,7 +37,7 @@ pub returns-in_ok-add : goal.returns-in_ok-add
 returns-in_ok-add c =
     let a : Observation = get_or c.entries-entries.result.now c.index.result.now c.index-entries-index.result in
     let asked : Observation =
-    get_or c.entries-entries.result.now c.args.self.now.place c.index-entries-self.result in
+    get_or c.entries-entries.result.now c.args.self.now.index c.index-entries-self.result in
     asked_replies c.args.self.now c.args.node.now c.in-Some.transition a c.args.replies.now.items
     c.add.new.replies.items c.requires.asks c.requires.reached
     (awaits_of c.args.self.now.seen c.args.self.now.timeline c.args.node.now c.index.result.now

@@ -14,7 +14,7 @@ use Rattle.stamp_explain.proofs.asking.Asking.at_once.Goals.{else-i-self-via-the
 use Rattle.stamp_explain.proofs.asking.Asking.at_once.Goals.{else-i-self-via-else-i-self}
 
 -- the call that is found isn't the one that is asked
-other : (c : After-settled) → get_or c.as_slice-i-items.result.now c.loop-i.i-index 0 ≢ c.args.self.now.place
+other : (c : After-settled) → get_or c.as_slice-i-items.result.now c.loop-i.i-index 0 ≢ c.args.self.now.index
 other c same = omega (arith, same, c.if-i-self.true)
 
 -- it is open where a return is awaited
@@ -66,7 +66,7 @@ pub returns-clause-none : goal.returns-clause-none
 returns-clause-none c =
     let asking = c.args.self.now in
     let node = c.args.node.now in
-    none_at_once asking.seen (Some asking.place) asking.timeline node c.as_slice-i-items.result.now c.loop-i.i-index
+    none_at_once asking.seen (Some asking.index) asking.timeline node c.as_slice-i-items.result.now c.loop-i.i-index
     (opens_read asking.seen asking.timeline node.past c.index.result.now c.as_slice-i-items.result.now
     c.requires.asks.timeline c.requires.past c.index.ensures c.as_slice-i-items.ensures.value)
     (omega (arith, c.loop-i-test.false)) c.loop-i.invariant
@@ -80,17 +80,17 @@ loop-i-preserved c =
     let k = c.loop-i.i-index in
     elim c.if-i-self.branch [
       | then-i-self+then-is_unchanging_at+in_default w ↦
-          none_by_took asking.seen (Some asking.place) returns node calls k c.loop-i.invariant
+          none_by_took asking.seen (Some asking.index) returns node calls k c.loop-i.invariant
           (w.in_default.ensures returns c.requires.asks.timeline.are
           (open_read asking.seen asking.timeline node.past c.index.result.now calls k c.requires.asks.timeline
           c.requires.past c.index.ensures c.as_slice-i-items.ensures.value c.loop-i-test.true))
       | else-i-self w ↦
           elim w.else-i-self.branch [
             | else-i-self-via-then-i-self+else-is_unchanging_at v ↦
-                none_by_change asking.seen (Some asking.place) returns node calls k c.loop-i.invariant
+                none_by_change asking.seen (Some asking.index) returns node calls k c.loop-i.invariant
                 (sym v.is_unchanging_at.ensures ∙ v.if-is_unchanging_at.false)
             | else-i-self-via-else-i-self v ↦
-                none_by_asked asking.seen asking.place returns node calls k c.loop-i.invariant
+                none_by_asked asking.seen asking.index returns node calls k c.loop-i.invariant
                 (omega (arith, v.if-i-self.false))
           ]
     ]

@@ -71,7 +71,7 @@ loop-k-preserved c =
       | else-i-self w ↦
           let same : c.if-i-self.nexts.items ≡ nexts = ap (λ (v : Vec Next Global). v.items) w.nexts-is in
           subst (λ (ns : List Next). TriesBeside asking node calls (k + 1) ns) (sym same)
-          (let here : get_or calls (length calls - 1 - k) 0 ≡ asking.place = omega (arith, w.if-i-self.false) in
+          (let here : get_or calls (length calls - 1 - k) 0 ≡ asking.index = omega (arith, w.if-i-self.false) in
           beside_asked asking node calls k nexts c.loop-k.invariant c.loop-k-test.true here)
     ]
 
@@ -80,7 +80,7 @@ returns-clause-whole c = λ reply h is none.
     suffice_beside c.args.self.now c.args.node.now c.as_slice-calls.result.now c.loop-k.k c.loop-k.nexts.items reply
     h c.requires.at.asks c.requires.at.past c.requires.at.reached.settled
     (opens_read h c.args.self.now.timeline c.args.node.now.past c.index.result.now c.as_slice-calls.result.now
-    (timeline_alike c.args.self.now.seen h c.args.self.now.place c.args.self.now.timeline
+    (timeline_alike c.args.self.now.seen h c.args.self.now.index c.args.self.now.timeline
     (alike_of c.args.self.now reply h is) c.requires.at.asks.timeline) c.requires.at.past c.index.ensures
     c.as_slice-calls.ensures.value)
     (omega (arith, c.loop-k-test.false)) is (c.loop-k.invariant.tries reply h is none)
