@@ -13,10 +13,10 @@ use Rattle.stamp_explain.specs.declared.node.Next.{Next}
 use Rattle.stamp_explain.specs.declared.node.Origin.{Origin}
 use Rattle.stamp_explain.specs.declared.store.Store.{Store}
 use Rattle.stamp_explain.specs.Store.{Keeps, IsStored}
-use Rattle.stamp_explain.specs.Expand.{AddsUnseen, IsPlaced, nodes_of, origins_of}
+use Rattle.stamp_explain.specs.Expand.{AddsUnseen, IsIndexed, nodes_of, origins_of}
 use Rattle.stamp_explain.proofs.Lists.{none_in_empty}
 
--- what stands at a place stays there when more is added, and what is added stands behind
+-- what stands at an index stays there when more is added, and what is added stands behind
 pub read_left : {X : Type 0} (xs ys : List X) (k : ℕ) (x : X) → slice_get xs k ≡ Some x →
     slice_get (xs ++ ys) k ≡ Some x
 read_left {X} xs ys k x at =
@@ -56,20 +56,20 @@ new_is_added s0 s1 s2 from w0 w1 w2 nexts i d lt adds stored pushed = record {
       append_assoc s0.origins.items (origins_of from adds.added) (origin ∷ []) ∙
       ap (λ (xs : List Origin). s0.origins.items ++ xs)
       (sym (map-append (λ (w : Next). record { from = from; took = w.took }) adds.added (next ∷ [])));
-  places = adds.places ++ length s1.nodes.items ∷ [];
+  indices = adds.indices ++ length s1.nodes.items ∷ [];
   to_do = pushed ∙ ap (λ (xs : List ℕ). xs ++ length s1.nodes.items ∷ []) adds.to_do ∙
-      append_assoc w0 adds.places (length s1.nodes.items ∷ []);
+      append_assoc w0 adds.indices (length s1.nodes.items ∷ []);
   many = omega (
     arith,
     adds.many,
-    length-append adds.places (length s1.nodes.items ∷ []),
+    length-append adds.indices (length s1.nodes.items ∷ []),
     length-append adds.added (next ∷ []),
   );
-  placed = λ v has. placed v (Contains-push_cases (nodes_of adds.added) next.node v
+  indexed = λ v has. indexed v (Contains-push_cases (nodes_of adds.added) next.node v
       (subst (λ (xs : List Node). Contains xs v) nodes_push has));
-  inside = All-push (λ (p : ℕ). p < length s2.nodes.items) adds.places (length s1.nodes.items)
+  inside = All-push (λ (p : ℕ). p < length s2.nodes.items) adds.indices (length s1.nodes.items)
       (All-weaker (λ (p : ℕ). p < length s1.nodes.items) (λ (p : ℕ). p < length s2.nodes.items)
-      (λ p less. omega (arith, less, longer)) adds.places adds.inside) (omega (arith, longer));
+      (λ p less. omega (arith, less, longer)) adds.indices adds.inside) (omega (arith, longer));
   each = λ w has. each w (Contains-push_cases (take i nexts) next w
       (subst (λ (ns : List Next). Contains ns w) (take_more_is nexts i d lt) has));
   among = subst (λ (ns : List Next). All (Contains ns) (adds.added ++ next ∷ [])) (sym (take_more_is nexts i d lt))
@@ -95,19 +95,19 @@ new_is_added s0 s1 s2 from w0 w1 w2 nexts i d lt adds stored pushed = record {
       length-append s1.nodes.items (next.node ∷ []),
     )
 
-    placed : (v : Node) → Contains (nodes_of adds.added) v ⊎ (next.node ≡ v) →
-        IsPlaced s2.nodes.items (adds.places ++ length s1.nodes.items ∷ []) v
-    placed v (inl has) =
-        let at : IsPlaced s1.nodes.items adds.places v = adds.placed v has in
+    indexed : (v : Node) → Contains (nodes_of adds.added) v ⊎ (next.node ≡ v) →
+        IsIndexed s2.nodes.items (adds.indices ++ length s1.nodes.items ∷ []) v
+    indexed v (inl has) =
+        let at : IsIndexed s1.nodes.items adds.indices v = adds.indexed v has in
         record {
-          place = at.place;
-          among = Contains-append_left adds.places (length s1.nodes.items ∷ []) at.place at.among;
-          is_node = ap (λ (xs : List Node). slice_get xs at.place) stored.nodes ∙
-              read_left s1.nodes.items (next.node ∷ []) at.place v at.is_node;
+          index = at.index;
+          among = Contains-append_left adds.indices (length s1.nodes.items ∷ []) at.index at.among;
+          is_node = ap (λ (xs : List Node). slice_get xs at.index) stored.nodes ∙
+              read_left s1.nodes.items (next.node ∷ []) at.index v at.is_node;
         }
-    placed v (inr same) = record {
-      place = length s1.nodes.items;
-      among = Contains-push adds.places (length s1.nodes.items);
+    indexed v (inr same) = record {
+      index = length s1.nodes.items;
+      among = Contains-push adds.indices (length s1.nodes.items);
       is_node = ap (λ (xs : List Node). slice_get xs (length s1.nodes.items)) stored.nodes ∙
           read_last s1.nodes.items next.node ∙ ap (λ (x : Node). Some x) same;
     }
@@ -128,12 +128,12 @@ seen_is_left_out s0 s1 s2 from w0 w1 w2 nexts i d lt adds stored same = record {
   added = adds.added;
   nodes = stored.nodes.0 ∙ adds.nodes;
   origins = stored.origins ∙ adds.origins;
-  places = adds.places;
+  indices = adds.indices;
   to_do = same ∙ adds.to_do;
   many = adds.many;
-  placed = λ v has. subst (λ (xs : List Node). IsPlaced xs adds.places v) (sym stored.nodes.0)
-      (adds.placed v has);
-  inside = subst (λ (xs : List Node). All (λ (p : ℕ). p < length xs) adds.places) (sym stored.nodes.0)
+  indexed = λ v has. subst (λ (xs : List Node). IsIndexed xs adds.indices v) (sym stored.nodes.0)
+      (adds.indexed v has);
+  inside = subst (λ (xs : List Node). All (λ (p : ℕ). p < length xs) adds.indices) (sym stored.nodes.0)
       adds.inside;
   each = λ w has. each w (Contains-push_cases (take i nexts) next w
       (subst (λ (ns : List Next). Contains ns w) (take_more_is nexts i d lt) has));
@@ -157,10 +157,10 @@ none_is_added s from w nexts keeps = record {
   added = [];
   nodes = sym (append-nil s.nodes.items);
   origins = sym (append-nil s.origins.items);
-  places = [];
+  indices = [];
   to_do = sym (append-nil w);
   many = refl;
-  placed = λ v has. absurd (none_in_empty v has);
+  indexed = λ v has. absurd (none_in_empty v has);
   inside = All-nil (λ (p : ℕ). p < length s.nodes.items);
   each = λ w has. absurd (none_in_empty w has);
   among = All-nil (Contains (take 0 nexts));

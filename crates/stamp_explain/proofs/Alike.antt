@@ -21,7 +21,7 @@ use Rattle.stamp_explain.proofs.Lists.{pairs_tail, pairs_cons}
 use Rattle.stamp_explain.proofs.Completing.{same_entry}
 use Rattle.stamp_explain.proofs.Searching.{CompletesIn}
 
--- the second list is the first with the one effect in the place of the other
+-- the second list is the first with the one effect instead of the other
 data Replaces (x y : Effect) : List Effect → List Effect → Type 0 where
   here : {ys : List Effect} → Replaces x y (y ∷ ys) (x ∷ ys)
   later : {w : Effect} {ys zs : List Effect} → Replaces x y ys zs → Replaces x y (w ∷ ys) (w ∷ zs)
@@ -87,7 +87,7 @@ replaced_history x y (here {ys}) call reply =
 replaced_history x y (later {w} {ys} {zs} r) call reply =
     ap (λ (h : History). (w.entry.call, w.reply) ∷ h) (replaced_history x y r call reply)
 
--- in the place of an effect of this index
+-- it stands instead of an effect of this index
 record Replaced (x : Effect) (k : ℕ) (ys : List Effect) : Type 0 where
   old : Effect
   others : List Effect
@@ -126,7 +126,7 @@ may_reply_alike e f reply alike may =
     subst (λ (o : Option Returned). MatchOption o (Unit {0}) (λ (r : Returned). r.reply ≡ reply))
     (sym alike.calls.at_first) (alike.calls.reply ∙ one_reply_of f alike.calls.second reply alike.calls.at_second may)
 
--- with the other in its place an order completes what that leaves
+-- with the other instead of it an order completes what that leaves
 replaced_completes : (limits : Bounds) (entries : List Observation) (a : Observation) (to_come : List ℕ)
     (s t : LockState) (taken : List ℕ) (x : Effect) (k : ℕ) (e : Observation) (xs : List Effect) →
     IsFirstReturn entries taken a → MayTake (StateTransition limits) entries a s taken x t →

@@ -12,14 +12,14 @@ use Rattle.stamp_explain.specs.declared.timeline.Timeline.{Timeline}
 use Rattle.stamp_explain.specs.declared.asking.Asking.{Asking}
 use Rattle.stamp_explain.specs.Observed.{ObservedHistory, IsObserved, IsInterval, IsReturnAt}
 use Rattle.stamp_explain.specs.Explained.{IsExplained}
-use Rattle.stamp_explain.specs.Cut.{returned_by, cut_entry, cut_entries, begun_by, seen_at, place_then}
+use Rattle.stamp_explain.specs.Cut.{returned_by, cut_entry, cut_entries, begun_by, seen_at, index_then}
 use Rattle.stamp_explain.specs.Possible.{ArePossible, AreAllPossible, GetsBeside, IsUndecidedAtGotten}
 use Rattle.stamp_explain.specs.Possible.{IsUndecidedAtReply}
 use Rattle.stamp_explain.specs.Possible.{IsUndecidedAtSome, returned_with, with_reply, without_return}
 use Rattle.stamp_explain.specs.Timeline.{IsTimeline}
 use Rattle.stamp_explain.specs.Asking.{AreReplies, Gets, IsAskingAt}
 use Rattle.stamp_explain.proofs.Replying.{possible_is_seen}
-use Rattle.stamp_explain.proofs.Expanding.{at_place}
+use Rattle.stamp_explain.proofs.Expanding.{at_index}
 use Rattle.stamp_explain.proofs.Seeing.{seen_explains_as_much}
 use Rattle.stamp_explain.proofs.Beside.{is_begun}
 
@@ -46,40 +46,40 @@ abbrev after_first : ℕ → Bool → Observation → List Observation → List 
 after_first last begun e rest = cond begun (e ∷ begun_by last rest) (begun_by last rest)
 
 -- it stands there
-pub seen_place : (last b n : ℕ) (es : List Observation) (i : ℕ) (e : Observation) → slice_get es i ≡ Some e →
+pub seen_index : (last b n : ℕ) (es : List Observation) (i : ℕ) (e : Observation) → slice_get es i ≡ Some e →
     is_begun last e ≡ true → ((m : ℕ) → m ≡ n + i → cut_entry last b m e ≡ e) →
-    slice_get (begun_by last (cut_entries last b n es)) (place_then last i es) ≡ Some e
-seen_place last b n [] i e at begun known = absurd (none-some e at)
-seen_place last b n (x ∷ es) zero e at begun known =
+    slice_get (begun_by last (cut_entries last b n es)) (index_then last i es) ≡ Some e
+seen_index last b n [] i e at begun known = absurd (none-some e at)
+seen_index last b n (x ∷ es) zero e at begun known =
     ap (λ (t : Bool). slice_get (after_first last t (cut_entry last b n x) (cut_entries last b (n + 1) es)) 0)
     (begun_kept last b n x ∙ ap (is_begun last) same ∙ begun) ∙
     ap (λ (o : Observation). Some o) (ap (cut_entry last b n) same ∙ known n (omega arith))
   where
     same : x ≡ e
     same = same_Some x e at
-seen_place last b n (x ∷ es) (suc i) e at begun known = by (is_begun last x) refl
-    (seen_place last b (n + 1) es i e at begun (λ m is. known m (omega (arith, is))))
+seen_index last b n (x ∷ es) (suc i) e at begun known = by (is_begun last x) refl
+    (seen_index last b (n + 1) es i e at begun (λ m is. known m (omega (arith, is))))
   where
     by : (t : Bool) → is_begun last x ≡ t →
-        slice_get (begun_by last (cut_entries last b (n + 1) es)) (place_then last i es) ≡ Some e →
-        slice_get (begun_by last (cut_entries last b n (x ∷ es))) (place_then last (suc i) (x ∷ es)) ≡ Some e
+        slice_get (begun_by last (cut_entries last b (n + 1) es)) (index_then last i es) ≡ Some e →
+        slice_get (begun_by last (cut_entries last b n (x ∷ es))) (index_then last (suc i) (x ∷ es)) ≡ Some e
     by t is rest =
         ap (λ (u : Bool). slice_get (after_first last u (cut_entry last b n x) (cut_entries last b (n + 1) es))
-        (place_then last (suc i) (x ∷ es))) (begun_kept last b n x ∙ is) ∙
+        (index_then last (suc i) (x ∷ es))) (begun_kept last b n x ∙ is) ∙
         ap (λ (u : Bool). slice_get (after_first last t (cut_entry last b n x) (cut_entries last b (n + 1) es))
         (length (cond u (x ∷ begun_by last (take i es)) (begun_by last (take i es))))) is ∙ step t rest
       where
-        step : (t : Bool) → slice_get (begun_by last (cut_entries last b (n + 1) es)) (place_then last i es) ≡ Some e →
+        step : (t : Bool) → slice_get (begun_by last (cut_entries last b (n + 1) es)) (index_then last i es) ≡ Some e →
             slice_get (after_first last t (cut_entry last b n x) (cut_entries last b (n + 1) es))
             (length (cond t (x ∷ begun_by last (take i es)) (begun_by last (take i es)))) ≡ Some e
         step true rest = rest
         step false rest = rest
 
--- another entry in its place is seen in its place
+-- another entry instead of it is seen at its index
 pub seen_set : (last b n : ℕ) (es : List Observation) (i : ℕ) (e y : Observation) → slice_get es i ≡ Some e →
     is_begun last e ≡ true → is_begun last y ≡ true → ((m : ℕ) → m ≡ n + i → cut_entry last b m y ≡ y) →
     begun_by last (cut_entries last b n (set es i y)) ≡
-    set (begun_by last (cut_entries last b n es)) (place_then last i es) y
+    set (begun_by last (cut_entries last b n es)) (index_then last i es) y
 seen_set last b n [] i e y at begun too known = absurd (none-some e at)
 seen_set last b n (x ∷ es) zero e y at begun too known =
     ap (λ (o : Observation). after_first last (is_begun last o) o (cut_entries last b (n + 1) es))
@@ -91,19 +91,19 @@ seen_set last b n (x ∷ es) (suc i) e y at begun too known = by (is_begun last 
     (seen_set last b (n + 1) es i e y at begun too (λ m is. known m (omega (arith, is))))
   where
     by : (t : Bool) → is_begun last x ≡ t → begun_by last (cut_entries last b (n + 1) (set es i y)) ≡
-        set (begun_by last (cut_entries last b (n + 1) es)) (place_then last i es) y →
+        set (begun_by last (cut_entries last b (n + 1) es)) (index_then last i es) y →
         begun_by last (cut_entries last b n (x ∷ set es i y)) ≡
-        set (begun_by last (cut_entries last b n (x ∷ es))) (place_then last (suc i) (x ∷ es)) y
+        set (begun_by last (cut_entries last b n (x ∷ es))) (index_then last (suc i) (x ∷ es)) y
     by t is rest =
         ap (λ (u : Bool). after_first last u (cut_entry last b n x) (cut_entries last b (n + 1) (set es i y)))
         (begun_kept last b n x ∙ is) ∙ step t rest ∙
         sym (ap (λ (u : Bool). set (after_first last u (cut_entry last b n x) (cut_entries last b (n + 1) es))
-        (place_then last (suc i) (x ∷ es)) y) (begun_kept last b n x ∙ is) ∙
+        (index_then last (suc i) (x ∷ es)) y) (begun_kept last b n x ∙ is) ∙
         ap (λ (u : Bool). set (after_first last t (cut_entry last b n x) (cut_entries last b (n + 1) es))
         (length (cond u (x ∷ begun_by last (take i es)) (begun_by last (take i es)))) y) is)
       where
         step : (t : Bool) → begun_by last (cut_entries last b (n + 1) (set es i y)) ≡
-            set (begun_by last (cut_entries last b (n + 1) es)) (place_then last i es) y →
+            set (begun_by last (cut_entries last b (n + 1) es)) (index_then last i es) y →
             after_first last t (cut_entry last b n x) (cut_entries last b (n + 1) (set es i y)) ≡
             set (after_first last t (cut_entry last b n x) (cut_entries last b (n + 1) es))
             (length (cond t (x ∷ begun_by last (take i es)) (begun_by last (take i es)))) y
@@ -116,14 +116,14 @@ begun_then e r le = grind (arith, nat_tests)
 
 pub asked_there : (h : ObservedHistory) (i : ℕ) (e : Observation) (r : Returned) → slice_get h.entries i ≡ Some e →
     e.returned ≡ Some r → e.first ≤ r.last →
-    slice_get (seen_at r.last (i + 1) h).entries (place_then r.last i h.entries) ≡ Some e
-asked_there h i e r at returned le = seen_place r.last (i + 1) 0 h.entries i e at (begun_then e r le)
+    slice_get (seen_at r.last (i + 1) h).entries (index_then r.last i h.entries) ≡ Some e
+asked_there h i e r at returned le = seen_index r.last (i + 1) 0 h.entries i e at (begun_then e r le)
     (λ m is. known_kept e r (i + 1) m returned (omega (arith, is)))
 
 pub seen_answered : (h : ObservedHistory) (i : ℕ) (e : Observation) (r : Returned) (reply : Reply) →
     slice_get h.entries i ≡ Some e → e.returned ≡ Some r → e.first ≤ r.last →
     seen_at r.last (i + 1) (with_reply i e r reply h) ≡
-    with_reply (place_then r.last i h.entries) e r reply (seen_at r.last (i + 1) h)
+    with_reply (index_then r.last i h.entries) e r reply (seen_at r.last (i + 1) h)
 seen_answered h i e r reply at returned le = ap (λ (es : List Observation). record h { entries = es })
     (seen_set r.last (i + 1) 0 h.entries i e (returned_with e r reply) at (begun_then e r le) (begun_then e r le)
     (λ m is. known_kept (returned_with e r reply) (record r { reply = reply }) (i + 1) m refl (omega (arith, is))))
@@ -132,31 +132,31 @@ seen_answered h i e r reply at returned le = ap (λ (es : List Observation). rec
 pub ended : (h : ObservedHistory) (i : ℕ) (e : Observation) (r : Returned) → IsObserved h →
     slice_get h.entries i ≡ Some e → e.returned ≡ Some r → e.first ≤ r.last
 ended h i e r observed at returned = subst (λ (o : Option Returned). MatchOption o (Unit {0})
-    (λ (q : Returned). e.first ≤ q.last)) returned (at_place IsInterval h.entries i e observed.intervals at)
+    (λ (q : Returned). e.first ≤ q.last)) returned (at_index IsInterval h.entries i e observed.intervals at)
 
 -- a search for its replies is given this
-pub asked_as_seen : (h seen : ObservedHistory) (i place : ℕ) (e : Observation) (r : Returned)
+pub asked_as_seen : (h seen : ObservedHistory) (i index : ℕ) (e : Observation) (r : Returned)
     (read : List Observation) → IsObserved h → slice_get h.entries i ≡ Some e → e.returned ≡ Some r →
-    read ≡ h.entries → place ≡ place_then r.last i read → seen ≡ seen_at r.last (i + 1) h →
-    slice_get seen.entries place ≡ Some e
-asked_as_seen h seen i place e r read observed at returned same is_place is_seen =
-    ap (λ (g : ObservedHistory). slice_get g.entries place) is_seen ∙
+    read ≡ h.entries → index ≡ index_then r.last i read → seen ≡ seen_at r.last (i + 1) h →
+    slice_get seen.entries index ≡ Some e
+asked_as_seen h seen i index e r read observed at returned same is_index is_seen =
+    ap (λ (g : ObservedHistory). slice_get g.entries index) is_seen ∙
     ap (λ (k : ℕ). slice_get (seen_at r.last (i + 1) h).entries k)
-    (is_place ∙ ap (λ (es : List Observation). place_then r.last i es) same) ∙
+    (is_index ∙ ap (λ (es : List Observation). index_then r.last i es) same) ∙
     asked_there h i e r at returned (ended h i e r observed at returned)
 
-pub asked_at : (h seen before : ObservedHistory) (timeline : Timeline) (i place : ℕ) (e : Observation) (r : Returned)
+pub asked_at : (h seen before : ObservedHistory) (timeline : Timeline) (i index : ℕ) (e : Observation) (r : Returned)
     (read : List Observation) → IsObserved h → slice_get h.entries i ≡ Some e → e.returned ≡ Some r →
-    read ≡ h.entries → place ≡ place_then r.last i read → seen ≡ seen_at r.last (i + 1) h →
-    before ≡ without_return place e seen → IsTimeline seen timeline →
-    IsAskingAt h i e r (record { seen = seen; before = before; timeline = timeline; place = place })
-asked_at h seen before timeline i place e r read observed at returned same is_place is_seen is_before timelines =
+    read ≡ h.entries → index ≡ index_then r.last i read → seen ≡ seen_at r.last (i + 1) h →
+    before ≡ without_return index e seen → IsTimeline seen timeline →
+    IsAskingAt h i e r (record { seen = seen; before = before; timeline = timeline; index = index })
+asked_at h seen before timeline i index e r read observed at returned same is_index is_seen is_before timelines =
     record {
       is = record {
         at = record {
           entry = e;
           return = r;
-          is_entry = asked_as_seen h seen i place e r read observed at returned same is_place is_seen;
+          is_entry = asked_as_seen h seen i index e r read observed at returned same is_index is_seen;
           returned = returned;
         };
         observed = subst IsObserved (sym is_seen) (seen_explains_as_much h r.last (i + 1) observed).0;
@@ -164,8 +164,8 @@ asked_at h seen before timeline i place e r read observed at returned same is_pl
         before = is_before;
       };
       seen = is_seen;
-      place = is_place ∙ ap (λ (es : List Observation). place_then r.last i es) same;
-      is_entry = asked_as_seen h seen i place e r read observed at returned same is_place is_seen;
+      index = is_index ∙ ap (λ (es : List Observation). index_then r.last i es) same;
+      is_entry = asked_as_seen h seen i index e r read observed at returned same is_index is_seen;
     }
 
 -- so the replies that were tried and are possible are all the possible ones
@@ -175,12 +175,12 @@ pub all_possible : (h : ObservedHistory) (i : ℕ) (e : Observation) (r : Return
     AreAllPossible h i found
 all_possible h i e r asking tried found at returned le observed is replies possible = record {
   each = λ k d lt. ((possible.each (get_or found k d)).0 (Contains-get_or found k d lt)).1;
-  whole = λ reply misses may. replies.whole reply (with_reply asking.place e r reply asking.seen)
+  whole = λ reply misses may. replies.whole reply (with_reply asking.index e r reply asking.seen)
       (record { at = record { entry = e; return = r; is_entry = is.is_entry; returned = returned }; is = refl })
       (λ has. misses ((possible.each reply).1 (has, may)))
       (subst IsExplained (seen_answered h i e r reply at returned le ∙
-      ap (λ (k : ℕ). with_reply k e r reply (seen_at r.last (i + 1) h)) (sym is.place) ∙
-      ap (λ (g : ObservedHistory). with_reply asking.place e r reply g) (sym is.seen))
+      ap (λ (k : ℕ). with_reply k e r reply (seen_at r.last (i + 1) h)) (sym is.index) ∙
+      ap (λ (g : ObservedHistory). with_reply asking.index e r reply g) (sym is.seen))
       (possible_is_seen h i e r reply at returned observed may));
   once = possible.once replies.once;
 }
@@ -197,15 +197,15 @@ undecided_by h i most e r asking replies at returned asks are some =
     let is_return : r ≡ own.return = same_Some r own.return (sym returned ∙
     ap (λ (o : Observation). o.returned) is_entry ∙ own.returned) in
     let is_asked : gets.entry ≡ e = same_Some gets.entry e (sym gets.is_entry ∙ asks.is_entry) in
-    let seen : GetsBeside (seen_at r.last (i + 1) h) (place_then r.last i h.entries) e some.0 =
-    subst (λ (o : Observation). GetsBeside (seen_at r.last (i + 1) h) (place_then r.last i h.entries) o some.0)
-    is_asked (subst (λ (k : ℕ). GetsBeside (seen_at r.last (i + 1) h) k gets.entry some.0) asks.place
-    (subst (λ (g : ObservedHistory). GetsBeside g asking.place gets.entry some.0) asks.seen gets.gets)) in
+    let seen : GetsBeside (seen_at r.last (i + 1) h) (index_then r.last i h.entries) e some.0 =
+    subst (λ (o : Observation). GetsBeside (seen_at r.last (i + 1) h) (index_then r.last i h.entries) o some.0)
+    is_asked (subst (λ (k : ℕ). GetsBeside (seen_at r.last (i + 1) h) k gets.entry some.0) asks.index
+    (subst (λ (g : ObservedHistory). GetsBeside g asking.index gets.entry some.0) asks.seen gets.gets)) in
     record {
       reply = some.0;
       undecided = one;
       gets = subst (λ (o : Observation). GetsBeside (seen_at own.return.last (i + 1) h)
-          (place_then own.return.last i h.entries) o some.0) is_entry
-          (subst (λ (q : Returned). GetsBeside (seen_at q.last (i + 1) h) (place_then q.last i h.entries) e some.0)
+          (index_then own.return.last i h.entries) o some.0) is_entry
+          (subst (λ (q : Returned). GetsBeside (seen_at q.last (i + 1) h) (index_then q.last i h.entries) e some.0)
           is_return seen);
     }

@@ -29,9 +29,9 @@ use Rattle.stamp_explain.specs.Expand.{Took, Takes}
 use Rattle.stamp_explain.specs.Expand.{ComesByReturn, PassesTo}
 use Rattle.stamp_explain.specs.Expand.PassesTo.{passes_none, passes_more}
 use Rattle.stamp_explain.specs.Possible.{with_reply, without_return, returned_with}
-use Rattle.stamp_explain.proofs.Replying.{IsAlike, IsAlikeBy, alike_self, alike_answering, alike_before, place}
+use Rattle.stamp_explain.proofs.Replying.{IsAlike, IsAlikeBy, alike_self, alike_answering, alike_before, each_alike}
 
--- they are alike, and the same at all other places
+-- they are alike, and the same at all other indices
 pub record AreAlike (h g : ObservedHistory) (i : ℕ) : Type 0 where
   pub limits : g.limits ≡ h.limits
   pub width : g.width ≡ h.width
@@ -45,7 +45,7 @@ alike_with_reply h i e r reply at returned = record {
   limits = refl;
   width = refl;
   many = length-set h.entries i (returned_with e r reply);
-  each = λ k d. place h.entries i e (returned_with e r reply) at (alike_answering e r reply returned) k d;
+  each = λ k d. each_alike h.entries i e (returned_with e r reply) at (alike_answering e r reply returned) k d;
   others = λ k d other. get_or-set_other h.entries i k (returned_with e r reply) d other;
 }
 

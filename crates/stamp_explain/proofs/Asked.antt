@@ -36,14 +36,14 @@ use Rattle.stamp_explain.proofs.Beside.{alike_of}
 -- a search without the call begins at the first node
 opening_beside : (asking : Asking) (node : Node) → IsFirstNode asking.seen node → IsReachedBeside asking node
 opening_beside asking node is = record {
-  reached = opening_reached asking.seen (Some asking.place) asking.timeline.returns.items node is;
-  still = none_in_empty asking.place;
+  reached = opening_reached asking.seen (Some asking.index) asking.timeline.returns.items node is;
+  still = none_in_empty asking.index;
   settled = first_settled asking.seen asking.timeline.returns.items node is;
 }
 
 -- a node that is reached with these calls in effect
 record IsReachedWith (asking : Asking) (node : Node) (taken : List ℕ) : Type 0 where
-  reached : IsReached asking.seen (Some asking.place) asking.timeline.returns.items node
+  reached : IsReached asking.seen (Some asking.index) asking.timeline.returns.items node
   same : reached.taken ≡ taken
 
 -- so is one at which more returns are past
@@ -56,7 +56,7 @@ passed_reached asking v w taken is (passes_more {u} before step) =
     let l : ComesByReturn asking.seen returns u w at.reached.state at.reached.taken =
     step.leads at.reached.state at.reached.taken at.reached.stands in
     record {
-      reached = reached_past asking.seen (Some asking.place) returns u w at.reached step.inside l;
+      reached = reached_past asking.seen (Some asking.index) returns u w at.reached step.inside l;
       same = at.same;
     }
 
@@ -79,28 +79,28 @@ leads_beside asking node next is leads = by next.took refl (leads.leads.comes.le
     taken : List ℕ
     taken = is.reached.taken
 
-    then : (now : List ℕ) → IsReachedWith asking via now → ¬ Contains now asking.place → IsReachedBeside asking
+    then : (now : List ℕ) → IsReachedWith asking via now → ¬ Contains now asking.index → IsReachedBeside asking
         next.node
     then now at misses =
         let on : IsReachedWith asking next.node now = passed_reached asking via next.node now at leads.leads.passes in
         record {
           reached = on.reached;
-          still = λ has. misses (subst (λ (xs : List ℕ). Contains xs asking.place) on.same has);
+          still = λ has. misses (subst (λ (xs : List ℕ). Contains xs asking.index) on.same has);
           settled = leads.leads.settled;
         }
 
-    by : (o : Option ℕ) → next.took ≡ o → ComesNextBy h (Some asking.place) returns node via s taken o →
+    by : (o : Option ℕ) → next.took ≡ o → ComesNextBy h (Some asking.index) returns node via s taken o →
         IsReachedBeside asking next.node
     by None at l = then taken (record {
-      reached = reached_past h (Some asking.place) returns node via is.reached leads.leads.comes.inside l;
+      reached = reached_past h (Some asking.index) returns node via is.reached leads.leads.comes.inside l;
       same = refl;
     }) is.still
     by (Some i) at l = then (l.effect.index ∷ taken) (record {
-      reached = reached_by h (Some asking.place) returns node via i is.reached leads.leads.comes.inside l;
+      reached = reached_by h (Some asking.index) returns node via i is.reached leads.leads.comes.inside l;
       same = refl;
-    }) (λ has. cases (contains_cases l.effect.index taken asking.place has))
+    }) (λ has. cases (contains_cases l.effect.index taken asking.index has))
       where
-        cases : (l.effect.index ≡ asking.place) ⊎ Contains taken asking.place → ⊥
+        cases : (l.effect.index ≡ asking.index) ⊎ Contains taken asking.index → ⊥
         cases (inl same) = leads.other (at ∙ ap (λ (k : ℕ). Some k) (sym l.index ∙ same))
         cases (inr has) = is.still has
 
@@ -115,9 +115,9 @@ beside_inside asking node asks is = which (cases node.past (length asking.timeli
     which : (node.past < length asking.timeline.returns.items) ⊎ (length asking.timeline.returns.items ≤ node.past) →
         node.past < length asking.timeline.returns.items
     which (inl lt) = lt
-    which (inr le) = absurd (is.still (is.reached.stands.in_effect.all_past asking.place
-        (subst (λ (xs : List ℕ). Contains xs asking.place) (sym (take_all node.past asking.timeline.returns.items le))
-        (asks.timeline.are.whole asking.place asks.at.entry asks.at.is_entry (asks.at.return, asks.at.returned)))))
+    which (inr le) = absurd (is.still (is.reached.stands.in_effect.all_past asking.index
+        (subst (λ (xs : List ℕ). Contains xs asking.index) (sym (take_all node.past asking.timeline.returns.items le))
+        (asks.timeline.are.whole asking.index asks.at.entry asks.at.is_entry (asks.at.return, asks.at.returned)))))
 
 -- what the search keeps
 pub record AsksSoFar (asking : Asking) (looked : ℕ) (store : Store) (waiting : List ℕ) (replies : List Reply) :
@@ -138,24 +138,24 @@ asked_first asking old new waiting next empty is adds = record {
   once = pairs_none (λ (a b : Reply). a ≢ b);
   gets = λ reply has. absurd (none_in_empty reply has);
   searches = λ reply h answered misses. searches_first h asking.timeline.returns.items old new waiting next empty
-      (opening_alike asking.seen h asking.place next.node (alike_of asking reply h answered) is) adds;
+      (opening_alike asking.seen h asking.index next.node (alike_of asking reply h answered) is) adds;
 }
 
 pub asked_more : (asking : Asking) (looked : ℕ) (old new : Store) (before popped after : List ℕ) (nexts : List Next)
-    (replies more : List Reply) (place : ℕ) (v : Node) → AsksSoFar asking looked old before replies →
-    before ≡ popped ++ place ∷ [] → slice_get old.nodes.items place ≡ Some v → AreLed asking v nexts →
+    (replies more : List Reply) (index : ℕ) (v : Node) → AsksSoFar asking looked old before replies →
+    before ≡ popped ++ index ∷ [] → slice_get old.nodes.items index ≡ Some v → AreLed asking v nexts →
     AreMore replies more → GetsMore asking replies more → SufficeUnless asking v nexts more →
-    AddsUnseen old new place popped after nexts → AsksSoFar asking (looked + 1) new after more
-asked_more asking looked old new before popped after nexts replies more place v is split at led grows gets suffice
+    AddsUnseen old new index popped after nexts → AsksSoFar asking (looked + 1) new after more
+asked_more asking looked old new before popped after nexts replies more index v is split at led grows gets suffice
     adds =
     record {
-      explores = explores_more looked old new before popped after nexts place is.explores split adds;
+      explores = explores_more looked old new before popped after nexts index is.explores split adds;
       reached = λ w has. by w (Contains-append_cases old.nodes.items (nodes_of adds.added) w
           (subst (λ (ns : List Node). Contains ns w) adds.nodes has));
       once = grows.once is.once;
       gets = λ reply has. gotten reply (gets reply has);
       searches = λ reply h answered misses. searches_more h asking.timeline.returns.items old new before popped after
-          nexts place v (is.searches reply h answered (λ has. misses (grows.kept reply has))) split at
+          nexts index v (is.searches reply h answered (λ has. misses (grows.kept reply has))) split at
           (suffice.suffice reply h answered misses) adds;
     }
   where
@@ -167,7 +167,7 @@ asked_more asking looked old new before popped after nexts replies more place v 
     by w (inl has) = is.reached w has
     by w (inr has) = let found : (x : Next) × (Contains adds.added x × (x.node ≡ w)) = named adds.added w has in
         subst (IsReachedBeside asking) found.1.1 (leads_beside asking v found.0
-        (is.reached v (contains_at old.nodes.items place v at))
+        (is.reached v (contains_at old.nodes.items index v at))
         (led.each found.0 (All-contains (Contains nexts) adds.added found.0 adds.among found.1.0)))
 
 -- where none waits, no other reply is explained
@@ -177,51 +177,51 @@ asked_end asking looked store waiting replies asks is none = record {
   gets = is.gets;
   once = is.once;
   whole = λ reply h answered misses. found_nothing h asking.timeline.returns.items store waiting
-      (timeline_alike asking.seen h asking.place asking.timeline (alike_of asking reply h answered) asks.timeline).are
+      (timeline_alike asking.seen h asking.index asking.timeline (alike_of asking reply h answered) asks.timeline).are
       (is.searches reply h answered misses) none;
 }
 
 -- where one waits, more than so many configurations are reached
 pub asked_on : (asking : Asking) (most looked : ℕ) (store : Store) (waiting : List ℕ) (replies : List Reply) →
     IsAsking asking → AsksSoFar asking looked store waiting replies → most ≤ looked → 1 ≤ length waiting →
-    ReachesMoreBeside asking.seen asking.place most
+    ReachesMoreBeside asking.seen asking.index most
 asked_on asking most looked store waiting replies asks is all waits = record {
   returns = asking.timeline.returns.items;
   are = asks.timeline.are;
   once = asks.timeline.once;
   reached = record {
-    configurations = configurations_of asking.seen (Some asking.place) asking.timeline.returns.items store.nodes.items
+    configurations = configurations_of asking.seen (Some asking.index) asking.timeline.returns.items store.nodes.items
         (λ v has. (is.reached v has).reached);
-    different = all_differ asking.seen (Some asking.place) asking.timeline.returns.items store.nodes.items
+    different = all_differ asking.seen (Some asking.index) asking.timeline.returns.items store.nodes.items
         (λ v has. (is.reached v has).reached) is.explores.keeps.different;
     many = omega (
       arith,
       is.explores.count,
       all,
       waits,
-      as_many asking.seen (Some asking.place) asking.timeline.returns.items store.nodes.items
+      as_many asking.seen (Some asking.index) asking.timeline.returns.items store.nodes.items
           (λ v has. (is.reached v has).reached),
     );
   };
-  settled = each_has asking.seen (Some asking.place) asking.timeline.returns.items store.nodes.items
+  settled = each_has asking.seen (Some asking.index) asking.timeline.returns.items store.nodes.items
       (λ v has. (is.reached v has).reached)
-      (AwaitsNext asking.seen (Some asking.place) asking.timeline.returns.items)
-      (λ v has. awaits_next asking.seen (Some asking.place) asking.timeline.returns.items v
-      (configuration_of asking.seen (Some asking.place) asking.timeline.returns.items v (is.reached v has).reached)
+      (AwaitsNext asking.seen (Some asking.index) asking.timeline.returns.items)
+      (λ v has. awaits_next asking.seen (Some asking.index) asking.timeline.returns.items v
+      (configuration_of asking.seen (Some asking.index) asking.timeline.returns.items v (is.reached v has).reached)
       (record { observed = asks.observed; are = asks.timeline.are; once = asks.timeline.once })
       (beside_inside asking v asks (is.reached v has)) (is.reached v has).settled
-      (is_for_its asking.seen (Some asking.place) asking.timeline.returns.items v (is.reached v has).reached));
-  beside = each_has asking.seen (Some asking.place) asking.timeline.returns.items store.nodes.items
+      (is_for_its asking.seen (Some asking.index) asking.timeline.returns.items v (is.reached v has).reached));
+  beside = each_has asking.seen (Some asking.index) asking.timeline.returns.items store.nodes.items
       (λ v has. (is.reached v has).reached)
-      (λ (c : Configuration asking.seen (Some asking.place) asking.timeline.returns.items). ¬ Contains c.taken
-      asking.place)
+      (λ (c : Configuration asking.seen (Some asking.index) asking.timeline.returns.items). ¬ Contains c.taken
+      asking.index)
       (λ v has. (is.reached v has).still);
 }
 
--- the node whose place is popped
+-- the node whose index is popped
 pub asked_reached : (asking : Asking) (looked : ℕ) (store : Store) (before popped : List ℕ) (replies : List Reply)
-    (place : ℕ) (v : Node) → AsksSoFar asking looked store before replies → before ≡ popped ++ place ∷ [] →
-    v ≡ get_or store.nodes.items place v → IsReachedBeside asking v
-asked_reached asking looked store before popped replies place v is split read =
-    is.reached v (contains_at store.nodes.items place v
-    (popped_node looked store before popped place v is.explores split read))
+    (index : ℕ) (v : Node) → AsksSoFar asking looked store before replies → before ≡ popped ++ index ∷ [] →
+    v ≡ get_or store.nodes.items index v → IsReachedBeside asking v
+asked_reached asking looked store before popped replies index v is split read =
+    is.reached v (contains_at store.nodes.items index v
+    (popped_node looked store before popped index v is.explores split read))

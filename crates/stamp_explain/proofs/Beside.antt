@@ -40,7 +40,7 @@ use Rattle.stamp_explain.proofs.Replying.{IsAlike, alike_before, replied_is_obse
 use Rattle.stamp_explain.proofs.Answering.{AreAlike, alike_with_reply, timeline_alike, there, other_there, took_alike}
 use Rattle.stamp_explain.proofs.Answering.{passes_alike, turned}
 use Rattle.stamp_explain.proofs.Answering.{same_calls_before, at_same, at_alike}
-use Rattle.stamp_explain.proofs.Expanding.{one_reply, at_place}
+use Rattle.stamp_explain.proofs.Expanding.{one_reply, at_index}
 use Rattle.stamp_explain.proofs.Leading.{come}
 use Rattle.stamp_explain.proofs.Counting.{configuration_of}
 use Rattle.stamp_explain.proofs.Settling.{follows_of, suffices_settled}
@@ -111,14 +111,14 @@ counted_none last k es e n lt at begun is = record {
 
 -- what is seen with another reply
 pub alike_of : (asking : Asking) (reply : Reply) (h : ObservedHistory) → IsSeenWith asking reply h →
-    AreAlike asking.seen h asking.place
-alike_of asking reply h is = subst (λ (g : ObservedHistory). AreAlike asking.seen g asking.place) (sym is.is)
-    (alike_with_reply asking.seen asking.place is.at.entry is.at.return reply is.at.is_entry is.at.returned)
+    AreAlike asking.seen h asking.index
+alike_of asking reply h is = subst (λ (g : ObservedHistory). AreAlike asking.seen g asking.index) (sym is.is)
+    (alike_with_reply asking.seen asking.index is.at.entry is.at.return reply is.at.is_entry is.at.returned)
 
 pub observed_of : (asking : Asking) (reply : Reply) (h : ObservedHistory) → IsAsking asking →
     IsSeenWith asking reply h → IsObserved h
 observed_of asking reply h asks is = subst IsObserved (sym is.is)
-    (replied_is_observed asking.seen asking.place is.at.entry is.at.return reply is.at.is_entry is.at.returned
+    (replied_is_observed asking.seen asking.index is.at.entry is.at.return reply is.at.is_entry is.at.returned
     asks.observed)
 
 -- a node awaits the same return there
@@ -130,15 +130,15 @@ pub record AwaitsToo (asking : Asking) (h : ObservedHistory) (node : Node) (a : 
 pub awaits_too : (asking : Asking) (reply : Reply) (h : ObservedHistory) (node : Node) (a : Observation) →
     IsAsking asking → IsSeenWith asking reply h → Awaits asking.seen asking.timeline node a → AwaitsToo asking h node a
 awaits_too asking reply h node a asks is awaits =
-    let alike : AreAlike asking.seen h asking.place = alike_of asking reply h is in
+    let alike : AreAlike asking.seen h asking.index = alike_of asking reply h is in
     let b : (b : Observation) × ((slice_get h.entries (get_or asking.timeline.returns.items node.past 0) ≡ Some b) ×
     IsAlike a b) =
-    there asking.seen h asking.place (get_or asking.timeline.returns.items node.past 0) a alike awaits.at in
+    there asking.seen h asking.index (get_or asking.timeline.returns.items node.past 0) a alike awaits.at in
     record {
       entry = b.0;
       awaits = record {
         observed = observed_of asking reply h asks is;
-        timeline_is = timeline_alike asking.seen h asking.place asking.timeline alike awaits.timeline_is;
+        timeline_is = timeline_alike asking.seen h asking.index asking.timeline alike awaits.timeline_is;
         inside = awaits.inside;
         at = b.1.0;
       };
@@ -147,13 +147,13 @@ awaits_too asking reply h node a asks is awaits =
 
 -- another call than the one asked takes effect
 pub took_other : (asking : Asking) (node : Node) (i : ℕ) (w : Next) (a : Observation) →
-    Awaits asking.seen asking.timeline node a → IsReached asking.seen (Some asking.place)
+    Awaits asking.seen asking.timeline node a → IsReached asking.seen (Some asking.index)
     asking.timeline.returns.items node →
-    Took asking.seen asking.timeline.returns.items node i (Some w) → i ≢ asking.place → w.took ≢ Some asking.place
+    Took asking.seen asking.timeline.returns.items node i (Some w) → i ≢ asking.index → w.took ≢ Some asking.index
 took_other asking node i w a awaits reached took other same =
     let to : IsTakenTo asking.seen asking.timeline.returns.items node a i reached.state reached.taken w =
     took.takes a reached.state reached.taken (awaited_at asking.seen asking.timeline node a awaits) reached.stands in
-    other (sym to.index ∙ same_Some to.effect.index asking.place (sym to.took ∙ same))
+    other (sym to.index ∙ same_Some to.effect.index asking.index (sym to.took ∙ same))
 
 -- what was found of a call, and then returns are past
 pub record Settles (asking : Asking) (w next : Next) : Type 0 where
@@ -163,16 +163,16 @@ pub record Settles (asking : Asking) (w next : Next) : Type 0 where
 
 pub at_once_leads : (asking : Asking) (node : Node) (a : Observation) (calls : List ℕ) (k : ℕ) (w next : Next) →
     Awaits asking.seen asking.timeline node a →
-    IsReached asking.seen (Some asking.place) asking.timeline.returns.items node →
+    IsReached asking.seen (Some asking.index) asking.timeline.returns.items node →
     bit_at node.threads a.thread ≢ 1 → AreOpen asking.seen asking.timeline.returns.items node.past calls →
-    NoneOfFirst asking.seen (Some asking.place) asking.timeline.returns.items node calls k → k < length calls →
+    NoneOfFirst asking.seen (Some asking.index) asking.timeline.returns.items node calls k → k < length calls →
     is_unchanging_at asking.seen.entries (get_or calls k 0) ≡ true →
     Took asking.seen asking.timeline.returns.items node (get_or calls k 0) (Some w) →
-    get_or calls k 0 ≢ asking.place → Settles asking w next → ComesNextBeside asking node next
+    get_or calls k 0 ≢ asking.index → Settles asking w next → ComesNextBeside asking node next
 at_once_leads asking node a calls k w next awaits reached bit are before inside still took other settles = record {
-  leads = follows_of asking.seen (Some asking.place) asking.timeline.returns.items node w next
-      (leads_at_once asking.seen (Some asking.place) asking.timeline node a calls k w awaits bit are before inside
-      still (λ same. other (sym (same_Some asking.place (get_or calls k 0) same))) took) settles.passes
+  leads = follows_of asking.seen (Some asking.index) asking.timeline.returns.items node w next
+      (leads_at_once asking.seen (Some asking.index) asking.timeline node a calls k w awaits bit are before inside
+      still (λ same. other (sym (same_Some asking.index (get_or calls k 0) same))) took) settles.passes
       settles.took settles.settled;
   other = λ same. took_other asking node (get_or calls k 0) w a awaits reached took other (sym settles.took ∙ same);
 }
@@ -180,15 +180,15 @@ at_once_leads asking node a calls k w next awaits reached bit are before inside 
 pub at_once_suffices : (asking : Asking) (node : Node) (a : Observation) (i : ℕ) (w next : Next) → IsAsking asking →
     Awaits asking.seen asking.timeline node a → (e : Observation) → slice_get asking.seen.entries i ≡ Some e →
     is_unchanging_at asking.seen.entries i ≡ true → Took asking.seen asking.timeline.returns.items node i (Some w) →
-    i ≢ asking.place → Settles asking w next → SufficeBeside asking node (next ∷ [])
+    i ≢ asking.index → Settles asking w next → SufficeBeside asking node (next ∷ [])
 at_once_suffices asking node a i w next asks awaits e at still took other settles reply h is =
-    let alike : AreAlike asking.seen h asking.place = alike_of asking reply h is in
+    let alike : AreAlike asking.seen h asking.index = alike_of asking reply h is in
     let too : AwaitsToo asking h node a = awaits_too asking reply h node a asks is awaits in
     suffices_settled h asking.timeline.returns.items node w next
-    (passes_alike asking.seen h asking.place asking.timeline.returns.items w.node next.node alike settles.passes)
+    (passes_alike asking.seen h asking.index asking.timeline.returns.items w.node next.node alike settles.passes)
     (suffices_at_once h asking.timeline node too.entry i w too.awaits
-    (ap unchanging_in (other_there asking.seen h asking.place i e alike other at) ∙ sym (ap unchanging_in at) ∙ still)
-    (took_alike asking.seen h asking.place asking.timeline.returns.items node i (Some w) alike other took))
+    (ap unchanging_in (other_there asking.seen h asking.index i e alike other at) ∙ sym (ap unchanging_in at) ∙ still)
+    (took_alike asking.seen h asking.index asking.timeline.returns.items node i (Some w) alike other took))
 
 pub awaited_inside : (asking : Asking) (node : Node) (i : ℕ) → IsAsking asking →
     node.past < length asking.timeline.returns.items → i ≡ get_or asking.timeline.returns.items node.past i →
@@ -204,62 +204,62 @@ awaited_inside asking node i asks inside read =
 pub record TriesBeside (asking : Asking) (node : Node) (calls : List ℕ) (k : ℕ) (nexts : List Next) : Type 0 where
   pub led : AreLed asking node nexts
   pub tries : (reply : Reply) (h : ObservedHistory) → IsSeenWith asking reply h →
-      Took h asking.timeline.returns.items node asking.place None →
-      Tries h (Some asking.place) asking.timeline.returns.items node calls k nexts
+      Took h asking.timeline.returns.items node asking.index None →
+      Tries h (Some asking.index) asking.timeline.returns.items node calls k nexts
 
 pub beside_first : (asking : Asking) (node : Node) (calls : List ℕ) → TriesBeside asking node calls 0 []
 beside_first asking node calls = record {
   led = record { each = λ w has. absurd (none_in_empty w has) };
-  tries = λ reply h is none. none_tried h (Some asking.place) asking.timeline.returns.items node calls;
+  tries = λ reply h is none. none_tried h (Some asking.index) asking.timeline.returns.items node calls;
 }
 
 pub beside_asked : (asking : Asking) (node : Node) (calls : List ℕ) (k : ℕ) (nexts : List Next) →
     TriesBeside asking node calls k nexts → k < length calls →
-    get_or calls (length calls - 1 - k) 0 ≡ asking.place → TriesBeside asking node calls (k + 1) nexts
+    get_or calls (length calls - 1 - k) 0 ≡ asking.index → TriesBeside asking node calls (k + 1) nexts
 beside_asked asking node calls k nexts is more here = record {
   led = is.led;
-  tries = λ reply h answered none. tried_none h (Some asking.place) asking.timeline.returns.items node calls k nexts
+  tries = λ reply h answered none. tried_none h (Some asking.index) asking.timeline.returns.items node calls k nexts
       (is.tries reply h answered none) more
       (subst (λ (i : ℕ). Took h asking.timeline.returns.items node i None) (sym here) none);
 }
 
 pub beside_none : (asking : Asking) (node : Node) (calls : List ℕ) (k : ℕ) (nexts : List Next) →
     TriesBeside asking node calls k nexts → k < length calls →
-    get_or calls (length calls - 1 - k) 0 ≢ asking.place →
+    get_or calls (length calls - 1 - k) 0 ≢ asking.index →
     Took asking.seen asking.timeline.returns.items node (get_or calls (length calls - 1 - k) 0) None →
     TriesBeside asking node calls (k + 1) nexts
 beside_none asking node calls k nexts is more other took = record {
   led = is.led;
-  tries = λ reply h answered none. tried_none h (Some asking.place) asking.timeline.returns.items node calls k nexts
+  tries = λ reply h answered none. tried_none h (Some asking.index) asking.timeline.returns.items node calls k nexts
       (is.tries reply h answered none) more
-      (took_alike asking.seen h asking.place asking.timeline.returns.items node (get_or calls (length calls - 1 - k) 0)
+      (took_alike asking.seen h asking.index asking.timeline.returns.items node (get_or calls (length calls - 1 - k) 0)
       None (alike_of asking reply h answered) other took);
 }
 
 -- a call that goes ahead of another does so with each reply of the one asked
 pub beside_later : (asking : Asking) (node : Node) (calls : List ℕ) (k : ℕ) (nexts : List Next) →
     TriesBeside asking node calls k nexts → k < length calls →
-    get_or calls (length calls - 1 - k) 0 ≢ asking.place →
-    GivesWay asking.seen (Some asking.place) node calls (get_or calls (length calls - 1 - k) 0) →
+    get_or calls (length calls - 1 - k) 0 ≢ asking.index →
+    GivesWay asking.seen (Some asking.index) node calls (get_or calls (length calls - 1 - k) 0) →
     TriesBeside asking node calls (k + 1) nexts
 beside_later asking node calls k nexts is more other out = record {
   led = is.led;
-  tries = λ reply h answered none. tried_later h (Some asking.place) asking.timeline.returns.items node calls k nexts
+  tries = λ reply h answered none. tried_later h (Some asking.index) asking.timeline.returns.items node calls k nexts
       (is.tries reply h answered none) more (out_too h (alike_of asking reply h answered));
 }
   where
-    out_too : (h : ObservedHistory) → AreAlike asking.seen h asking.place →
-        GivesWay h (Some asking.place) node calls (get_or calls (length calls - 1 - k) 0)
+    out_too : (h : ObservedHistory) → AreAlike asking.seen h asking.index →
+        GivesWay h (Some asking.index) node calls (get_or calls (length calls - 1 - k) 0)
     out_too h alike = record {
       first = out.first;
       among = out.among;
       other = out.other;
       goes = record {
         entry = out.goes.entry;
-        is_entry = other_there asking.seen h asking.place out.first out.goes.entry alike
+        is_entry = other_there asking.seen h asking.index out.first out.goes.entry alike
             (λ same. out.other (ap (λ (i : ℕ). Some i) (sym same))) out.goes.is_entry;
         other = out.goes.other;
-        is_other = other_there asking.seen h asking.place (get_or calls (length calls - 1 - k) 0) out.goes.other alike
+        is_other = other_there asking.seen h asking.index (get_or calls (length calls - 1 - k) 0) out.goes.other alike
             other out.goes.is_other;
         ahead = out.goes.ahead;
         waits = out.goes.waits;
@@ -278,12 +278,12 @@ seen_too : (asking : Asking) (reply : Reply) (h : ObservedHistory) (node : Node)
     IsSeenWith asking reply h → IsAwaitedAt h asking.timeline.returns.items node.past a →
     slice_get h.entries i ≡ Some e → SeenToo asking node i a e
 seen_too asking reply h node i a e is awaited at =
-    let alike : AreAlike h asking.seen asking.place = turned asking.seen h asking.place (alike_of asking reply h is) in
+    let alike : AreAlike h asking.seen asking.index = turned asking.seen h asking.index (alike_of asking reply h is) in
     let b : (b : Observation) ×
     ((slice_get asking.seen.entries (slice_index asking.timeline.returns.items node.past) ≡ Some b) × IsAlike a b) =
-    there h asking.seen asking.place (slice_index asking.timeline.returns.items node.past) a alike awaited.is_entry in
+    there h asking.seen asking.index (slice_index asking.timeline.returns.items node.past) a alike awaited.is_entry in
     let f : (f : Observation) × ((slice_get asking.seen.entries i ≡ Some f) × IsAlike e f) =
-    there h asking.seen asking.place i e alike at in
+    there h asking.seen asking.index i e alike at in
     record {
       awaited = b.0;
       entry = f.0;
@@ -302,7 +302,7 @@ pub beside_other : (asking : Asking) (node : Node) (calls : List ℕ) (k : ℕ) 
     TriesBeside asking node calls (k + 1) nexts
 beside_other asking node calls k nexts is more other = record {
   led = is.led;
-  tries = λ reply h answered none. tried_other h (Some asking.place) asking.timeline.returns.items node calls k nexts
+  tries = λ reply h answered none. tried_other h (Some asking.index) asking.timeline.returns.items node calls k nexts
       (is.tries reply h answered none) more (λ a e awaited at alike.
       let it : SeenToo asking node (get_or calls (length calls - 1 - k) 0) a e =
       seen_too asking reply h node (get_or calls (length calls - 1 - k) 0) a e answered awaited at in
@@ -312,24 +312,24 @@ beside_other asking node calls k nexts is more other = record {
 -- a question that is under way is one with each reply of the call that is asked
 beside_question : (asking : Asking) (node : Node) (calls : List ℕ) (k : ℕ) (nexts : List Next) →
     TriesBeside asking node calls k nexts → k < length calls →
-    get_or calls (length calls - 1 - k) 0 ≢ asking.place →
+    get_or calls (length calls - 1 - k) 0 ≢ asking.index →
     asks_at asking.seen.entries (get_or calls (length calls - 1 - k) 0) ≡ true →
     TriesBeside asking node calls (k + 1) nexts
 beside_question asking node calls k nexts is more other question = record {
   led = is.led;
-  tries = λ reply h answered none. tried_question h (Some asking.place) asking.timeline.returns.items node calls k
-      nexts (is.tries reply h answered none) more (λ e at. ap asks_in (sym (other_there h asking.seen asking.place
+  tries = λ reply h answered none. tried_question h (Some asking.index) asking.timeline.returns.items node calls k
+      nexts (is.tries reply h answered none) more (λ e at. ap asks_in (sym (other_there h asking.seen asking.index
       (get_or calls (length calls - 1 - k) 0) e
-      (turned asking.seen h asking.place (alike_of asking reply h answered)) other at)) ∙ question);
+      (turned asking.seen h asking.index (alike_of asking reply h answered)) other at)) ∙ question);
 }
 
 -- a call that is no choice leads to no node
 pub beside_not : (asking : Asking) (node : Node) (calls : List ℕ) (k : ℕ) (nexts : List Next) (awaited : ℕ) →
     TriesBeside asking node calls k nexts → k < length calls →
-    get_or calls (length calls - 1 - k) 0 ≢ asking.place →
+    get_or calls (length calls - 1 - k) 0 ≢ asking.index →
     ((a : Observation) → IsAwaitedAt asking.seen asking.timeline.returns.items node.past a →
     slice_get asking.seen.entries awaited ≡ Some a) →
-    IsNoChoice asking.seen (Some asking.place) asking.timeline.returns.items node calls awaited
+    IsNoChoice asking.seen (Some asking.index) asking.timeline.returns.items node calls awaited
     (get_or calls (length calls - 1 - k) 0) → TriesBeside asking node calls (k + 1) nexts
 beside_not asking node calls k nexts awaited is more other read (of_other differs) =
     beside_other asking node calls k nexts is more (λ a e here at. differs a e (read a here) at)
@@ -342,12 +342,12 @@ beside_not asking node calls k nexts awaited is more other read (stays took) =
 
 pub beside_some : (asking : Asking) (node : Node) (a : Observation) (calls : List ℕ) (k : ℕ) (nexts : List Next)
     (w next : Next) → Awaits asking.seen asking.timeline node a →
-    IsReached asking.seen (Some asking.place) asking.timeline.returns.items node →
+    IsReached asking.seen (Some asking.index) asking.timeline.returns.items node →
     bit_at node.threads a.thread ≢ 1 → NoneIsAtOnceBeside asking node →
     AreOpen asking.seen asking.timeline.returns.items node.past calls → TriesBeside asking node calls k nexts →
-    k < length calls → get_or calls (length calls - 1 - k) 0 ≢ asking.place → (awaited : ℕ) →
+    k < length calls → get_or calls (length calls - 1 - k) 0 ≢ asking.index → (awaited : ℕ) →
     slice_get asking.seen.entries awaited ≡ Some a →
-    IsChoiceOf asking.seen (Some asking.place) asking.timeline.returns.items node calls awaited
+    IsChoiceOf asking.seen (Some asking.index) asking.timeline.returns.items node calls awaited
     (get_or calls (length calls - 1 - k) 0) w → Settles asking w next →
     TriesBeside asking node calls (k + 1) (nexts ++ next ∷ [])
 beside_some asking node a calls k nexts w next awaits reached bit none_at_once are is more other awaited at choice
@@ -355,19 +355,19 @@ beside_some asking node a calls k nexts w next awaits reached bit none_at_once a
     record {
       led = record {
         each = each_push (ComesNextBeside asking node) nexts next is.led.each (record {
-          leads = follows_of asking.seen (Some asking.place) asking.timeline.returns.items node w next
-              (choice_leads asking.seen (Some asking.place) asking.timeline node a calls
+          leads = follows_of asking.seen (Some asking.index) asking.timeline.returns.items node w next
+              (choice_leads asking.seen (Some asking.index) asking.timeline node a calls
               (get_or calls (length calls - 1 - k) 0) w awaits bit none_at_once are awaited at choice) settles.passes
               settles.took settles.settled;
           other = λ same. took_other asking node (get_or calls (length calls - 1 - k) 0) w a awaits reached
               choice.took other (sym settles.took ∙ same);
         });
       };
-      tries = λ reply h answered none. tried_some h (Some asking.place) asking.timeline.returns.items node calls k
+      tries = λ reply h answered none. tried_some h (Some asking.index) asking.timeline.returns.items node calls k
           nexts w next (is.tries reply h answered none) more
-          (took_alike asking.seen h asking.place asking.timeline.returns.items node
+          (took_alike asking.seen h asking.index asking.timeline.returns.items node
           (get_or calls (length calls - 1 - k) 0) (Some w) (alike_of asking reply h answered) other choice.took)
-          (passes_alike asking.seen h asking.place asking.timeline.returns.items w.node next.node
+          (passes_alike asking.seen h asking.index asking.timeline.returns.items w.node next.node
           (alike_of asking reply h answered) settles.passes);
     }
 
@@ -375,52 +375,52 @@ pub suffice_beside : (asking : Asking) (node : Node) (calls : List ℕ) (k : ℕ
     (h : ObservedHistory) → IsAsking asking → node.past < length asking.timeline.returns.items →
     IsNotInEffect asking.seen asking.timeline.returns.items node →
     AreOpen h asking.timeline.returns.items node.past calls → length calls ≤ k → IsSeenWith asking reply h →
-    Tries h (Some asking.place) asking.timeline.returns.items node calls k nexts →
+    Tries h (Some asking.index) asking.timeline.returns.items node calls k nexts →
     Suffice h asking.timeline.returns.items node nexts
 suffice_beside asking node calls k nexts reply h asks inside awaited are all is tries =
-    let alike : AreAlike asking.seen h asking.place = alike_of asking reply h is in
-    suffice_open h (Some asking.place) asking.timeline node calls k nexts (observed_of asking reply h asks is)
-    (timeline_alike asking.seen h asking.place asking.timeline alike asks.timeline) inside
+    let alike : AreAlike asking.seen h asking.index = alike_of asking reply h is in
+    suffice_open h (Some asking.index) asking.timeline node calls k nexts (observed_of asking reply h asks is)
+    (timeline_alike asking.seen h asking.index asking.timeline alike asks.timeline) inside
     (record {
       awaited = λ b it bit.
           let a : (a : Observation) ×
           ((slice_get asking.seen.entries (slice_index asking.timeline.returns.items node.past) ≡ Some a) × IsAlike
           b a) =
-          there h asking.seen asking.place (slice_index asking.timeline.returns.items node.past) b
-          (turned asking.seen h asking.place alike) it.is_entry in
+          there h asking.seen asking.index (slice_index asking.timeline.returns.items node.past) b
+          (turned asking.seen h asking.index alike) it.is_entry in
           awaited.awaited a.0 (record { inside = inside; is_entry = a.1.0 })
           (ap (λ (t : ℕ). bit_at node.threads t) a.1.1.thread ∙ bit);
     }) are all tries
 
 -- the entry that was asked, with the reply
 asked_entry : (asking : Asking) (reply : Reply) (h : ObservedHistory) (f : Observation) →
-    (is : IsSeenWith asking reply h) → slice_get h.entries asking.place ≡ Some f →
+    (is : IsSeenWith asking reply h) → slice_get h.entries asking.index ≡ Some f →
     f ≡ returned_with is.at.entry is.at.return reply
 asked_entry asking reply h f is at = same_Some f y (sym at ∙
-    ap (λ (g : ObservedHistory). slice_get g.entries asking.place) is.is ∙
-    slice_get-get_or (set asking.seen.entries asking.place y) asking.place y
-    (omega (arith, within, length-set asking.seen.entries asking.place y)) ∙
-    ap (λ (o : Observation). Some o) (get_or-set_same asking.seen.entries asking.place y y within))
+    ap (λ (g : ObservedHistory). slice_get g.entries asking.index) is.is ∙
+    slice_get-get_or (set asking.seen.entries asking.index y) asking.index y
+    (omega (arith, within, length-set asking.seen.entries asking.index y)) ∙
+    ap (λ (o : Observation). Some o) (get_or-set_same asking.seen.entries asking.index y y within))
   where
     y : Observation
     y = returned_with is.at.entry is.at.return reply
 
-    within : asking.place < length asking.seen.entries
-    within = slice_get_within asking.seen.entries asking.place is.at.entry is.at.is_entry
+    within : asking.index < length asking.seen.entries
+    within = slice_get_within asking.seen.entries asking.index is.at.entry is.at.is_entry
 
 -- where the awaited call had returned before it began, it isn't open
 pub not_begun : (asking : Asking) (node : Node) (a e : Observation) (reply : Reply) (h : ObservedHistory) →
     IsAsking asking → IsSeenWith asking reply h → Awaits asking.seen asking.timeline node a →
-    slice_get asking.seen.entries asking.place ≡ Some e → IsBefore a e →
-    Took h asking.timeline.returns.items node asking.place None
+    slice_get asking.seen.entries asking.index ≡ Some e → IsBefore a e →
+    Took h asking.timeline.returns.items node asking.index None
 not_begun asking node a e reply h asks is awaits at before = record {
   takes = λ b s taken awaited stands x u may same.
-      let alike : AreAlike asking.seen h asking.place = alike_of asking reply h is in
+      let alike : AreAlike asking.seen h asking.index = alike_of asking reply h is in
       let c : (c : Observation) × ((slice_get h.entries (get_or asking.timeline.returns.items node.past 0) ≡ Some c) ×
       IsAlike a c) =
-      there asking.seen h asking.place (get_or asking.timeline.returns.items node.past 0) a alike awaits.at in
-      let f : (f : Observation) × ((slice_get h.entries asking.place ≡ Some f) × IsAlike e f) =
-      there asking.seen h asking.place asking.place e alike at in
+      there asking.seen h asking.index (get_or asking.timeline.returns.items node.past 0) a alike awaits.at in
+      let f : (f : Observation) × ((slice_get h.entries asking.index ≡ Some f) × IsAlike e f) =
+      there asking.seen h asking.index asking.index e alike at in
       let is_b : c.0 ≡ b = same_Some c.0 b (sym c.1.0 ∙ awaited.is_entry) in
       let is_x : f.0 ≡ x.entry = same_Some f.0 x.entry (sym f.1.0 ∙
       ap (λ (k : ℕ). slice_get h.entries k) (sym same) ∙ may.effect.is_entry) in
@@ -431,31 +431,31 @@ not_begun asking node a e reply h asks is awaits at before = record {
 -- what was found of the call while it is under way
 abbrev pub WentBefore : Asking → Node → Option CallTransition → Type 0
 WentBefore asking node found = (e : Observation) (s : LockState) →
-    slice_get asking.before.entries asking.place ≡ Some e → IsStateBy asking.before node.bits node.writer s →
-    HasGone asking.before asking.place e node.writer s found
+    slice_get asking.before.entries asking.index ≡ Some e → IsStateBy asking.before node.bits node.writer s →
+    HasGone asking.before asking.index e node.writer s found
 
 -- it gets no other reply
 pub asked_takes : (asking : Asking) (node : Node) (found : Option CallTransition) (reply : Reply)
     (h : ObservedHistory) → IsAsking asking → IsSeenWith asking reply h → WentBefore asking node found →
     ((did : CallTransition) → found ≡ Some did → did.reply ≢ reply) → Took h asking.timeline.returns.items node
-    asking.place None
+    asking.index None
 asked_takes asking node found reply h asks is went others = record {
   takes = λ b s taken awaited stands x u may same.
-      let alike : AreAlike asking.seen h asking.place = alike_of asking reply h is in
-      let at_x : slice_get h.entries asking.place ≡ Some x.entry =
+      let alike : AreAlike asking.seen h asking.index = alike_of asking reply h is in
+      let at_x : slice_get h.entries asking.index ≡ Some x.entry =
       ap (λ (k : ℕ). slice_get h.entries k) (sym same) ∙ may.effect.is_entry in
       let is_x : x.entry ≡ returned_with is.at.entry is.at.return reply = asked_entry asking reply h x.entry is at_x in
-      let at : IsStateBy (without_return asking.place is.at.entry asking.seen) node.bits node.writer s =
-      at_same asking.seen (without_return asking.place is.at.entry asking.seen) node.bits node.writer s
-      (same_calls_before asking.seen asking.place is.at.entry is.at.is_entry)
-      (at_alike h asking.seen asking.place node.bits node.writer s (turned asking.seen h asking.place alike)
+      let at : IsStateBy (without_return asking.index is.at.entry asking.seen) node.bits node.writer s =
+      at_same asking.seen (without_return asking.index is.at.entry asking.seen) node.bits node.writer s
+      (same_calls_before asking.seen asking.index is.at.entry is.at.is_entry)
+      (at_alike h asking.seen asking.index node.bits node.writer s (turned asking.seen h asking.index alike)
       stands.at) in
       let replied : reply ≡ x.reply = subst (λ (o : Observation). AllowsReply o x.reply) is_x may.effect.replies in
       let steps : StateTransition asking.seen.limits s (is.at.entry.call, x.reply) u =
       subst (λ (o : Observation). StateTransition asking.seen.limits s (o.call, x.reply) u) is_x
       (subst (λ (l : Bounds). StateTransition l s (x.entry.call, x.reply) u) alike.limits may.goes) in
       by found refl s u x.reply replied steps
-      (subst (λ (g : ObservedHistory). HasGone g asking.place y node.writer s found) before (went y s here (subst (λ
+      (subst (λ (g : ObservedHistory). HasGone g asking.index y node.writer s found) before (went y s here (subst (λ
       (g : ObservedHistory).
       IsStateBy g node.bits node.writer s) (sym before) at)));
 }
@@ -466,28 +466,28 @@ asked_takes asking node found reply h asks is went others = record {
     same_entry : asks.at.entry ≡ is.at.entry
     same_entry = same_Some asks.at.entry is.at.entry (sym asks.at.is_entry ∙ is.at.is_entry)
 
-    before : asking.before ≡ without_return asking.place is.at.entry asking.seen
-    before = asks.before ∙ ap (λ (o : Observation). without_return asking.place o asking.seen) same_entry
+    before : asking.before ≡ without_return asking.index is.at.entry asking.seen
+    before = asks.before ∙ ap (λ (o : Observation). without_return asking.index o asking.seen) same_entry
 
-    within : asking.place < length asking.seen.entries
-    within = slice_get_within asking.seen.entries asking.place is.at.entry is.at.is_entry
+    within : asking.index < length asking.seen.entries
+    within = slice_get_within asking.seen.entries asking.index is.at.entry is.at.is_entry
 
-    here : slice_get asking.before.entries asking.place ≡ Some y
-    here = ap (λ (g : ObservedHistory). slice_get g.entries asking.place) before ∙
-        slice_get-get_or (set asking.seen.entries asking.place y) asking.place y
-        (omega (arith, within, length-set asking.seen.entries asking.place y)) ∙
-        ap (λ (o : Observation). Some o) (get_or-set_same asking.seen.entries asking.place y y within)
+    here : slice_get asking.before.entries asking.index ≡ Some y
+    here = ap (λ (g : ObservedHistory). slice_get g.entries asking.index) before ∙
+        slice_get-get_or (set asking.seen.entries asking.index y) asking.index y
+        (omega (arith, within, length-set asking.seen.entries asking.index y)) ∙
+        ap (λ (o : Observation). Some o) (get_or-set_same asking.seen.entries asking.index y y within)
 
     by : (o : Option CallTransition) → found ≡ o → (s u : LockState) (r : Reply) → reply ≡ r →
         StateTransition asking.seen.limits s (is.at.entry.call, r) u →
-        HasGone (without_return asking.place is.at.entry asking.seen) asking.place y node.writer s o → ⊥
+        HasGone (without_return asking.index is.at.entry asking.seen) asking.index y node.writer s o → ⊥
     by None at s u r replied steps gone = gone r u tt steps
     by (Some did) at s u r replied steps gone = others did at
         (one_reply asking.seen.limits s.0 s.1 is.at.entry.call did.reply r gone.goes.replies steps.replies ∙
         sym replied)
 
 pub asked_not_begun : (asking : Asking) (node : Node) (a e : Observation) (replies : List Reply) → IsAsking asking →
-    Awaits asking.seen asking.timeline node a → slice_get asking.seen.entries asking.place ≡ Some e → IsBefore a e →
+    Awaits asking.seen asking.timeline node a → slice_get asking.seen.entries asking.index ≡ Some e → IsBefore a e →
     AreAsked asking node replies replies
 asked_not_begun asking node a e replies asks awaits at before = record {
   more = no_more replies;
@@ -507,7 +507,7 @@ asked_waits asking node replies asks went = record {
 -- the reply that it gets at a node
 asked_gets : (asking : Asking) (node : Node) (did : CallTransition) (a : Observation) → IsAsking asking →
     IsReachedBeside asking node → Awaits asking.seen asking.timeline node a →
-    ((e : Observation) → slice_get asking.seen.entries asking.place ≡ Some e → ¬ IsBefore a e) →
+    ((e : Observation) → slice_get asking.seen.entries asking.index ≡ Some e → ¬ IsBefore a e) →
     WentBefore asking node (Some did) → Gets asking did.reply
 asked_gets asking node did a asks is awaits begun went = record {
   entry = asks.at.entry;
@@ -516,7 +516,7 @@ asked_gets asking node did a asks is awaits begun went = record {
     returns = asking.timeline.returns.items;
     are = asks.timeline.are;
     once = asks.timeline.once;
-    reached = configuration_of asking.seen (Some asking.place) asking.timeline.returns.items node is.reached;
+    reached = configuration_of asking.seen (Some asking.index) asking.timeline.returns.items node is.reached;
     still = is.still;
     awaits = record {
       first = slice_index asking.timeline.returns.items node.past;
@@ -527,12 +527,12 @@ asked_gets asking node did a asks is awaits begun went = record {
       begun = begun asks.at.entry asks.at.is_entry;
     };
     next = after_call asking.seen.limits is.reached.state (asks.at.entry.call, did.reply);
-    goes = (subst (λ (g : ObservedHistory). HasGone g asking.place y node.writer is.reached.state (Some did))
+    goes = (subst (λ (g : ObservedHistory). HasGone g asking.index y node.writer is.reached.state (Some did))
         asks.before
         (went y is.reached.state here (subst (λ (g : ObservedHistory). IsStateBy g node.bits node.writer
         is.reached.state)
-        (sym asks.before) (at_same asking.seen (without_return asking.place asks.at.entry asking.seen) node.bits
-        node.writer is.reached.state (same_calls_before asking.seen asking.place asks.at.entry asks.at.is_entry)
+        (sym asks.before) (at_same asking.seen (without_return asking.index asks.at.entry asking.seen) node.bits
+        node.writer is.reached.state (same_calls_before asking.seen asking.index asks.at.entry asks.at.is_entry)
         is.reached.stands.at)))).goes;
   };
 }
@@ -540,18 +540,18 @@ asked_gets asking node did a asks is awaits begun went = record {
     y : Observation
     y = record asks.at.entry { returned = None }
 
-    within : asking.place < length asking.seen.entries
-    within = slice_get_within asking.seen.entries asking.place asks.at.entry asks.at.is_entry
+    within : asking.index < length asking.seen.entries
+    within = slice_get_within asking.seen.entries asking.index asks.at.entry asks.at.is_entry
 
-    here : slice_get asking.before.entries asking.place ≡ Some y
-    here = ap (λ (g : ObservedHistory). slice_get g.entries asking.place) asks.before ∙
-        slice_get-get_or (set asking.seen.entries asking.place y) asking.place y
-        (omega (arith, within, length-set asking.seen.entries asking.place y)) ∙
-        ap (λ (o : Observation). Some o) (get_or-set_same asking.seen.entries asking.place y y within)
+    here : slice_get asking.before.entries asking.index ≡ Some y
+    here = ap (λ (g : ObservedHistory). slice_get g.entries asking.index) asks.before ∙
+        slice_get-get_or (set asking.seen.entries asking.index y) asking.index y
+        (omega (arith, within, length-set asking.seen.entries asking.index y)) ∙
+        ap (λ (o : Observation). Some o) (get_or-set_same asking.seen.entries asking.index y y within)
 
 pub asked_replies : (asking : Asking) (node : Node) (did : CallTransition) (a : Observation) (old new : List Reply) →
     IsAsking asking → IsReachedBeside asking node → Awaits asking.seen asking.timeline node a →
-    ((e : Observation) → slice_get asking.seen.entries asking.place ≡ Some e → ¬ IsBefore a e) →
+    ((e : Observation) → slice_get asking.seen.entries asking.index ≡ Some e → ¬ IsBefore a e) →
     WentBefore asking node (Some did) → Adds old did.reply new → AreAsked asking node old new
 asked_replies asking node did a old new asks is awaits begun went adds = record {
   more = adds.more;
@@ -567,34 +567,34 @@ asked_replies asking node did a old new asks is awaits begun went adds = record 
 -- the entry that is asked, as it is read, and with its call under way
 pub asked_read : (asking : Asking) (read : List Observation) (d : Observation) → IsAsking asking →
     read ≡ asking.seen.entries →
-    slice_get asking.seen.entries asking.place ≡ Some (get_or read asking.place d)
+    slice_get asking.seen.entries asking.index ≡ Some (get_or read asking.index d)
 asked_read asking read d asks same = asks.at.is_entry ∙ ap (λ (o : Observation). Some o)
-    (sym (get_or_from_slice_get asking.seen.entries asking.place asks.at.entry d asks.at.is_entry)) ∙
-    ap (λ (es : List Observation). Some (get_or es asking.place d)) (sym same)
+    (sym (get_or_from_slice_get asking.seen.entries asking.index asks.at.entry d asks.at.is_entry)) ∙
+    ap (λ (es : List Observation). Some (get_or es asking.index d)) (sym same)
 
-pub asked_inside : (asking : Asking) → IsAsking asking → asking.place < length asking.before.entries
+pub asked_inside : (asking : Asking) → IsAsking asking → asking.index < length asking.before.entries
 asked_inside asking asks = omega (
   arith,
-  slice_get_within asking.seen.entries asking.place asks.at.entry asks.at.is_entry,
+  slice_get_within asking.seen.entries asking.index asks.at.entry asks.at.is_entry,
   ap (λ (g : ObservedHistory). length g.entries) asks.before,
-  length-set asking.seen.entries asking.place (record asks.at.entry { returned = None }),
+  length-set asking.seen.entries asking.index (record asks.at.entry { returned = None }),
 )
 
 pub asked_suits : (asking : Asking) → IsAsking asking → (e : Observation) →
-    slice_get asking.before.entries asking.place ≡ Some e → IsTrue (call_suits asking.before.width e.call)
+    slice_get asking.before.entries asking.index ≡ Some e → IsTrue (call_suits asking.before.width e.call)
 asked_suits asking asks e at = subst (λ (g : ObservedHistory). IsTrue (call_suits g.width e.call)) (sym asks.before)
     (subst (λ (o : Observation). IsTrue (call_suits asking.seen.width o.call)) same
-    (at_place (λ (o : Observation). IsTrue (call_suits asking.seen.width o.call)) asking.seen.entries asking.place
+    (at_index (λ (o : Observation). IsTrue (call_suits asking.seen.width o.call)) asking.seen.entries asking.index
     asks.at.entry asks.observed.suit asks.at.is_entry))
   where
     y : Observation
     y = record asks.at.entry { returned = None }
 
-    within : asking.place < length asking.seen.entries
-    within = slice_get_within asking.seen.entries asking.place asks.at.entry asks.at.is_entry
+    within : asking.index < length asking.seen.entries
+    within = slice_get_within asking.seen.entries asking.index asks.at.entry asks.at.is_entry
 
     same : y ≡ e
-    same = same_Some y e (sym (slice_get-get_or (set asking.seen.entries asking.place y) asking.place y
-        (omega (arith, within, length-set asking.seen.entries asking.place y)) ∙
-        ap (λ (o : Observation). Some o) (get_or-set_same asking.seen.entries asking.place y y within)) ∙
-        ap (λ (g : ObservedHistory). slice_get g.entries asking.place) (sym asks.before) ∙ at)
+    same = same_Some y e (sym (slice_get-get_or (set asking.seen.entries asking.index y) asking.index y
+        (omega (arith, within, length-set asking.seen.entries asking.index y)) ∙
+        ap (λ (o : Observation). Some o) (get_or-set_same asking.seen.entries asking.index y y within)) ∙
+        ap (λ (g : ObservedHistory). slice_get g.entries asking.index) (sym asks.before) ∙ at)

@@ -51,7 +51,7 @@ before_return Goes entries i returns s taken rest has by = record {
   runs = by.runs;
 }
 
--- one entry stands at a place
+-- one entry stands at an index
 some_inj : {X : Type 0} (x y : X) → Some x ≡ Some y → x ≡ y
 some_inj x y e = cc
 

@@ -112,7 +112,7 @@ as_many h asked returns [] each = refl
 as_many h asked returns (v ∷ nodes) each = ap suc (as_many h asked returns nodes
     (λ w has. each w (contains_rest v nodes w has)))
 
--- at each place stands that of the node there
+-- at each index stands that of the node there
 record IsOf (h : ObservedHistory) (asked : Option ℕ) (returns : List ℕ) (v : Node) (c : Configuration h asked returns)
     : Type 0 where
   pub reached : IsReached h asked returns v

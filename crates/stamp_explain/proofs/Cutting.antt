@@ -40,7 +40,7 @@ less_before a b e k less lesser before = by e.returned refl before
     by (Some r) at before = subst (λ (o : Option Returned). MatchOption o ⊥ (λ (q : Returned). q.last < b.first))
         (sym (less.returned r at)) (subst (λ (n : ℕ). r.last < n) lesser.first before)
 
--- lists whose elements are related, place by place
+-- lists whose elements are related, pair by pair
 there : (R : Observation → Observation → Type 0) (es ks : List Observation) (i : ℕ) (e : Observation) →
     AllZip R es ks → slice_get es i ≡ Some e → (k : Observation) × ((slice_get ks i ≡ Some k) × R e k)
 there R [] ks i e all at = absurd (none_is (sym at))

@@ -23,7 +23,7 @@ use Rattle.stamp_explain.proofs.Counting.{IsFor}
 use Rattle.stamp_explain.proofs.Exploring.{opening_stands, opening_way}
 use Rattle.stamp_explain.proofs.GoingOn.{read_both, at_contains, same_goes_on}
 
--- each node stands for the configuration at its place
+-- each node stands for the configuration of its index
 pub record AreFor (h : ObservedHistory) (returns : List ℕ) (nodes : List Node)
     (cs : List (Configuration h None returns)) :
     Type 0 where

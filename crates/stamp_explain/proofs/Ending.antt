@@ -13,7 +13,7 @@ use Rattle.std.proofs.lemmas.List.{length-map}
 use Rattle.std.proofs.lemmas.List.Elements.{All-nil, All-cons, All-weaker}
 use Rattle.std.proofs.lemmas.List.Sorted.{Contains-permutation, IsPermutation-sym}
 use Rattle.stamp_explain.specs.declared.observed.Observation.{Observation}
-use Rattle.stamp_explain.specs.TimelineKeys.{AreKeys, AreEnds, IsSooner, EndsAt, places_of}
+use Rattle.stamp_explain.specs.TimelineKeys.{AreKeys, AreEnds, IsSooner, EndsAt, key_indices}
 use Rattle.stamp_explain.proofs.Lists.{pairs_none, pairs_cons}
 use Rattle.stamp_explain.proofs.Keyed.{permuted_once}
 
@@ -99,10 +99,10 @@ sorted_rise xs sorted i j d le lt = by (which i j le)
     by (inl less) = no_less (get_or xs i d) (get_or xs j d) (sorted_pairs xs sorted i j d less lt)
     by (inr same) = omega (arith, ap (λ (n : ℕ). (get_or xs n d).0) same)
 
-get_place : (xs : List (ℕ × ℕ)) (k : ℕ) (d : ℕ × ℕ) → get_or (places_of xs) k d.1 ≡ (get_or xs k d).1
-get_place [] k d = refl
-get_place (x ∷ xs) zero d = refl
-get_place (x ∷ xs) (suc k) d = get_place xs k d
+get_index : (xs : List (ℕ × ℕ)) (k : ℕ) (d : ℕ × ℕ) → get_or (key_indices xs) k d.1 ≡ (get_or xs k d).1
+get_index [] k d = refl
+get_index (x ∷ xs) zero d = refl
+get_index (x ∷ xs) (suc k) d = get_index xs k d
 
 strictly : (p q : ℕ × ℕ) → NotAfter p q → p.1 ≢ q.1 → IsSooner p q
 unfolding NotAfter
@@ -130,4 +130,4 @@ sorted_ends entries keys ends are moved sorted = record {
     apart : (i j : ℕ) (d : ℕ × ℕ) → i < j → j < length ends → (get_or ends i d).1 ≢ (get_or ends j d).1
     apart i j d lt inside same = permuted_once keys ends moved are.once i j d.1 lt
         (omega (arith, inside, length-map {B = ℕ} ends (λ (p : ℕ × ℕ). p.1)))
-        (get_place ends i d ∙ same ∙ sym (get_place ends j d))
+        (get_index ends i d ∙ same ∙ sym (get_index ends j d))

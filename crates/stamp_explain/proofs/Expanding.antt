@@ -31,15 +31,15 @@ use Rattle.stamp_explain.specs.Expand.{Takes}
 use Rattle.stamp_explain.proofs.Finding.{no_later, has_returned, not_before_itself}
 use Rattle.stamp_explain.proofs.Standing.{AreOrderly, taken_by_bit, taken_more}
 
--- what holds of each holds of the one at a place
-pub at_place : (P : Observation → Type 0) (es : List Observation) (i : ℕ) (e : Observation) → All P es →
+-- what holds of each holds of the one at an index
+pub at_index : (P : Observation → Type 0) (es : List Observation) (i : ℕ) (e : Observation) → All P es →
     slice_get es i ≡ Some e → P e
-at_place P es i e all at = subst P (get_or_from_slice_get es i e e at) (all i e (slice_get_within es i e at))
+at_index P es i e all at = subst P (get_or_from_slice_get es i e e at) (all i e (slice_get_within es i e at))
 
 pub orderly : (h : ObservedHistory) → IsObserved h → AreOrderly h.entries
 orderly h observed = record {
-  interval = λ i e at. at_place IsInterval h.entries i e observed.intervals at;
-  thread = λ i e at. at_place (λ (o : Observation). o.thread < 64) h.entries i e observed.threads at;
+  interval = λ i e at. at_index IsInterval h.entries i e observed.intervals at;
+  thread = λ i e at. at_index (λ (o : Observation). o.thread < 64) h.entries i e observed.threads at;
   apart = λ i j e f at_i at_j other same. which i j e f at_i at_j (sides i j other) same;
 }
   where
@@ -177,7 +177,7 @@ one_reply limits events content call p q is also = by (is_lock_call call) is als
     by true is also = one_of_lock (transition limits events call) p q is also
     by false is also = one_of_record content call p q is also
 
--- the entry that is read at a place
+-- the entry that is read at an index
 pub entry_is : (es read : List Observation) (i : ℕ) (e d : Observation) → slice_get es i ≡ Some e → read ≡ es →
     e ≡ get_or read i d
 entry_is es read i e d at same = sym (ap (λ (xs : List Observation). get_or xs i d) same ∙

@@ -25,7 +25,7 @@ use Rattle.stamp_explain.specs.Configuration.{Reaches}
 use Rattle.stamp_explain.specs.Configuration.Reaches.{begins}
 use Rattle.stamp_explain.specs.Node.{AreTaken, IsFirstNode, StandsFor, IsReached}
 use Rattle.stamp_explain.specs.Store.{Keeps}
-use Rattle.stamp_explain.specs.Expand.{Hope, GoesOn, Suffice, AddsUnseen, IsPlaced, nodes_of}
+use Rattle.stamp_explain.specs.Expand.{Hope, GoesOn, Suffice, AddsUnseen, IsIndexed, nodes_of}
 use Rattle.stamp_explain.proofs.Lists.{none_in_empty, contains_cases, contains_first, contains_rest}
 use Rattle.stamp_explain.proofs.Finding.{runs_legal, legal_runs}
 use Rattle.stamp_explain.proofs.Searching.{Waits, Follows, LosesNothing, node_kept, none_left}
@@ -63,7 +63,7 @@ explained_by h returns are explained =
       runs = runs_legal h.limits [] (zeros h.width) (history_of explained.order) by.legal;
     }
 
--- so many nodes were looked at, and the others of the store wait at these places
+-- so many nodes were looked at, and the others of the store, which have these indices, wait
 pub record Explores (looked : ℕ) (store : Store) (waiting : List ℕ) : Type 0 where
   pub keeps : Keeps store
   pub inside : All (λ (p : ℕ). p < length store.nodes.items) waiting
@@ -71,7 +71,7 @@ pub record Explores (looked : ℕ) (store : Store) (waiting : List ℕ) : Type 0
 
 -- nothing of what can be completed from the beginning is lost
 pub record Searches (h : ObservedHistory) (returns : List ℕ) (store : Store) (waiting : List ℕ) : Type 0 where
-  pub loses : LosesNothing (Hope h returns) (Contains store.nodes.items) (IsPlaced store.nodes.items waiting)
+  pub loses : LosesNothing (Hope h returns) (Contains store.nodes.items) (IsIndexed store.nodes.items waiting)
   pub first : Node
   pub is_first : IsFirstNode h first
   pub at_first : slice_get store.nodes.items 0 ≡ Some first
@@ -176,8 +176,8 @@ searches_first h returns old new waiting next empty is adds = record {
     kept = λ u n seen hope. record {
       node = u;
       moves = n;
-      waiting = subst (λ (ps : List ℕ). IsPlaced new.nodes.items ps u) (sym adds.to_do)
-          (adds.placed u (subst (λ (ns : List Node). Contains ns u)
+      waiting = subst (λ (ps : List ℕ). IsIndexed new.nodes.items ps u) (sym adds.to_do)
+          (adds.indexed u (subst (λ (ns : List Node). Contains ns u)
           (first_nodes old new waiting next empty adds) seen));
       no_more = omega arith;
       hope = hope;
@@ -201,12 +201,12 @@ abbrev Comes : List Next → Node → Type 0
 Comes nexts w = (x : Next) × (Contains nexts x × (x.node ≡ w))
 
 pub explores_more : (looked : ℕ) (old new : Store) (before popped after : List ℕ) (nexts : List Next)
-    (place : ℕ) → Explores looked old before → before ≡ popped ++ place ∷ [] →
-    AddsUnseen old new place popped after nexts → Explores (looked + 1) new after
-explores_more looked old new before popped after nexts place is split adds = record {
+    (index : ℕ) → Explores looked old before → before ≡ popped ++ index ∷ [] →
+    AddsUnseen old new index popped after nexts → Explores (looked + 1) new after
+explores_more looked old new before popped after nexts index is split adds = record {
   keeps = adds.keeps;
   inside = subst (All (λ (p : ℕ). p < length new.nodes.items)) (sym adds.to_do)
-      (All-append (λ (p : ℕ). p < length new.nodes.items) popped adds.places
+      (All-append (λ (p : ℕ). p < length new.nodes.items) popped adds.indices
       (All-weaker (Contains popped) (λ (p : ℕ). p < length new.nodes.items)
       (λ p has. omega (arith, longer, popped_less p has)) popped (All-contains_itself popped)) adds.inside);
   count = omega (
@@ -216,8 +216,8 @@ explores_more looked old new before popped after nexts place is split adds = rec
     adds.many,
     ap (λ (ps : List ℕ). length ps) adds.to_do,
     ap (λ (ps : List ℕ). length ps) split,
-    length-append popped adds.places,
-    length-append popped (place ∷ []),
+    length-append popped adds.indices,
+    length-append popped (index ∷ []),
   );
 }
   where
@@ -231,13 +231,13 @@ explores_more looked old new before popped after nexts place is split adds = rec
 
     popped_less : (p : ℕ) → Contains popped p → p < length old.nodes.items
     popped_less p has = All-contains (λ (q : ℕ). q < length old.nodes.items) before p is.inside
-        (subst (λ (ps : List ℕ). Contains ps p) (sym split) (Contains-append_left popped (place ∷ []) p has))
+        (subst (λ (ps : List ℕ). Contains ps p) (sym split) (Contains-append_left popped (index ∷ []) p has))
 
 pub searches_more : (h : ObservedHistory) (returns : List ℕ) (old new : Store) (before popped after : List ℕ)
-    (nexts : List Next) (place : ℕ) (v : Node) → Searches h returns old before → before ≡ popped ++ place ∷ [] →
-    slice_get old.nodes.items place ≡ Some v → Suffice h returns v nexts →
-    AddsUnseen old new place popped after nexts → Searches h returns new after
-searches_more h returns old new before popped after nexts place v is split at suffice adds = record {
+    (nexts : List Next) (index : ℕ) (v : Node) → Searches h returns old before → before ≡ popped ++ index ∷ [] →
+    slice_get old.nodes.items index ≡ Some v → Suffice h returns v nexts →
+    AddsUnseen old new index popped after nexts → Searches h returns new after
+searches_more h returns old new before popped after nexts index v is split at suffice adds = record {
   loses = record {
     kept = λ u n seen hope. turned (kept.kept u n
         (Contains-append_cases old.nodes.items (nodes_of adds.added) u
@@ -252,21 +252,21 @@ searches_more h returns old new before popped after nexts place v is split at su
     more k w here = ap (λ (ns : List Node). slice_get ns k) adds.nodes ∙
         read_left old.nodes.items (nodes_of adds.added) k w here
 
-    either : (w : Node) → IsPlaced old.nodes.items before w → (w ≡ v) ⊎ IsPlaced old.nodes.items popped w
-    either w placed = which (Contains-push_cases popped place placed.place
-        (subst (λ (ps : List ℕ). Contains ps placed.place) split placed.among))
+    either : (w : Node) → IsIndexed old.nodes.items before w → (w ≡ v) ⊎ IsIndexed old.nodes.items popped w
+    either w indexed = which (Contains-push_cases popped index indexed.index
+        (subst (λ (ps : List ℕ). Contains ps indexed.index) split indexed.among))
       where
-        which : Contains popped placed.place ⊎ (place ≡ placed.place) →
-            (w ≡ v) ⊎ IsPlaced old.nodes.items popped w
-        which (inl has) = inr (record { place = placed.place; among = has; is_node = placed.is_node })
-        which (inr same) = inl (same_Some w v (sym placed.is_node ∙
+        which : Contains popped indexed.index ⊎ (index ≡ indexed.index) →
+            (w ≡ v) ⊎ IsIndexed old.nodes.items popped w
+        which (inl has) = inr (record { index = indexed.index; among = has; is_node = indexed.is_node })
+        which (inr same) = inl (same_Some w v (sym indexed.is_node ∙
             ap (λ (p : ℕ). slice_get old.nodes.items p) (sym same) ∙ at))
 
     had : LosesNothing (Hope h returns) (Contains old.nodes.items) (λ (w : Node). (w ≡ v) ⊎
-        IsPlaced old.nodes.items popped w)
+        IsIndexed old.nodes.items popped w)
     had = record {
       kept = λ u n seen hope.
-          let w : Waits (Hope h returns) (IsPlaced old.nodes.items before) n = is.loses.kept u n seen hope in
+          let w : Waits (Hope h returns) (IsIndexed old.nodes.items before) n = is.loses.kept u n seen hope in
           record {
             node = w.node;
             moves = w.moves;
@@ -294,29 +294,29 @@ searches_more h returns old new before popped after nexts place v is split at su
 
     kept : LosesNothing (Hope h returns) (λ (w : Node). Contains old.nodes.items w ⊎
         Contains (nodes_of adds.added) w) (λ (w : Node). Contains (nodes_of adds.added) w ⊎
-        IsPlaced old.nodes.items popped w)
-    kept = node_kept (Hope h returns) (Contains old.nodes.items) (IsPlaced old.nodes.items popped) (Comes nexts)
+        IsIndexed old.nodes.items popped w)
+    kept = node_kept (Hope h returns) (Contains old.nodes.items) (IsIndexed old.nodes.items popped) (Comes nexts)
         (Contains (nodes_of adds.added)) v had follows known
 
-    back : (w : Node) → Contains (nodes_of adds.added) w ⊎ IsPlaced old.nodes.items popped w →
-        IsPlaced new.nodes.items after w
+    back : (w : Node) → Contains (nodes_of adds.added) w ⊎ IsIndexed old.nodes.items popped w →
+        IsIndexed new.nodes.items after w
     back w (inl has) =
-        let placed : IsPlaced new.nodes.items adds.places w = adds.placed w has in
+        let indexed : IsIndexed new.nodes.items adds.indices w = adds.indexed w has in
         record {
-          place = placed.place;
-          among = subst (λ (ps : List ℕ). Contains ps placed.place) (sym adds.to_do)
-              (Contains-append_right popped adds.places placed.place placed.among);
-          is_node = placed.is_node;
+          index = indexed.index;
+          among = subst (λ (ps : List ℕ). Contains ps indexed.index) (sym adds.to_do)
+              (Contains-append_right popped adds.indices indexed.index indexed.among);
+          is_node = indexed.is_node;
         }
-    back w (inr placed) = record {
-      place = placed.place;
-      among = subst (λ (ps : List ℕ). Contains ps placed.place) (sym adds.to_do)
-          (Contains-append_left popped adds.places placed.place placed.among);
-      is_node = more placed.place w placed.is_node;
+    back w (inr indexed) = record {
+      index = indexed.index;
+      among = subst (λ (ps : List ℕ). Contains ps indexed.index) (sym adds.to_do)
+          (Contains-append_left popped adds.indices indexed.index indexed.among);
+      is_node = more indexed.index w indexed.is_node;
     }
 
     turned : {n : ℕ} → Waits (Hope h returns) (λ (w : Node). Contains (nodes_of adds.added) w ⊎
-        IsPlaced old.nodes.items popped w) n → Waits (Hope h returns) (IsPlaced new.nodes.items after) n
+        IsIndexed old.nodes.items popped w) n → Waits (Hope h returns) (IsIndexed new.nodes.items after) n
     turned w = record {
       node = w.node;
       moves = w.moves;
@@ -330,8 +330,8 @@ searches_more h returns old new before popped after nexts place v is split at su
 pub found_nothing : (h : ObservedHistory) (returns : List ℕ) (store : Store) (waiting : List ℕ) →
     AreReturns h.entries returns → Searches h returns store waiting → waiting ≡ [] → ¬ IsExplained h
 found_nothing h returns store waiting are is none explained =
-    none_left (Hope h returns) (Contains store.nodes.items) (IsPlaced store.nodes.items waiting) is.loses
-    (λ w placed. none_in_empty placed.place (subst (λ (ps : List ℕ). Contains ps placed.place) none placed.among))
+    none_left (Hope h returns) (Contains store.nodes.items) (IsIndexed store.nodes.items waiting) is.loses
+    (λ w indexed. none_in_empty indexed.index (subst (λ (ps : List ℕ). Contains ps indexed.index) none indexed.among))
     is.first (length (drop is.first.past returns) + length explained.order)
     (contains_at store.nodes.items 0 is.first is.at_first)
     (record {
@@ -352,19 +352,19 @@ is_zero n is = grind (arith, nat_tests)
 pub is_more : (n : ℕ) → false ≡ (n == 0) → 1 ≤ n
 is_more n is = grind (arith, nat_tests)
 
--- what is popped is the place of a node
-pub popped_inside : (looked : ℕ) (store : Store) (before popped : List ℕ) (place : ℕ) → Explores looked store before →
-    before ≡ popped ++ place ∷ [] → place < length store.nodes.items
-popped_inside looked store before popped place is split =
-    All-contains (λ (p : ℕ). p < length store.nodes.items) before place is.inside
-    (subst (λ (ps : List ℕ). Contains ps place) (sym split) (Contains-push popped place))
+-- what is popped is the index of a node
+pub popped_inside : (looked : ℕ) (store : Store) (before popped : List ℕ) (index : ℕ) → Explores looked store before →
+    before ≡ popped ++ index ∷ [] → index < length store.nodes.items
+popped_inside looked store before popped index is split =
+    All-contains (λ (p : ℕ). p < length store.nodes.items) before index is.inside
+    (subst (λ (ps : List ℕ). Contains ps index) (sym split) (Contains-push popped index))
 
-pub popped_node : (looked : ℕ) (store : Store) (before popped : List ℕ) (place : ℕ) (v : Node) →
-    Explores looked store before → before ≡ popped ++ place ∷ [] → v ≡ get_or store.nodes.items place v →
-    slice_get store.nodes.items place ≡ Some v
-popped_node looked store before popped place v is split read =
-    slice_get_read store.nodes.items (length store.nodes.items) place v refl
-    (popped_inside looked store before popped place is split) read
+pub popped_node : (looked : ℕ) (store : Store) (before popped : List ℕ) (index : ℕ) (v : Node) →
+    Explores looked store before → before ≡ popped ++ index ∷ [] → v ≡ get_or store.nodes.items index v →
+    slice_get store.nodes.items index ≡ Some v
+popped_node looked store before popped index v is split read =
+    slice_get_read store.nodes.items (length store.nodes.items) index v refl
+    (popped_inside looked store before popped index is split) read
 
 pub nil_of_length : (xs : List ℕ) → length xs ≡ 0 → xs ≡ []
 nil_of_length [] h = refl

@@ -193,13 +193,13 @@ deepened_more h returns store waiting expanded most awaited is enough = record {
     in_looked : (k : ℕ) (d : Configuration h None returns) → k ≤ most + 1 → MovesFromOne h returns cs k d →
         MovesFromOne h returns (take (most + 1) cs) k d
     in_looked k d le one = record {
-      place = one.place;
+      index = one.index;
       before = one.before;
       from = one.from;
-      is_from = slice_get-get_or (take (most + 1) cs) one.place one.from (omega (arith, one.before, le, many)) ∙
+      is_from = slice_get-get_or (take (most + 1) cs) one.index one.from (omega (arith, one.before, le, many)) ∙
           ap (λ (c : Configuration h None returns). Some c)
-          (get_or-take (most + 1) cs one.place one.from (omega (arith, one.before, le)) ∙
-          get_or_from_slice_get cs one.place one.from one.from one.is_from);
+          (get_or-take (most + 1) cs one.index one.from (omega (arith, one.before, le)) ∙
+          get_or_from_slice_get cs one.index one.from one.from one.is_from);
       moves = one.moves;
     }
 
@@ -294,27 +294,27 @@ deepened_more h returns store waiting expanded most awaited is enough = record {
 
 -- the last node is read, of so many
 pub record IsLastRead (store : Store) (expanded many : ℕ) (v : Node) : Type 0 where
-  pub place : many - 1 ≡ expanded
+  pub index : many - 1 ≡ expanded
   pub at : slice_get store.nodes.items expanded ≡ Some v
 
 pub last_read : {h : ObservedHistory} {returns : List ℕ} {store : Store} {waiting : List Waiting} {expanded many : ℕ}
     {v : Node} → IsAtLast h returns store waiting expanded → many ≡ vec_len store.nodes →
     v ≡ get_or store.nodes.items (many - 1) v → IsLastRead store expanded many v
 last_read {h} {returns} {store} {waiting} {expanded} {many} {v} is counted read = record {
-  place = place;
-  at = ap (λ (n : ℕ). slice_get store.nodes.items n) (sym place) ∙ slice_get_read store.nodes.items
-      (length store.nodes.items) (many - 1) v refl (omega (arith, place, is.count)) read;
+  index = index;
+  at = ap (λ (n : ℕ). slice_get store.nodes.items n) (sym index) ∙ slice_get_read store.nodes.items
+      (length store.nodes.items) (many - 1) v refl (omega (arith, index, is.count)) read;
 }
   where
-    place : many - 1 ≡ expanded
-    place = omega (arith, counted, store.nodes.ok.0, is.count)
+    index : many - 1 ≡ expanded
+    index = omega (arith, counted, store.nodes.ok.0, is.count)
 
 -- where all returns are past, it ends an order
 pub last_ends : {returns slice : List ℕ} {store : Store} {expanded many : ℕ} {v : Node} →
     IsLastRead store expanded many v → slice ≡ returns → length slice ≤ v.past → IsEnd returns store (many - 1)
 last_ends {returns} {slice} {store} {expanded} {many} {v} read same past = record {
   node = v;
-  is_node = ap (λ (n : ℕ). slice_get store.nodes.items n) read.place ∙ read.at;
+  is_node = ap (λ (n : ℕ). slice_get store.nodes.items n) read.index ∙ read.at;
   all_past = subst (λ (rs : List ℕ). length rs ≤ v.past) same past;
 }
 
@@ -350,7 +350,7 @@ last_expanded {h} {returns} {slice} {store} {waiting} {left} {expanded} {many} {
     expands all leaves =
     let last : v ≡ is.last = same_Some v is.last (sym read.at ∙ is.is_last) in
     subst (λ (ws : List Waiting). Deepens h returns store ws (expanded + 1) None_now)
-    (ap (λ (n : ℕ). waiting ++ waiting_from n nexts) (sym read.place) ∙
+    (ap (λ (n : ℕ). waiting ++ waiting_from n nexts) (sym read.index) ∙
     ap (λ (ns : List Next). waiting ++ waiting_from (many - 1) ns) (sym all) ∙ sym leaves)
     (deepens_expanded h returns store waiting expanded nexts is
     (subst (λ (u : Node). u.past < length returns) last (subst (λ (rs : List ℕ). v.past < length rs) same past))

@@ -1,4 +1,4 @@
--- Numbers beside the places of calls.
+-- Numbers beside the indices of calls.
 use Rattle.std.proofs.Common.{◌≡◌, ◌≢◌, ◌⊎◌, ℕ, ◌+◌, ◌<◌, ◌≤◌, suc, List, [], ◌∷◌}
 use Rattle.std.proofs.Common.{◌++◌, length, get_or, refl, sym, ◌∙◌, ap, subst, inl, inr, arith, Some, None}
 use Rattle.std.specs.Prelude.{slice_get, nat_eq}
@@ -15,7 +15,7 @@ use Rattle.std.proofs.lemmas.Map.Keys.{IsDistinct-IsPermutation}
 use Rattle.std.proofs.lemmas.Map.Made.{AllPairs-from_IsDistinct, IsDistinct-from_AllPairs}
 use Rattle.stamp_explain.specs.declared.observed.Observation.{Observation}
 use Rattle.stamp_explain.specs.declared.observed.Returned.{Returned}
-use Rattle.stamp_explain.specs.TimelineKeys.{AreKeys, AreRising, EndsAt, BeginsAt, places_of}
+use Rattle.stamp_explain.specs.TimelineKeys.{AreKeys, AreRising, EndsAt, BeginsAt, key_indices}
 use Rattle.stamp_explain.proofs.Lists.{none_in_empty, contains_cases, contains_first, contains_rest, pairs_none}
 use Rattle.stamp_explain.proofs.Lists.{pairs_cons}
 
@@ -33,29 +33,29 @@ pub of_all : (Has : Observation → ℕ → Type 0) (entries : List Observation)
 of_all Has entries k keys within all are = subst (λ (n : ℕ). AreKeys Has entries n keys)
     (omega (arith, within, all)) are
 
-map_push : (keys : List (ℕ × ℕ)) (p : ℕ × ℕ) → places_of (keys ++ p ∷ []) ≡ places_of keys ++ p.1 ∷ []
+map_push : (keys : List (ℕ × ℕ)) (p : ℕ × ℕ) → key_indices (keys ++ p ∷ []) ≡ key_indices keys ++ p.1 ∷ []
 map_push [] p = refl
 map_push (q ∷ keys) p = ap (λ (xs : List ℕ). q.1 ∷ xs) (map_push keys p)
 
--- a place of the list is that of a key
-pub key_of_place : (keys : List (ℕ × ℕ)) (i : ℕ) → Contains (places_of keys) i → (n : ℕ) × Contains keys (n, i)
-key_of_place [] i has = absurd (none_in_empty i has)
-key_of_place (p ∷ keys) i has = by (contains_cases p.1 (places_of keys) i has) (key_of_place keys i)
+-- an index of the list is that of a key
+pub key_of_index : (keys : List (ℕ × ℕ)) (i : ℕ) → Contains (key_indices keys) i → (n : ℕ) × Contains keys (n, i)
+key_of_index [] i has = absurd (none_in_empty i has)
+key_of_index (p ∷ keys) i has = by (contains_cases p.1 (key_indices keys) i has) (key_of_index keys i)
   where
-    by : (p.1 ≡ i) ⊎ Contains (places_of keys) i → (Contains (places_of keys) i → (n : ℕ) × Contains keys (n, i)) →
+    by : (p.1 ≡ i) ⊎ Contains (key_indices keys) i → (Contains (key_indices keys) i → (n : ℕ) × Contains keys (n, i)) →
         (n : ℕ) × Contains (p ∷ keys) (n, i)
     by (inl same) later = (p.0, contains_first p keys (p.0, i) (ap (λ (k : ℕ). (p.0, k)) same))
     by (inr rest) later = let found : (n : ℕ) × Contains keys (n, i) = later rest in
         (found.0, contains_rest p keys (found.0, i) found.1)
 
-pub place_of_key : (keys : List (ℕ × ℕ)) (p : ℕ × ℕ) → Contains keys p → Contains (places_of keys) p.1
-place_of_key [] p has = absurd (none_in_empty p has)
-place_of_key (q ∷ keys) p has = by (contains_cases q keys p has) (place_of_key keys p)
+pub index_of_key : (keys : List (ℕ × ℕ)) (p : ℕ × ℕ) → Contains keys p → Contains (key_indices keys) p.1
+index_of_key [] p has = absurd (none_in_empty p has)
+index_of_key (q ∷ keys) p has = by (contains_cases q keys p has) (index_of_key keys p)
   where
-    by : (q ≡ p) ⊎ Contains keys p → (Contains keys p → Contains (places_of keys) p.1) →
-        Contains (q.1 ∷ places_of keys) p.1
-    by (inl same) later = contains_first q.1 (places_of keys) p.1 (ap (λ (r : ℕ × ℕ). r.1) same)
-    by (inr rest) later = contains_rest q.1 (places_of keys) p.1 (later rest)
+    by : (q ≡ p) ⊎ Contains keys p → (Contains keys p → Contains (key_indices keys) p.1) →
+        Contains (q.1 ∷ key_indices keys) p.1
+    by (inl same) later = contains_first q.1 (key_indices keys) p.1 (ap (λ (r : ℕ × ℕ). r.1) same)
+    by (inr rest) later = contains_rest q.1 (key_indices keys) p.1 (later rest)
 
 earlier_or_last : (i k : ℕ) → i < k + 1 → (i < k) ⊎ (i ≡ k)
 earlier_or_last i k lt = grind arith
@@ -68,17 +68,17 @@ one_key Has entries k keys e n are at has only = record {
   whole = λ i f m lt at_i has_m. whole i f m at_i has_m (earlier_or_last i k lt);
   below = λ p found. below p (Contains-push_cases keys (n, k) p found);
   once = subst (AllPairs (λ (i j : ℕ). i ≢ j)) (sym (map_push keys (n, k)))
-      (all_pairs_push (λ (i j : ℕ). i ≢ j) (places_of keys) k are.once
+      (all_pairs_push (λ (i j : ℕ). i ≢ j) (key_indices keys) k are.once
       (λ j d lt same. absurd (omega (
         arith,
         same,
-        place_below (get_or (places_of keys) j d)
-            (Contains-get_or (places_of keys) j d lt),
+        index_below (get_or (key_indices keys) j d)
+            (Contains-get_or (key_indices keys) j d lt),
       ))));
 }
   where
-    place_below : (i : ℕ) → Contains (places_of keys) i → i < k
-    place_below i found = let key : (m : ℕ) × Contains keys (m, i) = key_of_place keys i found in
+    index_below : (i : ℕ) → Contains (key_indices keys) i → i < k
+    index_below i found = let key : (m : ℕ) × Contains keys (m, i) = key_of_index keys i found in
         are.below (key.0, i) key.1
 
     each : (p : ℕ × ℕ) → Contains keys p ⊎ ((n, k) ≡ p) → (f : Observation) ×
@@ -124,13 +124,13 @@ no_key Has entries k keys e are at none = record {
         let both : f ≡ e = same_some f e (sym at_i ∙ ap (λ (j : ℕ). slice_get entries j) same ∙ at) in
         absurd (none m (subst (λ (o : Observation). Has o m) both has_m))
 
--- places stand once each in whatever order
+-- indices stand once each in whatever order
 pub permuted_once : (keys sorted : List (ℕ × ℕ)) → IsPermutation keys sorted →
-    AllPairs (λ (i j : ℕ). i ≢ j) (places_of keys) → AllPairs (λ (i j : ℕ). i ≢ j) (places_of sorted)
-permuted_once keys sorted moved once = AllPairs-from_IsDistinct decides (places_of sorted)
-    (IsDistinct-IsPermutation nat_eq flips (places_of keys) (places_of sorted)
+    AllPairs (λ (i j : ℕ). i ≢ j) (key_indices keys) → AllPairs (λ (i j : ℕ). i ≢ j) (key_indices sorted)
+permuted_once keys sorted moved once = AllPairs-from_IsDistinct decides (key_indices sorted)
+    (IsDistinct-IsPermutation nat_eq flips (key_indices keys) (key_indices sorted)
     (IsPermutation-map (λ (p : ℕ × ℕ). p.1) keys sorted moved)
-    (IsDistinct-from_AllPairs decides (places_of keys) once))
+    (IsDistinct-from_AllPairs decides (key_indices keys) once))
   where
     flips : (x y : ℕ) → nat_eq x y ≡ nat_eq y x
     flips x y = grind (arith, nat_tests)
@@ -139,9 +139,9 @@ permuted_once keys sorted moved once = AllPairs-from_IsDistinct decides (places_
     decides a b = Decides-eqb a b
 
 -- so they do in order
-pub placed_once : (keys sorted : List (ℕ × ℕ)) → AreRising keys sorted →
-    AllPairs (λ (i j : ℕ). i ≢ j) (places_of keys) → AllPairs (λ (i j : ℕ). i ≢ j) (places_of sorted)
-placed_once keys sorted rises once = permuted_once keys sorted rises.moved once
+pub indices_once : (keys sorted : List (ℕ × ℕ)) → AreRising keys sorted →
+    AllPairs (λ (i j : ℕ). i ≢ j) (key_indices keys) → AllPairs (λ (i j : ℕ). i ≢ j) (key_indices sorted)
+indices_once keys sorted rises once = permuted_once keys sorted rises.moved once
 
 -- and each key is among them
 pub rising_has : (keys sorted : List (ℕ × ℕ)) (p : ℕ × ℕ) → AreRising keys sorted → Contains keys p →
@@ -153,17 +153,17 @@ pub rising_from : (keys sorted : List (ℕ × ℕ)) (p : ℕ × ℕ) → AreRisi
 rising_from keys sorted p rises has = Contains-permutation sorted keys p
     (IsPermutation-sym keys sorted rises.moved) has
 
--- what holds of keys in order holds of their places
-pub placed_pairs : (R : ℕ → ℕ → Type 0) (sorted : List (ℕ × ℕ)) →
+-- what holds of keys in order holds of their indices
+pub index_pairs : (R : ℕ → ℕ → Type 0) (sorted : List (ℕ × ℕ)) →
     ((p q : ℕ × ℕ) → Contains sorted p → Contains sorted q → p.0 ≤ q.0 → R p.1 q.1) →
-    IsNonDecreasingBy (λ (p : ℕ × ℕ). p.0) sorted → AllPairs R (places_of sorted)
-placed_pairs R [] step rising = pairs_none R
-placed_pairs R (p ∷ sorted) step rising =
-    pairs_cons R p.1 (places_of sorted)
+    IsNonDecreasingBy (λ (p : ℕ × ℕ). p.0) sorted → AllPairs R (key_indices sorted)
+index_pairs R [] step rising = pairs_none R
+index_pairs R (p ∷ sorted) step rising =
+    pairs_cons R p.1 (key_indices sorted)
     (All-map (R p.1) (λ (q : ℕ × ℕ). q.1) sorted (λ k d lt. step p (get_or sorted k d)
     (contains_first p sorted p refl) (contains_rest p sorted (get_or sorted k d)
     (Contains-get_or sorted k d lt)) (rising 0 (suc k) d (omega arith) (omega arith))))
-    (placed_pairs R sorted (λ q r has_q has_r le. step q r (contains_rest p sorted q has_q)
+    (index_pairs R sorted (λ q r has_q has_r le. step q r (contains_rest p sorted q has_q)
     (contains_rest p sorted r has_r) le) (λ i j d le lt. rising (suc i) (suc j) d (omega arith) (omega arith)))
 
 -- how the loops make them

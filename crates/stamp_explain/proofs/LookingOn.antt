@@ -230,14 +230,14 @@ deepens_on h returns old new waited waiting expanded before all looks = record {
     from_one k d lt (inl at) =
         let one : MovesFromOne h returns was.configurations k d = was.from_one k d lt at in
         record {
-          place = one.place;
+          index = one.index;
           before = one.before;
           from = one.from;
-          is_from = read_left was.configurations (move.next ∷ []) one.place one.from one.is_from;
+          is_from = read_left was.configurations (move.next ∷ []) one.index one.from one.is_from;
           moves = one.moves;
         }
     from_one k d lt (inr (end, same)) = record {
-      place = last.origin.from;
+      index = last.origin.from;
       before = omega (
         arith,
         end,
@@ -275,11 +275,11 @@ deepens_on h returns old new waited waiting expanded before all looks = record {
           leads = link.leads;
         }
     linked k v lt (inr (end, same)) =
-        let place : length old.origins.items ≡ k = omega (arith, end, was.keeps.origins) in
+        let index : length old.origins.items ≡ k = omega (arith, end, was.keeps.origins) in
         record {
           origin = last.origin;
           is_origin = ap (λ (os : List Origin). slice_get os k) looks.stored.origins ∙
-              ap (λ (n : ℕ). slice_get (old.origins.items ++ last.origin ∷ []) n) (sym place) ∙
+              ap (λ (n : ℕ). slice_get (old.origins.items ++ last.origin ∷ []) n) (sym index) ∙
               read_last old.origins.items last.origin;
           sooner = omega (arith, end, slice_get_within old.nodes.items last.origin.from from.node from.is_node);
           node = from.node;
@@ -357,9 +357,9 @@ deepens_on h returns old new waited waiting expanded before all looks = record {
                 at_i) in
                 omega (arith, was.are.many, slice_get_within old.nodes.items w.origin.from led.node led.is_node)
 
-            old_place : (f : Configuration h None returns) (k : ℕ) → k < length was.configurations →
+            old_index : (f : Configuration h None returns) (k : ℕ) → k < length was.configurations →
                 slice_get (was.configurations ++ move.next ∷ []) k ≡ Some f → slice_get was.configurations k ≡ Some f
-            old_place f k less at_k = left (read_push was.configurations move.next f k at_k)
+            old_index f k less at_k = left (read_push was.configurations move.next f k at_k)
               where
                 left : (slice_get was.configurations k ≡ Some f) ⊎ ((k ≡ length was.configurations) ×
                     (move.next ≡ f)) → slice_get was.configurations k ≡ Some f
@@ -374,7 +374,7 @@ deepens_on h returns old new waited waiting expanded before all looks = record {
               height = going.height;
               within = le;
               above = λ i w f le_i at_i from_f. going.above i w f le_i (read_left waiting (last ∷ []) i w at_i)
-                  (old_place f w.origin.from (inside w i at_i) from_f);
+                  (old_index f w.origin.from (inside w i at_i) from_f);
               goes_on = λ n hope. on n (going.goes_on n hope);
               follow = λ q d later at_q. follow q d later (read_push was.configurations move.next d q at_q);
             })

@@ -18,22 +18,22 @@ use Rattle.stamp_explain.specs.Search.{AreReturns, AreInOrder, ReturnsNoLater, S
 use Rattle.stamp_explain.specs.Timeline.{IsOpenAt, AreOpen, IsTimeline}
 use Rattle.stamp_explain.specs.TimelineKeys.{AreKeys, AreRising, AreRanked, AreRanks, AreTimelineKeys, AreOpens}
 use Rattle.stamp_explain.specs.TimelineKeys.{IsKeptOpen, AreKept}
-use Rattle.stamp_explain.specs.TimelineKeys.{IsBegun, BeginsMore, EndsAt, BeginsAt, places_of}
+use Rattle.stamp_explain.specs.TimelineKeys.{IsBegun, BeginsMore, EndsAt, BeginsAt, key_indices}
 use Rattle.stamp_explain.proofs.Lists.{none_in_empty, contains_cases, contains_first, contains_rest}
 use Rattle.stamp_explain.proofs.Ending.{pair_cmp, sorted_rise}
 use Rattle.stamp_explain.proofs.AddingUnseen.{read_last}
-use Rattle.stamp_explain.proofs.Keyed.{placed_once, rising_has, rising_from, placed_pairs, key_of_place, place_of_key}
+use Rattle.stamp_explain.proofs.Keyed.{indices_once, rising_has, rising_from, index_pairs, key_of_index, index_of_key}
 
 -- the returned calls in the order of their returns
 pub returns_in_order : (h : ObservedHistory) (keys sorted : List (ℕ × ℕ)) →
     AreKeys EndsAt h.entries (length h.entries) keys → AreRising keys sorted →
-    AreReturns h.entries (places_of sorted)
+    AreReturns h.entries (key_indices sorted)
 returns_in_order h keys sorted are rises = record {
-  each = λ k d lt. return_at (get_or (places_of sorted) k d) (key_of_place sorted (get_or (places_of sorted) k d)
-      (Contains-get_or (places_of sorted) k d lt));
-  whole = λ i e at has. place_of_key sorted (has.0.last, i) (rising_has keys sorted (has.0.last, i) rises
+  each = λ k d lt. return_at (get_or (key_indices sorted) k d) (key_of_index sorted (get_or (key_indices sorted) k d)
+      (Contains-get_or (key_indices sorted) k d lt));
+  whole = λ i e at has. index_of_key sorted (has.0.last, i) (rising_has keys sorted (has.0.last, i) rises
       (are.whole i e has.0.last (slice_get_within h.entries i e at) at (has.0, (has.1, refl))));
-  in_order = placed_pairs (AreInOrder h.entries) sorted (λ p q has_p has_q le a b at_a at_b. later p q le a b
+  in_order = index_pairs (AreInOrder h.entries) sorted (λ p q has_p has_q le a b at_a at_b. later p q le a b
       (ends p has_p) (ends q has_q) at_a at_b) rises.rising;
 }
   where
@@ -69,12 +69,12 @@ returns_in_order h keys sorted are rises = record {
         (ap (λ (o : Observation). o.returned) (same_Some b f (sym at_b ∙ at_f)) ∙ has_y)
         (omega (arith, le, last_x, last_y))
 
--- places are those of calls
-pub places_inside : (Has : Observation → ℕ → Type 0) (entries : List Observation) (keys sorted : List (ℕ × ℕ)) →
+-- the indices are those of calls
+pub indices_inside : (Has : Observation → ℕ → Type 0) (entries : List Observation) (keys sorted : List (ℕ × ℕ)) →
     AreKeys Has entries (length entries) keys → AreRising keys sorted →
-    All (λ (i : ℕ). i < length entries) (places_of sorted)
-places_inside Has entries keys sorted are rises = λ k d lt. inside (get_or (places_of sorted) k d)
-    (key_of_place sorted (get_or (places_of sorted) k d) (Contains-get_or (places_of sorted) k d lt))
+    All (λ (i : ℕ). i < length entries) (key_indices sorted)
+indices_inside Has entries keys sorted are rises = λ k d lt. inside (get_or (key_indices sorted) k d)
+    (key_of_index sorted (get_or (key_indices sorted) k d) (Contains-get_or (key_indices sorted) k d lt))
   where
     inside : (i : ℕ) → (n : ℕ) × Contains sorted (n, i) → i < length entries
     inside i (n, has) = are.below (n, i) (rising_from keys sorted (n, i) rises has)
@@ -101,16 +101,16 @@ last_is h ends begins ranks k d a is lt at =
     (found.1.1.0, (ap (λ (o : Observation). o.returned) (sym same) ∙ found.1.1.1.0, found.1.1.1.1))
 
 -- the returns, read by their keys
-pub place_read : (ends : List (ℕ × ℕ)) (k : ℕ) (d : ℕ × ℕ) (c : ℕ) → k < length ends →
-    get_or (places_of ends) k c ≡ (get_or ends k d).1
-place_read [] k d c lt = absurd (omega arith)
-place_read (p ∷ ends) zero d c lt = refl
-place_read (p ∷ ends) (suc k) d c lt = place_read ends k d c (omega arith)
+pub key_read : (ends : List (ℕ × ℕ)) (k : ℕ) (d : ℕ × ℕ) (c : ℕ) → k < length ends →
+    get_or (key_indices ends) k c ≡ (get_or ends k d).1
+key_read [] k d c lt = absurd (omega arith)
+key_read (p ∷ ends) zero d c lt = refl
+key_read (p ∷ ends) (suc k) d c lt = key_read ends k d c (omega arith)
 
-pub places_many : (ends : List (ℕ × ℕ)) → length (places_of ends) ≡ length ends
-places_many ends = length-map ends (λ (p : ℕ × ℕ). p.1)
+pub indices_many : (ends : List (ℕ × ℕ)) → length (key_indices ends) ≡ length ends
+indices_many ends = length-map ends (λ (p : ℕ × ℕ). p.1)
 
--- the calls from one place to another have begun by this position
+-- of those in the order of their beginnings, the calls from one index to another have begun by this position
 pub record BeginsTo (begins : List (ℕ × ℕ)) (ranks : List ℕ) (last from to : ℕ) (old new : List (ℕ × ℕ)) : Type 0
   where
     pub further : from ≤ to
@@ -227,7 +227,7 @@ left_is_true past n le = grind (arith, nat_tests)
 pub record OpensAt (h : ObservedHistory) (ends begins : List (ℕ × ℕ)) (ranks : List ℕ) (k to : ℕ)
     (sorted : List (ℕ × ℕ)) : Type 0 where
   pub kept : AreKept h.entries ends begins ranks (k + 1) to sorted
-  pub calls : AreOpen h (places_of ends) k (places_of sorted)
+  pub calls : AreOpen h (key_indices ends) k (key_indices sorted)
 
 pub opens_at : (h : ObservedHistory) (ends begins : List (ℕ × ℕ)) (ranks : List ℕ) (k from to : ℕ) (c : ℕ × ℕ)
     (old more sorted : List (ℕ × ℕ)) → AreTimelineKeys h ends begins ranks → k < length ends →
@@ -242,10 +242,10 @@ opens_at h ends begins ranks k from to c old more sorted is lt kept begins_more 
         (omega (arith, le));
   };
   calls = record {
-    each = λ i has. calls i (key_of_place sorted i has);
+    each = λ i has. calls i (key_of_index sorted i has);
     whole = λ i it. whole i it (begin_of i it);
-    in_order = placed_pairs (λ (i j : ℕ). ¬ StandsBefore (places_of ends) j i) sorted
-        (λ p q has_p has_q le before. no_sooner p q has_p has_q le before.place before.first before.later)
+    in_order = index_pairs (λ (i j : ℕ). ¬ StandsBefore (key_indices ends) j i) sorted
+        (λ p q has_p has_q le before. no_sooner p q has_p has_q le before.index before.first before.later)
         (sorted_rise sorted orders);
   };
 }
@@ -316,10 +316,10 @@ opens_at h ends begins ranks k from to c old more sorted is lt kept begins_more 
         which (inl sooner) = begins_more.before (rank_of j d, (get_or begins j d).1) (kept.whole j d sooner le)
         which (inr after) = begins_more.whole j d after less
 
-    many : length (places_of ends) ≡ length ends
-    many = places_many ends
+    many : length (key_indices ends) ≡ length ends
+    many = indices_many ends
 
-    calls : (i : ℕ) → (n : ℕ) × Contains sorted (n, i) → IsOpenAt h (places_of ends) k i
+    calls : (i : ℕ) → (n : ℕ) × Contains sorted (n, i) → IsOpenAt h (key_indices ends) k i
     calls i (n, has) =
         let found : Contains more (n, i) × (k ≤ n) = from_sorted (n, i) has in
         let it : IsKeptOpen h.entries ends ranks k (n, i) = of_more (n, i) found.0 in
@@ -333,7 +333,7 @@ opens_at h ends begins ranks k from to c old more sorted is lt kept begins_more 
             found.1,
           ));
           begun = λ a at before. not_before a it.entry (last_is h ends begins ranks k c a is lt
-              (ap (λ (x : ℕ). slice_get h.entries x) (sym (place_read ends k c 0 lt)) ∙ at))
+              (ap (λ (x : ℕ). slice_get h.entries x) (sym (key_read ends k c 0 lt)) ∙ at))
               (it.begun k c (omega arith) lt) before;
         }
       where
@@ -348,8 +348,8 @@ opens_at h ends begins ranks k from to c old more sorted is lt kept begins_more 
 
     -- of two calls that are kept the one with the lesser rank returned sooner
     no_sooner : (p q : ℕ × ℕ) → Contains sorted p → Contains sorted q → p.0 ≤ q.0 → (m : ℕ) →
-        Contains (take m (places_of ends)) q.1 → ¬ Contains (take m (places_of ends)) p.1 → ⊥
-    no_sooner p q has_p has_q le m first later = by (which m (length (places_of ends)))
+        Contains (take m (key_indices ends)) q.1 → ¬ Contains (take m (key_indices ends)) p.1 → ⊥
+    no_sooner p q has_p has_q le m first later = by (which m (length (key_indices ends)))
       where
         of_p : IsKeptOpen h.entries ends ranks k p
         of_p = of_more p (from_sorted p has_p).0
@@ -363,8 +363,8 @@ opens_at h ends begins ranks k from to c old more sorted is lt kept begins_more 
         not_less : (a b : ℕ) → ¬ (a < b) → b ≤ a
         not_less a b misses = grind arith
 
-        ranks_differ : (n : ℕ) → n ≤ length (places_of ends) → Contains (take n (places_of ends)) q.1 →
-            ¬ Contains (take n (places_of ends)) p.1 → ⊥
+        ranks_differ : (n : ℕ) → n ≤ length (key_indices ends) → Contains (take n (key_indices ends)) q.1 →
+            ¬ Contains (take n (key_indices ends)) p.1 → ⊥
         ranks_differ n small has misses = absurd (omega (
           arith,
           le,
@@ -375,22 +375,22 @@ opens_at h ends begins ranks k from to c old more sorted is lt kept begins_more 
               (slice_get_within h.entries p.1 of_p.entry of_p.is_entry) small).1 less)),
         ))
 
-        by : (m ≤ length (places_of ends)) ⊎ (length (places_of ends) < m) → ⊥
+        by : (m ≤ length (key_indices ends)) ⊎ (length (key_indices ends) < m) → ⊥
         by (inl small) = ranks_differ m small first later
         by (inr over) =
-            let all : take m (places_of ends) ≡ take (length (places_of ends)) (places_of ends) =
-            take_all m (places_of ends) (omega (arith, over)) ∙
-            sym (take_all (length (places_of ends)) (places_of ends) (omega arith)) in
-            ranks_differ (length (places_of ends)) (omega arith) (subst (λ (xs : List ℕ). Contains xs q.1) all first)
+            let all : take m (key_indices ends) ≡ take (length (key_indices ends)) (key_indices ends) =
+            take_all m (key_indices ends) (omega (arith, over)) ∙
+            sym (take_all (length (key_indices ends)) (key_indices ends) (omega arith)) in
+            ranks_differ (length (key_indices ends)) (omega arith) (subst (λ (xs : List ℕ). Contains xs q.1) all first)
             (λ has. later (subst (λ (xs : List ℕ). Contains xs p.1) (sym all) has))
 
-    begin_of : (i : ℕ) (it : IsOpenAt h (places_of ends) k i) → Contains begins (it.entry.first, i)
+    begin_of : (i : ℕ) (it : IsOpenAt h (key_indices ends) k i) → Contains begins (it.entry.first, i)
     begin_of i it = rising_has is.begin_keys begins (it.entry.first, i) is.begins_rise
         (is.begins_are.whole i it.entry it.entry.first (slice_get_within h.entries i it.entry it.is_entry)
         it.is_entry refl)
 
-    whole : (i : ℕ) (it : IsOpenAt h (places_of ends) k i) → Contains begins (it.entry.first, i) →
-        Contains (places_of sorted) i
+    whole : (i : ℕ) (it : IsOpenAt h (key_indices ends) k i) → Contains begins (it.entry.first, i) →
+        Contains (key_indices sorted) i
     whole i it (j, within, read) = which (cases j to)
       where
         key : ℕ × ℕ
@@ -409,11 +409,11 @@ opens_at h ends begins ranks k from to c old more sorted is lt kept begins_more 
         here : (get_or begins j key).1 ≡ i
         here = ap (λ (p : ℕ × ℕ). p.1) read
 
-        which : (j < to) ⊎ (to ≤ j) → Contains (places_of sorted) i
+        which : (j < to) ⊎ (to ≤ j) → Contains (key_indices sorted) i
         which (inl less) =
             let le : k ≤ rank_of j key = subst (λ (x : ℕ). k ≤ get_or ranks x 0) (sym here) rank in
-            subst (λ (x : ℕ). Contains (places_of sorted) x) here
-            (place_of_key sorted (rank_of j key, (get_or begins j key).1)
+            subst (λ (x : ℕ). Contains (key_indices sorted) x) here
+            (index_of_key sorted (rank_of j key, (get_or begins j key).1)
             (to_sorted (rank_of j key, (get_or begins j key).1) (begun_in j key less le) le))
         which (inr after) =
             let a : (e : Observation) × ((slice_get h.entries (get_or ends k c).1 ≡ Some e) ×
@@ -425,7 +425,7 @@ opens_at h ends begins ranks k from to c old more sorted is lt kept begins_more 
               is.begins_rise.rising to j key after within,
               ap (λ (p : ℕ × ℕ). p.0) read,
             ) in
-            absurd (it.begun a.0 (ap (λ (x : ℕ). slice_get h.entries x) (place_read ends k c 0 lt) ∙ a.1.0)
+            absurd (it.begun a.0 (ap (λ (x : ℕ). slice_get h.entries x) (key_read ends k c 0 lt) ∙ a.1.0)
             (subst (λ (o : Option Returned). MatchOption o ⊥ (λ (x : Returned). x.last < it.entry.first))
             (sym a.1.1.1.0) (omega (arith, less, a.1.1.1.1))))
 
@@ -463,7 +463,7 @@ opens_more h returns opens v k are many calls = record {
 pub all_keys_are : (h : ObservedHistory) (es : List Observation) (end_keys ends begin_keys begins : List (ℕ × ℕ))
     (ranks : List ℕ) → es ≡ h.entries → AreKeys EndsAt es (length es) end_keys → AreRising end_keys ends →
     AreKeys BeginsAt es (length es) begin_keys → AreRising begin_keys begins →
-    AreRanked (length es) (places_of ends) (length (places_of ends)) ranks → AreTimelineKeys h ends begins ranks
+    AreRanked (length es) (key_indices ends) (length (key_indices ends)) ranks → AreTimelineKeys h ends begins ranks
 all_keys_are h es end_keys ends begin_keys begins ranks same ends_are ends_rise begins_are begins_rise ranked =
     record {
       end_keys = end_keys;
@@ -472,7 +472,7 @@ all_keys_are h es end_keys ends begin_keys begins ranks same ends_are ends_rise 
       begin_keys = begin_keys;
       begins_are = subst (λ (xs : List Observation). AreKeys BeginsAt xs (length xs) begin_keys) same begins_are;
       begins_rise = begins_rise;
-      ranked = subst (λ (xs : List Observation). AreRanks xs (places_of ends) ranks) same (record {
+      ranked = subst (λ (xs : List Observation). AreRanks xs (key_indices ends) ranks) same (record {
         each = ranked.each;
         past = λ i k lt le. ranked.known i k lt le;
       });
@@ -481,13 +481,13 @@ all_keys_are h es end_keys ends begin_keys begins ranks same ends_are ends_rise 
 -- and all of it is a timeline
 pub timeline_is_made : (h : ObservedHistory) (timeline : Timeline) (keys ends : List (ℕ × ℕ)) (es : List Observation) →
     es ≡ h.entries → AreKeys EndsAt es (length es) keys → AreRising keys ends →
-    timeline.returns.items ≡ places_of ends → length timeline.opens.items ≡ length ends →
-    AreOpens h (places_of ends) timeline.opens.items → IsTimeline h timeline
+    timeline.returns.items ≡ key_indices ends → length timeline.opens.items ≡ length ends →
+    AreOpens h (key_indices ends) timeline.opens.items → IsTimeline h timeline
 timeline_is_made h timeline keys ends es same are rises returns many opens = record {
   are = subst (AreReturns h.entries) (sym returns) (returns_in_order h keys ends
       (subst (λ (xs : List Observation). AreKeys EndsAt xs (length xs) keys) same are) rises);
-  once = subst (AllPairs (λ (i j : ℕ). i ≢ j)) (sym returns) (placed_once keys ends rises are.once);
-  many = many ∙ sym (places_many ends) ∙ ap (λ (xs : List ℕ). length xs) (sym returns);
+  once = subst (AllPairs (λ (i j : ℕ). i ≢ j)) (sym returns) (indices_once keys ends rises are.once);
+  many = many ∙ sym (indices_many ends) ∙ ap (λ (xs : List ℕ). length xs) (sym returns);
   opens = λ k calls at. subst (λ (xs : List ℕ). AreOpen h xs k calls.items) (sym returns) (opens.each k calls at);
 }
 

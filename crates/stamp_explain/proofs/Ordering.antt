@@ -17,16 +17,16 @@ use Rattle.stamp_explain.proofs.Exploring.{opening_stands, completed_from}
 use Rattle.stamp_explain.proofs.Leading.{EndsFor, Ends, ends_last}
 use Rattle.stamp_explain.proofs.Settling.{follows_past, follows_call, follows_led}
 
--- the calls found so far, last first, complete what the node at this place stands for
+-- the calls found so far, last first, complete what the node of this index stands for
 pub record GoesBack (h : ObservedHistory) (returns : List ℕ) (store : Store) (at : ℕ) (found : List Taken) : Type 0
   where
     pub node : Node
     pub is_node : slice_get store.nodes.items at ≡ Some node
     pub ends : Ends h returns node (reverse found)
 
-pub back_last : (h : ObservedHistory) (returns : List ℕ) (store : Store) (place : ℕ) (found : List Taken) →
-    IsEnd returns store place → found ≡ [] → GoesBack h returns store place found
-back_last h returns store place found end empty = record {
+pub back_last : (h : ObservedHistory) (returns : List ℕ) (store : Store) (index : ℕ) (found : List Taken) →
+    IsEnd returns store index → found ≡ [] → GoesBack h returns store index found
+back_last h returns store index found end empty = record {
   node = end.node;
   is_node = end.is_node;
   ends = subst (λ (xs : List Taken). Ends h returns end.node (reverse xs)) (sym empty)

@@ -86,10 +86,10 @@ alike_apart a b e k alike other apart same = by (apart (sym alike.thread ∙ sam
     by (inl before) = inl (alike_before a b e k alike other before)
     by (inr before) = inr (alike_before b a k e other alike before)
 
--- place by place the entries are alike
-pub place : (es : List Observation) (i : ℕ) (e y : Observation) → slice_get es i ≡ Some e → IsAlike e y → (k : ℕ)
+-- at each index the entries are alike
+pub each_alike : (es : List Observation) (i : ℕ) (e y : Observation) → slice_get es i ≡ Some e → IsAlike e y → (k : ℕ)
     (d : Observation) → IsAlike (get_or es k d) (get_or (set es i y) k d)
-place es i e y at alike k d = by (equal k i)
+each_alike es i e y at alike k d = by (equal k i)
   where
     equal : (a b : ℕ) → (a ≡ b) ⊎ (a ≢ b)
     equal a b = grind arith
@@ -123,7 +123,7 @@ replied_is_observed h i e r reply at returned is = record {
     now k d = get_or (set h.entries i y) k d
 
     alike : (k : ℕ) (d : Observation) → IsAlike (get_or h.entries k d) (get_or (set h.entries i y) k d)
-    alike k d = place h.entries i e y at (alike_answering e r reply returned) k d
+    alike k d = each_alike h.entries i e y at (alike_answering e r reply returned) k d
 
     lower : (k : ℕ) → k < length (set h.entries i y) → k < length h.entries
     lower k lt = subst (λ (n : ℕ). k < n) (length-set h.entries i y) lt

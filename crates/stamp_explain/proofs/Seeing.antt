@@ -27,19 +27,19 @@ use Rattle.stamp_explain.proofs.Lists.{pairs_none, pairs_cons, pairs_head, pairs
 use Rattle.stamp_explain.proofs.Lists.{contains_first, contains_rest}
 use Rattle.stamp_explain.proofs.Completing.{later_of, same_entry}
 use Rattle.stamp_explain.specs.Cut.{cut_entry, cut_entries, cut, begun_by, seen_at, returned_by}
-use Rattle.stamp_explain.specs.Apart.{places_where}
+use Rattle.stamp_explain.specs.Apart.{indices_where}
 use Rattle.stamp_explain.specs.ExplainLaws.{SeenExplainsAsMuch}
 use Rattle.stamp_explain.proofs.Cutting.{pairs_map}
-use Rattle.stamp_explain.proofs.Expanding.{at_place}
+use Rattle.stamp_explain.proofs.Expanding.{at_index}
 
 abbrev is_early : ℕ → Observation → Bool
 is_early last e = not (nat_lt last e.first)
 
 -- where the k-th entry that is kept stands, and how many are kept before one
-pub place_in_whole : (Observation → Bool) → List Observation → ℕ → ℕ
-place_in_whole p [] k = 0
-place_in_whole p (e ∷ es) zero = cond (p e) 0 (suc (place_in_whole p es zero))
-place_in_whole p (e ∷ es) (suc k) = cond (p e) (suc (place_in_whole p es k)) (suc (place_in_whole p es (suc k)))
+pub index_in_whole : (Observation → Bool) → List Observation → ℕ → ℕ
+index_in_whole p [] k = 0
+index_in_whole p (e ∷ es) zero = cond (p e) 0 (suc (index_in_whole p es zero))
+index_in_whole p (e ∷ es) (suc k) = cond (p e) (suc (index_in_whole p es k)) (suc (index_in_whole p es (suc k)))
 
 pub rank_of : (Observation → Bool) → List Observation → ℕ → ℕ
 rank_of p [] i = 0
@@ -54,49 +54,49 @@ pub record IsKeptAt (p : Observation → Bool) (es : List Observation) (k i : �
   pub is_entry : slice_get es i ≡ Some e
   pub is_kept : slice_get (kept p es) k ≡ Some e
   pub passes : p e ≡ true
-  pub place : place_in_whole p es k ≡ i
+  pub index : index_in_whole p es k ≡ i
   pub rank : rank_of p es i ≡ k
 
 kept_here : (p : Observation → Bool) (x : Observation) (es : List Observation) → p x ≡ true →
     IsKeptAt p (x ∷ es) 0 0 x
-unfolding place_in_whole rank_of
+unfolding index_in_whole rank_of
 kept_here p x es early = record {
   is_entry = refl;
   is_kept = ap (λ (b : Bool). slice_get (cond b (x ∷ filter p es) (filter p es)) 0) early;
   passes = early;
-  place = ap (λ (b : Bool). cond b 0 (suc (place_in_whole p es zero))) early;
+  index = ap (λ (b : Bool). cond b 0 (suc (index_in_whole p es zero))) early;
   rank = refl;
 }
 
 kept_after_kept : (p : Observation → Bool) (x : Observation) (es : List Observation) (k i : ℕ) (e : Observation) →
     p x ≡ true → IsKeptAt p es k i e → IsKeptAt p (x ∷ es) (suc k) (suc i) e
-unfolding place_in_whole rank_of
+unfolding index_in_whole rank_of
 kept_after_kept p x es k i e early is = record {
   is_entry = is.is_entry;
   is_kept = ap (λ (b : Bool). slice_get (cond b (x ∷ filter p es) (filter p es)) (suc k))
       early ∙ is.is_kept;
   passes = is.passes;
-  place = ap (λ (b : Bool). cond b (suc (place_in_whole p es k)) (suc (place_in_whole p es (suc k)))) early ∙
-      ap (λ (n : ℕ). suc n) is.place;
+  index = ap (λ (b : Bool). cond b (suc (index_in_whole p es k)) (suc (index_in_whole p es (suc k)))) early ∙
+      ap (λ (n : ℕ). suc n) is.index;
   rank = ap (λ (b : Bool). cond b (suc (rank_of p es i)) (rank_of p es i)) early ∙
       ap (λ (n : ℕ). suc n) is.rank;
 }
 
 kept_after_late : (p : Observation → Bool) (x : Observation) (es : List Observation) (k i : ℕ) (e : Observation) →
     p x ≡ false → IsKeptAt p es k i e → IsKeptAt p (x ∷ es) k (suc i) e
-unfolding place_in_whole rank_of
+unfolding index_in_whole rank_of
 kept_after_late p x es k i e late is = record {
   is_entry = is.is_entry;
   is_kept = ap (λ (b : Bool). slice_get (cond b (x ∷ filter p es) (filter p es)) k) late ∙
       is.is_kept;
   passes = is.passes;
-  place = by k is.place;
+  index = by k is.index;
   rank = ap (λ (b : Bool). cond b (suc (rank_of p es i)) (rank_of p es i)) late ∙ is.rank;
 }
   where
-    by : (m : ℕ) → place_in_whole p es m ≡ i → place_in_whole p (x ∷ es) m ≡ suc i
-    by zero at = ap (λ (b : Bool). cond b 0 (suc (place_in_whole p es zero))) late ∙ ap (λ (n : ℕ). suc n) at
-    by (suc m) at = ap (λ (b : Bool). cond b (suc (place_in_whole p es m)) (suc (place_in_whole p es (suc m)))) late ∙
+    by : (m : ℕ) → index_in_whole p es m ≡ i → index_in_whole p (x ∷ es) m ≡ suc i
+    by zero at = ap (λ (b : Bool). cond b 0 (suc (index_in_whole p es zero))) late ∙ ap (λ (n : ℕ). suc n) at
+    by (suc m) at = ap (λ (b : Bool). cond b (suc (index_in_whole p es m)) (suc (index_in_whole p es (suc m)))) late ∙
         ap (λ (n : ℕ). suc n) at
 
 some_inj : {X : Type 0} (x y : X) → Some x ≡ Some y → x ≡ y
@@ -120,10 +120,10 @@ rank_gives p (x ∷ es) (suc i) e at early = by (p x) refl (rank_gives p es i e 
     by false is found = (found.0, kept_after_late p x es found.0 i e is found.1)
 
 -- and what is kept passes
-pub place_gives : (p : Observation → Bool) (es : List Observation) (k : ℕ) (e : Observation) →
+pub index_gives : (p : Observation → Bool) (es : List Observation) (k : ℕ) (e : Observation) →
     slice_get (kept p es) k ≡ Some e → (i : ℕ) × IsKeptAt p es k i e
-place_gives p [] k e at = absurd (none-some e at)
-place_gives p (x ∷ es) k e at = by (p x) refl k at (λ m here. place_gives p es m e here)
+index_gives p [] k e at = absurd (none-some e at)
+index_gives p (x ∷ es) k e at = by (p x) refl k at (λ m here. index_gives p es m e here)
   where
     by : (b : Bool) → p x ≡ b → (m : ℕ) →
         slice_get (cond b (x ∷ filter p es) (filter p es)) m ≡ Some e →
@@ -139,7 +139,7 @@ place_gives p (x ∷ es) k e at = by (p x) refl k at (λ m here. place_gives p e
     by false is m here later = let found : (i : ℕ) × IsKeptAt p es m i e = later m here in
         (suc found.0, kept_after_late p x es m found.0 e is found.1)
 
--- the same effects, with their entries at other places
+-- the same effects, with their entries at other indices
 pub moved : (ℕ → ℕ) → Effect → Effect
 moved f x = record { index = f x.index; entry = x.entry; reply = x.reply }
 
@@ -161,7 +161,7 @@ contains_map f (x ∷ xs) i has = by (contains_cases x xs i has) (contains_map f
     by (inl same) later = contains_first (f x) (map f xs) (f i) (ap f same)
     by (inr rest) later = contains_rest (f x) (map f xs) (f i) (later rest)
 
--- the entry stands at the new place, from which the old one is known
+-- the entry stands at the new index, from which the old one is known
 record IsMovedTo (ks : List Observation) (f back : ℕ → ℕ) (x : Effect) : Type 0 where
   there : slice_get ks (f x.index) ≡ Some x.entry
   inverse : back (f x.index) ≡ x.index
@@ -235,7 +235,7 @@ abbrev pub HasReturnsOf : ObservedHistory → (Observation → Bool) → List Ef
 HasReturnsOf h p order = (i : ℕ) (e : Observation) → slice_get h.entries i ≡ Some e → HasReturned e → p e ≡ true →
     Contains (indices_of order) i
 
--- an order of the entries that pass alone, at their places among all
+-- an order of the entries that pass alone, at their indices among all
 pub record PartOrder (h : ObservedHistory) (p : Observation → Bool) : Type 0 where
   pub order : List Effect
   pub by : IsPartOf h order
@@ -246,21 +246,21 @@ pub record PartOrder (h : ObservedHistory) (p : Observation → Bool) : Type 0 w
 pub parted : (h : ObservedHistory) (p : Observation → Bool) → PartOrder h p →
     IsExplained (record h { entries = kept p h.entries })
 unfolding WasReturned
-parted h p is = reindexed h (kept p h.entries) (rank_of p h.entries) (place_in_whole p h.entries) is.order is.by
+parted h p is = reindexed h (kept p h.entries) (rank_of p h.entries) (index_in_whole p h.entries) is.order is.by
     (λ k d lt. moves (get_or is.order k d) (is.by.effects k d lt) (is.passes k d lt)) was
   where
     moves : (x : Effect) → IsEffectOf h.entries x → p x.entry ≡ true →
-        IsMovedTo (kept p h.entries) (rank_of p h.entries) (place_in_whole p h.entries) x
+        IsMovedTo (kept p h.entries) (rank_of p h.entries) (index_in_whole p h.entries) x
     moves x effect pass =
         let found : (k : ℕ) × IsKeptAt p h.entries k x.index x.entry =
         rank_gives p h.entries x.index x.entry effect.is_entry pass in
         record {
           there = ap (λ (k : ℕ). slice_get (kept p h.entries) k) found.1.rank ∙ found.1.is_kept;
-          inverse = ap (place_in_whole p h.entries) found.1.rank ∙ found.1.place;
+          inverse = ap (index_in_whole p h.entries) found.1.rank ∙ found.1.index;
         }
 
     was : WasReturned (kept p h.entries) (rank_of p h.entries) is.order
-    was k e at has = let found : (i : ℕ) × IsKeptAt p h.entries k i e = place_gives p h.entries k e at in
+    was k e at has = let found : (i : ℕ) × IsKeptAt p h.entries k i e = index_gives p h.entries k e at in
         (found.0, (found.1.rank, is.returned found.0 e found.1.is_entry has found.1.passes))
 
 -- and the other way round
@@ -276,66 +276,66 @@ restored h p explained = record {
       (λ k d lt. pass (get_or explained.order k d) (explained.by.effects k d lt));
   returned = λ i e at has passes. moved_has f explained.order i
       (let found : (k : ℕ) × IsKeptAt p h.entries k i e = rank_gives p h.entries i e at passes in
-      (found.0, (found.1.place, explained.by.returned found.0 e found.1.is_kept has)));
+      (found.0, (found.1.index, explained.by.returned found.0 e found.1.is_kept has)));
 }
   where
     f : ℕ → ℕ
-    f = place_in_whole p h.entries
+    f = index_in_whole p h.entries
 
     moves : (x : Effect) → IsEffectOf (kept p h.entries) x → IsMovedTo h.entries f (rank_of p h.entries) x
     moves x is =
         let found : (i : ℕ) × IsKeptAt p h.entries x.index i x.entry =
-        place_gives p h.entries x.index x.entry is.is_entry in
+        index_gives p h.entries x.index x.entry is.is_entry in
         record {
-          there = ap (λ (i : ℕ). slice_get h.entries i) found.1.place ∙ found.1.is_entry;
-          inverse = ap (rank_of p h.entries) found.1.place ∙ found.1.rank;
+          there = ap (λ (i : ℕ). slice_get h.entries i) found.1.index ∙ found.1.is_entry;
+          inverse = ap (rank_of p h.entries) found.1.index ∙ found.1.rank;
         }
 
     pass : (x : Effect) → IsEffectOf (kept p h.entries) x → p x.entry ≡ true
-    pass x is = (place_gives p h.entries x.index x.entry is.is_entry).1.passes
+    pass x is = (index_gives p h.entries x.index x.entry is.is_entry).1.passes
 
--- its effects are those of the order of these entries alone, which stand at other places
+-- its effects are those of the order of these entries alone, which stand at other indices
 pub restored_at : (h : ObservedHistory) (p : Observation → Bool)
     (explained : IsExplained (record h { entries = kept p h.entries })) (k : ℕ) (x : Effect) →
     slice_get explained.order k ≡ Some x → slice_get (restored h p explained).order k ≡
-    Some (record { index = place_in_whole p h.entries x.index; entry = x.entry; reply = x.reply })
+    Some (record { index = index_in_whole p h.entries x.index; entry = x.entry; reply = x.reply })
 unfolding restored moved
-restored_at h p explained k x at = slice_get-map (moved (place_in_whole p h.entries)) explained.order k ∙
-    ap (λ (o : Option Effect). option_map (moved (place_in_whole p h.entries)) o) at
+restored_at h p explained k x at = slice_get-map (moved (index_in_whole p h.entries)) explained.order k ∙
+    ap (λ (o : Option Effect). option_map (moved (index_in_whole p h.entries)) o) at
 
 pub restored_many : (h : ObservedHistory) (p : Observation → Bool)
     (explained : IsExplained (record h { entries = kept p h.entries })) →
     length (restored h p explained).order ≡ length explained.order
 unfolding restored
-restored_many h p explained = length-map explained.order (moved (place_in_whole p h.entries))
+restored_many h p explained = length-map explained.order (moved (index_in_whole p h.entries))
 
--- the list of the places has each of them
-pub places_at : (p : Observation → Bool) (n : ℕ) (es : List Observation) (k : ℕ) (e : Observation) →
-    slice_get (kept p es) k ≡ Some e → slice_get (places_where p n es) k ≡ Some (n + place_in_whole p es k)
-unfolding place_in_whole
-places_at p n [] k e at = absurd (none-some e at)
-places_at p n (x ∷ es) k e at = by (p x) refl k at (λ m here. places_at p (n + 1) es m e here)
+-- the list of the indices has each of them
+pub indices_at : (p : Observation → Bool) (n : ℕ) (es : List Observation) (k : ℕ) (e : Observation) →
+    slice_get (kept p es) k ≡ Some e → slice_get (indices_where p n es) k ≡ Some (n + index_in_whole p es k)
+unfolding index_in_whole
+indices_at p n [] k e at = absurd (none-some e at)
+indices_at p n (x ∷ es) k e at = by (p x) refl k at (λ m here. indices_at p (n + 1) es m e here)
   where
     by : (b : Bool) → p x ≡ b → (m : ℕ) → slice_get (cond b (x ∷ filter p es) (filter p es)) m ≡ Some e →
         ((j : ℕ) → slice_get (kept p es) j ≡ Some e →
-        slice_get (places_where p (n + 1) es) j ≡ Some ((n + 1) + place_in_whole p es j)) →
-        slice_get (cond b (n ∷ places_where p (n + 1) es) (places_where p (n + 1) es)) m ≡
-        Some (n + place_in_whole p (x ∷ es) m)
+        slice_get (indices_where p (n + 1) es) j ≡ Some ((n + 1) + index_in_whole p es j)) →
+        slice_get (cond b (n ∷ indices_where p (n + 1) es) (indices_where p (n + 1) es)) m ≡
+        Some (n + index_in_whole p (x ∷ es) m)
     by true is zero here later =
-        let first : place_in_whole p (x ∷ es) zero ≡ 0 = ap (λ (b : Bool). cond b 0 (suc (place_in_whole p es
+        let first : index_in_whole p (x ∷ es) zero ≡ 0 = ap (λ (b : Bool). cond b 0 (suc (index_in_whole p es
         zero))) is in
         ap (λ (i : ℕ). Some i) (omega (arith, first))
     by true is (suc m) here later =
-        let next : place_in_whole p (x ∷ es) (suc m) ≡ suc (place_in_whole p es m) =
-        ap (λ (b : Bool). cond b (suc (place_in_whole p es m)) (suc (place_in_whole p es (suc m)))) is in
+        let next : index_in_whole p (x ∷ es) (suc m) ≡ suc (index_in_whole p es m) =
+        ap (λ (b : Bool). cond b (suc (index_in_whole p es m)) (suc (index_in_whole p es (suc m)))) is in
         later m here ∙ ap (λ (i : ℕ). Some i) (omega (arith, next))
     by false is zero here later =
-        let next : place_in_whole p (x ∷ es) zero ≡ suc (place_in_whole p es zero) =
-        ap (λ (b : Bool). cond b 0 (suc (place_in_whole p es zero))) is in
+        let next : index_in_whole p (x ∷ es) zero ≡ suc (index_in_whole p es zero) =
+        ap (λ (b : Bool). cond b 0 (suc (index_in_whole p es zero))) is in
         later zero here ∙ ap (λ (i : ℕ). Some i) (omega (arith, next))
     by false is (suc m) here later =
-        let next : place_in_whole p (x ∷ es) (suc m) ≡ suc (place_in_whole p es (suc m)) =
-        ap (λ (b : Bool). cond b (suc (place_in_whole p es m)) (suc (place_in_whole p es (suc m)))) is in
+        let next : index_in_whole p (x ∷ es) (suc m) ≡ suc (index_in_whole p es (suc m)) =
+        ap (λ (b : Bool). cond b (suc (index_in_whole p es m)) (suc (index_in_whole p es (suc m)))) is in
         later (suc m) here ∙ ap (λ (i : ℕ). Some i) (omega (arith, next))
 
 -- an order up to the first call that begins later
@@ -592,7 +592,7 @@ leaves_out h last ends explained = parted h (is_early last) (record {
   };
   passes = until_early last explained.order;
   returned = λ i e at has early.
-      let ended : (e.first ≤ last) × (has.0.last ≤ last) = (at_place (IsUntil last) h.entries i e ends at).ended has.0
+      let ended : (e.first ≤ last) × (has.0.last ≤ last) = (at_index (IsUntil last) h.entries i e ends at).ended has.0
       has.1 in
       until_has h.entries last i e has.0 explained.order at has.1 ended.1 ended.0 explained.by.effects
       explained.by.ordered (explained.by.returned i e at has);
@@ -606,7 +606,7 @@ takes_back h last ends explained = record {
     effects = back.by.effects;
     once = back.by.once;
     returned = λ i e at has. back.returned i e at has (early_is last e
-        ((at_place (IsUntil last) h.entries i e ends at).ended has.0 has.1).0);
+        ((at_index (IsUntil last) h.entries i e ends at).ended has.0 has.1).0);
     ordered = back.by.ordered;
     legal = back.by.legal;
   };

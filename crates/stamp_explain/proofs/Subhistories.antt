@@ -1,4 +1,4 @@
--- A subhistory is read off the calls one by one, and each of its calls stands at its place in the whole.
+-- A subhistory is read off the calls one by one, and each of its calls has its index in the whole.
 use Rattle.std.proofs.Common.{◌≡◌, ℕ, ◌+◌, ◌<◌, ◌≤◌, Bool, true, false, List, [], ◌∷◌, ◌++◌, length, refl, sym, ◌∙◌}
 use Rattle.std.proofs.Common.{ap, subst, arith, Some}
 use Rattle.std.specs.Prelude.{slice_get, drop, filter, cond, if◌then◌else◌, IsTrue, not}
@@ -13,20 +13,20 @@ use Rattle.stamp_explain.specs.Observed.{ObservedHistory, IsObserved, IsSmall, I
 use Rattle.stamp_explain.specs.Observed.{of_lock, of_record}
 use Rattle.stamp_explain.specs.Explained.{AreApart, IsEffectOf, IsExplained, RespectsBefore}
 use Rattle.std.proofs.lemmas.Option.{slice_get_within}
-use Rattle.stamp_explain.specs.Apart.{is_of_object, of_object, places_where, IsSubhistoryOf}
+use Rattle.stamp_explain.specs.Apart.{is_of_object, of_object, indices_where, IsSubhistoryOf}
 use Rattle.stamp_explain.proofs.Lists.{pairs_none, pairs_cons}
 use Rattle.stamp_explain.proofs.Parting.{part_observed}
 use Rattle.stamp_explain.proofs.Transitions.{suits_some}
-use Rattle.stamp_explain.proofs.Seeing.{kept, IsKeptAt, rank_gives, place_gives, places_at, filter_no_longer}
+use Rattle.stamp_explain.proofs.Seeing.{kept, IsKeptAt, rank_gives, index_gives, indices_at, filter_no_longer}
 
--- those of the first i calls that pass, with their places, and those of the others
-pub record ReadSoFar (p : Observation → Bool) (i : ℕ) (es read : List Observation) (places : List ℕ) : Type 0 where
+-- those of the first i calls that pass, with their indices, and those of the others
+pub record ReadSoFar (p : Observation → Bool) (i : ℕ) (es read : List Observation) (indices : List ℕ) : Type 0 where
   pub are : read ++ filter p (drop i es) ≡ filter p es
-  pub stand : places ++ places_where p i (drop i es) ≡ places_where p 0 es
+  pub stand : indices ++ indices_where p i (drop i es) ≡ indices_where p 0 es
 
-pub all_read : (p : Observation → Bool) (i : ℕ) (es read : List Observation) (places : List ℕ) → length es ≤ i →
-    ReadSoFar p i es read places → read ≡ filter p es
-all_read p i es read places over so_far = sym (append-nil read) ∙
+pub all_read : (p : Observation → Bool) (i : ℕ) (es read : List Observation) (indices : List ℕ) → length es ≤ i →
+    ReadSoFar p i es read indices → read ≡ filter p es
+all_read p i es read indices over so_far = sym (append-nil read) ∙
     ap (λ (xs : List Observation). read ++ filter p xs) (sym (drop_of_length-le es over)) ∙ so_far.are
 
 -- it is no larger
@@ -49,7 +49,7 @@ subhistory_entries h lock sub is = ap (λ (g : ObservedHistory). g.entries) is.h
 
 -- its k-th call is the i-th of the whole
 pub record IsSameCall (h : ObservedHistory) (lock : Bool) (sub : Subhistory) (k i : ℕ) (e : Observation) : Type 0 where
-  pub place : slice_get sub.places.items k ≡ Some i
+  pub index : slice_get sub.indices.items k ≡ Some i
   pub is_own : slice_get sub.history.entries k ≡ Some e
   pub is_entry : slice_get h.entries i ≡ Some e
   pub kind : is_of_object lock e ≡ true
@@ -57,8 +57,8 @@ pub record IsSameCall (h : ObservedHistory) (lock : Bool) (sub : Subhistory) (k 
 same_kept : (h : ObservedHistory) (lock : Bool) (sub : Subhistory) (k i : ℕ) (e : Observation) →
     IsSubhistoryOf h lock sub → IsKeptAt (is_of_object lock) h.entries k i e → IsSameCall h lock sub k i e
 same_kept h lock sub k i e is at = record {
-  place = subst (λ (ns : List ℕ). slice_get ns k ≡ Some i) (sym is.places)
-      (places_at (is_of_object lock) 0 h.entries k e at.is_kept ∙ ap (λ (n : ℕ). Some n) (omega (arith, at.place)));
+  index = subst (λ (ns : List ℕ). slice_get ns k ≡ Some i) (sym is.indices)
+      (indices_at (is_of_object lock) 0 h.entries k e at.is_kept ∙ ap (λ (n : ℕ). Some n) (omega (arith, at.index)));
   is_own = subst (λ (es : List Observation). slice_get es k ≡ Some e) (sym (subhistory_entries h lock sub is))
       at.is_kept;
   is_entry = at.is_entry;
@@ -70,7 +70,7 @@ pub same_in_whole : (h : ObservedHistory) (lock : Bool) (sub : Subhistory) (k : 
     IsSubhistoryOf h lock sub → slice_get sub.history.entries k ≡ Some e → (i : ℕ) × IsSameCall h lock sub k i e
 same_in_whole h lock sub k e is at =
     let found : (i : ℕ) × IsKeptAt (is_of_object lock) h.entries k i e =
-    place_gives (is_of_object lock) h.entries k e
+    index_gives (is_of_object lock) h.entries k e
     (subst (λ (es : List Observation). slice_get es k ≡ Some e) (subhistory_entries h lock sub is) at) in
     (found.0, same_kept h lock sub k found.0 e is found.1)
 
@@ -82,31 +82,31 @@ same_in_part h lock sub i e is at kind =
     rank_gives (is_of_object lock) h.entries i e at kind in
     (found.0, same_kept h lock sub found.0 i e is found.1)
 
--- the places rise
-no_sooner : (p : Observation → Bool) (n : ℕ) (es : List Observation) → All (λ (i : ℕ). n ≤ i) (places_where p n es)
+-- the indices rise
+no_sooner : (p : Observation → Bool) (n : ℕ) (es : List Observation) → All (λ (i : ℕ). n ≤ i) (indices_where p n es)
 no_sooner p n [] = All-nil (λ (i : ℕ). n ≤ i)
 no_sooner p n (e ∷ es) = by (p e) (All-weaker (λ (i : ℕ). n + 1 ≤ i) (λ (i : ℕ). n ≤ i) (λ i le. omega (arith, le))
-    (places_where p (n + 1) es) (no_sooner p (n + 1) es))
+    (indices_where p (n + 1) es) (no_sooner p (n + 1) es))
   where
-    by : (b : Bool) → All (λ (i : ℕ). n ≤ i) (places_where p (n + 1) es) →
-        All (λ (i : ℕ). n ≤ i) (cond b (n ∷ places_where p (n + 1) es) (places_where p (n + 1) es))
-    by true all = All-cons (λ (i : ℕ). n ≤ i) n (places_where p (n + 1) es) (omega arith) all
+    by : (b : Bool) → All (λ (i : ℕ). n ≤ i) (indices_where p (n + 1) es) →
+        All (λ (i : ℕ). n ≤ i) (cond b (n ∷ indices_where p (n + 1) es) (indices_where p (n + 1) es))
+    by true all = All-cons (λ (i : ℕ). n ≤ i) n (indices_where p (n + 1) es) (omega arith) all
     by false all = all
 
-rising : (p : Observation → Bool) (n : ℕ) (es : List Observation) → AllPairs (λ (i j : ℕ). i < j) (places_where p n es)
+rising : (p : Observation → Bool) (n : ℕ) (es : List Observation) → AllPairs (λ (i j : ℕ). i < j) (indices_where p n es)
 rising p n [] = pairs_none (λ (i j : ℕ). i < j)
 rising p n (e ∷ es) = by (p e) (rising p (n + 1) es)
   where
-    by : (b : Bool) → AllPairs (λ (i j : ℕ). i < j) (places_where p (n + 1) es) →
-        AllPairs (λ (i j : ℕ). i < j) (cond b (n ∷ places_where p (n + 1) es) (places_where p (n + 1) es))
-    by true all = pairs_cons (λ (i j : ℕ). i < j) n (places_where p (n + 1) es)
+    by : (b : Bool) → AllPairs (λ (i j : ℕ). i < j) (indices_where p (n + 1) es) →
+        AllPairs (λ (i j : ℕ). i < j) (cond b (n ∷ indices_where p (n + 1) es) (indices_where p (n + 1) es))
+    by true all = pairs_cons (λ (i j : ℕ). i < j) n (indices_where p (n + 1) es)
         (All-weaker (λ (i : ℕ). n + 1 ≤ i) (λ (i : ℕ). n < i) (λ i le. omega (arith, le))
-        (places_where p (n + 1) es) (no_sooner p (n + 1) es)) all
+        (indices_where p (n + 1) es) (no_sooner p (n + 1) es)) all
     by false all = all
 
-pub places_rise : (h : ObservedHistory) (lock : Bool) (sub : Subhistory) → IsSubhistoryOf h lock sub →
-    AllPairs (λ (i j : ℕ). i < j) sub.places.items
-places_rise h lock sub is = subst (AllPairs (λ (i j : ℕ). i < j)) (sym is.places)
+pub indices_rise : (h : ObservedHistory) (lock : Bool) (sub : Subhistory) → IsSubhistoryOf h lock sub →
+    AllPairs (λ (i j : ℕ). i < j) sub.indices.items
+indices_rise h lock sub is = subst (AllPairs (λ (i j : ℕ). i < j)) (sym is.indices)
     (rising (is_of_object lock) 0 h.entries)
 
 -- all calls are of the lock where there is no record

@@ -137,7 +137,7 @@ first_at_once h asked timeline node a s taken calls k x is stands are before ins
         which : (p < k) ⊎ ((p ≡ k) ⊎ (k < p)) → ⊥
         which (inl less) =
             before.none a s taken (awaited_at h timeline node a is) stands y t too p less lt there may
-        which (inr (inl same)) = sooner.later (subst (λ (j : ℕ). Contains (take sooner.place returns) j)
+        which (inr (inl same)) = sooner.later (subst (λ (j : ℕ). Contains (take sooner.index returns) j)
             (sym there ∙ ap (λ (m : ℕ). get_or calls m 0) same ∙ here) sooner.first)
         which (inr (inr more)) = are.in_order k p 0 more lt
             (subst (λ (j : ℕ). StandsBefore returns j (get_or calls k 0)) (sym there)

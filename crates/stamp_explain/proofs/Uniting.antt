@@ -21,14 +21,14 @@ use Rattle.stamp_explain.specs.declared.found.Found.TheVariants.{Linearization, 
 use Rattle.stamp_explain.specs.Configuration.{GivesUp, IsGivenUp, IsNotRefused}
 use Rattle.stamp_explain.specs.Expand.{IsFoundApart, IsSearched}
 use Rattle.stamp_explain.specs.Linearization.{IsLinearizationOf, taken_of}
-use Rattle.stamp_explain.specs.Apart.{places_where, is_of_object, of_object, IsSubhistoryOf}
+use Rattle.stamp_explain.specs.Apart.{indices_where, is_of_object, of_object, IsSubhistoryOf}
 use Rattle.stamp_explain.proofs.Lists.{pairs_none, pairs_cons, pairs_head, pairs_drop}
 use Rattle.stamp_explain.proofs.Merging.IsMerge.{none, left, right}
 use Rattle.stamp_explain.proofs.Merging.{merge_all, Merges, MayBeTold, respects_all, sound_of}
 use Rattle.stamp_explain.proofs.Parting.{judged_apart, merged_explains}
 use Rattle.stamp_explain.proofs.Subhistories.{all_of_lock, no_calls_explained, none_of_record, subhistory_entries}
-use Rattle.stamp_explain.proofs.Seeing.{place_in_whole, kept, PartOrder, restored, restored_at, restored_many}
-use Rattle.stamp_explain.proofs.Seeing.{places_at}
+use Rattle.stamp_explain.proofs.Seeing.{index_in_whole, kept, PartOrder, restored, restored_at, restored_many}
+use Rattle.stamp_explain.proofs.Seeing.{indices_at}
 
 -- where lock or record isn't explained, the whole isn't
 pub not_by_part : (h : ObservedHistory) → IsObserved h →
@@ -49,7 +49,7 @@ pub record IsCallAt (h : ObservedHistory) (p : Observation → Bool) (xs : List 
   where
     pub effect : Effect
     pub at : slice_get xs k ≡ Some effect
-    pub place : effect.index ≡ place_in_whole p h.entries t.entry
+    pub index : effect.index ≡ index_in_whole p h.entries t.entry
     pub is_kept : slice_get (filter p h.entries) t.entry ≡ Some effect.entry
     pub reply : effect.reply ≡ t.reply
 
@@ -69,9 +69,9 @@ call_at h p taken o k t at = by (slice_get o.order k) refl
         let effect : IsEffectOf (kept p h.entries) x = subst (IsEffectOf (kept p h.entries))
         (get_or_from_slice_get o.order k x x is) (o.explains.effects k x (slice_get_within o.order k x is)) in
         record {
-          effect = record { index = place_in_whole p h.entries x.index; entry = x.entry; reply = x.reply };
+          effect = record { index = index_in_whole p h.entries x.index; entry = x.entry; reply = x.reply };
           at = restored_at h p (record { order = o.order; by = o.explains }) k x is;
-          place = ap (λ (t : Taken). place_in_whole p h.entries t.entry) same;
+          index = ap (λ (t : Taken). index_in_whole p h.entries t.entry) same;
           is_kept = ap (λ (t : Taken). slice_get (kept p h.entries) t.entry) (sym same) ∙ effect.is_entry;
           reply = ap (λ (t : Taken). t.reply) same;
         }
@@ -82,15 +82,15 @@ pub as_long : (h : ObservedHistory) (p : Observation → Bool) (taken : List Tak
 as_long h p taken o = restored_many h p (record { order = o.order; by = o.explains }) ∙
     sym (length-map o.order as_taken) ∙ ap (λ (xs : List Taken). length xs) (sym o.are)
 
--- with its place in the whole it is the effect there
+-- with its index in the whole it is the effect there
 pub taken_there : (h : ObservedHistory) (p : Observation → Bool) (xs : List Effect) (k : ℕ) (t found : Taken)
-    (call : IsCallAt h p xs k t) → slice_get (places_where p 0 h.entries) t.entry ≡ Some found.entry →
+    (call : IsCallAt h p xs k t) → slice_get (indices_where p 0 h.entries) t.entry ≡ Some found.entry →
     found.reply ≡ t.reply → found ≡ as_taken call.effect
 taken_there h p xs k t found call at reply =
-    let place : found.entry ≡ 0 + place_in_whole p h.entries t.entry =
-    same_Some found.entry (0 + place_in_whole p h.entries t.entry)
-    (sym at ∙ places_at p 0 h.entries t.entry call.effect.entry call.is_kept) in
-    let entry : found.entry ≡ call.effect.index = omega (arith, place, call.place) in
+    let index : found.entry ≡ 0 + index_in_whole p h.entries t.entry =
+    same_Some found.entry (0 + index_in_whole p h.entries t.entry)
+    (sym at ∙ indices_at p 0 h.entries t.entry call.effect.entry call.is_kept) in
+    let entry : found.entry ≡ call.effect.index = omega (arith, index, call.index) in
     ap (λ (i : ℕ). record { entry = i; reply = found.reply }) entry ∙
     ap (λ (r : Reply). record { entry = call.effect.index; reply = r }) (reply ∙ sym call.reply)
 
@@ -208,7 +208,7 @@ unites_none h of_locks of_records lock_order record_order found locks records lo
 
 pub unites_lock : (h : ObservedHistory) (of_locks of_records : Subhistory) (lock_order record_order found : List Taken)
     (i j : ℕ) (t new : Taken) → IsObserved h → IsSubhistoryOf h true of_locks → IsSubhistoryOf h false of_records →
-    slice_get lock_order i ≡ Some t → slice_get of_locks.places.items t.entry ≡ Some new.entry →
+    slice_get lock_order i ≡ Some t → slice_get of_locks.indices.items t.entry ≡ Some new.entry →
     new.reply ≡ t.reply → BeganFirst of_locks.history.entries of_records.history.entries t record_order j →
     UnitesSoFar h lock_order record_order i j found →
     UnitesSoFar h lock_order record_order (i + 1) j (found ++ new ∷ [])
@@ -220,7 +220,7 @@ unites_lock h of_locks of_records lock_order record_order found i j t new observ
       records_within = u.records_within;
       merges = subst (λ (s : Taken). MergesSoFar xs ys (drop (i + 1) xs) (drop j ys) (found ++ s ∷ []))
           (sym (taken_there h is_of_lock xs i t new call
-          (subst (λ (ns : List ℕ). slice_get ns t.entry ≡ Some new.entry) locks.places to) reply))
+          (subst (λ (ns : List ℕ). slice_get ns t.entry ≡ Some new.entry) locks.indices to) reply))
           (merges_left xs ys call.effect (drop (i + 1) xs) (drop j ys) found
           (later_left xs i call.effect call.at (in_whole h is_of_lock lock_order u.locks).by.ordered)
           (respects_left h is_of_record record_order u.records j t call.effect (kept is_of_lock h.entries) observed
@@ -247,7 +247,7 @@ unites_lock h of_locks of_records lock_order record_order found i j t new observ
 pub unites_record : (h : ObservedHistory) (of_locks of_records : Subhistory)
     (lock_order record_order found : List Taken) (i j : ℕ) (t new : Taken) → IsObserved h →
     IsSubhistoryOf h true of_locks → IsSubhistoryOf h false of_records → slice_get record_order j ≡ Some t →
-    slice_get of_records.places.items t.entry ≡ Some new.entry → new.reply ≡ t.reply →
+    slice_get of_records.indices.items t.entry ≡ Some new.entry → new.reply ≡ t.reply →
     BeganFirst of_records.history.entries of_locks.history.entries t lock_order i →
     UnitesSoFar h lock_order record_order i j found →
     UnitesSoFar h lock_order record_order i (j + 1) (found ++ new ∷ [])
@@ -260,7 +260,7 @@ unites_record h of_locks of_records lock_order record_order found i j t new obse
       records_within = omega (arith, slice_get_within record_order j t at);
       merges = subst (λ (s : Taken). MergesSoFar xs ys (drop i xs) (drop (j + 1) ys) (found ++ s ∷ []))
           (sym (taken_there h is_of_record ys j t new call
-          (subst (λ (ns : List ℕ). slice_get ns t.entry ≡ Some new.entry) records.places to) reply))
+          (subst (λ (ns : List ℕ). slice_get ns t.entry ≡ Some new.entry) records.indices to) reply))
           (merges_right xs ys call.effect (drop i xs) (drop (j + 1) ys) found
           (respects_left h is_of_lock lock_order u.locks i t call.effect (kept is_of_record h.entries) observed
           call.is_kept first_there)
@@ -323,18 +323,18 @@ call_inside h lock sub order k t is o at =
     subst (λ (es : List Observation). t.entry < length es) (sym (subhistory_entries h lock sub is))
     (slice_get_within (kept (is_of_object lock) h.entries) t.entry call.effect.entry call.is_kept)
 
-pub place_inside : (h : ObservedHistory) (lock : Bool) (sub : Subhistory) (order : List Taken) (k : ℕ) (t : Taken) →
+pub index_inside : (h : ObservedHistory) (lock : Bool) (sub : Subhistory) (order : List Taken) (k : ℕ) (t : Taken) →
     IsSubhistoryOf h lock sub → IsLinearizationOf sub.history order → slice_get order k ≡ Some t →
-    t.entry < length sub.places.items
-place_inside h lock sub order k t is o at =
+    t.entry < length sub.indices.items
+index_inside h lock sub order k t is o at =
     let call : IsCallAt h (is_of_object lock) (in_whole h (is_of_object lock) order
     (subst (λ (g : ObservedHistory). IsLinearizationOf g order) is.history o)).order k t =
     call_at h (is_of_object lock) order
     (subst (λ (g : ObservedHistory). IsLinearizationOf g order) is.history o) k t at in
-    subst (λ (ns : List ℕ). t.entry < length ns) (sym is.places)
-    (slice_get_within (places_where (is_of_object lock) 0 h.entries) t.entry
-    (0 + place_in_whole (is_of_object lock) h.entries t.entry)
-    (places_at (is_of_object lock) 0 h.entries t.entry call.effect.entry call.is_kept))
+    subst (λ (ns : List ℕ). t.entry < length ns) (sym is.indices)
+    (slice_get_within (indices_where (is_of_object lock) 0 h.entries) t.entry
+    (0 + index_in_whole (is_of_object lock) h.entries t.entry)
+    (indices_at (is_of_object lock) 0 h.entries t.entry call.effect.entry call.is_kept))
 
 pub read_again : (order : List Taken) (k : ℕ) (t s : Taken) → k < length order → t ≡ get_or order k t →
     s ≡ get_or order k s → t ≡ s

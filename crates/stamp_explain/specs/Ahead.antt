@@ -11,7 +11,7 @@ pub record IsAhead (e f : Observation) : Type 0 where
   pub calls : AreAlikeCalls e f
   pub sooner : calls.first.last < calls.second.last
 
--- so are the calls at these places, and the first is not in effect
+-- so are the calls of these entries, and the first is not in effect
 pub record GoesAhead (h : ObservedHistory) (node : Node) (first later : ℕ) : Type 0 where
   pub entry : Observation
   pub is_entry : slice_get h.entries first ≡ Some entry

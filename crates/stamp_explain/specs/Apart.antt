@@ -14,11 +14,11 @@ abbrev pub of_object : Bool → ObservedHistory → ObservedHistory
 of_object lock h = record h { entries = filter (is_of_object lock) h.entries }
 
 -- where the entries that pass stand, of entries that stand from i on
-abbrev pub places_where : (Observation → Bool) → ℕ → List Observation → List ℕ
-places_where p i [] = []
-places_where p i (e ∷ es) = cond (p e) (i ∷ places_where p (i + 1) es) (places_where p (i + 1) es)
+abbrev pub indices_where : (Observation → Bool) → ℕ → List Observation → List ℕ
+indices_where p i [] = []
+indices_where p i (e ∷ es) = cond (p e) (i ∷ indices_where p (i + 1) es) (indices_where p (i + 1) es)
 
 -- the calls of the lock where this is true, and else those of the record
 pub record IsSubhistoryOf (h : ObservedHistory) (lock : Bool) (sub : Subhistory) : Type 0 where
   pub history : sub.history ≡ of_object lock h
-  pub places : sub.places.items ≡ places_where (is_of_object lock) 0 h.entries
+  pub indices : sub.indices.items ≡ indices_where (is_of_object lock) 0 h.entries

@@ -17,7 +17,7 @@ use Rattle.stamp_explain.specs.Ahead.{IsAhead}
 use Rattle.stamp_explain.specs.Search.{LockState, StateTransition, CanComplete, MayTake, AreReturns, StandsBefore}
 use Rattle.stamp_explain.specs.Search.{first_state}
 
--- whose words the record holds after a call, which stands at this place of the history, and its reply
+-- whose words the record holds after the call of this entry, with its reply
 abbrev pub put_after : Option ℕ → ℕ → Call → Reply → Option ℕ
 put_after put i (Put words) reply = Some i
 put_after put i (PutIf expected words) Yes = Some i
@@ -106,7 +106,7 @@ abbrev pub AwaitsNext : (h : ObservedHistory) (asked : Option ℕ) (returns : Li
     Type 0
 AwaitsNext h asked returns c = (i : ℕ) (rest : List ℕ) → c.to_come ≡ i ∷ rest → ¬ Contains c.taken i
 
--- a search on whose ways the call at this place takes no effect reaches more than so many, at each of which the next
+-- a search on whose ways the call of this entry takes no effect reaches more than so many, at each of which the next
 -- return is of a call that is not in effect: the returns come in their order, each once
 pub record ReachesMoreBeside (h : ObservedHistory) (i most : ℕ) : Type 0 where
   pub returns : List ℕ
@@ -141,10 +141,10 @@ pub record MovesOn (h : ObservedHistory) (returns : List ℕ) (c d : Configurati
 -- so it does from one of the first k of these
 pub record MovesFromOne (h : ObservedHistory) (returns : List ℕ) (looked : List (Configuration h None returns))
     (k : ℕ) (d : Configuration h None returns) : Type 0 where
-  pub place : ℕ
-  pub before : place < k
+  pub index : ℕ
+  pub before : index < k
   pub from : Configuration h None returns
-  pub is_from : slice_get looked place ≡ Some from
+  pub is_from : slice_get looked index ≡ Some from
   pub moves : MovesOn h returns from d
 
 -- a search has looked at more than so many configurations, no two of which are one, and reached a further one. It

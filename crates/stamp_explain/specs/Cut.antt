@@ -35,9 +35,9 @@ cut_before r i h = cut r.last i h
 abbrev pub begun_by : ℕ → List Observation → List Observation
 begun_by last es = filter (λ (e : Observation). not (nat_lt last e.first)) es
 
--- how many of the calls that are listed before this one had begun by this position: where it stands then
-abbrev pub place_then : ℕ → ℕ → List Observation → ℕ
-place_then last i es = length (begun_by last (take i es))
+-- how many of the calls that are listed before this one had begun by this position: its index then
+abbrev pub index_then : ℕ → ℕ → List Observation → ℕ
+index_then last i es = length (begun_by last (take i es))
 
 -- what an observer has seen then: a call that begins later isn't there
 abbrev pub seen_at : ℕ → ℕ → ObservedHistory → ObservedHistory

@@ -199,7 +199,7 @@ nodes_of nexts = map (λ (w : Next). w.node) nexts
 abbrev pub origins_of : ℕ → List Next → List Origin
 origins_of from nexts = map (λ (w : Next). record { from = from; took = w.took }) nexts
 
--- these nodes wait, each behind the place from which it comes
+-- these nodes wait, each with the index of the node from which it comes
 abbrev pub waiting_from : ℕ → List Next → List Waiting
 waiting_from from nexts =
     map (λ (w : Next). record { node = w.node; origin = record { from = from; took = w.took } }) nexts
@@ -217,27 +217,28 @@ abbrev pub LooksAt : Store → Store → List Waiting → List Waiting → Bool 
 LooksAt old new waited waiting true = LooksAtLast old new waited waiting
 LooksAt old new waited waiting false = All (λ (w : Waiting). Contains old.nodes.items w.node) waited
 
--- a place of the list is that of the node
-pub record IsPlaced (nodes : List Node) (places : List ℕ) (v : Node) : Type 0 where
-  pub place : ℕ
-  pub among : Contains places place
-  pub is_node : slice_get nodes place ≡ Some v
+-- one of these indices is that of the node
+pub record IsIndexed (nodes : List Node) (indices : List ℕ) (v : Node) : Type 0 where
+  pub index : ℕ
+  pub among : Contains indices index
+  pub is_node : slice_get nodes index ≡ Some v
 
--- nodes that come from this place and were not seen are added to those seen, and their places to those that wait
+-- nodes that come from the one of this index and were not seen are added to those seen, and their indices to those
+-- that wait
 pub record AddsUnseen (old new : Store) (from : ℕ) (waited waiting : List ℕ) (nexts : List Next) : Type 0 where
   pub keeps : Keeps new
   pub added : List Next
   pub nodes : new.nodes.items ≡ old.nodes.items ++ nodes_of added
   pub origins : new.origins.items ≡ old.origins.items ++ origins_of from added
-  pub places : List ℕ
-  pub to_do : waiting ≡ waited ++ places
-  pub many : length places ≡ length added
-  pub placed : (v : Node) → Contains (nodes_of added) v → IsPlaced new.nodes.items places v
-  pub inside : All (λ (p : ℕ). p < length new.nodes.items) places
+  pub indices : List ℕ
+  pub to_do : waiting ≡ waited ++ indices
+  pub many : length indices ≡ length added
+  pub indexed : (v : Node) → Contains (nodes_of added) v → IsIndexed new.nodes.items indices v
+  pub inside : All (λ (p : ℕ). p < length new.nodes.items) indices
   pub each : (w : Next) → Contains nexts w → Contains new.nodes.items w.node
   pub among : All (Contains nexts) added
 
--- how the node at this place was come by, from one that is reached
+-- how the node of this index was come by, from one that is reached
 pub record IsLinkedAt (h : ObservedHistory) (returns : List ℕ) (store : Store) (k : ℕ) (v : Node) : Type 0 where
   pub origin : Origin
   pub is_origin : slice_get store.origins.items k ≡ Some origin

@@ -31,8 +31,8 @@ IsTakenAt h node None (Some taken) = ⊥
 IsTakenAt h node (Some i) None = ⊥
 IsTakenAt h node (Some i) (Some taken) = (taken.entry ≡ i) × RepliesAt h node taken
 
--- no return is to come at the node at this place
-pub record IsEnd (returns : List ℕ) (store : Store) (place : ℕ) : Type 0 where
+-- no return is to come at the node of this index
+pub record IsEnd (returns : List ℕ) (store : Store) (index : ℕ) : Type 0 where
   pub node : Node
-  pub is_node : slice_get store.nodes.items place ≡ Some node
+  pub is_node : slice_get store.nodes.items index ≡ Some node
   pub all_past : length returns ≤ node.past

@@ -71,7 +71,7 @@ pub record IsFirstNode (h : ObservedHistory) (node : Node) : Type 0 where
   pub threads : node.threads ≡ 0
   pub at : IsStateBy h node.bits node.writer (first_state h.width)
 
--- what the call of this place does in a state, with the words of this put in the record, which its observation
+-- what the call of this entry does in a state, with the words of this put in the record, which its observation
 -- allows: the state afterwards and the reply
 pub record Does (h : ObservedHistory) (i : ℕ) (e : Observation) (put : Option ℕ) (s : LockState)
     (transition : CallTransition) : Type 0 where

@@ -38,7 +38,7 @@ AllowsReply e reply = MatchOption e.returned (Unit {0}) (λ (r : Returned). r.re
 abbrev pub HasReturned : Observation → Type 0
 HasReturned e = (r : Returned) × (e.returned ≡ Some r)
 
--- a call that has returned stands at this place
+-- the call of this entry has returned
 pub record IsReturnAt (entries : List Observation) (i : ℕ) : Type 0 where
   pub entry : Observation
   pub return : Returned

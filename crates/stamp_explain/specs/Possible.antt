@@ -8,7 +8,7 @@ use Rattle.stamp_explain.specs.declared.possible.PossibleError.{PossibleError}
 use Rattle.stamp_explain.specs.declared.possible.PossibleError.TheVariants.{Undecided, Memory}
 use Rattle.stamp_explain.specs.Observed.{ObservedHistory, IsBefore, IsReturnAt}
 use Rattle.stamp_explain.specs.Explained.{IsExplained}
-use Rattle.stamp_explain.specs.Cut.{cut_after, place_then, seen_at}
+use Rattle.stamp_explain.specs.Cut.{cut_after, index_then, seen_at}
 use Rattle.stamp_explain.specs.Search.{AreReturns, LockState, StateTransition}
 use Rattle.stamp_explain.specs.Configuration.{Configuration, IsGivenUp, ReachesMoreBeside}
 
@@ -16,15 +16,15 @@ use Rattle.stamp_explain.specs.Configuration.{Configuration, IsGivenUp, ReachesM
 abbrev pub returned_with : Observation → Returned → Reply → Observation
 returned_with e r reply = record e { returned = Some (record r { reply = reply }) }
 
--- the history with this reply of the call at this place
+-- the history with this reply of the call of this entry
 abbrev pub with_reply : ℕ → Observation → Returned → Reply → ObservedHistory → ObservedHistory
 with_reply i e r reply h = record h { entries = slice_set h.entries i (returned_with e r reply) }
 
--- the history with the call at this place under way
+-- the history with the call of this entry under way
 abbrev pub without_return : ℕ → Observation → ObservedHistory → ObservedHistory
 without_return i e h = record h { entries = slice_set h.entries i (record e { returned = None }) }
 
--- with this reply in place of its own, the cut with the return of the call at this place is explained
+-- with this reply instead of its own, the cut with the return of this entry is explained
 pub record IsPossible (h : ObservedHistory) (i : ℕ) (reply : Reply) : Type 0 where
   pub at : IsReturnAt h.entries i
   pub explained : IsExplained (cut_after at.return i (with_reply i at.entry at.return reply h))
@@ -34,7 +34,7 @@ pub record ArePossible (h : ObservedHistory) (i : ℕ) (tried found : List Reply
   pub each : (reply : Reply) → Contains found reply ↔ (Contains tried reply × IsPossible h i reply)
   pub once : AllPairs (λ (a b : Reply). a ≢ b) tried → AllPairs (λ (a b : Reply). a ≢ b) found
 
--- with this reply a search of what is seen when the call at this place has returned gives up
+-- with this reply a search of what is seen when the call of this entry has returned gives up
 pub record IsUndecidedAtReply (h : ObservedHistory) (i most : ℕ) (reply : Reply) : Type 0 where
   pub at : IsReturnAt h.entries i
   pub gives_up : IsGivenUp (seen_at at.return.last (i + 1) (with_reply i at.entry at.return reply h)) most
@@ -57,7 +57,7 @@ pub record AwaitsNotBefore (h : ObservedHistory) (to_come : List ℕ) (e : Obser
   pub is_awaited : slice_get h.entries first ≡ Some awaited
   pub begun : ¬ IsBefore awaited e
 
--- on a way through a search on which the call at this place takes no effect, lock or record give it this reply: a
+-- on a way through a search on which the call of this entry takes no effect, lock or record give it this reply: a
 -- return is awaited there, which is not before the call
 pub record GetsBeside (h : ObservedHistory) (i : ℕ) (e : Observation) (reply : Reply) : Type 0 where
   pub returns : List ℕ
@@ -69,17 +69,17 @@ pub record GetsBeside (h : ObservedHistory) (i : ℕ) (e : Observation) (reply :
   pub next : LockState
   pub goes : StateTransition h.limits reached.state (e.call, reply) next
 
--- a search of what is seen when the call at this place has returned, in which this call takes no effect, reaches more
+-- a search of what is seen when the call of this entry has returned, in which this call takes no effect, reaches more
 -- than so many configurations
 pub record IsUndecidedWithout (h : ObservedHistory) (i most : ℕ) : Type 0 where
   pub at : IsReturnAt h.entries i
-  pub many : ReachesMoreBeside (seen_at at.return.last (i + 1) h) (place_then at.return.last i h.entries) most
+  pub many : ReachesMoreBeside (seen_at at.return.last (i + 1) h) (index_then at.return.last i h.entries) most
 
 -- a search of what is seen then gives up with a reply that the call gets beside what the others do
 pub record IsUndecidedAtGotten (h : ObservedHistory) (i most : ℕ) : Type 0 where
   pub reply : Reply
   pub undecided : IsUndecidedAtReply h i most reply
-  pub gets : GetsBeside (seen_at undecided.at.return.last (i + 1) h) (place_then undecided.at.return.last i h.entries)
+  pub gets : GetsBeside (seen_at undecided.at.return.last (i + 1) h) (index_then undecided.at.return.last i h.entries)
       undecided.at.entry reply
 
 abbrev pub IsUndecidedAtAny : ObservedHistory → ℕ → ℕ → Type 0

@@ -85,9 +85,9 @@ pub record AreReturns (entries : List Observation) (returns : List ℕ) : Type 0
 
 -- the first stands in this list before the second, which may stand in it later, or not at all
 pub record StandsBefore (xs : List ℕ) (i j : ℕ) : Type 0 where
-  pub place : ℕ
-  pub first : Contains (take place xs) i
-  pub later : ¬ Contains (take place xs) j
+  pub index : ℕ
+  pub first : Contains (take index xs) i
+  pub later : ¬ Contains (take index xs) j
 
 -- lock and record by their transitions: the events so far and the content
 abbrev pub LockState : Type 0

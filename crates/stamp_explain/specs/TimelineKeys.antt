@@ -1,4 +1,4 @@
--- How a timeline is made: by numbers beside the places of calls, put in order, and by ranks.
+-- How a timeline is made: by numbers beside the indices of calls, put in order, and by ranks.
 use Rattle.std.specs.Prelude.{ℕ, ◌≡◌, ◌≢◌, ◌<◌, ◌≤◌, ◌↔◌, ◌⊎◌, List, length, map, take, slice_get, slice_index}
 use Rattle.std.specs.Prelude.{slice_index_or, Some, Vec}
 use Rattle.std.specs.Global.{Global}
@@ -16,23 +16,24 @@ EndsAt e n = (r : Returned) × ((e.returned ≡ Some r) × (r.last ≡ n))
 abbrev pub BeginsAt : Observation → ℕ → Type 0
 BeginsAt e n = e.first ≡ n
 
-abbrev pub places_of : List (ℕ × ℕ) → List ℕ
-places_of keys = map (λ (p : ℕ × ℕ). p.1) keys
+-- the indices of keys, each of which is a number and an index
+abbrev pub key_indices : {K : Type 0} → List (K × ℕ) → List ℕ
+key_indices {K} keys = map (λ (p : K × ℕ). p.1) keys
 
--- a number beside the place of each call that has one, of the first k calls
+-- a number beside the index of each call that has one, of the first k calls
 pub record AreKeys (Has : Observation → ℕ → Type 0) (entries : List Observation) (k : ℕ)
     (keys : List (ℕ × ℕ)) : Type 0 where
   pub each : (p : ℕ × ℕ) → Contains keys p → (e : Observation) × ((slice_get entries p.1 ≡ Some e) × Has e p.0)
   pub whole : (i : ℕ) (e : Observation) (n : ℕ) → i < k → slice_get entries i ≡ Some e → Has e n → Contains keys (n, i)
   pub below : (p : ℕ × ℕ) → Contains keys p → p.1 < k
-  pub once : AllPairs (λ (i j : ℕ). i ≢ j) (places_of keys)
+  pub once : AllPairs (λ (i j : ℕ). i ≢ j) (key_indices keys)
 
 -- the same, in the order of the numbers
 pub record AreRising (keys sorted : List (ℕ × ℕ)) : Type 0 where
   pub moved : IsPermutation keys sorted
   pub rising : IsNonDecreasingBy (λ (p : ℕ × ℕ). p.0) sorted
 
--- the place of a call among the returns; one that is under way has one behind all
+-- the rank of each call: its index among the returns; one that is under way has one behind all
 pub record AreRanks (entries : List Observation) (returns : List ℕ) (ranks : List ℕ) : Type 0 where
   pub each : length ranks ≡ length entries
   pub past : (i k : ℕ) → i < length entries → k ≤ length returns →
@@ -52,14 +53,13 @@ pub record AreTimelineKeys (h : ObservedHistory) (ends begins : List (ℕ × ℕ
   pub begin_keys : List (ℕ × ℕ)
   pub begins_are : AreKeys BeginsAt h.entries (length h.entries) begin_keys
   pub begins_rise : AreRising begin_keys begins
-  pub ranked : AreRanks h.entries (places_of ends) ranks
+  pub ranked : AreRanks h.entries (key_indices ends) ranks
 
 -- for each return, the calls that are open before it
 pub record AreOpens (h : ObservedHistory) (returns : List ℕ) (opens : List (Vec ℕ Global)) : Type 0 where
   pub each : (k : ℕ) (calls : Vec ℕ Global) → slice_get opens k ≡ Some calls → AreOpen h returns k calls.items
 
--- a call that is open, behind the place of its return among the returns; it began no later than any return
--- that is to come
+-- a call that is open, behind its rank; it began no later than any return that is to come
 pub record IsKeptOpen (entries : List Observation) (ends : List (ℕ × ℕ)) (ranks : List ℕ) (past : ℕ)
     (p : ℕ × ℕ) : Type 0 where
   pub entry : Observation
@@ -98,7 +98,7 @@ pub record BeginsMore (begins : List (ℕ × ℕ)) (ranks : List ℕ) (last from
 abbrev pub IsSooner : ℕ × ℕ → ℕ × ℕ → Type 0
 IsSooner p q = (p.0 < q.0) ⊎ ((p.0 ≡ q.0) × (p.1 < q.1))
 
--- where each returned call returned and its place, in this order
+-- where each returned call returned and its index, in this order
 pub record AreEnds (entries : List Observation) (ends : List (ℕ × ℕ)) : Type 0 where
   pub each : (p : ℕ × ℕ) → Contains ends p → (e : Observation) × ((slice_get entries p.1 ≡ Some e) × EndsAt e p.0)
   pub whole : (i : ℕ) (e : Observation) (n : ℕ) → slice_get entries i ≡ Some e → EndsAt e n → Contains ends (n, i)

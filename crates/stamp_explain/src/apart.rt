@@ -8,11 +8,11 @@ use crate::linearization::Taken;
 use crate::observed::{Observation, Observed};
 use std::alloc::{AllocError, Global};
 
-/// The calls of one object alone, with the place of each in the whole history.
+/// The calls of one object alone, with the index of each in the whole history.
 #[derive(Drop)]
 pub(crate) struct Subhistory {
     pub(crate) history: Observed,
-    pub(crate) places: Vec<usize>,
+    pub(crate) indices: Vec<usize>,
 }
 
 /// The subhistory of the lock, or else that of the record.
@@ -24,15 +24,15 @@ pub(crate) fn subhistory_of(
     ensures { IfOk result (λ sub. IsSubhistoryOf observed.now lock sub) }
 {
     let mut entries = Vec::new(alloc);
-    let mut places = Vec::new(alloc);
+    let mut indices = Vec::new(alloc);
     for (i, entry) in observed.entries().iter().enumerate() {
         if entry.call.is_lock_call() == lock {
             entries.push(*entry)?;
-            places.push(i)?;
+            indices.push(i)?;
         }
     }
     match Observed::of(observed.limits(), observed.width(), entries) {
-        Some(history) => Ok(Subhistory { history, places }),
+        Some(history) => Ok(Subhistory { history, indices }),
         None => unreachable!(),
     }
 }
@@ -48,12 +48,12 @@ impl Subhistory {
 
     /// The same call, with its entry in the whole history.
     fn in_whole(&self, taken: Taken) -> Taken
-        requires { taken.entry < length self.now.places.items }
-        ensures entry { slice_get self.now.places.items taken.entry ≡ Some result.entry }
+        requires { taken.entry < length self.now.indices.items }
+        ensures entry { slice_get self.now.indices.items taken.entry ≡ Some result.entry }
         ensures reply { result.reply ≡ taken.reply }
     {
         Taken {
-            entry: self.places[taken.entry],
+            entry: self.indices[taken.entry],
             reply: taken.reply,
         }
     }

@@ -7,7 +7,7 @@ ghost use Rattle.stamp_explain.specs.declared.observed.Observation.{Observation}
 ghost use Rattle.stamp_explain.specs.declared.observed.Returned.{Returned};
 ghost use Rattle.stamp_explain.specs.Observed.{ObservedHistory, IsObserved};
 ghost use Rattle.stamp_explain.specs.Configuration.{ReachesMoreBeside};
-ghost use Rattle.stamp_explain.specs.Cut.{place_then};
+ghost use Rattle.stamp_explain.specs.Cut.{index_then};
 ghost use Rattle.stamp_explain.specs.Expand.{AddsUnseen, Suffice, Took};
 ghost use Rattle.stamp_explain.specs.Store.{Keeps};
 ghost use Rattle.stamp_explain.specs.Possible.{without_return};
@@ -26,16 +26,16 @@ use stamp_core::Reply;
 use std::alloc::{AllocError, Global};
 
 /// What is seen when a call has returned, the same with the call under way, the timeline of the first, and
-/// the place of the call in both.
+/// the index of the call in both.
 #[derive(Drop)]
 pub(crate) struct Asking {
     pub(crate) seen: Observed,
     pub(crate) before: Observed,
     pub(crate) timeline: Timeline,
-    pub(crate) place: usize,
+    pub(crate) index: usize,
 }
 
-/// The history with the call at this place under way.
+/// The history with the call of this entry under way.
 fn without_return(
     alloc: Global,
     observed: &Observed,
@@ -59,20 +59,20 @@ fn without_return(
 }
 
 /// How many of the calls that are listed before this one had begun by this position.
-fn place_of(entries: &[Observation], entry: usize, last: u64) -> usize
+fn index_then(entries: &[Observation], entry: usize, last: u64) -> usize
     requires { entry < length entries.now }
-    ensures { result ≡ place_then last entry entries.now }
+    ensures { result ≡ index_then last entry entries.now }
 {
-    let mut place = 0;
+    let mut index = 0;
     for other in &entries[..entry] {
         if other.first <= last {
-            place += 1;
+            index += 1;
         }
     }
-    place
+    index
 }
 
-/// What a search for the replies of the call at this place is given.
+/// What a search for the replies of the call of this entry is given.
 pub(crate) fn asking_of(
     alloc: Global,
     observed: &Observed,
@@ -85,15 +85,15 @@ pub(crate) fn asking_of(
     requires returned { observation.returned ≡ Some returned }
     ensures { IfOk result (λ asking. IsAskingAt observed.now entry observation returned asking) }
 {
-    let place = place_of(observed.entries(), entry, returned.last);
+    let index = index_then(observed.entries(), entry, returned.last);
     let seen = seen_at(alloc, observed, returned.last, entry + 1)?;
-    let before = without_return(alloc, &seen, place, observation)?;
+    let before = without_return(alloc, &seen, index, observation)?;
     let timeline = timeline_of(alloc, &seen)?;
     Ok(Asking {
         seen,
         before,
         timeline,
-        place,
+        index,
     })
 }
 
@@ -110,87 +110,89 @@ fn add(replies: &mut Vec<Reply>, reply: Reply) -> Result<(), AllocError>
     Ok(())
 }
 
-/// The one node that comes next, where another open call takes effect that changes nothing.
-fn unchanging_beside(asking: &Asking, node: &Node) -> Option<Next>
-    requires { MayGoOnBeside asking.now node.now }
-    ensures leads { IfSome result (λ next. ComesNextBeside asking.now node.now next) }
-    ensures one { IfSome result (λ next. SufficeBeside asking.now node.now (next ∷ [])) }
-    ensures none { IfNone result (NoneIsAtOnceBeside asking.now node.now) }
-{
-    for i in asking.timeline.opens[node.past].as_slice() {
-        if *i != asking.place && is_unchanging_at(&asking.seen, *i) {
-            if let Some(next) = take_of(&asking.seen, node, *i) {
-                return Some(settled(&asking.seen, &asking.timeline, &next));
+impl Asking {
+    /// The one node that comes next, where another open call takes effect that changes nothing.
+    fn at_once(&self, node: &Node) -> Option<Next>
+        requires { MayGoOnBeside self.now node.now }
+        ensures leads { IfSome result (λ next. ComesNextBeside self.now node.now next) }
+        ensures one { IfSome result (λ next. SufficeBeside self.now node.now (next ∷ [])) }
+        ensures none { IfNone result (NoneIsAtOnceBeside self.now node.now) }
+    {
+        for i in self.timeline.opens[node.past].as_slice() {
+            if *i != self.index && is_unchanging_at(&self.seen, *i) {
+                if let Some(next) = take_of(&self.seen, node, *i) {
+                    return Some(settled(&self.seen, &self.timeline, &next));
+                }
             }
         }
+        None
     }
-    None
-}
 
-/// The nodes that come next where another open call takes effect, one for each choice.
-fn choices_beside(asking: &Asking, node: &Node, nexts: &mut Vec<Next>) -> Result<(), AllocError>
-    requires at { MayGoOnBeside asking.now node.now }
-    requires at_once { NoneIsAtOnceBeside asking.now node.now }
-    ensures leads { IfOk result (λ _. AreLed asking.now node.now nexts.new.items) }
-    ensures whole { IfOk result (λ _. (reply : Reply) (h : ObservedHistory) → IsSeenWith asking.now reply h
-        → Took h asking.now.timeline.returns.items node.now asking.now.place None
-        → Suffice h asking.now.timeline.returns.items node.now nexts.new.items) }
-{
-    nexts.clear();
-    let awaited = asking.timeline.returns[node.past];
-    let calls = asking.timeline.opens[node.past].as_slice();
-    for k in 0..calls.len() {
-        let i = calls[calls.len() - 1 - k];
-        if i != asking.place {
-            let asked = Some(asking.place);
-            if let Some(next) = choice_of(&asking.seen, asked, node, calls, awaited, i) {
-                nexts.push(settled(&asking.seen, &asking.timeline, &next))?;
+    /// The nodes that come next where another open call takes effect, one for each choice.
+    fn choices(&self, node: &Node, nexts: &mut Vec<Next>) -> Result<(), AllocError>
+        requires at { MayGoOnBeside self.now node.now }
+        requires at_once { NoneIsAtOnceBeside self.now node.now }
+        ensures leads { IfOk result (λ _. AreLed self.now node.now nexts.new.items) }
+        ensures whole { IfOk result (λ _. (reply : Reply) (h : ObservedHistory) → IsSeenWith self.now reply h
+            → Took h self.now.timeline.returns.items node.now self.now.index None
+            → Suffice h self.now.timeline.returns.items node.now nexts.new.items) }
+    {
+        nexts.clear();
+        let awaited = self.timeline.returns[node.past];
+        let calls = self.timeline.opens[node.past].as_slice();
+        for k in 0..calls.len() {
+            let i = calls[calls.len() - 1 - k];
+            if i != self.index {
+                let asked = Some(self.index);
+                if let Some(next) = choice_of(&self.seen, asked, node, calls, awaited, i) {
+                    nexts.push(settled(&self.seen, &self.timeline, &next))?;
+                }
             }
         }
+        Ok(())
     }
-    Ok(())
+
+    /// Adds the reply that the call gets here, where it is open and doesn't wait.
+    fn ask(&self, node: &Node, replies: &mut Vec<Reply>) -> Result<(), AllocError>
+        requires { MayGoOnBeside self.now node.now }
+        ensures { IfOk result (λ _. AreAsked self.now node.now replies.old.items replies.new.items) }
+    {
+        let entries = self.seen.entries();
+        let awaited = &entries[self.timeline.returns[node.past]];
+        if is_before(awaited, &entries[self.index]) {
+            return Ok(());
+        }
+        if let Some(transition) = transition_of(&self.before, node.bits, node.writer, self.index) {
+            add(replies, transition.reply)?;
+        }
+        Ok(())
+    }
+
+    /// The nodes that come next without the call, and the reply that it gets here.
+    fn go_on(
+        &self,
+        node: &Node,
+        nexts: &mut Vec<Next>,
+        replies: &mut Vec<Reply>,
+    ) -> Result<(), AllocError>
+        requires { MayGoOnBeside self.now node.now }
+        ensures leads { IfOk result (λ _. AreLed self.now node.now nexts.new.items) }
+        ensures more { IfOk result (λ _. AreMore replies.old.items replies.new.items) }
+        ensures gets { IfOk result (λ _. GetsMore self.now replies.old.items replies.new.items) }
+        ensures whole { IfOk result (λ _. SufficeUnless self.now node.now nexts.new.items replies.new.items) }
+    {
+        nexts.clear();
+        if let Some(next) = self.at_once(node) {
+            nexts.push(next)?;
+            return Ok(());
+        }
+        self.ask(node, replies)?;
+        self.choices(node, nexts)
+    }
 }
 
-/// Adds the reply that the call gets here, where it is open and doesn't wait.
-fn ask(asking: &Asking, node: &Node, replies: &mut Vec<Reply>) -> Result<(), AllocError>
-    requires { MayGoOnBeside asking.now node.now }
-    ensures { IfOk result (λ _. AreAsked asking.now node.now replies.old.items replies.new.items) }
-{
-    let entries = asking.seen.entries();
-    let awaited = &entries[asking.timeline.returns[node.past]];
-    if is_before(awaited, &entries[asking.place]) {
-        return Ok(());
-    }
-    if let Some(transition) = transition_of(&asking.before, node.bits, node.writer, asking.place) {
-        add(replies, transition.reply)?;
-    }
-    Ok(())
-}
-
-/// The nodes that come next without the call, and the reply that it gets here.
-fn go_on(
-    asking: &Asking,
-    node: &Node,
-    nexts: &mut Vec<Next>,
-    replies: &mut Vec<Reply>,
-) -> Result<(), AllocError>
-    requires { MayGoOnBeside asking.now node.now }
-    ensures leads { IfOk result (λ _. AreLed asking.now node.now nexts.new.items) }
-    ensures more { IfOk result (λ _. AreMore replies.old.items replies.new.items) }
-    ensures gets { IfOk result (λ _. GetsMore asking.now replies.old.items replies.new.items) }
-    ensures whole { IfOk result (λ _. SufficeUnless asking.now node.now nexts.new.items replies.new.items) }
-{
-    nexts.clear();
-    if let Some(next) = unchanging_beside(asking, node) {
-        nexts.push(next)?;
-        return Ok(());
-    }
-    ask(asking, node, replies)?;
-    choices_beside(asking, node, nexts)
-}
-
-/// Adds the nodes that were not seen, which come from this place, to those seen, and their places to
-/// those that wait.
+/// Adds the nodes that were not seen, which come from the one of this index, to those seen, and their
+/// indices to those that wait.
 fn add_unseen(
     store: &mut Store,
     waiting: &mut Vec<usize>,
@@ -201,13 +203,13 @@ fn add_unseen(
     ensures { IfOk result (λ _. AddsUnseen store.old store.new from waiting.old.items waiting.new.items nexts.now) }
 {
     for next in nexts {
-        let place = store.nodes.len();
+        let index = store.nodes.len();
         let origin = Origin {
             from,
             took: next.took,
         };
         if store.add(next.node, origin)? {
-            waiting.push(place)?;
+            waiting.push(index)?;
         }
     }
     Ok(())
@@ -222,7 +224,7 @@ pub(crate) fn replies_of(
 ) -> Result<Option<Vec<Reply>>, AllocError>
     requires { IsAsking asking.now }
     ensures some { IfOk result (λ found. IfSome found (λ replies. AreReplies asking.now replies.items)) }
-    ensures none { IfOk result (λ found. IfNone found (ReachesMoreBeside asking.now.seen asking.now.place most)) }
+    ensures none { IfOk result (λ found. IfNone found (ReachesMoreBeside asking.now.seen asking.now.index most)) }
 {
     let mut store = Store::new(alloc);
     let mut waiting = Vec::new(alloc);
@@ -234,12 +236,12 @@ pub(crate) fn replies_of(
     let mut nexts = Vec::new(alloc);
     let mut replies = Vec::new(alloc);
     for _ in 0..most {
-        let Some(place) = waiting.pop() else {
+        let Some(index) = waiting.pop() else {
             return Ok(Some(replies));
         };
-        let node = store.nodes[place];
-        go_on(asking, &node, &mut nexts, &mut replies)?;
-        add_unseen(&mut store, &mut waiting, place, nexts.as_slice())?;
+        let node = store.nodes[index];
+        asking.go_on(&node, &mut nexts, &mut replies)?;
+        add_unseen(&mut store, &mut waiting, index, nexts.as_slice())?;
     }
     if waiting.is_empty() {
         return Ok(Some(replies));

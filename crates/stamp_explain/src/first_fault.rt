@@ -13,7 +13,7 @@ use crate::observed::Observed;
 use std::alloc::{AllocError, Global};
 
 /// What a search finds of the history as it is seen when a call has returned: the position of its
-/// return, and its place.
+/// return, and its index.
 fn found_at(
     alloc: Global,
     observed: &Observed,

@@ -63,16 +63,16 @@ pub(crate) fn linearization_to(
     observed: &Observed,
     timeline: &Timeline,
     store: &Store,
-    place: usize,
+    index: usize,
 ) -> Result<Vec<Taken>, AllocError>
     requires observed { IsObserved observed.now }
     requires timeline { IsTimeline observed.now timeline.now }
     requires linked { AreLinked observed.now timeline.now.returns.items store.now }
-    requires end { IsEnd timeline.now.returns.items store.now place }
+    requires end { IsEnd timeline.now.returns.items store.now index }
     ensures { IfOk result (λ order. IsLinearizationOf observed.now order.items) }
 {
     let mut order = Vec::with_capacity(alloc, observed.entries().len())?;
-    let mut at = place;
+    let mut at = index;
     while at > 0 {
         let origin = store.origins[at];
         let node = &store.nodes[origin.from];

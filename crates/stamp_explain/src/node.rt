@@ -22,7 +22,7 @@ pub(crate) struct Next {
     pub(crate) took: Option<usize>,
 }
 
-/// Where a node comes from: the place of that node among those seen, and the entry whose call took
+/// Where a node comes from: the index of that node among those seen, and the entry whose call took
 /// effect on the way, if one did.
 #[derive(Clone, Copy)]
 pub(crate) struct Origin {

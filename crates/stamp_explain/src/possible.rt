@@ -48,7 +48,7 @@ impl From<AllocError> for PossibleError {
     }
 }
 
-/// The history with this reply of the call at this place, which is the one given.
+/// The history with this reply of the call of this entry, which is the one given.
 fn with_reply(
     alloc: Global,
     observed: &Observed,
@@ -103,7 +103,7 @@ fn is_possible(
     }
 }
 
-/// Whether a call that has returned stands at this place, so that its possible replies may be asked for.
+/// Whether there is this entry and its call has returned, so that its possible replies may be asked for.
 #[tactic(auto, using(crate::proofs::Replying::return_here, crate::proofs::Replying::no_return_here, crate::proofs::Replying::no_entry_here))]
 pub fn has_returned_at(observed: &Observed, entry: usize) -> bool
     ensures { IsTrue result ↔ IsReturnAt observed.now.entries entry }
@@ -124,7 +124,7 @@ fn push(replies: &mut Vec<Reply>, reply: Reply) -> Result<(), AllocError>
     Ok(())
 }
 
-/// Which of these replies the call at this place could have had: with such a one in place of its own, the cut
+/// Which of these replies the call of this entry could have had: with such a one instead of its own, the cut
 /// with its return is explained. Replies that are all different are answered once each, in no promised order.
 /// For each there is a search of the lock's calls, and one of the record's. Refuses as 1 `Undecided`, where one
 /// gives up once it has looked at more than `most` configurations, or 2 `Memory`, where an allocation was
@@ -151,7 +151,7 @@ pub fn possible_among(
     Ok(found)
 }
 
-/// All replies that the call at this place could have had, each once: with such a one in place of its own, and
+/// All replies that the call of this entry could have had, each once: with such a one instead of its own, and
 /// with no other, the cut with its return is explained. None, where it would have waited, or where the cut
 /// before its return is not explained. There is a search for what the other calls may do before it, and one for
 /// each reply that it gets then. Refuses as 1 `Undecided`, where the first reaches more than `most`

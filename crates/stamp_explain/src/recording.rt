@@ -11,25 +11,25 @@ use crate::observed::{Observation, Observed};
 use stamp_core::{Entry, Record, Reply};
 use std::alloc::{AllocError, Global};
 
-/// A position, and how many calls took effect at it.
+/// A point in two parts: its position, and how many calls take effect there before it.
 #[derive(Clone, Copy)]
-struct Place {
+struct PointParts {
     position: u64,
     before: u64,
 }
 
-/// Where a call that began at this position takes effect, after those before it.
-fn place_for(after: Place, first: u64) -> Place
-    ensures position { result.position ≡ position_at after.position first }
-    ensures before { result.before ≡ there_at after.position after.before first }
+/// The point of a call that began at this position: the next one, or the first at that position, if it is later.
+fn point_for(next: PointParts, first: u64) -> PointParts
+    ensures position { result.position ≡ position_at next.position first }
+    ensures before { result.before ≡ there_at next.position next.before first }
 {
-    if after.position < first {
-        Place {
+    if next.position < first {
+        PointParts {
             position: first,
             before: 0,
         }
     } else {
-        after
+        next
     }
 }
 
@@ -88,22 +88,22 @@ fn entries_of(alloc: Global, observed: &Observed, order: &[Taken]) -> Result<Vec
 {
     let entries = observed.entries();
     let end = end_of(entries);
-    let mut at = Place {
+    let mut next = PointParts {
         position: 0,
         before: 0,
     };
-    let mut placed = Vec::with_capacity(alloc, order.len())?;
+    let mut made = Vec::with_capacity(alloc, order.len())?;
     for taken in order {
         let entry = &entries[taken.entry];
-        let place = place_for(at, entry.first);
-        let point = 64 * place.position + place.before;
-        placed.push(entry_of(entry, taken.reply, end, point))?;
-        at = Place {
-            position: place.position,
-            before: place.before + 1,
+        let parts = point_for(next, entry.first);
+        let point = 64 * parts.position + parts.before;
+        made.push(entry_of(entry, taken.reply, end, point))?;
+        next = PointParts {
+            position: parts.position,
+            before: parts.before + 1,
         };
     }
-    Ok(placed)
+    Ok(made)
 }
 
 /// The recorded history of an order: each call takes effect at the position where it began, or at that of the

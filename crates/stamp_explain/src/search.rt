@@ -21,7 +21,7 @@ use crate::unchanging::{asks_at, is_unchanging_at};
 use stamp_core::Word;
 use std::alloc::{AllocError, Global};
 
-/// Leaves these nodes, which come from this place, to wait: the last is the first to be looked at.
+/// Leaves these nodes, which come from the one of this index, to wait: the last is the first to be looked at.
 fn leave(waiting: &mut Vec<Waiting>, from: usize, nexts: &[Next]) -> Result<(), AllocError>
     ensures { IfOk result (λ _. waiting.new.items ≡ waiting.old.items ++ waiting_from from nexts.now) }
 {
@@ -219,14 +219,14 @@ pub(crate) fn search(
     let mut waiting = Vec::new(alloc);
     let mut nexts = Vec::new(alloc);
     for _ in 0..=most {
-        let place = store.nodes.len() - 1;
-        let node = store.nodes[place];
+        let index = store.nodes.len() - 1;
+        let node = store.nodes[index];
         if node.past >= returns.len() {
-            let order = linearization_to(alloc, observed, timeline, &store, place)?;
+            let order = linearization_to(alloc, observed, timeline, &store, index)?;
             return Ok(Found::Linearization(order));
         }
         successors(observed, timeline, &node, &mut nexts)?;
-        leave(&mut waiting, place, nexts.as_slice())?;
+        leave(&mut waiting, index, nexts.as_slice())?;
         if !look(&mut store, &mut waiting)? {
             return Ok(Found::Nothing);
         }

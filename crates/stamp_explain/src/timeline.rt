@@ -1,7 +1,7 @@
 //! What a search is given of a history: when calls returned, and which are open then.
 ghost use Rattle.std.specs.Prelude.{ℕ, ◌≡◌, ◌≢◌, ◌<◌, ◌≤◌, IfOk, length};
 ghost use Rattle.std.specs.List.{All, AllPairs};
-ghost use Rattle.stamp_explain.specs.TimelineKeys.{AreKeys, AreRising, AreRanked, AreTimelineKeys, AreOpens, BeginsMore, AreEnds, EndsAt, BeginsAt, places_of};
+ghost use Rattle.stamp_explain.specs.TimelineKeys.{AreKeys, AreRising, AreRanked, AreTimelineKeys, AreOpens, BeginsMore, AreEnds, EndsAt, BeginsAt, key_indices};
 ghost use Rattle.stamp_explain.specs.Observed.{IsObserved};
 ghost use Rattle.stamp_explain.specs.Timeline.{IsTimeline};
 
@@ -16,7 +16,7 @@ pub(crate) struct Timeline {
     pub(crate) opens: Vec<Vec<usize>>,
 }
 
-/// Where each returned call returned, and its place.
+/// Where each returned call returned, and its index.
 fn returns_of(alloc: Global, entries: &[Observation]) -> Result<Vec<(u64, usize)>, AllocError>
     ensures { IfOk result (λ keys. AreKeys EndsAt entries.now (length entries.now) keys.items) }
 {
@@ -29,7 +29,7 @@ fn returns_of(alloc: Global, entries: &[Observation]) -> Result<Vec<(u64, usize)
     Ok(keys)
 }
 
-/// Where each returned call returned, and its place, in the order of the positions; of two calls that return
+/// Where each returned call returned, and its index, in the order of the positions; of two calls that return
 /// at one, that which is listed first comes first.
 pub(crate) fn ends_of(
     alloc: Global,
@@ -42,7 +42,7 @@ pub(crate) fn ends_of(
     Ok(ends)
 }
 
-/// Where each call began, and its place.
+/// Where each call began, and its index.
 fn begins_of(alloc: Global, entries: &[Observation]) -> Result<Vec<(u64, usize)>, AllocError>
     ensures { IfOk result (λ keys. AreKeys BeginsAt entries.now (length entries.now) keys.items) }
 {
@@ -53,14 +53,14 @@ fn begins_of(alloc: Global, entries: &[Observation]) -> Result<Vec<(u64, usize)>
     Ok(keys)
 }
 
-/// The places of these keys, without the positions.
-fn places_alone(alloc: Global, keys: &[(u64, usize)]) -> Result<Vec<usize>, AllocError>
-    ensures { IfOk result (λ places. places.items ≡ places_of keys.now) }
+/// The indices of these keys, without the numbers beside them.
+fn key_indices<K: Copy>(alloc: Global, keys: &[(K, usize)]) -> Result<Vec<usize>, AllocError>
+    ensures { IfOk result (λ indices. indices.items ≡ key_indices keys.now) }
 {
     keys.iter().map(|key| key.1).collect(alloc)
 }
 
-/// Positions with their places, in the order of the positions.
+/// Positions, each with the index of its call, in the order of the positions.
 fn in_order(keys: Vec<(u64, usize)>) -> Result<Vec<(u64, usize)>, AllocError>
     ensures { IfOk result (λ sorted. AreRising keys.items sorted.items) }
 {
@@ -69,7 +69,7 @@ fn in_order(keys: Vec<(u64, usize)>) -> Result<Vec<(u64, usize)>, AllocError>
     Ok(sorted)
 }
 
-/// The place of each call among the returns; one that is under way has a place behind all.
+/// The rank of each call: its index among the returns; one that is under way has one behind all.
 fn ranks_of(alloc: Global, calls: usize, returns: &[usize]) -> Result<Vec<usize>, AllocError>
     requires calls { All (λ i. i < calls) returns.now }
     requires once { AllPairs (λ i j. i ≢ j) returns.now }
@@ -96,21 +96,14 @@ fn begin_more(
     requires ranks { All (λ (p : ℕ × ℕ). p.1 < length ranks.now) begins.now }
     ensures { IfOk result (λ to. BeginsMore begins.now ranks.now last from to kept.old.items kept.new.items) }
 {
-    for place in from..begins.len() {
-        let (first, call) = begins[place];
+    for index in from..begins.len() {
+        let (first, call) = begins[index];
         if last < first {
-            return Ok(place);
+            return Ok(index);
         }
         kept.push((ranks[call], call))?;
     }
     Ok(begins.len())
-}
-
-/// The calls of these keys, without their ranks.
-fn calls_alone(alloc: Global, kept: &[(usize, usize)]) -> Result<Vec<usize>, AllocError>
-    ensures { IfOk result (λ calls. calls.items ≡ places_of kept.now) }
-{
-    kept.iter().map(|key| key.1).collect(alloc)
 }
 
 /// For each return the calls that are open before it, in the order of their returns.
@@ -123,7 +116,7 @@ fn opens_of(
 ) -> Result<Vec<Vec<usize>>, AllocError>
     requires { AreTimelineKeys observed.now ends.now begins.now ranks.now }
     ensures many { IfOk result (λ opens. length opens.items ≡ length ends.now) }
-    ensures opens { IfOk result (λ opens. AreOpens observed.now (places_of ends.now) opens.items) }
+    ensures opens { IfOk result (λ opens. AreOpens observed.now (key_indices ends.now) opens.items) }
 {
     let _ = observed.entries();
     let mut opens = Vec::with_capacity(alloc, ends.len())?;
@@ -133,7 +126,7 @@ fn opens_of(
         begun = begin_more(begins, ranks, end.0, begun, &mut kept)?;
         kept.retain(|call| call.0 >= past);
         kept.sort_unstable();
-        opens.push(calls_alone(alloc, kept.as_slice())?)?;
+        opens.push(key_indices(alloc, kept.as_slice())?)?;
     }
     Ok(opens)
 }
@@ -145,7 +138,7 @@ pub(crate) fn timeline_of(alloc: Global, observed: &Observed) -> Result<Timeline
 {
     let entries = observed.entries();
     let ends = in_order(returns_of(alloc, entries)?)?;
-    let returns = places_alone(alloc, ends.as_slice())?;
+    let returns = key_indices(alloc, ends.as_slice())?;
     let begins = in_order(begins_of(alloc, entries)?)?;
     let ranks = ranks_of(alloc, entries.len(), returns.as_slice())?;
     let opens = opens_of(

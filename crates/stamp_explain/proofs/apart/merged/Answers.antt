@@ -5,7 +5,7 @@ use Rattle.std.proofs.lemmas.Option.{slice_get_read}
 use Rattle.std.proofs.lemmas.Bool.Decides.{nat_tests}
 use Rattle.stamp_explain.specs.declared.linearization.Taken.{Taken}
 use Rattle.stamp_explain.proofs.Uniting.{UnitesSoFar, BeganFirst, unites_none, unites_lock, unites_record, united}
-use Rattle.stamp_explain.proofs.Uniting.{IsFirstOf, call_inside, place_inside, none_is_next, began_first, read_again}
+use Rattle.stamp_explain.proofs.Uniting.{IsFirstOf, call_inside, index_inside, none_is_next, began_first, read_again}
 use Rattle.stamp_explain.proofs.apart.merged.Goals as goal
 use Rattle.stamp_explain.proofs.apart.merged.Goals.{then-i-lock_order, else-i-lock_order+then-j-record_order}
 use Rattle.stamp_explain.proofs.apart.merged.Goals.{then-j-record_order-2}
@@ -70,7 +70,7 @@ lock_inside c = elim c.if-j-record_order-2.branch [
 
 pub in_whole-requires : goal.in_whole-requires
 in_whole-requires c =
-    place_inside c.args.observed.now true c.args.locks.now c.args.lock_order.now c.loop-i.i
+    index_inside c.args.observed.now true c.args.locks.now c.args.lock_order.now c.loop-i.i
     c.index-lock_order-i-then-lock_is_next.result c.requires.locks c.requires.lock_order
     (slice_get_read c.args.lock_order.now (length c.args.lock_order.now) c.loop-i.i
     c.index-lock_order-i-then-lock_is_next.result refl (lock_inside c) c.index-lock_order-i-then-lock_is_next.is)
@@ -131,7 +131,7 @@ record_inside c = elim c.if-j-record_order-2.branch [
 
 pub in_whole-requires-else-lock_is_next : goal.in_whole-requires-else-lock_is_next
 in_whole-requires-else-lock_is_next c =
-    place_inside c.args.observed.now false c.args.records.now c.args.record_order.now c.loop-i.j
+    index_inside c.args.observed.now false c.args.records.now c.args.record_order.now c.loop-i.j
     c.index-record_order-j-else-lock_is_next.result c.requires.records c.requires.record_order
     (slice_get_read c.args.record_order.now (length c.args.record_order.now) c.loop-i.j
     c.index-record_order-j-else-lock_is_next.result refl (record_inside c) c.index-record_order-j-else-lock_is_next.is)

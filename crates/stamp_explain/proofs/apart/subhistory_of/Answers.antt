@@ -10,7 +10,7 @@ pub unreachable-requires : goal.unreachable-requires
 unreachable-requires c =
     let h = c.args.observed.now in
     let kept : c.loop-i.entries.items ≡ (of_object c.args.lock h).entries =
-    all_read (is_of_object c.args.lock) c.loop-i.i h.entries c.loop-i.entries.items c.loop-i.places.items
+    all_read (is_of_object c.args.lock) c.loop-i.i h.entries c.loop-i.entries.items c.loop-i.indices.items
     (omega (
       arith,
       c.loop-i-test.false,

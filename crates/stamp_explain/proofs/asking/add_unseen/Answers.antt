@@ -29,7 +29,7 @@ loop-next-preserved c =
           c.if-branch.waiting.items c.args.nexts.now c.loop-next.next-index blank c.loop-next-test.true
           c.loop-next.invariant (stored_so w.if-branch.true c.in_ok-add.ensures)
           (ap (λ (v : Vec ℕ Global). v.items) w.waiting-is ∙ w.in_ok-push.ensures.items ∙
-          ap (λ (n : ℕ). waiting ++ n ∷ []) (c.len-place.ensures ∙ c.loop-next.store.nodes.ok.0))
+          ap (λ (n : ℕ). waiting ++ n ∷ []) (c.len-index.ensures ∙ c.loop-next.store.nodes.ok.0))
       | else-branch w ↦ seen_is_left_out old kept c.add.new.self c.args.from before waiting
           c.if-branch.waiting.items c.args.nexts.now c.loop-next.next-index blank c.loop-next-test.true
           c.loop-next.invariant (stored_so w.if-branch.false c.in_ok-add.ensures)

@@ -6,9 +6,9 @@ use Rattle.stamp_explain.proofs.asking.asking_of.Goals as goal
 
 pub without_return-requires : goal.without_return-requires
 without_return-requires c = record {
-  is_entry = asked_as_seen c.args.observed.now c.in_ok-seen.seen c.args.entry c.place_of-place.result
+  is_entry = asked_as_seen c.args.observed.now c.in_ok-seen.seen c.args.entry c.index_then-index.result
       c.args.observation c.args.returned c.entries.result.now c.requires.observed c.requires.is_entry
-      c.requires.returned c.entries.ensures.entries c.place_of-place.ensures c.in_ok-seen.ensures;
+      c.requires.returned c.entries.ensures.entries c.index_then-index.ensures c.in_ok-seen.ensures;
 }
 
 pub timeline_of-requires : goal.timeline_of-requires
@@ -17,6 +17,6 @@ timeline_of-requires c = subst IsObserved (sym c.in_ok-seen.ensures)
 
 pub returns : goal.returns
 returns c = asked_at c.args.observed.now c.in_ok-seen.seen c.in_ok-before.before c.in_ok-timeline.timeline c.args.entry
-    c.place_of-place.result c.args.observation c.args.returned c.entries.result.now c.requires.observed
-    c.requires.is_entry c.requires.returned c.entries.ensures.entries c.place_of-place.ensures c.in_ok-seen.ensures
+    c.index_then-index.result c.args.observation c.args.returned c.entries.result.now c.requires.observed
+    c.requires.is_entry c.requires.returned c.entries.ensures.entries c.index_then-index.ensures c.in_ok-seen.ensures
     c.in_ok-before.ensures c.in_ok-timeline.ensures

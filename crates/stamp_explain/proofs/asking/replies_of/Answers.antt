@@ -23,15 +23,15 @@ returns-in_default-clause-some c =
     (nil_of_length c.loop.waiting.items (sym c.loop.waiting.ok.0 ∙ c.in_default.ensures.cases.0))
 
 pub index-requires : goal.index-requires
-index-requires c = subst (λ (n : ℕ). c.in-Some.place < n) (sym c.loop.store.nodes.ok.0)
-    (popped_inside c.loop.counter c.loop.store c.loop.waiting.items c.pop.new.self.items c.in-Some.place
+index-requires c = subst (λ (n : ℕ). c.in-Some.index < n) (sym c.loop.store.nodes.ok.0)
+    (popped_inside c.loop.counter c.loop.store c.loop.waiting.items c.pop.new.self.items c.in-Some.index
     c.loop.invariant.explores c.in-Some.ensures.items)
 
 pub go_on-requires : goal.go_on-requires
 go_on-requires c =
     let reached : IsReachedBeside c.args.asking.now c.index.result.now =
     asked_reached c.args.asking.now c.loop.counter c.loop.store c.loop.waiting.items c.pop.new.self.items
-    c.loop.replies.items c.in-Some.place c.index.result.now c.loop.invariant c.in-Some.ensures.items
+    c.loop.replies.items c.in-Some.index c.index.result.now c.loop.invariant c.in-Some.ensures.items
     c.index.ensures in
     record {
       asks = c.requires;
@@ -43,12 +43,12 @@ pub loop-preserved : goal.loop-preserved
 loop-preserved c =
     asked_more c.args.asking.now c.loop.counter c.loop.store c.add_unseen-in-loop.new.store c.loop.waiting.items
     c.pop.new.self.items c.add_unseen-in-loop.new.waiting.items c.go_on.new.nexts.items c.loop.replies.items
-    c.go_on.new.replies.items c.in-Some.place c.index.result.now c.loop.invariant c.in-Some.ensures.items
-    (popped_node c.loop.counter c.loop.store c.loop.waiting.items c.pop.new.self.items c.in-Some.place
+    c.go_on.new.replies.items c.in-Some.index c.index.result.now c.loop.invariant c.in-Some.ensures.items
+    (popped_node c.loop.counter c.loop.store c.loop.waiting.items c.pop.new.self.items c.in-Some.index
     c.index.result.now c.loop.invariant.explores c.in-Some.ensures.items c.index.ensures) c.in_ok-go_on.ensures.leads
     c.in_ok-go_on.ensures.more
     c.in_ok-go_on.ensures.gets c.in_ok-go_on.ensures.whole
-    (subst (λ (ns : List Next). AddsUnseen c.loop.store c.add_unseen-in-loop.new.store c.in-Some.place
+    (subst (λ (ns : List Next). AddsUnseen c.loop.store c.add_unseen-in-loop.new.store c.in-Some.index
     c.pop.new.self.items c.add_unseen-in-loop.new.waiting.items ns) c.as_slice.ensures.value
     c.in_ok-add_unseen-2.ensures)
 

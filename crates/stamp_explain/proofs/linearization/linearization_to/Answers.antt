@@ -6,7 +6,7 @@ use Rattle.stamp_explain.proofs.Ordering.{origin_inside, node_inside, reads_ther
 use Rattle.stamp_explain.proofs.linearization.linearization_to.Goals as goal
 
 pub loop-at-init : goal.loop-at-init
-loop-at-init c = back_last c.args.observed.now c.args.timeline.now.returns.items c.args.store.now c.args.place
+loop-at-init c = back_last c.args.observed.now c.args.timeline.now.returns.items c.args.store.now c.args.index
     c.in_ok-order.order.items c.requires.end c.in_ok-order.ensures.items
 
 pub index-origin-requires : goal.index-origin-requires

@@ -22,10 +22,10 @@ returns-in_default-2-clause-undecided c = λ _. inl (record {
     returned = c.in-Some.is;
   };
   many = subst (λ (k : ℕ). ReachesMoreBeside (seen_at c.in-Some.returned.last (c.args.entry + 1) c.args.observed.now) k
-      c.args.most) c.in_ok-asking.ensures.place
-      (subst (λ (g : ObservedHistory). ReachesMoreBeside g c.in_ok-asking.asking.place c.args.most)
+      c.args.most) c.in_ok-asking.ensures.index
+      (subst (λ (g : ObservedHistory). ReachesMoreBeside g c.in_ok-asking.asking.index c.args.most)
       c.in_ok-asking.ensures.seen (subst (λ (o : Option (Vec Reply Global)). IfNone o
-      (ReachesMoreBeside c.in_ok-asking.asking.seen c.in_ok-asking.asking.place c.args.most))
+      (ReachesMoreBeside c.in_ok-asking.asking.seen c.in_ok-asking.asking.index c.args.most))
       c.in_default-2.is c.in_ok-replies.ensures.none));
 })
 

@@ -2,7 +2,7 @@ use Rattle.std.proofs.Common.{rules, ◌≡◌, ◌<◌, List, max, subst, arith
 use Rattle.std.proofs.lemmas.List.{take_all}
 use Rattle.stamp_explain.specs.declared.observed.Observation.{Observation}
 use Rattle.stamp_explain.specs.Points.{IsLastTold, told_until}
-use Rattle.stamp_explain.proofs.Placing.{none_told, told_more}
+use Rattle.stamp_explain.proofs.MakingEntries.{none_told, told_more}
 use Rattle.stamp_explain.proofs.recording.end_of.Goals as goal
 
 pub loop-entry-init : goal.loop-entry-init

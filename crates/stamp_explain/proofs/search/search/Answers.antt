@@ -14,26 +14,26 @@ loop-init c = subst (λ (ws : List Waiting). IsAtLast c.args.observed.now c.args
     c.in_ok-store.ensures c.opening.ensures)
 
 pub linearization_to-requires-clause-end : goal.linearization_to-requires-clause-end
-linearization_to-requires-clause-end c = last_ends (last_read c.loop.invariant c.len-place.ensures c.index.ensures)
+linearization_to-requires-clause-end c = last_ends (last_read c.loop.invariant c.len-index.ensures c.index.ensures)
     c.as_slice-returns.ensures.value c.if-node-returns.true
 
 pub successors-requires : goal.successors-requires
 successors-requires c = record {
   at = last_goes_on c.requires.observed c.requires.timeline c.loop.invariant
-      (last_read c.loop.invariant c.len-place.ensures c.index.ensures) c.as_slice-returns.ensures.value
+      (last_read c.loop.invariant c.len-index.ensures c.index.ensures) c.as_slice-returns.ensures.value
       c.if-node-returns.false;
-  awaited = last_settled c.loop.invariant (last_read c.loop.invariant c.len-place.ensures c.index.ensures);
+  awaited = last_settled c.loop.invariant (last_read c.loop.invariant c.len-index.ensures c.index.ensures);
 }
 
 pub returns-then-not-branch : goal.returns-then-not-branch
 returns-then-not-branch c = looked_no_more c.look.new.store c.look.new.waiting.items c.requires.timeline.are
-    (last_expanded c.loop.invariant (last_read c.loop.invariant c.len-place.ensures c.index.ensures)
+    (last_expanded c.loop.invariant (last_read c.loop.invariant c.len-index.ensures c.index.ensures)
     c.as_slice-returns.ensures.value c.if-node-returns.false c.in_ok-successors.ensures c.as_slice.ensures.value
     c.in_ok-leave.ensures) c.loop.invariant.count c.in_ok-look.ensures c.if-not-branch.true
 
 pub loop-preserved : goal.loop-preserved
 loop-preserved c = looked_on
-    (last_expanded c.loop.invariant (last_read c.loop.invariant c.len-place.ensures c.index.ensures)
+    (last_expanded c.loop.invariant (last_read c.loop.invariant c.len-index.ensures c.index.ensures)
     c.as_slice-returns.ensures.value c.if-node-returns.false c.in_ok-successors.ensures c.as_slice.ensures.value
     c.in_ok-leave.ensures) c.loop.invariant.count c.in_ok-look.ensures c.if-not-branch.false
 
@@ -44,7 +44,7 @@ returns c = elim c.loop-test.branch [
   | goal.then-loop-test+else-node-returns+in_ok-successors+in_ok-leave+in_ok-look+else-not-branch+else-counter-most w ↦
       gives_up (deepened_more c.args.observed.now c.args.timeline.now.returns.items w.look.new.store
       w.look.new.waiting.items (c.loop.counter + 1) c.args.most awaited
-      (looked_on (last_expanded c.loop.invariant (last_read c.loop.invariant w.len-place.ensures w.index.ensures)
+      (looked_on (last_expanded c.loop.invariant (last_read c.loop.invariant w.len-index.ensures w.index.ensures)
       c.as_slice-returns.ensures.value w.if-node-returns.false w.in_ok-successors.ensures w.as_slice.ensures.value
       w.in_ok-leave.ensures) c.loop.invariant.count w.in_ok-look.ensures w.if-not-branch.false) (omega arith))
 ]

@@ -4,7 +4,7 @@ use Rattle.std.specs.Int.{bit_at}
 use Rattle.stamp_core.specs.Call.{call_suits}
 use Rattle.stamp_explain.specs.declared.observed.Observation.{Observation}
 use Rattle.stamp_explain.specs.Node.{SetsBit}
-use Rattle.stamp_explain.proofs.Expanding.{at_place, entry_is, none_by_bit, none_by_reply, taken_to, trying}
+use Rattle.stamp_explain.proofs.Expanding.{at_index, entry_is, none_by_bit, none_by_reply, taken_to, trying}
 use Rattle.std.proofs.Common.{subst}
 use Rattle.stamp_explain.proofs.search.take_of.Goals as goal
 
@@ -20,7 +20,7 @@ returns-then-has_bit c returns are it = record {
 }
 
 pub transition_of-requires-clause-suits : goal.transition_of-requires-clause-suits
-transition_of-requires-clause-suits c e at = at_place (λ (o : Observation). IsTrue
+transition_of-requires-clause-suits c e at = at_index (λ (o : Observation). IsTrue
     (call_suits c.args.observed.now.width o.call)) c.args.observed.now.entries c.args.i e
     c.requires.observed.suit at
 

@@ -5,7 +5,7 @@ use Rattle.std.specs.List.Sorted.{IsPermutation}
 use Rattle.std.proofs.lemmas.List.{length-append}
 use Rattle.std.proofs.lemmas.Fn.{filter_same}
 use Rattle.stamp_explain.specs.Timeline.{AreOpen}
-use Rattle.stamp_explain.specs.TimelineKeys.{AreOpens, places_of}
+use Rattle.stamp_explain.specs.TimelineKeys.{AreOpens, key_indices}
 use Rattle.stamp_explain.proofs.Opening.{OpensAt, is_left, opens_at, opens_more, begins_inside}
 use Rattle.stamp_explain.proofs.timeline.opens_of.Goals as goal
 
@@ -30,19 +30,19 @@ loop-past-preserved c =
     opens_at h ends begins ranks k c.loop-past.begun c.in_ok-begun.begun (0, 0) c.loop-past.kept.items more sorted
     c.requires c.loop-past-test.true c.loop-past.invariant.0 c.in_ok-begun.ensures moved
     c.sort_unstable.ensures.sorted in
-    let calls : c.in_ok-calls_alone.field-0.items ≡ places_of sorted = c.in_ok-calls_alone.ensures ∙
-    ap places_of c.as_slice.ensures.value in
-    let opens : AreOpens h (places_of ends) (c.loop-past.opens.items ++ c.in_ok-calls_alone.field-0 ∷ []) =
-    opens_more h (places_of ends) c.loop-past.opens.items c.in_ok-calls_alone.field-0 k c.loop-past.invariant.1.1
-    c.loop-past.invariant.1.0 (subst (AreOpen h (places_of ends) k) (sym calls) at.calls) in (
+    let calls : c.in_ok-key_indices.field-0.items ≡ key_indices sorted = c.in_ok-key_indices.ensures ∙
+    ap (λ (ks : List (ℕ × ℕ)). key_indices ks) c.as_slice.ensures.value in
+    let opens : AreOpens h (key_indices ends) (c.loop-past.opens.items ++ c.in_ok-key_indices.field-0 ∷ []) =
+    opens_more h (key_indices ends) c.loop-past.opens.items c.in_ok-key_indices.field-0 k c.loop-past.invariant.1.1
+    c.loop-past.invariant.1.0 (subst (AreOpen h (key_indices ends) k) (sym calls) at.calls) in (
       at.kept,
       (
         ap (λ (xs : List (Vec ℕ Global)). length xs) c.in_ok-push.ensures.items ∙
             omega (
               arith,
-              length-append c.loop-past.opens.items (c.in_ok-calls_alone.field-0 ∷ []),
+              length-append c.loop-past.opens.items (c.in_ok-key_indices.field-0 ∷ []),
               c.loop-past.invariant.1.0,
             ),
-        subst (λ (xs : List (Vec ℕ Global)). AreOpens h (places_of ends) xs) (sym c.in_ok-push.ensures.items) opens,
+        subst (λ (xs : List (Vec ℕ Global)). AreOpens h (key_indices ends) xs) (sym c.in_ok-push.ensures.items) opens,
       ),
     )

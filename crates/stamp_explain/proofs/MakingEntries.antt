@@ -25,7 +25,7 @@ use Rattle.stamp_explain.specs.Points.{IsEntryOf, HasPoints, IsLastTold, EndsAsT
 use Rattle.stamp_explain.specs.Points.{entry_with_point}
 use Rattle.stamp_explain.specs.Points.{ends_at, position_at, there_at}
 use Rattle.stamp_explain.proofs.Threads.{few_threads}
-use Rattle.stamp_explain.proofs.Expanding.{at_place}
+use Rattle.stamp_explain.proofs.Expanding.{at_index}
 use Rattle.stamp_explain.proofs.Spreading.{IsReady, TakesEffect, points_from, takes_effect, ready_of, points_are_of}
 use Rattle.stamp_explain.proofs.Spreading.{points_indices}
 use Rattle.stamp_explain.proofs.Spreading.{points_are_linearized}
@@ -88,7 +88,7 @@ begun_by_end entries end is = All-weaker (λ (e : Observation). told_until e ≤
         first_below a b le = grind arith
 
 -- of k calls of an order the entries are made, and the next takes effect from this position on
-pub record PlacesTo (h : ObservedHistory) (taken : List Taken) (end k : ℕ) (entries : List Entry) (q n : ℕ) : Type 0
+pub record MakesEntries (h : ObservedHistory) (taken : List Taken) (end k : ℕ) (entries : List Entry) (q n : ℕ) : Type 0
   where
     pub order : List Effect
     pub explains : IsExplainedBy h order
@@ -99,10 +99,10 @@ pub record PlacesTo (h : ObservedHistory) (taken : List Taken) (end k : ℕ) (en
     pub ready : IsReady end q threads (drop k order)
     pub points : entries ++ points_from end q n (drop k order) ≡ points_from end 0 0 order
 
-pub places_first : (h : ObservedHistory) (taken : List Taken) (end : ℕ) (entries : List Entry) → IsObserved h →
+pub makes_none : (h : ObservedHistory) (taken : List Taken) (end : ℕ) (entries : List Entry) → IsObserved h →
     IsLinearizationOf h taken → All (λ (e : Observation). e.first ≤ end) h.entries → entries ≡ [] →
-    PlacesTo h taken end 0 entries 0 0
-places_first h taken end entries observed is begun empty = record {
+    MakesEntries h taken end 0 entries 0 0
+makes_none h taken end entries observed is begun empty = record {
   order = is.order;
   explains = is.explains;
   are = is.are;
@@ -114,7 +114,7 @@ places_first h taken end entries observed is begun empty = record {
 }
   where
     all_begun : All (λ (y : Effect). y.entry.first ≤ end) is.order
-    all_begun k d lt = at_place (λ (e : Observation). e.first ≤ end) h.entries (get_or is.order k d).index
+    all_begun k d lt = at_index (λ (e : Observation). e.first ≤ end) h.entries (get_or is.order k d).index
         (get_or is.order k d).entry begun (is.explains.effects k d lt).is_entry
 
 -- the effect whose entry and reply these are
@@ -129,30 +129,30 @@ effect_at order k t at = by (slice_get order k) refl
     by None e h = absurd (none-some t h)
     by (Some x) e h = (x, (e, same_Some (record { entry = x.index; reply = x.reply }) t h))
 
--- the call of this entry takes effect next
-pub record IsPlacedAt (h : ObservedHistory) (taken : List Taken) (end k : ℕ) (t : Taken) (entries : List Entry)
+-- the entry of this call is made next
+pub record MakesEntryOf (h : ObservedHistory) (taken : List Taken) (end k : ℕ) (t : Taken) (entries : List Entry)
     (q n : ℕ) (e : Observation) : Type 0 where
   pub position : position_at q e.first ≤ end
   pub few : there_at q n e.first < 64
-  pub next : PlacesTo h taken end (k + 1) (entries ++ entry_with_point e t.reply end (64 * position_at q e.first +
+  pub next : MakesEntries h taken end (k + 1) (entries ++ entry_with_point e t.reply end (64 * position_at q e.first +
       there_at q n e.first) ∷ []) (position_at q e.first) (there_at q n e.first + 1)
 
-pub record IsPlacedNext (h : ObservedHistory) (taken : List Taken) (end k : ℕ) (t : Taken) (entries : List Entry)
+pub record MakesNext (h : ObservedHistory) (taken : List Taken) (end k : ℕ) (t : Taken) (entries : List Entry)
     (q n : ℕ) : Type 0 where
   pub entry : Observation
   pub is_entry : slice_get h.entries t.entry ≡ Some entry
-  pub placed : IsPlacedAt h taken end k t entries q n entry
+  pub made : MakesEntryOf h taken end k t entries q n entry
 
-pub places_next : (h : ObservedHistory) (taken : List Taken) (end k : ℕ) (t : Taken) (entries : List Entry)
-    (q n : ℕ) → PlacesTo h taken end k entries q n → slice_get taken k ≡ Some t →
-    IsPlacedNext h taken end k t entries q n
-places_next h taken end k t entries q n is at =
+pub makes_next : (h : ObservedHistory) (taken : List Taken) (end k : ℕ) (t : Taken) (entries : List Entry)
+    (q n : ℕ) → MakesEntries h taken end k entries q n → slice_get taken k ≡ Some t →
+    MakesNext h taken end k t entries q n
+makes_next h taken end k t entries q n is at =
     let found : (x : Effect) × ((slice_get is.order k ≡ Some x) × (record { entry = x.index; reply = x.reply } ≡ t)) =
     effect_at is.order k t (ap (λ (ts : List Taken). slice_get ts k) (sym is.are) ∙ at) in
     by found.0 found.1.0 (ap (λ (u : Taken). u.entry) found.1.1) (ap (λ (u : Taken). u.reply) found.1.1)
   where
     by : (x : Effect) → slice_get is.order k ≡ Some x → x.index ≡ t.entry → x.reply ≡ t.reply →
-        IsPlacedNext h taken end k t entries q n
+        MakesNext h taken end k t entries q n
     by x here index reply =
         let lt : k < length is.order = slice_get_within is.order k x here in
         let more : suc k ≡ k + 1 = omega arith in
@@ -168,7 +168,7 @@ places_next h taken end k t entries q n is at =
         record {
           entry = x.entry;
           is_entry = ap (λ (i : ℕ). slice_get h.entries i) (sym index) ∙ is_effect x here;
-          placed = record {
+          made = record {
             position = step.ready.reached;
             few = step.few;
             next = record {
@@ -196,23 +196,23 @@ pub call_read : (taken : List Taken) (k : ℕ) (t : Taken) → k < length taken 
     slice_get taken k ≡ Some t
 call_read taken k t lt read = slice_get_read taken (length taken) k t refl lt read
 
-pub places_inside : (h : ObservedHistory) (taken : List Taken) (end k : ℕ) (t : Taken) (entries : List Entry)
-    (q n : ℕ) → PlacesTo h taken end k entries q n → slice_get taken k ≡ Some t → t.entry < length h.entries
-places_inside h taken end k t entries q n is at =
-    let step : IsPlacedNext h taken end k t entries q n = places_next h taken end k t entries q n is at in
+pub next_inside : (h : ObservedHistory) (taken : List Taken) (end k : ℕ) (t : Taken) (entries : List Entry)
+    (q n : ℕ) → MakesEntries h taken end k entries q n → slice_get taken k ≡ Some t → t.entry < length h.entries
+next_inside h taken end k t entries q n is at =
+    let step : MakesNext h taken end k t entries q n = makes_next h taken end k t entries q n is at in
     slice_get_within h.entries t.entry step.entry step.is_entry
 
-pub places_at : (h : ObservedHistory) (taken : List Taken) (end k : ℕ) (t : Taken) (entries : List Entry)
-    (q n : ℕ) (e : Observation) (read : List Observation) → PlacesTo h taken end k entries q n →
+pub makes_at : (h : ObservedHistory) (taken : List Taken) (end k : ℕ) (t : Taken) (entries : List Entry)
+    (q n : ℕ) (e : Observation) (read : List Observation) → MakesEntries h taken end k entries q n →
     slice_get taken k ≡ Some t → read ≡ h.entries → e ≡ get_or read t.entry e →
-    IsPlacedAt h taken end k t entries q n e
-places_at h taken end k t entries q n e read is at same is_read =
-    let step : IsPlacedNext h taken end k t entries q n = places_next h taken end k t entries q n is at in
+    MakesEntryOf h taken end k t entries q n e
+makes_at h taken end k t entries q n e read is at same is_read =
+    let step : MakesNext h taken end k t entries q n = makes_next h taken end k t entries q n is at in
     let here : slice_get h.entries t.entry ≡ Some e = slice_get_read h.entries (length h.entries) t.entry e refl
     (slice_get_within h.entries t.entry step.entry step.is_entry)
     (is_read ∙ ap (λ (xs : List Observation). get_or xs t.entry e) same) in
-    subst (λ (o : Observation). IsPlacedAt h taken end k t entries q n o)
-    (same_Some step.entry e (sym step.is_entry ∙ here)) step.placed
+    subst (λ (o : Observation). MakesEntryOf h taken end k t entries q n o)
+    (same_Some step.entry e (sym step.is_entry ∙ here)) step.made
 
 none_left : (xs : List Effect) (k : ℕ) → length xs ≤ k → drop k xs ≡ []
 none_left xs k le = empty (drop k xs) (omega (arith, length-drop k xs, le))
@@ -232,10 +232,10 @@ ends_as_told hs end q n (x ∷ xs) effects = (
       (All-tail (IsEffectOf hs) x xs effects),
 )
 
-pub all_placed : (h : ObservedHistory) (taken : List Taken) (end k : ℕ) (entries : List Entry) (q n : ℕ) →
-    IsObserved h → IsLastTold h.entries end → PlacesTo h taken end k entries q n → length taken ≤ k →
+pub all_made : (h : ObservedHistory) (taken : List Taken) (end k : ℕ) (entries : List Entry) (q n : ℕ) →
+    IsObserved h → IsLastTold h.entries end → MakesEntries h taken end k entries q n → length taken ≤ k →
     HasPoints h (recorded h.limits h.width entries [])
-all_placed h taken end k entries q n observed is_end is all =
+all_made h taken end k entries q n observed is_end is all =
     subst (λ (es : List Entry). HasPoints h (recorded h.limits h.width es [])) (sym made) (record {
       of = points_are_of h end is.order observed is.explains is.begun;
       linearized = points_are_linearized h end is.order observed is.explains is.begun;
@@ -279,9 +279,9 @@ all_suit h [] (e ∷ es) observed z = absurd z
 all_suit h (i ∷ is) [] observed z = absurd z
 all_suit h (i ∷ is) (e ∷ es) observed z = All-cons (SuitsRecord h.width) e es (record {
   thread = subst (λ (t : ℕ). t < 64) (sym z.0.thread)
-      (at_place (λ (o : Observation). o.thread < 64) h.entries i z.0.observed observed.threads z.0.is_entry);
+      (at_index (λ (o : Observation). o.thread < 64) h.entries i z.0.observed observed.threads z.0.is_entry);
   call = subst (λ (call : Call). IsTrue (call_suits h.width call)) (sym z.0.call)
-      (at_place (λ (o : Observation). IsTrue (call_suits h.width o.call)) h.entries i z.0.observed observed.suit
+      (at_index (λ (o : Observation). IsTrue (call_suits h.width o.call)) h.entries i z.0.observed observed.suit
       z.0.is_entry);
 }) (all_suit h is es observed z.1)
 
