@@ -4,7 +4,7 @@ ghost use Rattle.std.specs.Prelude.{◌≡◌, ◌||◌, option_and_then};
 ghost use Rattle.serde_json.specs.Find.{as_array};
 ghost use Rattle.serde_json.specs.View.{view, items_view};
 ghost use Rattle.stamp_history.specs.EntryValue as entry;
-ghost use Rattle.stamp_history.specs.Gives.{Gives};
+ghost use Rattle.stamp_history.specs.Gives.{Gives, result_map};
 ghost use Rattle.stamp_history.specs.HistoryFields as field;
 ghost use Rattle.stamp_history.specs.JsonValue as json;
 ghost use Rattle.stamp_history.specs.JsonReading.{each};
@@ -100,8 +100,8 @@ pub fn read_width(value: &Value) -> Result<u64, ReadError>
 /// it has over 640,000.
 #[tactic(auto, using(crate::proofs::ItemLengths::lengths))]
 pub fn listed_entries(value: &Value) -> Result<&[Value], ReadError>
-    ensures { Gives ReadError.Memory (λ list. items_view list.now) result
-        (field.listed_entries (view value.now)) }
+    ensures { result_map (λ list. items_view list.now) result
+        ≡ field.listed_entries (view value.now) }
 {
     match list_under(value, "entries") {
         None => Err(ReadError::NotHistory(Field::Entries)),
@@ -201,8 +201,8 @@ fn pairs_in(alloc: Global, list: &[Value]) -> Result<Vec<(u64, u64)>, ReadError>
 
 #[tactic(auto, using(crate::proofs::ItemLengths::lengths))]
 fn listed_report(count: usize, value: &Value) -> Result<&[Value], ReadError>
-    ensures { Gives ReadError.Memory (λ list. items_view list.now) result
-        (field.listed_report count (view value.now)) }
+    ensures { result_map (λ list. items_view list.now) result
+        ≡ field.listed_report count (view value.now) }
 {
     match list_under(value, "report") {
         Some(list) if list.len() == count => Ok(list.as_slice()),

@@ -3,7 +3,6 @@
 ghost use Rattle.std.specs.Prelude.{◌≡◌};
 ghost use Rattle.serde_json.specs.View.{view};
 ghost use Rattle.stamp_core.specs.Limits.{AreInRange};
-ghost use Rattle.stamp_history.specs.Gives.{Gives};
 ghost use Rattle.stamp_history.specs.LimitFields as field;
 
 use crate::field::Field;
@@ -79,7 +78,7 @@ fn limits_of(layout: Layout, readers: u64, versions: u64) -> Limits
 /// replay or a script; 3 `Limit`, with the field out of range.
 #[tactic(auto, unfolding(crate::specs::LimitFields::limits))]
 pub fn read_limits(text: TextKind, value: &Value) -> Result<Limits, ReadError>
-    ensures { Gives ReadError.Memory (λ limits. limits) result (field.limits text (view value.now)) }
+    ensures { result ≡ field.limits text (view value.now) }
 {
     let layout = read_layout(text, value)?;
     let readers = read_readers(text, layout, value)?;

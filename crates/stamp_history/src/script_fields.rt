@@ -3,7 +3,7 @@
 ghost use Rattle.std.specs.Prelude.{◌≡◌, map};
 ghost use Rattle.serde_json.specs.View.{view, items_view};
 ghost use Rattle.stamp_machines.specs.ScriptFault.{thread_calls};
-ghost use Rattle.stamp_history.specs.Gives.{Gives};
+ghost use Rattle.stamp_history.specs.Gives.{Gives, result_map};
 ghost use Rattle.stamp_history.specs.JsonReading.{each};
 ghost use Rattle.stamp_history.specs.ScriptValue as field;
 
@@ -50,8 +50,8 @@ fn are_lists(list: &[Value]) -> bool
 }
 
 fn listed_threads(value: Value) -> Result<Vec<Value>, ReadError>
-    ensures { Gives ReadError.Memory (λ list. items_view list.items) result
-        (field.listed_threads (view value)) }
+    ensures { result_map (λ list. items_view list.items) result
+        ≡ field.listed_threads (view value) }
 {
     match take_list(value, "threads") {
         Some(list) if are_lists(&list) => Ok(list),
@@ -113,8 +113,8 @@ pub(crate) fn read_threads(alloc: Global, value: Value) -> Result<Vec<Vec<Script
 }
 
 fn listed_steps(value: &Value) -> Result<&[Value], ReadError>
-    ensures { Gives ReadError.Memory (λ list. items_view list.now) result
-        (field.listed_steps (view value.now)) }
+    ensures { result_map (λ list. items_view list.now) result
+        ≡ field.listed_steps (view value.now) }
 {
     match list_under(value, "steps") {
         None => Err(ReadError::NotScript(Field::Steps)),

@@ -21,12 +21,12 @@ fn script_from(
     threads: Vec<Vec<ScriptCall>>,
     steps: Vec<u64>,
 ) -> Result<Script, ReadError>
-    ensures { Gives ReadError.Memory (λ script. script) result (faultless (record {
+    ensures { result ≡ faultless (record {
       limits = limits;
       width = width;
       threads = map thread_calls threads.items;
       steps = steps.items;
-    })) }
+    }) }
 {
     match Script::new(limits, width, threads, steps) {
         Ok(script) => Ok(script),
