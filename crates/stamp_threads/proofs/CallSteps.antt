@@ -103,19 +103,19 @@ module _ (limits : Bounds) (call : Call) (v : LockPassView) (found : ℕ) (w : L
 -- an exchange that found the old word
 pub exchange_won : (limits : Bounds) (call : Call) (old : ℕ) (v : LockPassView) (found : ℕ)
     (w : LockPassView) → found ≡ old → Exchanged limits call old v found w → Won limits call v old w
-exchange_won limits call old v found w same told =
+exchange_won limits call old v found w same learned =
     let yes : (found == old) ≡ true = grind (arith, nat_tests) in
     let won : Won limits call v found w =
     subst (λ (b : Bool). MatchBool b (Won limits call v found w) (Loaded limits call v found w)) yes
-    told in subst (λ (n : ℕ). Won limits call v n w) same won
+    learned in subst (λ (n : ℕ). Won limits call v n w) same won
 
 -- an exchange that found another word
 pub exchange_lost : (limits : Bounds) (call : Call) (old : ℕ) (v : LockPassView) (found : ℕ)
     (w : LockPassView) → found ≢ old → Exchanged limits call old v found w →
     ((found == old) ≡ false) × Loaded limits call v found w
-exchange_lost limits call old v found w other told =
+exchange_lost limits call old v found w other learned =
     let no : (found == old) ≡ false = grind (arith, nat_tests) in (
       no,
       subst (λ (b : Bool). MatchBool b (Won limits call v found w) (Loaded limits call v found w)) no
-          told,
+          learned,
     )

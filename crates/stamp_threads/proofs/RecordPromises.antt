@@ -1,4 +1,4 @@
--- What the steps of a call of a record tell, put together.
+-- What a pass learns by the steps of a call of a record, put together.
 use Rattle.std.proofs.Common.{◌≡◌, ◌≢◌, ℕ, ◌+◌, ◌<◌, ◌≤◌, ◌%◌, ◌^◌, eqb, Bool, true, false}
 use Rattle.std.proofs.Common.{if◌then◌else◌, MatchBool, List, [], refl, ap, sym, ◌∙◌, subst}
 use Rattle.std.proofs.Common.{◌∷◌, ◌++◌, append_assoc, arith, eq-eqb, ne_eqb}
@@ -229,26 +229,26 @@ module _ (shape : RecordShape) (v : RecordPassView) (loaded : ℕ) where
         (loads (puts t.log) (ap (λ (m : Seated). (first_of m.0).phase) opens) ∙
         ap (λ (m : Seated). alone (with_phase (first_of m.0) (Loading (puts t.log) words))) opens)
 
-    abbrev Told : ℕ → Seated → RecordPassView → Type 0
-    Told found me3 u = MatchBool (eqb found (word_to_confirm shape.limits.layout u.phase))
+    abbrev Learned : ℕ → Seated → RecordPassView → Type 0
+    Learned found me3 u = MatchBool (eqb found (word_to_confirm shape.limits.layout u.phase))
         (Confirmed shape u found me3 P words) (Overtaken shape u found me3)
 
-    abbrev ToldBy : ℕ → Seated → Bool → Type 0
-    ToldBy found me3 b = MatchBool b (Confirmed shape reads found me3 P words)
+    abbrev LearnedBy : ℕ → Seated → Bool → Type 0
+    LearnedBy found me3 b = MatchBool b (Confirmed shape reads found me3 P words)
         (Overtaken shape reads found me3)
 
-    told_by : (found : ℕ) (me3 : Seated) (b : Bool) → eqb found loaded ≡ b →
-        Told found me3 (first_of me2.0) → ToldBy found me3 b
-    told_by found me3 b is told =
-        subst (ToldBy found me3)
+    learned_by : (found : ℕ) (me3 : Seated) (b : Bool) → eqb found loaded ≡ b →
+        Learned found me3 (first_of me2.0) → LearnedBy found me3 b
+    learned_by found me3 b is learned =
+        subst (LearnedBy found me3)
         (ap (λ (n : ℕ). eqb found n) (sym (free_word shape v loaded t.log t.left free_now)) ∙ is)
-        (subst (Told found me3) reads_is told)
+        (subst (Learned found me3) reads_is learned)
 
-    get_lost : (found : ℕ) (me3 : Seated) → Told found me3 (first_of me2.0) → found ≢ loaded →
+    get_lost : (found : ℕ) (me3 : Seated) → Learned found me3 (first_of me2.0) → found ≢ loaded →
         WasLost shape v loaded found (first_of me3.0)
-    get_lost found me3 told differ =
+    get_lost found me3 learned differ =
         let o : Overtaken shape reads found me3 =
-        told_by found me3 false (ne_eqb found loaded differ) told in
+        learned_by found me3 false (ne_eqb found loaded differ) learned in
         subst (λ (m : Seated). WasLost shape v loaded found (first_of m.0)) (sym o.after)
         (lost_after t.log (Loading (puts t.log) words) found _ t.left free_now differ (record {
           left = o.left;
@@ -258,11 +258,11 @@ module _ (shape : RecordShape) (v : RecordPassView) (loaded : ℕ) where
           consistent = o.consistent;
         }) refl)
 
-    get_made : (found : ℕ) (me3 : Seated) → Told found me3 (first_of me2.0) → found ≡ loaded →
+    get_made : (found : ℕ) (me3 : Seated) → Learned found me3 (first_of me2.0) → found ≡ loaded →
         MadeOnRecord shape Get (Content words) v (first_of me3.0)
-    get_made found me3 told same =
+    get_made found me3 learned same =
         let o : Confirmed shape reads found me3 P words =
-        told_by found me3 true (eq-eqb found loaded same) told in
+        learned_by found me3 true (eq-eqb found loaded same) learned in
         subst (λ (m : Seated). MadeOnRecord shape Get (Content words) v (first_of m.0)) (sym o.after)
         (record {
           log = o.log;
@@ -282,11 +282,11 @@ module _ (shape : RecordShape) (v : RecordPassView) (loaded : ℕ) where
               ap (λ (n : ℕ). v.found ++ loaded ∷ n ∷ []) same;
         })
 
-    get_obeys : (found : ℕ) (me3 : Seated) → Told found me3 (first_of me2.0) → found ≡ loaded →
+    get_obeys : (found : ℕ) (me3 : Seated) → Learned found me3 (first_of me2.0) → found ≡ loaded →
         P words
-    get_obeys found me3 told same =
+    get_obeys found me3 learned same =
         let o : Confirmed shape reads found me3 P words =
-        told_by found me3 true (eq-eqb found loaded same) told in
+        learned_by found me3 true (eq-eqb found loaded same) learned in
         o.obeys
 
   put_made : (me me2 me3 me4 : Seated) (words : List ℕ) (found held : ℕ)
@@ -296,7 +296,7 @@ module _ (shape : RecordShape) (v : RecordPassView) (loaded : ℕ) where
       held ≡ loaded + writer_unit shape.limits.layout →
       Released shape (first_of me3.0) held me4 words →
       MadeOnRecord shape (Put words) Done v (first_of me4.0)
-  put_made me me2 me3 me4 words found held t got hit stored up told =
+  put_made me me2 me3 me4 words found held t got hit stored up learned =
       let u : RecordPassView = knowing (finding v loaded) t.log in
       let is : first_of me.0 ≡ u = ap (λ (m : Seated). first_of m.0) t.after in
       let a : Acquired shape u found me2 words =
@@ -307,7 +307,7 @@ module _ (shape : RecordShape) (v : RecordPassView) (loaded : ℕ) where
       ap (λ (m : Seated). with_phase (first_of m.0) (Writing (puts got.log) words shape.width))
       a.after in
       let o : Released shape x held me4 words =
-      subst (λ (y : RecordPassView). Released shape y held me4 words) x_is told in
+      subst (λ (y : RecordPassView). Released shape y held me4 words) x_is learned in
       let mark = entry v.name Mark in
       subst (λ (m : Seated). MadeOnRecord shape (Put words) Done v (first_of m.0)) (sym o.after) (record {
         word = loaded;
@@ -338,11 +338,11 @@ module _ (shape : RecordShape) (v : RecordPassView) (loaded : ℕ) where
       HeldTest shape loaded false → (found : ℕ) (me2 : Seated) →
       LoadedForPut shape (first_of me.0) found me2 → found ≢ loaded →
       WasLost shape v loaded found (first_of me2.0)
-  put_lost me t idle test found me2 told differ =
+  put_lost me t idle test found me2 learned differ =
       let u : RecordPassView = knowing (finding v loaded) t.log in
       let is : first_of me.0 ≡ u = ap (λ (m : Seated). first_of m.0) t.after in
       let o : LoadedForPut shape u found me2 =
-      subst (λ (x : RecordPassView). LoadedForPut shape x found me2) is told in
+      subst (λ (x : RecordPassView). LoadedForPut shape x found me2) is learned in
       subst (λ (m : Seated). WasLost shape v loaded found (first_of m.0)) (sym o.after)
       (lost_after t.log v.phase found _ t.left (is_free shape v loaded t.log t.left test) differ
       (record {
@@ -375,10 +375,10 @@ module _ (key shape : RecordShape) (same : key ≡ shape) (v : RecordPassView) (
       HeldTest shape loaded false → (found : ℕ) (me2 : Seated) →
       LoadedForPut key (first_of me.0) found me2 → found ≢ loaded →
       WasLost shape v loaded found (first_of me2.0)
-  put_lost_of me t idle test found me2 told differ =
+  put_lost_of me t idle test found me2 learned differ =
       subst (λ (z : RecordShape). HeldTest z loaded false →
       WasLost z v loaded found (first_of me2.0)) same
-      (λ f. put_lost key v loaded me t idle f found me2 told differ) test
+      (λ f. put_lost key v loaded me t idle f found me2 learned differ) test
 
   pub put_made_of : (me me2 me3 me4 : Seated) (words : List ℕ) (found held : ℕ)
       (t : LoadedForPut key v loaded me) (got : Acquired key (first_of me.0) found me2 words) →
@@ -387,10 +387,10 @@ module _ (key shape : RecordShape) (same : key ≡ shape) (v : RecordPassView) (
       held ≡ loaded + writer_unit shape.limits.layout →
       Released key (first_of me3.0) held me4 words →
       MadeOnRecord shape (Put words) Done v (first_of me4.0)
-  put_made_of me me2 me3 me4 words found held t got hit stored up told =
+  put_made_of me me2 me3 me4 words found held t got hit stored up learned =
       subst (λ (z : RecordShape). held ≡ loaded + writer_unit z.limits.layout →
       MadeOnRecord z (Put words) Done v (first_of me4.0)) same
-      (λ is. put_made key v loaded me me2 me3 me4 words found held t got hit stored is told) up
+      (λ is. put_made key v loaded me me2 me3 me4 words found held t got hit stored is learned) up
 
   pub get_busy_of : (me : Seated) → LoadedForGet key v loaded me → v.phase ≡ Idle →
       HeldTest shape loaded true → WasBusy shape v loaded (first_of me.0)
@@ -403,7 +403,7 @@ module _ (key shape : RecordShape) (same : key ≡ shape) (v : RecordPassView) (
       (loads : (version : ℕ) → (first_of me.0).phase ≡ Loading version [] →
       me2 ≡ alone (with_phase (first_of me.0) (Loading version words))) (found : ℕ)
       (me3 : Seated)
-      (told : MatchBool
+      (learned : MatchBool
       (eqb found (word_to_confirm key.limits.layout (first_of me2.0).phase))
       (Confirmed key (first_of me2.0) found me3 P words)
       (Overtaken key (first_of me2.0) found me3)) where
@@ -411,18 +411,18 @@ module _ (key shape : RecordShape) (same : key ≡ shape) (v : RecordPassView) (
     get_lost_of differ =
         subst (λ (z : RecordShape). HeldTest z loaded false →
         WasLost z v loaded found (first_of me3.0)) same
-        (λ f. get_lost key v loaded P me me2 words t f loads found me3 told differ) test
+        (λ f. get_lost key v loaded P me me2 words t f loads found me3 learned differ) test
 
     pub get_made_of : found ≡ loaded → MadeOnRecord shape Get (Content words) v (first_of me3.0)
     get_made_of hit =
         subst (λ (z : RecordShape). HeldTest z loaded false →
         MadeOnRecord z Get (Content words) v (first_of me3.0)) same
-        (λ f. get_made key v loaded P me me2 words t f loads found me3 told hit) test
+        (λ f. get_made key v loaded P me me2 words t f loads found me3 learned hit) test
 
     pub get_obeys_of : found ≡ loaded → P words
     get_obeys_of hit =
         subst (λ (z : RecordShape). HeldTest z loaded false → P words) same
-        (λ f. get_obeys key v loaded P me me2 words t f loads found me3 told hit) test
+        (λ f. get_obeys key v loaded P me me2 words t f loads found me3 learned hit) test
 
 -- the same where the code has a copy of the table's key
 pub acquired_word_of : (key shape : RecordShape) → key ≡ shape → (v : RecordPassView)

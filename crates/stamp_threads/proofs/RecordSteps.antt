@@ -285,20 +285,20 @@ abbrev pub KeptBy : Bool → (List ℕ → Type 0) → RecordShape → State (Un
 KeptBy enterable P shape s id w words =
     IsKept enterable P shape record { words = words; homes = s.homes; views = set s.views id (w ∷ []) }
 
--- a step of this seat leaves this word at the index, and tells this of the seat
+-- a step of this seat leaves this word at the index, and the seat has learned this
 abbrev pub Leaves : Bool → (List ℕ → Type 0) → RecordShape → State (Unit {0}) (List RecordPassView) → ℕ →
     Seated → ℕ → ℕ → (Seated → Type 0) → Type 0
-Leaves enterable P shape s id me index word Told = (w : List RecordPassView) × (a : Act (Unit {0})) ×
+Leaves enterable P shape s id me index word Learned = (w : List RecordPassView) × (a : Act (Unit {0})) ×
     Valid s.homes me.1 a × IsKept enterable P shape (stepped s index word id me.1 w a) ×
-    Told (w, carried_after me.1 a)
+    Learned (w, carried_after me.1 a)
 
 -- a step that loads a word, and leaves the pass w there
 pub load_leaves : {enterable : Bool} (P : List ℕ → Type 0) (shape : RecordShape)
     (s : State (Unit {0}) (List RecordPassView)) (id : ℕ) (me : Seated) (index : ℕ) (w : RecordPassView)
-    (Told : Seated → Type 0) → KeptBy enterable P shape s id w s.words → Told (w ∷ [], me.1) →
-    Leaves enterable P shape s id me index (get_or s.words index 0) Told
-load_leaves P shape s id me index w Told kept told =
-    (w ∷ [], keeps, tt, subst (KeptBy _ P shape s id w) (sym (set-get_or s.words index 0)) kept, told)
+    (Learned : Seated → Type 0) → KeptBy enterable P shape s id w s.words → Learned (w ∷ [], me.1) →
+    Leaves enterable P shape s id me index (get_or s.words index 0) Learned
+load_leaves P shape s id me index w Learned kept learned =
+    (w ∷ [], keeps, tt, subst (KeptBy _ P shape s id w) (sym (set-get_or s.words index 0)) kept, learned)
 
 -- a load of the lock word by a pass that isn't writing: it knows the whole history then, and is the
 -- pass that this brings

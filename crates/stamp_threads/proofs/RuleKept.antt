@@ -87,12 +87,12 @@ Steps enterable limits s id word w = IsKept enterable limits
     record { words = set s.words 0 word; homes = s.homes; views = set s.views id (w ∷ []) } ×
     IsConsistentWith limits w
 
--- a step of this seat leaves this word, and one pass there, of which it tells this
+-- a step of this seat leaves this word, and one pass there, which has learned this
 abbrev Leaves : Bool → Bounds → State (Unit {0}) (List LockPassView) → ℕ → Seated → ℕ →
     (LockPassView → Type 0) → Type 0
-Leaves enterable limits s id me word Told = (w : List LockPassView) × (a : Act (Unit {0})) ×
+Leaves enterable limits s id me word Learned = (w : List LockPassView) × (a : Act (Unit {0})) ×
     Valid s.homes me.1 a × IsKept enterable limits (stepped s 0 word id me.1 w a) ×
-    (((w, carried_after me.1 a) ≡ alone (first_of w)) × Told (first_of w))
+    (((w, carried_after me.1 a) ≡ alone (first_of w)) × Learned (first_of w))
 
 module _ {enterable : Bool} (limits : Bounds) (s : State (Unit {0}) (List LockPassView))
     (r : IsKept enterable limits s)
@@ -178,9 +178,9 @@ module _ {enterable : Bool} (limits : Bounds) (s : State (Unit {0}) (List LockPa
 
     module _ (me : Seated) (is : me ≡ alone v) where
       -- where the step leaves the pass w
-      leaves : (word : ℕ) (w : LockPassView) (Told : LockPassView → Type 0) →
-          Steps enterable limits s id word w → Told w → Leaves enterable limits s id me word Told
-      leaves word w Told t told = (w ∷ [], keeps, tt, t.0, (λ i. (w ∷ [], (is i).1), told))
+      leaves : (word : ℕ) (w : LockPassView) (Learned : LockPassView → Type 0) →
+          Steps enterable limits s id word w → Learned w → Leaves enterable limits s id me word Learned
+      leaves word w Learned t learned = (w ∷ [], keeps, tt, t.0, (λ i. (w ∷ [], (is i).1), learned))
 
       pub load_leaves : Leaves enterable limits s id me (get_or s.words 0 0)
           (Loaded limits call v (get_or s.words 0 0))

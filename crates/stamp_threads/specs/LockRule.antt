@@ -62,7 +62,7 @@ module _ (limits : Bounds) (call : Call) (v : LockPassView) (found : ℕ) (w : L
     pub after : w ≡ after_win limits call (finding v found) log
     pub consistent : IsConsistentWith limits w
 
--- an exchange that finds another word than the old one tells what a load would tell
+-- by an exchange that finds another word than the old one, a pass learns what it would by a load
 abbrev pub Exchanged : Bounds → Call → ℕ → LockPassView → ℕ → LockPassView → Type 0
 Exchanged limits call old v found w = MatchBool (found == old) (Won limits call v found w)
     (Loaded limits call v found w)

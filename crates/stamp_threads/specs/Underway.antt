@@ -1,4 +1,4 @@
--- A lock call on its way on the running word.
+-- A lock call under way on the running word.
 use Rattle.std.specs.Prelude.{ℕ, List, [], ◌∷◌, ◌++◌, Some, Result, Ok, Err}
 use mathlib.Core.List.{IsPrefix}
 use Rattle.stamp_core.specs.Limits.{Bounds}

@@ -29,7 +29,7 @@ pub fn load<C: CallStep>(table: &LockTable, seat: &mut LockSeat, call: &Call) ->
     requires lock_call { IsTrue (is_lock_call call.now) }
     requires seat { IsAtSeat table.now.table_id seat.old.table_id seat.old.me }
     ensures seat { IsAtSeat table.now.table_id seat.new.table_id seat.new.me }
-    ensures told { let v = first_of seat.old.me.0 in
+    ensures learned { let v = first_of seat.old.me.0 in
         Loaded table.now.key.limits call.now v result (first_of seat.new.me.0) }
 {
     // The call stands in the contract alone.
@@ -37,7 +37,7 @@ pub fn load<C: CallStep>(table: &LockTable, seat: &mut LockSeat, call: &Call) ->
     table.load::<LoadStep<C>>(seat, 0)
 }
 
-/// Makes the call by an exchange. One that finds another word tells what a load would tell.
+/// Makes the call by an exchange. By one that finds another word, a pass learns what it would by a load.
 #[inline(always)]
 pub fn exchange<C: CallStep>(
     table: &LockTable,
@@ -52,7 +52,7 @@ pub fn exchange<C: CallStep>(
     requires changes { let limits = table.now.key.limits in
         (reply : Reply) × Changes limits (word_at limits old) call.now (word_at limits new) reply }
     ensures seat { IsAtSeat table.now.table_id seat.new.table_id seat.new.me }
-    ensures told { let v = first_of seat.old.me.0 in
+    ensures learned { let v = first_of seat.old.me.0 in
         Exchanged table.now.key.limits call.now old v result (first_of seat.new.me.0) }
 {
     // The call stands in the contract alone.

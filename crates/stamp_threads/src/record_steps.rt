@@ -37,13 +37,13 @@ pub fn load_for_put<C: WordsStep, P: ContentRule>(
     requires seat { IsAtSeat table.now.table_id table.now.key.shape seat.old.table_id seat.old.me }
     requires idle { (first_of seat.old.me.0).phase ≡ Idle }
     ensures table { seat.new.table_id ≡ seat.old.table_id }
-    ensures told { LoadedForPut table.now.key.shape (first_of seat.old.me.0) result seat.new.me }
+    ensures learned { LoadedForPut table.now.key.shape (first_of seat.old.me.0) result seat.new.me }
 {
     table.load::<LoadForPutStep<C>>(seat, 0)
 }
 
-/// Gets write mode by an exchange, to put these words. One that finds another word tells what a load
-/// would tell.
+/// Gets write mode by an exchange, to put these words. By one that finds another word, a pass learns
+/// what it would by a load.
 #[inline(always)]
 pub fn acquire<C: WordsStep, P: ContentRule>(
     table: &RecordTable<P>,
@@ -61,7 +61,7 @@ pub fn acquire<C: WordsStep, P: ContentRule>(
         (n : ℕ) × (free ≡ word_with limits.layout n false)
         × (held ≡ free + writer_unit limits.layout) × (n < limits.versions) }
     ensures table { seat.new.table_id ≡ seat.old.table_id }
-    ensures told { let key = table.now.key.shape in let v = first_of seat.old.me.0 in
+    ensures learned { let key = table.now.key.shape in let v = first_of seat.old.me.0 in
         MatchBool (result == free) (Acquired key v result seat.new.me words.now)
         (LoadedForPut key v result seat.new.me) }
 {
@@ -79,7 +79,7 @@ pub fn store<P: ContentRule>(table: &RecordTable<P>, seat: &mut RecordSeat, plac
         × ((first_of seat.old.me.0).phase ≡ Writing version words place)
         × (word ≡ slice_index words place) }
     ensures table { seat.new.table_id ≡ seat.old.table_id }
-    ensures told { seat.new.me ≡ alone (stored_one (first_of seat.old.me.0)) }
+    ensures learned { seat.new.me ≡ alone (stored_one (first_of seat.old.me.0)) }
 {
     table.store::<StoreStep>(seat, place + 1, word);
 }
@@ -92,7 +92,7 @@ pub fn store_all<P: ContentRule>(table: &RecordTable<P>, seat: &mut RecordSeat, 
     requires writing { (version : ℕ)
         × ((first_of seat.old.me.0).phase ≡ Writing version words.now 0) }
     ensures table { seat.new.table_id ≡ seat.old.table_id }
-    ensures told { let v = first_of seat.old.me.0 in
+    ensures learned { let v = first_of seat.old.me.0 in
         (version : ℕ) → v.phase ≡ Writing version words.now 0
         → seat.new.me ≡ alone (with_phase v (Writing version words.now table.now.key.shape.width)) }
 {
@@ -117,7 +117,7 @@ pub fn release<C: WordsStep, P: ContentRule>(
         × (held ≡ word_with key.limits.layout version true)
         × (free ≡ held + writer_unit key.limits.layout) }
     ensures table { seat.new.table_id ≡ seat.old.table_id }
-    ensures told { let v = first_of seat.old.me.0 in
+    ensures learned { let v = first_of seat.old.me.0 in
         Released table.now.key.shape v held seat.new.me words.now }
 {
     // The words stand in the contract alone.
@@ -136,7 +136,7 @@ pub fn load_for_get<C: WordsStep, P: ContentRule>(
     requires seat { IsAtSeat table.now.table_id table.now.key.shape seat.old.table_id seat.old.me }
     requires idle { (first_of seat.old.me.0).phase ≡ Idle }
     ensures table { seat.new.table_id ≡ seat.old.table_id }
-    ensures told { LoadedForGet table.now.key.shape (first_of seat.old.me.0) result seat.new.me }
+    ensures learned { LoadedForGet table.now.key.shape (first_of seat.old.me.0) result seat.new.me }
 {
     table.load::<LoadForGetStep<C>>(seat, 0)
 }
@@ -149,7 +149,7 @@ pub fn load_word<P: ContentRule>(table: &RecordTable<P>, seat: &mut RecordSeat, 
     requires loading { (version : ℕ) × (words : List ℕ)
         × ((first_of seat.old.me.0).phase ≡ Loading version words) × (length words ≡ place) }
     ensures table { seat.new.table_id ≡ seat.old.table_id }
-    ensures told { seat.new.me ≡ alone (loaded_one (first_of seat.old.me.0) result) }
+    ensures learned { seat.new.me ≡ alone (loaded_one (first_of seat.old.me.0) result) }
 {
     table.load::<LoadWordStep>(seat, place + 1)
 }
@@ -162,7 +162,7 @@ pub fn load_all<P: ContentRule>(table: &RecordTable<P>, seat: &mut RecordSeat, i
     requires loading { (version : ℕ) × ((first_of seat.old.me.0).phase ≡ Loading version []) }
     ensures table { seat.new.table_id ≡ seat.old.table_id }
     ensures long { length into.new ≡ length into.old }
-    ensures told { let v = first_of seat.old.me.0 in
+    ensures learned { let v = first_of seat.old.me.0 in
         (version : ℕ) → v.phase ≡ Loading version []
         → seat.new.me ≡ alone (with_phase v (Loading version into.new)) }
 {
@@ -184,7 +184,7 @@ pub fn confirm<C: WordsStep, P: ContentRule>(
         × ((first_of seat.old.me.0).phase ≡ Loading version words.now)
         × (length words.now ≡ table.now.key.shape.width) }
     ensures table { seat.new.table_id ≡ seat.old.table_id }
-    ensures told { let key = table.now.key.shape in let v = first_of seat.old.me.0 in
+    ensures learned { let key = table.now.key.shape in let v = first_of seat.old.me.0 in
         MatchBool (result == word_to_confirm key.limits.layout v.phase)
         (Confirmed key v result seat.new.me P.holds words.now) (Overtaken key v result seat.new.me) }
 {
@@ -233,7 +233,7 @@ pub fn load_both<C: WordsStep, P: ContentRule>(table: &RecordTable<P>, seat: &mu
     requires seat { AreAtSeat table.now.table_id table.now.key.shape seat.old.table_id seat.old.me }
     requires idle { AreIdle seat.old.me.0 }
     ensures table { seat.new.table_id ≡ seat.old.table_id }
-    ensures told { let old = seat.old.me.0 in
+    ensures met { let old = seat.old.me.0 in
         Met table.now.key.shape (first_of old) (second_of old) seat.new.me }
 {
     table.load::<MeetRecordStep<C>>(seat, 0);

@@ -9,47 +9,47 @@ use Rattle.stamp_threads.proofs.record_get.get_words.Goals as goal
 
 pub load_all-requires-clause-loading : goal.load_all-requires-clause-loading
 load_all-requires-clause-loading g c =
-    let t = rw c.requires.shape.0 at c.load_for_get-loaded.ensures.told in
+    let t = rw c.requires.shape.0 at c.load_for_get-loaded.ensures.learned in
     let test = sym (rw c.layout.ensures.layout at c.has_writer.ensures) ∙ c.if-has_writer.false in
     (puts t.log, get_goes_on _ _ _ _ t test)
 
 pub confirm-found-requires-clause-loading : goal.confirm-found-requires-clause-loading
 confirm-found-requires-clause-loading g c =
-    let t = rw c.requires.shape.0 at c.load_for_get-loaded.ensures.told in
+    let t = rw c.requires.shape.0 at c.load_for_get-loaded.ensures.learned in
     let test = sym (rw c.layout.ensures.layout at c.has_writer.ensures) ∙ c.if-has_writer.false in
     let phase = get_goes_on _ _ _ _ t test in (
       puts t.log,
-      ap (λ (m : Seated). (first_of m.0).phase) (c.load_all.ensures.told (puts t.log) phase),
+      ap (λ (m : Seated). (first_of m.0).phase) (c.load_all.ensures.learned (puts t.log) phase),
       c.load_all.ensures.long ∙
           (c.requires.long ∙ sym (ap (λ (z : RecordShape). z.width) c.requires.shape.0)),
     )
 
 pub confirm-found-requires-clause-seat : goal.confirm-found-requires-clause-seat
 confirm-found-requires-clause-seat g c =
-    let t = rw c.requires.shape.0 at c.load_for_get-loaded.ensures.told in
+    let t = rw c.requires.shape.0 at c.load_for_get-loaded.ensures.learned in
     let test = sym (rw c.layout.ensures.layout at c.has_writer.ensures) ∙ c.if-has_writer.false in
     let phase = get_goes_on _ _ _ _ t test in
-    let is = c.load_all.ensures.told (puts t.log) phase in
+    let is = c.load_all.ensures.learned (puts t.log) phase in
     (search rules, search rules, is ∙ sym (ap (λ (m : Seated). alone (first_of m.0)) is))
 
 pub returns-then-has_writer-clause-err : goal.returns-then-has_writer-clause-err
 returns-then-has_writer-clause-err g c =
     let test = sym (rw c.layout.ensures.layout at c.has_writer.ensures) ∙ c.if-has_writer.true in
-    get_busy_of _ _ c.requires.shape.0 _ _ _ c.load_for_get-loaded.ensures.told c.requires.idle test
+    get_busy_of _ _ c.requires.shape.0 _ _ _ c.load_for_get-loaded.ensures.learned c.requires.idle test
 
 pub returns-then-found-loaded-clause-err : goal.returns-then-found-loaded-clause-err
 returns-then-found-loaded-clause-err g c =
     let test = sym (rw c.layout.ensures.layout at c.has_writer.ensures) ∙ c.if-has_writer.false in
-    get_lost_of _ _ c.requires.shape.0 _ _ _ _ _ _ c.load_for_get-loaded.ensures.told test
-    c.load_all.ensures.told _ _ c.confirm-found.ensures.told c.if-found-loaded.true
+    get_lost_of _ _ c.requires.shape.0 _ _ _ _ _ _ c.load_for_get-loaded.ensures.learned test
+    c.load_all.ensures.learned _ _ c.confirm-found.ensures.learned c.if-found-loaded.true
 
 pub returns-clause-ok : goal.returns-clause-ok
 returns-clause-ok g c =
     let test = sym (rw c.layout.ensures.layout at c.has_writer.ensures) ∙ c.if-has_writer.false in
     record {
-      made = get_made_of _ _ c.requires.shape.0 _ _ _ _ _ _ c.load_for_get-loaded.ensures.told test
-          c.load_all.ensures.told _ _ c.confirm-found.ensures.told c.if-found-loaded.false;
+      made = get_made_of _ _ c.requires.shape.0 _ _ _ _ _ _ c.load_for_get-loaded.ensures.learned test
+          c.load_all.ensures.learned _ _ c.confirm-found.ensures.learned c.if-found-loaded.false;
       long = c.load_all.ensures.long ∙ c.requires.long;
-      obeys = get_obeys_of _ _ c.requires.shape.0 _ _ _ _ _ _ c.load_for_get-loaded.ensures.told test
-          c.load_all.ensures.told _ _ c.confirm-found.ensures.told c.if-found-loaded.false;
+      obeys = get_obeys_of _ _ c.requires.shape.0 _ _ _ _ _ _ c.load_for_get-loaded.ensures.learned test
+          c.load_all.ensures.learned _ _ c.confirm-found.ensures.learned c.if-found-loaded.false;
     }

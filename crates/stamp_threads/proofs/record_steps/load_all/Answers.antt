@@ -7,6 +7,6 @@ load_word-requires-clause-loading g c =
     let r = c.requires.loading in (
       r.0,
       take c.loop-i.i c.loop-i.into,
-      ap (λ (m : Seated). (first_of m.0).phase) (c.loop-i.invariant.told r.0 r.1),
+      ap (λ (m : Seated). (first_of m.0).phase) (c.loop-i.invariant.learned r.0 r.1),
       length-take-le c.loop-i.i c.loop-i.into (omega arith),
     )

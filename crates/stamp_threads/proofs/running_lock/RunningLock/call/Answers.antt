@@ -14,7 +14,7 @@ loop-init g c =
     let view = ap (λ (p : LockToken). p.view) c.pass.view_is in
     record {
       seat = c.load-found.ensures.seat;
-      underway = begins _ _ _ _ _ c.requires.lock_call (rw (limits, view) at c.load-found.ensures.told);
+      underway = begins _ _ _ _ _ c.requires.lock_call (rw (limits, view) at c.load-found.ensures.learned);
     }
 
 pub exchange-found-requires-clause-changes : goal.exchange-found-requires-clause-changes
@@ -45,7 +45,7 @@ returns-then-found-old-clause-made g c =
     rw c.as_reply-then-found-old.ensures
     (is_made_by_change _ _ _ _ _ c.loop.invariant.underway _ _ c.in-Change.ensures.decides
     c.in-Change.ensures.number _
-    (exchange_won _ _ _ _ _ _ c.if-found-old.true (rw limits at c.exchange-found.ensures.told)))
+    (exchange_won _ _ _ _ _ _ c.if-found-old.true (rw limits at c.exchange-found.ensures.learned)))
 
 pub returns-then-found-old-clause-reply : goal.returns-then-found-old-clause-reply
 returns-then-found-old-clause-reply g c =
@@ -54,7 +54,7 @@ returns-then-found-old-clause-reply g c =
     (may_reply _ _ _ _ _ c.requires.lock_call
     (is_made_by_change _ _ _ _ _ c.loop.invariant.underway _ _ c.in-Change.ensures.decides
     c.in-Change.ensures.number _
-    (exchange_won _ _ _ _ _ _ c.if-found-old.true (rw limits at c.exchange-found.ensures.told))))
+    (exchange_won _ _ _ _ _ _ c.if-found-old.true (rw limits at c.exchange-found.ensures.learned))))
 
 pub returns-then-found-old-clause-machine : goal.returns-then-found-old-clause-machine
 returns-then-found-old-clause-machine g c =
@@ -62,12 +62,12 @@ returns-then-found-old-clause-machine g c =
     rw c.as_reply-then-found-old.ensures
     (ends_by_change _ _ _ _ _ c.loop.invariant.underway _ _ c.in-Change.ensures.decides
     c.in-Change.ensures.number _
-    (exchange_won _ _ _ _ _ _ c.if-found-old.true (rw limits at c.exchange-found.ensures.told)))
+    (exchange_won _ _ _ _ _ _ c.if-found-old.true (rw limits at c.exchange-found.ensures.learned)))
 
 pub loop-preserved-in-Change : goal.loop-preserved-in-Change
 loop-preserved-in-Change g c =
     let limits = c.self.invariant.0 ∙ ap (λ (l : LockView). l.limits) c.self.view_is in
-    let lost = exchange_lost _ _ _ _ _ _ c.if-found-old.false (rw limits at c.exchange-found.ensures.told) in
+    let lost = exchange_lost _ _ _ _ _ _ c.if-found-old.false (rw limits at c.exchange-found.ensures.learned) in
     record {
       seat = c.exchange-found.ensures.seat;
       underway = loses_exchange _ _ _ _ _ c.loop.invariant.underway _ _ c.in-Change.ensures.decides
@@ -80,5 +80,5 @@ loop-preserved g c =
     record {
       seat = c.load-found-in-Wait.ensures.seat;
       underway = loads_again _ _ _ _ _ c.loop.invariant.underway c.in-Wait.ensures.decides
-          c.in-Wait.ensures.number _ _ (rw limits at c.load-found-in-Wait.ensures.told);
+          c.in-Wait.ensures.number _ _ (rw limits at c.load-found-in-Wait.ensures.learned);
     }

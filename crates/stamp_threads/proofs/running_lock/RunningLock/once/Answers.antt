@@ -22,8 +22,8 @@ pub returns-in-Answer-clause-machine : goal.returns-in-Answer-clause-machine
 returns-in-Answer-clause-machine c =
     let limits = c.self.invariant.0 ∙ ap (λ (l : LockView). l.limits) c.self.view_is in
     let view = ap (λ (p : LockToken). p.view) c.pass.view_is in
-    let told = rw (limits, view) at c.load-loaded.ensures.told in
-    let begun = begins _ _ _ _ _ (c.try_form-call.ensures.lock_call c.requires.lock_call) told in
+    let learned = rw (limits, view) at c.load-loaded.ensures.learned in
+    let begun = begins _ _ _ _ _ (c.try_form-call.ensures.lock_call c.requires.lock_call) learned in
     rw (← c.try_form-call.ensures.form, c.as_reply.ensures)
     (ends_by_answer _ _ _ _ _ begun _ c.in-Answer.ensures.number)
 
@@ -31,11 +31,11 @@ pub returns-in-Answer-clause-reply : goal.returns-in-Answer-clause-reply
 returns-in-Answer-clause-reply c =
     let limits = c.self.invariant.0 ∙ ap (λ (l : LockView). l.limits) c.self.view_is in
     let view = ap (λ (p : LockToken). p.view) c.pass.view_is in
-    let told = rw (limits, view) at c.load-loaded.ensures.told in
+    let learned = rw (limits, view) at c.load-loaded.ensures.learned in
     let lock = c.try_form-call.ensures.lock_call c.requires.lock_call in
     rw (← c.try_form-call.ensures.form, c.as_reply.ensures)
     (may_reply _ _ _ _ _ lock
-    (is_made_by_answer _ _ _ _ _ (begins _ _ _ _ _ lock told) _ c.in-Answer.ensures.decides))
+    (is_made_by_answer _ _ _ _ _ (begins _ _ _ _ _ lock learned) _ c.in-Answer.ensures.decides))
 
 -- the exchange found the word loaded
 module _ (c : goal.After-as_reply-then-found-loaded) where
@@ -44,7 +44,7 @@ module _ (c : goal.After-as_reply-then-found-loaded) where
   loaded =
       let limits = c.self.invariant.0 ∙ ap (λ (l : LockView). l.limits) c.self.view_is in
       let view = ap (λ (p : LockToken). p.view) c.pass.view_is in
-      rw (limits, view) at c.load-loaded.ensures.told
+      rw (limits, view) at c.load-loaded.ensures.learned
 
   begun : Underway c.args.self.now.limits c.try_form-call.result c.args.pass.now.view
       c.load-loaded.result (first_of c.load-loaded.new.seat.me.0)
@@ -54,7 +54,7 @@ module _ (c : goal.After-as_reply-then-found-loaded) where
       c.load-loaded.result (first_of c.exchange-found.new.seat.me.0)
   won =
       let limits = c.self.invariant.0 ∙ ap (λ (l : LockView). l.limits) c.self.view_is in
-      exchange_won _ _ _ _ _ _ c.if-found-loaded.true (rw limits at c.exchange-found.ensures.told)
+      exchange_won _ _ _ _ _ _ c.if-found-loaded.true (rw limits at c.exchange-found.ensures.learned)
 
 pub returns-then-found-loaded-clause-ok : goal.returns-then-found-loaded-clause-ok
 returns-then-found-loaded-clause-ok c =
@@ -81,8 +81,8 @@ returns-then-found-loaded-clause-machine c =
 pub unreachable-requires : goal.unreachable-requires
 unreachable-requires c =
     let limits = c.self.invariant.0 ∙ ap (λ (l : LockView). l.limits) c.self.view_is in
-    let told = rw limits at c.exchange-found.ensures.told in
-    let lost = exchange_lost _ _ _ _ _ _ c.if-found-loaded.false told in
+    let learned = rw limits at c.exchange-found.ensures.learned in
+    let lost = exchange_lost _ _ _ _ _ _ c.if-found-loaded.false learned in
     never_waits _ _ _ _ _ (c.try_form-call.ensures.lock_call c.requires.lock_call)
     c.try_form-call.ensures.never lost.1 c.in-Wait-decide.ensures.decides
 
@@ -90,30 +90,30 @@ pub unreachable-requires-in-Wait : goal.unreachable-requires-in-Wait
 unreachable-requires-in-Wait c =
     let limits = c.self.invariant.0 ∙ ap (λ (l : LockView). l.limits) c.self.view_is in
     let view = ap (λ (p : LockToken). p.view) c.pass.view_is in
-    let told = rw (limits, view) at c.load-loaded.ensures.told in
+    let learned = rw (limits, view) at c.load-loaded.ensures.learned in
     never_waits _ _ _ _ _ (c.try_form-call.ensures.lock_call c.requires.lock_call)
-    c.try_form-call.ensures.never told c.in-Wait.ensures.decides
+    c.try_form-call.ensures.never learned c.in-Wait.ensures.decides
 
--- the exchange found another word, so it tells what a load would tell: the call is still under way
+-- the exchange found another word, so the pass has learned what it would by a load: the call is still under way
 module _ (c : goal.Joined-decide-2) where
-  told : Loaded c.args.self.now.limits c.try_form-call.result c.args.pass.now.view
+  learned : Loaded c.args.self.now.limits c.try_form-call.result c.args.pass.now.view
       c.load-loaded.result (first_of c.load-loaded.new.seat.me.0)
-  told =
+  learned =
       let limits = c.self.invariant.0 ∙ ap (λ (l : LockView). l.limits) c.self.view_is in
       let view = ap (λ (p : LockToken). p.view) c.pass.view_is in
-      rw (limits, view) at c.load-loaded.ensures.told
+      rw (limits, view) at c.load-loaded.ensures.learned
 
   lost : ((c.exchange-found.result == c.load-loaded.result) ≡ false) × Loaded c.args.self.now.limits
       c.try_form-call.result (first_of c.load-loaded.new.seat.me.0) c.exchange-found.result
       (first_of c.exchange-found.new.seat.me.0)
   lost =
       let limits = c.self.invariant.0 ∙ ap (λ (l : LockView). l.limits) c.self.view_is in
-      exchange_lost _ _ _ _ _ _ c.if-found-loaded.false (rw limits at c.exchange-found.ensures.told)
+      exchange_lost _ _ _ _ _ _ c.if-found-loaded.false (rw limits at c.exchange-found.ensures.learned)
 
   underway : Underway c.args.self.now.limits c.try_form-call.result c.args.pass.now.view
       c.exchange-found.result (first_of c.exchange-found.new.seat.me.0)
   underway =
-      let begun = begins _ _ _ _ _ (c.try_form-call.ensures.lock_call c.requires.lock_call) told in
+      let begun = begins _ _ _ _ _ (c.try_form-call.ensures.lock_call c.requires.lock_call) learned in
       loses_exchange _ _ _ _ _ begun _ _ c.in-Change.ensures.decides c.in-Change.ensures.number _ _
       lost.0 lost.1
 
@@ -135,7 +135,7 @@ returns-after-decide-2-clause-reply c = elim c.match-decide-2.branch [
 pub returns-after-decide-2-clause-accesses : goal.returns-after-decide-2-clause-accesses
 returns-after-decide-2-clause-accesses c = elim c.match-decide-2.branch [
   | in-Answer-decide w ↦ rw w.result-is
-      (inr (twice_by_answer _ _ _ _ _ _ _ (told c) c.in-Change.ensures.decides _ _ _ (lost c).1
+      (inr (twice_by_answer _ _ _ _ _ _ _ (learned c) c.in-Change.ensures.decides _ _ _ (lost c).1
       w.in-Answer-decide.ensures.decides))
   | in-Change-decide w ↦ rw w.result-is tt
 ]
@@ -144,7 +144,7 @@ pub returns-after-decide-2-clause-lost : goal.returns-after-decide-2-clause-lost
 returns-after-decide-2-clause-lost c = elim c.match-decide-2.branch [
   | in-Answer-decide w ↦ rw w.result-is tt
   | in-Change-decide w ↦ rw (w.result-is, ← c.try_form-call.ensures.form)
-      (loses _ _ _ _ _ _ _ (told c) c.in-Change.ensures.decides _ _ _ _
+      (loses _ _ _ _ _ _ _ (learned c) c.in-Change.ensures.decides _ _ _ _
       (λ e. c.if-found-loaded.false (sym e)) (lost c).1 w.in-Change-decide.ensures.decides)
 ]
 
