@@ -3,6 +3,7 @@ use Rattle.std.proofs.Common.{◌≡◌, ℕ, ◌+◌, ◌-◌, ◌*◌, ◌<◌
 use Rattle.std.proofs.Common.{ap, inl, inr, arith, Bool, true, false, Option, Some, None}
 use Rattle.std.specs.Prelude.{if◌then◌else◌, ◌&&◌, ◌||◌, nat_lt, min}
 use Rattle.std.proofs.lemmas.Bool.Decides.{nat_tests}
+use Rattle.std.proofs.lemmas.Bool.{and_parts}
 use Rattle.stamp_core.specs.LockEvent.{LockEvent, Counts, write_count}
 use Rattle.stamp_core.specs.LockEvent.LockEvent.{WriteAcquired, WriteReleased, ReadAcquired, ReadReleased}
 use Rattle.stamp_core.specs.Layout.{narrow, wide, units_of}
@@ -165,10 +166,6 @@ valid_alike c s t agree =
 and_alike : (a b c d : Bool) → a ≡ b → c ≡ d → (a && c) ≡ (b && d)
 and_alike a b c d e f = cc
 
-second_holds : (a b : Bool) → (a && b) ≡ true → b ≡ true
-second_holds true b h = h
-second_holds false b h = cc
-
 room_for_reader : (limits : Bounds) (c : Counts) → may_read limits c ≡ true → c.readers < limits.readers
 room_for_reader limits c h = grind (arith, nat_tests)
 
@@ -232,7 +229,7 @@ row_alike rs vs c few room (ToRead s) =
     (λ h. stamped [] s (respelling s) refl (kept_read c s room h) (omega arith))
     (λ _. alike_if _ _ (ap (λ (b : Bool). b && may_read (bounds One rs vs) c) agree.optimistic)
     (λ h. let lt = room_for_reader (bounds One rs vs) c
-    (second_holds (s == optimistic_stamp narrow c.write_count) (may_read (bounds One rs vs) c) h) in
+    (and_parts (s == optimistic_stamp narrow c.write_count) (may_read (bounds One rs vs) c) h).1 in
     got_read (ReadAcquired ∷ []) c.write_count (c.readers + 1) (omega arith) (omega arith) room (omega arith))
     (λ _. zero_stamp)))
 row_alike rs vs c few room (ToOptimistic s) =
