@@ -63,8 +63,8 @@ not_with r i why fault all =
 pub faults_are_exact : FaultsAreExact
 faults_are_exact r i why fault all = not_with r i why fault (linearized_take r.limits r.width r.entries (i + 1) all)
 
-not_before : (r : Recorded) (i j : ℕ) (a b : Why) → IsFirstFault r i a → IsFirstFault r j b → i < j → ⊥
-not_before r i j a b x y lt =
+no_fault_before : (r : Recorded) (i j : ℕ) (a b : Why) → IsFirstFault r i a → IsFirstFault r j b → i < j → ⊥
+no_fault_before r i j a b x y lt =
     let shorter : i + 1 ≤ j = omega arith in
     let all = linearized_take r.limits r.width (take j r.entries) (i + 1) y.before in
     not_with r i a x (subst (λ (xs : List Entry). AreLinearized r.limits r.width xs)
@@ -94,8 +94,8 @@ one_fault r a b x y = by (order a.entry b.entry)
         cc in parts
 
     by : (a.entry < b.entry) ⊎ (b.entry < a.entry) ⊎ (a.entry ≡ b.entry) → a ≡ b
-    by (inl lt) = absurd (not_before r a.entry b.entry a.why b.why x y lt)
-    by (inr (inl gt)) = absurd (not_before r b.entry a.entry b.why a.why y x gt)
+    by (inl lt) = absurd (no_fault_before r a.entry b.entry a.why b.why x y lt)
+    by (inr (inl gt)) = absurd (no_fault_before r b.entry a.entry b.why a.why y x gt)
     by (inr (inr e)) = same a b e (fault_there r a.entry b.entry a.why b.why x y e)
 
 pub one_verdict : OneVerdict

@@ -7,8 +7,8 @@ use Rattle.stamp_core.specs.declared.entry.Entry.{Entry}
 use Rattle.stamp_check.specs.Migration.{CanRespell, CanMigrate, IsFirstForeign, IsBadReply}
 use Rattle.stamp_check.proofs.RespelledRecords.{can_at}
 
-not_before : (es : List Entry) (i j : ℕ) → IsFirstForeign es i → IsFirstForeign es j → i < j → ⊥
-not_before es i j x y lt =
+no_foreign_before : (es : List Entry) (i j : ℕ) → IsFirstForeign es i → IsFirstForeign es j → i < j → ⊥
+no_foreign_before es i j x y lt =
     let e = x.entry in
     let inside : i < length es = slice_get_within es i e x.is_entry in
     let within : i < length (take j es) = omega (arith, length-take j es) in
@@ -22,8 +22,8 @@ one_bad_reply r i j x y = by (order i j)
     order n m = grind arith
 
     by : (i < j) ⊎ (j < i) ⊎ (i ≡ j) → i ≡ j
-    by (inl lt) = absurd (not_before r.entries i j x.first y.first lt)
-    by (inr (inl gt)) = absurd (not_before r.entries j i y.first x.first gt)
+    by (inl lt) = absurd (no_foreign_before r.entries i j x.first y.first lt)
+    by (inr (inl gt)) = absurd (no_foreign_before r.entries j i y.first x.first gt)
     by (inr (inr e)) = e
 
 pub migrates_or_not : (r : Recorded) (i : ℕ) → CanMigrate r → IsBadReply r i → ⊥

@@ -1,5 +1,5 @@
 -- A respelled history may be recorded where the history may, and its limits are in range.
-use Rattle.std.proofs.Common.{◌≡◌, ◌⊎◌, ℕ, List, length, map, true, false, refl, sym, ◌∙◌, ap, subst, inl, inr, arith}
+use Rattle.std.proofs.Common.{◌≡◌, ◌⊎◌, ℕ, List, length, map, refl, sym, ◌∙◌, ap, subst, inl, inr, arith}
 use Rattle.std.specs.Prelude.{min, IsTrue}
 use Rattle.std.proofs.lemmas.List.{length-map}
 use Rattle.std.proofs.lemmas.List.Elements.{All-map, All-weaker}
@@ -46,10 +46,6 @@ pub widened_by : (limits : Bounds) (readers versions most least : ℕ) → reade
     widened limits
 unfolding units_of
 widened_by limits readers versions most least e f g h = cc
-
--- what says that it is none or an error, and that it is not
-pub neither : false ≡ true → ⊥
-neither e = cc
 
 pub respelled_by : (r : Recorded) (limits wider : Bounds) (width : ℕ) (entries respelled : List Entry)
     (report : List (ℕ × ℕ)) → r ≡ recorded limits width entries report → wider ≡ widened limits → respelled ≡

@@ -5,7 +5,7 @@ use Rattle.std.specs.Prelude.{◌↔◌, slice_get, option_map}
 use Rattle.std.specs.List.{All, AllPairs, AllAdjacentBelow}
 use Rattle.std.proofs.lemmas.List.{length-map, length-take, get_or-map, take-map}
 use Rattle.std.proofs.lemmas.List.Elements.{All-take, All-get_or}
-use Rattle.std.proofs.lemmas.Option.{slice_get-map, slice_get_within, get_or_from_slice_get}
+use Rattle.std.proofs.lemmas.Option.{slice_get-map, slice_get_within, get_or_from_slice_get, none-some, same_Some}
 use Rattle.stamp_core.specs.Limits.{Bounds, AreInRange}
 use Rattle.stamp_core.specs.Content.{zeros}
 use Rattle.stamp_core.specs.Record.{Recorded, IsRecorded}
@@ -146,12 +146,6 @@ breaks_alike limits width before e Reply one range can room =
     let a = not_alike (answered_alike limits width before e one range can room) in
     (λ h. (w.0 h.0, r.0 h.1, f.0 h.2, a.0 h.3), λ h. (w.1 h.0, r.1 h.1, f.1 h.2, a.1 h.3))
 
-none : {X : Type 0} {x : X} → Some x ≡ None → ⊥
-none e = cc
-
-some_is : {X : Type 0} {x y : X} → Some x ≡ Some y → x ≡ y
-some_is e = cc
-
 -- an entry of respelled ones is a respelled entry
 respelled_of : (es : List Entry) (i : ℕ) (x : Entry) → slice_get (map respelled_entry es) i ≡ Some x → (e : Entry) ×
     ((slice_get es i ≡ Some e) × (respelled_entry e ≡ x))
@@ -159,9 +153,9 @@ respelled_of es i x at = by (slice_get es i) refl
   where
     by : (o : Option Entry) → slice_get es i ≡ o → (e : Entry) × ((slice_get es i ≡ Some e) × (respelled_entry e ≡ x))
     by None h = let m = slice_get-map respelled_entry es i in
-        absurd (none (sym at ∙ m ∙ ap (option_map respelled_entry) h))
+        absurd (none-some x (sym (sym at ∙ m ∙ ap (option_map respelled_entry) h)))
     by (Some e) h = let m = slice_get-map respelled_entry es i in
-        (e, (h, some_is (sym (ap (option_map respelled_entry) h) ∙ sym m ∙ at)))
+        (e, (h, same_Some (respelled_entry e) x (sym (ap (option_map respelled_entry) h) ∙ sym m ∙ at)))
 
 at_respelled : (es : List Entry) (i : ℕ) (e : Entry) → slice_get es i ≡ Some e →
     slice_get (map respelled_entry es) i ≡ Some (respelled_entry e)

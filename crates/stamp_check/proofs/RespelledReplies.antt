@@ -90,16 +90,17 @@ other_reply : (reply given : Reply) → ((s : ℕ) → given ≡ Stamp s → ⊥
 other_reply (Stamp s) given other = (λ h. absurd (other (respelling s) (sym h)), λ h. absurd (other s (sym h)))
 other_reply reply given other = (λ h. h, λ h. h)
 
-yes_or_no : (b : Bool) (s : ℕ) → (if b then Yes else No) ≡ Stamp s → ⊥
-yes_or_no true s e = cc
-yes_or_no false s e = cc
+yes_or_no_is_no_stamp : (b : Bool) (s : ℕ) → (if b then Yes else No) ≡ Stamp s → ⊥
+yes_or_no_is_no_stamp true s e = cc
+yes_or_no_is_no_stamp false s e = cc
 
 record_alike : (content : List ℕ) (call : Call) (reply : Reply) →
     RecordReplies content (respelled_call call) (respelled_reply reply) ↔ RecordReplies content call reply
 record_alike content Get reply = other_reply reply (Content content) (λ s e. cc)
 record_alike content (Put words) reply = other_reply reply Done (λ s e. cc)
 record_alike content (PutIf expected words) reply =
-    other_reply reply (if same_words content expected then Yes else No) (yes_or_no (same_words content expected))
+    other_reply reply (if same_words content expected then Yes else No)
+    (yes_or_no_is_no_stamp (same_words content expected))
 record_alike content _ reply = (λ h. h, λ h. h)
 
 same_owner : (call : Call) → is_lock_call (respelled_call call) ≡ is_lock_call call

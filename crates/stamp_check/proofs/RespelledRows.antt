@@ -3,6 +3,7 @@ use Rattle.std.proofs.Common.{◌≡◌, ℕ, ◌+◌, ◌-◌, ◌*◌, ◌<◌
 use Rattle.std.proofs.Common.{ap, inl, inr, arith, Bool, true, false, Option, Some, None}
 use Rattle.std.specs.Prelude.{if◌then◌else◌, ◌&&◌, ◌||◌, nat_lt, min}
 use Rattle.std.proofs.lemmas.Bool.Decides.{nat_tests}
+use Rattle.std.proofs.lemmas.Bool.{and_parts}
 use Rattle.stamp_core.specs.LockEvent.{LockEvent, Counts, write_count}
 use Rattle.stamp_core.specs.LockEvent.LockEvent.{WriteAcquired, WriteReleased, ReadAcquired, ReadReleased}
 use Rattle.stamp_core.specs.Layout.{narrow, wide, units_of}
@@ -48,8 +49,8 @@ alike_if true false e f g = cc
 alike_if false true e f g = cc
 alike_if false false e f g = g refl
 
-none : AreAlike None None
-none = record { same = refl; reply = tt; few = omega arith }
+none_alike : AreAlike None None
+none_alike = record { same = refl; reply = tt; few = omega arith }
 
 plain : (appended : List LockEvent) (reply : Reply) → respelled_reply reply ≡ reply → CanRespell reply →
     write_count appended ≤ 1 → AreAlike (change appended reply) (change appended reply)
@@ -67,11 +68,11 @@ stamped appended s t e can few = record {
 zero_stamp : AreAlike (answer (Stamp 0)) (answer (Stamp 0))
 zero_stamp = stamped [] 0 0 respelled_zero (inl refl) (omega arith)
 
-yes_or_no : (b d : Bool) → d ≡ b → AreAlike (answer (if b then Yes else No)) (answer (if d then Yes else No))
-yes_or_no true true e = plain [] Yes refl tt (omega arith)
-yes_or_no true false e = cc
-yes_or_no false true e = cc
-yes_or_no false false e = plain [] No refl tt (omega arith)
+yes_or_no_alike : (b d : Bool) → d ≡ b → AreAlike (answer (if b then Yes else No)) (answer (if d then Yes else No))
+yes_or_no_alike true true e = plain [] Yes refl tt (omega arith)
+yes_or_no_alike true false e = cc
+yes_or_no_alike false true e = cc
+yes_or_no_alike false false e = plain [] No refl tt (omega arith)
 
 -- the stamps of a version that layout 2 has
 pub write_can : (k s : ℕ) → 1 ≤ k → k ≤ 70368744177662 → s ≡ 256 * k + 128 → CanRespell (Stamp s)
@@ -165,12 +166,8 @@ valid_alike c s t agree =
 and_alike : (a b c d : Bool) → a ≡ b → c ≡ d → (a && c) ≡ (b && d)
 and_alike a b c d e f = cc
 
-second_holds : (a b : Bool) → (a && b) ≡ true → b ≡ true
-second_holds true b h = h
-second_holds false b h = cc
-
-few_readers : (limits : Bounds) (c : Counts) → may_read limits c ≡ true → c.readers < limits.readers
-few_readers limits c h = grind (arith, nat_tests)
+room_for_reader : (limits : Bounds) (c : Counts) → may_read limits c ≡ true → c.readers < limits.readers
+room_for_reader limits c h = grind (arith, nat_tests)
 
 optimistic_if : (b : Bool) (k : ℕ) → k < 70368744177662 →
     AreAlike (answer (Stamp (if b then optimistic_stamp narrow k else 0)))
@@ -186,19 +183,19 @@ unfolding units_of
 row_alike rs vs c few room TryWrite = alike_if _ _ (may_write_alike rs vs c room)
     (λ _. got_write (WriteAcquired ∷ []) c.write_count room (omega arith)) (λ _. zero_stamp)
 row_alike rs vs c few room TryRead = alike_if (may_read (bounds One rs vs) c) _ refl
-    (λ h. let lt = few_readers (bounds One rs vs) c h in
+    (λ h. let lt = room_for_reader (bounds One rs vs) c h in
     got_read (ReadAcquired ∷ []) c.write_count (c.readers + 1) (omega arith) (omega arith) room (omega arith))
     (λ _. zero_stamp)
 row_alike rs vs c few room WriteLock =
     alike_if _ _ (spent c.write_count vs room) (λ _. zero_stamp)
     (λ _. alike_if _ _ (may_write_alike rs vs c room)
-    (λ _. got_write (WriteAcquired ∷ []) c.write_count room (omega arith)) (λ _. none))
+    (λ _. got_write (WriteAcquired ∷ []) c.write_count room (omega arith)) (λ _. none_alike))
 row_alike rs vs c few room ReadLock = alike_if (may_read (bounds One rs vs) c) _ refl
-    (λ h. let lt = few_readers (bounds One rs vs) c h in
+    (λ h. let lt = room_for_reader (bounds One rs vs) c h in
     got_read (ReadAcquired ∷ []) c.write_count (c.readers + 1) (omega arith) (omega arith) room (omega arith))
-    (λ _. none)
+    (λ _. none_alike)
 row_alike rs vs c few room Optimistic = optimistic_if (c.writers == 0) c.write_count room
-row_alike rs vs c few room (Validate s) = yes_or_no _ _
+row_alike rs vs c few room (Validate s) = yes_or_no_alike _ _
     (valid_alike c s (respelling s) (tests_agree c.write_count s (omega arith)))
 row_alike rs vs c few room (UnlockWrite s) =
     let agree = tests_agree c.write_count s (omega arith) in
@@ -231,8 +228,8 @@ row_alike rs vs c few room (ToRead s) =
     (λ _. alike_if _ _ (held_read_alike c s (respelling s) agree)
     (λ h. stamped [] s (respelling s) refl (kept_read c s room h) (omega arith))
     (λ _. alike_if _ _ (ap (λ (b : Bool). b && may_read (bounds One rs vs) c) agree.optimistic)
-    (λ h. let lt = few_readers (bounds One rs vs) c
-    (second_holds (s == optimistic_stamp narrow c.write_count) (may_read (bounds One rs vs) c) h) in
+    (λ h. let lt = room_for_reader (bounds One rs vs) c
+    (and_parts (s == optimistic_stamp narrow c.write_count) (may_read (bounds One rs vs) c) h).1 in
     got_read (ReadAcquired ∷ []) c.write_count (c.readers + 1) (omega arith) (omega arith) room (omega arith))
     (λ _. zero_stamp)))
 row_alike rs vs c few room (ToOptimistic s) =
@@ -247,9 +244,9 @@ row_alike rs vs c few room TryUnlockWrite = alike_if (c.writers == 1) _ refl
     (λ _. plain (WriteReleased ∷ []) Yes refl tt (omega arith)) (λ _. plain [] No refl tt (omega arith))
 row_alike rs vs c few room TryUnlockRead = alike_if (nat_lt 0 c.readers) _ refl
     (λ _. plain (ReadReleased ∷ []) Yes refl tt (omega arith)) (λ _. plain [] No refl tt (omega arith))
-row_alike rs vs c few room IsWriteLocked = yes_or_no (c.writers == 1) _ refl
-row_alike rs vs c few room IsReadLocked = yes_or_no (nat_lt 0 c.readers) _ refl
+row_alike rs vs c few room IsWriteLocked = yes_or_no_alike (c.writers == 1) _ refl
+row_alike rs vs c few room IsReadLocked = yes_or_no_alike (nat_lt 0 c.readers) _ refl
 row_alike rs vs c few room ReadCount = plain [] (Count c.readers) refl tt (omega arith)
-row_alike rs vs c few room Get = none
-row_alike rs vs c few room (Put words) = none
-row_alike rs vs c few room (PutIf expected words) = none
+row_alike rs vs c few room Get = none_alike
+row_alike rs vs c few room (Put words) = none_alike
+row_alike rs vs c few room (PutIf expected words) = none_alike

@@ -1,7 +1,8 @@
 -- The tests of stamps are their relations.
-use Rattle.std.proofs.Common.{refl, ◌≡◌, ◌⊎◌, ℕ, ◌-◌, ◌<◌, ◌≤◌, ◌==◌, inl, inr, arith, Bool, true, false}
-use Rattle.std.specs.Prelude.{◌&&◌, ◌||◌, nat_lt}
+use Rattle.std.proofs.Common.{◌≡◌, ◌⊎◌, ℕ, ◌-◌, ◌≤◌, ◌==◌, inl, inr, arith, true}
+use Rattle.std.specs.Prelude.{◌||◌, nat_lt}
 use Rattle.std.proofs.lemmas.Bool.Decides.{nat_tests}
+use Rattle.std.proofs.lemmas.Bool.{and_parts, and_from, or_cases, or_left, or_right, eqb-true, eq-eqb, ltb-true, lt-ltb}
 use Rattle.stamp_core.specs.LockEvent.{counts}
 use Rattle.stamp_core.specs.Layout.{Units}
 use Rattle.stamp_core.specs.Limits.{units}
@@ -31,10 +32,6 @@ read_of u k s most h = record {
 of_read : (u : Units) (k s : ℕ) → IsReadStamp u k s → is_read_stamp u k s ≡ true
 of_read u k s r = let some = r.some in let few = r.most in let e = r.number in grind (arith, nat_tests)
 
-or_cases : (a b : Bool) → (a || b) ≡ true → (a ≡ true) ⊎ (b ≡ true)
-or_cases true b h = inl h
-or_cases false b h = inr h
-
 stamp_of : (u : Units) (k s : ℕ) → k ≤ u.versions → is_stamp u k s ≡ true → IsStamp u k s
 stamp_of u k s most h = by (or_cases (is_write_stamp u k s || is_read_stamp u k s) (s == optimistic_stamp u k) h)
   where
@@ -51,38 +48,6 @@ of_stamp u k s (inl w) = let h = of_write u k s w in grind (arith, nat_tests)
 of_stamp u k s (inr (inl r)) = let h = of_read u k s r in grind (arith, nat_tests)
 of_stamp u k s (inr (inr o)) = let e = o.number in grind (arith, nat_tests)
 
-and_split : (a b : Bool) → (a && b) ≡ true → (a ≡ true) × (b ≡ true)
-and_split true b h = (refl, h)
-and_split false b h = cc
-
-and_join : (a b : Bool) → a ≡ true → b ≡ true → (a && b) ≡ true
-and_join a b h k = cc
-
-or_left : (a b : Bool) → a ≡ true → (a || b) ≡ true
-or_left a b h = cc
-
-or_right : (a b : Bool) → b ≡ true → (a || b) ≡ true
-or_right true b h = refl
-or_right false b h = h
-
-is_zero : (n : ℕ) → (n == 0) ≡ true → n ≡ 0
-is_zero n h = grind (arith, nat_tests)
-
-zero_is : (n : ℕ) → n ≡ 0 → (n == 0) ≡ true
-zero_is n h = grind (arith, nat_tests)
-
-is_one : (n : ℕ) → (n == 1) ≡ true → n ≡ 1
-is_one n h = grind (arith, nat_tests)
-
-one_is : (n : ℕ) → n ≡ 1 → (n == 1) ≡ true
-one_is n h = grind (arith, nat_tests)
-
-is_some : (n : ℕ) → nat_lt 0 n ≡ true → 0 < n
-is_some n h = grind (arith, nat_tests)
-
-some_is : (n : ℕ) → 0 < n → nat_lt 0 n ≡ true
-some_is n h = grind (arith, nat_tests)
-
 pub tests_are_exact : TestsAreExact
 tests_are_exact limits events s range well_formed =
     ((valid_of, of_valid), (write_held, of_write_held), (read_held, of_read_held))
@@ -96,11 +61,11 @@ tests_are_exact limits events s range well_formed =
     free_or : (((counts events).writers == 0) ≡ true) ⊎
         (is_write_stamp (units limits) (counts events).write_count s ≡ true) → ((counts events).writers ≡ 0) ⊎
         IsWriteStamp (units limits) (counts events).write_count s
-    free_or (inl z) = inl (is_zero (counts events).writers z)
+    free_or (inl z) = inl (eqb-true (counts events).writers 0 z)
     free_or (inr w) = inr (write_of (units limits) (counts events).write_count s most w)
 
     valid_of : is_valid (units limits) (counts events) s ≡ true → IsValid limits events s
-    valid_of h = let parts = and_split (is_stamp (units limits) (counts events).write_count s)
+    valid_of h = let parts = and_parts (is_stamp (units limits) (counts events).write_count s)
         (((counts events).writers == 0) || is_write_stamp (units limits) (counts events).write_count s) h in (
           stamp_of (units limits) (counts events).write_count s most parts.0,
           free_or (or_cases ((counts events).writers == 0)
@@ -110,32 +75,32 @@ tests_are_exact limits events s range well_formed =
     or_free : ((counts events).writers ≡ 0) ⊎ IsWriteStamp (units limits) (counts events).write_count s →
         (((counts events).writers == 0) || is_write_stamp (units limits) (counts events).write_count s) ≡ true
     or_free (inl z) = or_left ((counts events).writers == 0)
-        (is_write_stamp (units limits) (counts events).write_count s) (zero_is (counts events).writers z)
+        (is_write_stamp (units limits) (counts events).write_count s) (eq-eqb (counts events).writers 0 z)
     or_free (inr w) = or_right ((counts events).writers == 0)
         (is_write_stamp (units limits) (counts events).write_count s)
         (of_write (units limits) (counts events).write_count s w)
 
     of_valid : IsValid limits events s → is_valid (units limits) (counts events) s ≡ true
-    of_valid v = and_join (is_stamp (units limits) (counts events).write_count s)
+    of_valid v = and_from (is_stamp (units limits) (counts events).write_count s)
         (((counts events).writers == 0) || is_write_stamp (units limits) (counts events).write_count s)
         (of_stamp (units limits) (counts events).write_count s v.0) (or_free v.1)
 
     write_held : is_held_write (units limits) (counts events) s ≡ true → IsHeldWrite limits events s
-    write_held h = let parts = and_split ((counts events).writers == 1)
+    write_held h = let parts = and_parts ((counts events).writers == 1)
         (is_write_stamp (units limits) (counts events).write_count s) h in
-        (write_of (units limits) (counts events).write_count s most parts.1, is_one (counts events).writers parts.0)
+        (write_of (units limits) (counts events).write_count s most parts.1, eqb-true (counts events).writers 1 parts.0)
 
     read_held : is_held_read (units limits) (counts events) s ≡ true → IsHeldRead limits events s
-    read_held h = let parts = and_split (nat_lt 0 (counts events).readers)
+    read_held h = let parts = and_parts (nat_lt 0 (counts events).readers)
         (is_read_stamp (units limits) (counts events).write_count s) h in
-        (read_of (units limits) (counts events).write_count s most parts.1, is_some (counts events).readers parts.0)
+        (read_of (units limits) (counts events).write_count s most parts.1, ltb-true 0 (counts events).readers parts.0)
 
     of_write_held : IsHeldWrite limits events s → is_held_write (units limits) (counts events) s ≡ true
-    of_write_held w = and_join ((counts events).writers == 1)
-        (is_write_stamp (units limits) (counts events).write_count s) (one_is (counts events).writers w.1)
+    of_write_held w = and_from ((counts events).writers == 1)
+        (is_write_stamp (units limits) (counts events).write_count s) (eq-eqb (counts events).writers 1 w.1)
         (of_write (units limits) (counts events).write_count s w.0)
 
     of_read_held : IsHeldRead limits events s → is_held_read (units limits) (counts events) s ≡ true
-    of_read_held r = and_join (nat_lt 0 (counts events).readers)
-        (is_read_stamp (units limits) (counts events).write_count s) (some_is (counts events).readers r.1)
+    of_read_held r = and_from (nat_lt 0 (counts events).readers)
+        (is_read_stamp (units limits) (counts events).write_count s) (lt-ltb 0 (counts events).readers r.1)
         (of_read (units limits) (counts events).write_count s r.0)

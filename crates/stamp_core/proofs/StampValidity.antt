@@ -8,6 +8,7 @@ use Rattle.std.specs.List.{count_by}
 use Rattle.std.proofs.lemmas.List.{append-nil}
 use Rattle.std.proofs.lemmas.List.Sums.{sum_by-append}
 use Rattle.std.proofs.lemmas.Bool.Decides.{nat_tests}
+use Rattle.std.proofs.lemmas.Bool.{and_parts}
 use Rattle.stamp_core.specs.LockEvent.{LockEvent, Counts, counts, write_count, writers}
 use Rattle.stamp_core.specs.LockEvent.{is_write_acquired, is_write_released}
 use Rattle.stamp_core.specs.LockEvent.LockEvent.{WriteAcquired, ReadAcquired}
@@ -27,7 +28,7 @@ use Rattle.stamp_core.specs.Decoded.{after_events}
 use Rattle.stamp_core.specs.declared.layout.Layout.{Layout}
 use Rattle.stamp_core.proofs.TwoLayouts.{either_layout}
 use Rattle.stamp_core.proofs.WellFormedPush.{push_all, obeys_now, well_formed_none}
-use Rattle.stamp_core.proofs.TransitionsKeep.{IsAllowed, KeepsBy, row_keeps, sole_reader, and_right, reader_of}
+use Rattle.stamp_core.proofs.TransitionsKeep.{IsAllowed, KeepsBy, row_keeps, sole_reader, reader_of}
 use Rattle.stamp_core.specs.declared.call.Call.{Call}
 use Rattle.stamp_core.specs.declared.call.Call.TheVariants.{TryWrite, TryRead, WriteLock, ReadLock}
 use Rattle.stamp_core.specs.declared.call.Call.TheVariants.{Optimistic, Validate, UnlockWrite}
@@ -175,7 +176,7 @@ row_issues l c range within (ToWrite s) =
     (λ _. as_write (units l) (c.write_count + 1) 1 (write_stamp (units l) (c.write_count + 1)) (omega arith)
     (omega arith) refl))
     (λ _. issues_if (units l) c ((s == optimistic_stamp (units l) c.write_count) && may_write l c)
-    (λ h. gets_write l c range (and_right _ _ h)) (λ _. zero_stamp)))
+    (λ h. gets_write l c range (and_parts _ _ h).1) (λ _. zero_stamp)))
 row_issues l c range within (ToRead s) =
     issues_if (units l) c (is_held_write (units l) c s)
     (λ h. issues (λ _. as_read (units l) c.write_count 0 (read_stamp (units l) c.write_count 1) 1 refl
@@ -185,7 +186,7 @@ row_issues l c range within (ToRead s) =
     issues (λ _. as_read (units l) c.write_count c.writers s (s - optimistic_stamp (units l) c.write_count)
     (no_writer l c within some) (omega arith) (omega arith) (omega arith) (omega arith)))
     (λ _. issues_if (units l) c ((s == optimistic_stamp (units l) c.write_count) && may_read l c)
-    (λ h. gets_read l c range within (and_right _ _ h)) (λ _. zero_stamp)))
+    (λ h. gets_read l c range within (and_parts _ _ h).1) (λ _. zero_stamp)))
 row_issues l c range within (ToOptimistic s) =
     issues_if (units l) c (is_held_write (units l) c s)
     (λ h. issues (λ _. as_observed (units l) c.write_count 0 (optimistic_stamp (units l) c.write_count) refl

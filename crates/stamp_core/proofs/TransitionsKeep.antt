@@ -3,6 +3,7 @@ use Rattle.std.proofs.Common.{◌≡◌, ◌≢◌, ℕ, ◌<◌, ◌≤◌, ◌
 use Rattle.std.proofs.Common.{false, Option, Some, None}
 use Rattle.std.specs.Prelude.{if◌then◌else◌, ◌&&◌, nat_lt}
 use Rattle.std.proofs.lemmas.Bool.Decides.{nat_tests}
+use Rattle.std.proofs.lemmas.Bool.{and_parts, eqb-true, ltb-true}
 use Rattle.stamp_core.specs.LockEvent.{LockEvent, Counts}
 use Rattle.stamp_core.specs.LockEvent.LockEvent.{WriteAcquired, WriteReleased, ReadAcquired, ReadReleased}
 use Rattle.stamp_core.specs.Limits.{Bounds, units}
@@ -41,8 +42,8 @@ keeps_if : (limits : Bounds) (c : Counts) (b : Bool) {x y : Option Transition} �
 keeps_if limits c true f g = f refl
 keeps_if limits c false f g = g refl
 
-waits : {limits : Bounds} {c : Counts} → Keeps limits c None
-waits = record { kept = tt }
+none_keeps : {limits : Bounds} {c : Counts} → Keeps limits c None
+none_keeps = record { kept = tt }
 
 stays : {limits : Bounds} {c : Counts} {reply : Reply} → Keeps limits c (answer reply)
 stays = record { kept = tt }
@@ -83,16 +84,6 @@ pub sole_reader : (limits : Bounds) (c : Counts) (s : ℕ) →
     (c.readers ≡ 1) × (c.write_count < limits.versions)
 sole_reader limits c s held = grind (arith, nat_tests)
 
-pub is_one : (limits : Bounds) (c : Counts) → (c.writers == 1) ≡ true → c.writers ≡ 1
-is_one limits c h = grind (arith, nat_tests)
-
-pub is_some : (limits : Bounds) (c : Counts) → nat_lt 0 c.readers ≡ true → 0 < c.readers
-is_some limits c h = grind (arith, nat_tests)
-
-pub and_right : (a b : Bool) → (a && b) ≡ true → b ≡ true
-and_right true b h = h
-and_right false b h = cc
-
 -- the rows
 pub row_keeps : (limits : Bounds) (c : Counts) → 1 ≤ limits.readers → Within limits c → (call : Call) →
     Keeps limits c (row limits c call)
@@ -100,8 +91,8 @@ row_keeps l c some within TryWrite = keeps_if l c (may_write l c) (λ h. moves (
 row_keeps l c some within TryRead = keeps_if l c (may_read l c) (λ h. moves (got_read l c h)) (λ _. stays)
 row_keeps l c some within WriteLock =
     keeps_if l c (c.write_count == l.versions) (λ _. stays)
-    (λ _. keeps_if l c (may_write l c) (λ h. moves (got_write l c h)) (λ _. waits))
-row_keeps l c some within ReadLock = keeps_if l c (may_read l c) (λ h. moves (got_read l c h)) (λ _. waits)
+    (λ _. keeps_if l c (may_write l c) (λ h. moves (got_write l c h)) (λ _. none_keeps))
+row_keeps l c some within ReadLock = keeps_if l c (may_read l c) (λ h. moves (got_read l c h)) (λ _. none_keeps)
 row_keeps l c some within Optimistic = stays
 row_keeps l c some within (Validate s) = stays
 row_keeps l c some within (UnlockWrite s) =
@@ -117,24 +108,24 @@ row_keeps l c some within (ToWrite s) =
     (λ _. keeps_if l c (is_held_read (units l) c s && (c.readers == 1) && nat_lt c.write_count l.versions)
     (λ h. moves (read_to_write l c within (sole_reader l c s h).0 (sole_reader l c s h).1))
     (λ _. keeps_if l c ((s == optimistic_stamp (units l) c.write_count) && may_write l c)
-    (λ h. moves (got_write l c (and_right _ _ h))) (λ _. stays)))
+    (λ h. moves (got_write l c (and_parts _ _ h).1)) (λ _. stays)))
 row_keeps l c some within (ToRead s) =
     keeps_if l c (is_held_write (units l) c s) (λ h. moves (write_to_read l c within some (writer_of l c s h)))
     (λ _. keeps_if l c (is_held_read (units l) c s) (λ _. stays)
     (λ _. keeps_if l c ((s == optimistic_stamp (units l) c.write_count) && may_read l c)
-    (λ h. moves (got_read l c (and_right _ _ h))) (λ _. stays)))
+    (λ h. moves (got_read l c (and_parts _ _ h).1)) (λ _. stays)))
 row_keeps l c some within (ToOptimistic s) =
     keeps_if l c (is_held_write (units l) c s) (λ h. moves (end_write l c within (writer_of l c s h)))
     (λ _. keeps_if l c (is_held_read (units l) c s) (λ h. moves (end_read l c within (reader_of l c s h)))
     (λ _. keeps_if l c ((s == optimistic_stamp (units l) c.write_count) && (c.writers == 0)) (λ _. stays)
     (λ _. stays)))
 row_keeps l c some within TryUnlockWrite =
-    keeps_if l c (c.writers == 1) (λ h. moves (end_write l c within (is_one l c h))) (λ _. stays)
+    keeps_if l c (c.writers == 1) (λ h. moves (end_write l c within (eqb-true c.writers 1 h))) (λ _. stays)
 row_keeps l c some within TryUnlockRead =
-    keeps_if l c (nat_lt 0 c.readers) (λ h. moves (end_read l c within (is_some l c h))) (λ _. stays)
+    keeps_if l c (nat_lt 0 c.readers) (λ h. moves (end_read l c within (ltb-true 0 c.readers h))) (λ _. stays)
 row_keeps l c some within IsWriteLocked = stays
 row_keeps l c some within IsReadLocked = stays
 row_keeps l c some within ReadCount = stays
-row_keeps l c some within Get = waits
-row_keeps l c some within (Put words) = waits
-row_keeps l c some within (PutIf expected words) = waits
+row_keeps l c some within Get = none_keeps
+row_keeps l c some within (Put words) = none_keeps
+row_keeps l c some within (PutIf expected words) = none_keeps

@@ -19,6 +19,6 @@ changed limits word new call reply changes = record {
   after = λ events represented. let m = changes events represented in rw m.transition_is (m.represented, refl);
 }
 
-pub waits : (limits : Bounds) (word : LockWord) (call : Call) → HasNone limits word call →
+pub waited : (limits : Bounds) (word : LockWord) (call : Call) → HasNone limits word call →
     IsTransition limits word call None
-waits limits word call none = record { after = none }
+waited limits word call none = record { after = none }

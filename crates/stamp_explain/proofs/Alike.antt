@@ -5,6 +5,7 @@ use Rattle.std.specs.Prelude.{slice_get, MatchOption}
 use Rattle.std.specs.List.{All, AllPairs, Contains}
 use Rattle.std.proofs.lemmas.List.Elements.{All-cons, All-head, All-tail, All-weaker, All-contains}
 use Rattle.std.proofs.lemmas.Option.{MatchOption-at_some}
+use Rattle.std.proofs.lemmas.Bool.{cases_eq}
 use Rattle.stamp_core.specs.Limits.{Bounds}
 use Rattle.stamp_core.specs.declared.call.Call.{Call}
 use Rattle.stamp_core.specs.declared.reply.Reply.{Reply}
@@ -242,13 +243,10 @@ alike_in_as_many limits entries a to_come s t taken x k e n first may can at ali
       moves = ap (λ (m : ℕ). length to_come + m) (replaced_length x r.old r.replaces) ∙ can.moves;
     }
 
-same_or_not : (j k : ℕ) → (j ≡ k) ⊎ (j ≢ k)
-same_or_not j k = grind arith
-
 pub alike_by_return : AlikeByReturn
 alike_by_return limits entries a to_come s t taken x k e first may can at alike fresh begun due = record {
   may = may_take_alike limits entries a s t taken x k e may at alike fresh begun;
-  can = which (same_or_not k x.index);
+  can = which (cases_eq k x.index);
 }
   where
     which : (k ≡ x.index) ⊎ (k ≢ x.index) → CanComplete (StateTransition limits) entries to_come t (k ∷ taken)

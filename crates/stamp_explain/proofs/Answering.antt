@@ -8,6 +8,7 @@ use Rattle.std.proofs.lemmas.List.{get_or-set_same, get_or-set_other, length-set
 use Rattle.std.proofs.lemmas.List.Elements.{All-weaker}
 use Rattle.std.proofs.lemmas.Option.{none-some, slice_get_within, slice_get-get_or, slice_get_past}
 use Rattle.std.proofs.lemmas.Option.{get_or_from_slice_get}
+use Rattle.std.proofs.lemmas.Bool.{cases_eq}
 use Rattle.stamp_core.specs.Limits.{Bounds}
 use Rattle.stamp_core.specs.Word.{Represents, word_at}
 use Rattle.stamp_core.specs.Content.{zeros}
@@ -158,14 +159,11 @@ same_calls_before h i e at = record {
   limits = refl;
   width = refl;
   many = length-set h.entries i y;
-  calls = λ k d. by k d (equal k i);
+  calls = λ k d. by k d (cases_eq k i);
 }
   where
     y : Observation
     y = record e { returned = None }
-
-    equal : (a b : ℕ) → (a ≡ b) ⊎ (a ≢ b)
-    equal a b = grind arith
 
     by : (k : ℕ) (d : Observation) → (k ≡ i) ⊎ (k ≢ i) →
         (get_or (set h.entries i y) k d).call ≡ (get_or h.entries k d).call

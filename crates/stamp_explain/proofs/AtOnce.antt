@@ -5,6 +5,7 @@ use Rattle.std.specs.Prelude.{slice_get}
 use Rattle.std.specs.List.{All, AllPairs, Contains}
 use Rattle.std.proofs.lemmas.List.Elements.{All-nil, All-cons, All-head, All-tail, All-weaker, All-contains}
 use Rattle.std.proofs.lemmas.Option.{same_Some, MatchOption-at_some}
+use Rattle.std.proofs.lemmas.Bool.{cases_eq}
 use Rattle.stamp_core.specs.declared.call.Call.{Call}
 use Rattle.stamp_core.specs.declared.reply.Reply.{Reply}
 use Rattle.stamp_explain.specs.declared.observed.Observation.{Observation}
@@ -46,9 +47,6 @@ record Without {S : Type 0} (Goes : S → Call × Reply → S → Type 0) (i : �
   no_longer : length others ≤ length rest
   shorter : Contains (indices_of rest) i → suc (length others) ≤ length rest
 
-apart_or_same : (a b : ℕ) → (a ≡ b) ⊎ (a ≢ b)
-apart_or_same a b = grind arith
-
 without : {S : Type 0} (Goes : S → Call × Reply → S → Type 0) (i : ℕ) (s : S) (rest : List Effect) →
     All (λ (y : Effect). y.index ≡ i → (s t : S) → Goes s (y.entry.call, y.reply) t → t ≡ s) rest →
     Runs Goes s (history_of rest) → Without Goes i s rest
@@ -62,7 +60,7 @@ without Goes i s [] still runs = record {
   shorter = λ has. absurd (none_in_empty i has);
 }
 without {S} Goes i s (x ∷ rest) still runs =
-    by (apart_or_same x.index i) (without Goes i runs.0 rest (All-tail Still x rest still) runs.1.1)
+    by (cases_eq x.index i) (without Goes i runs.0 rest (All-tail Still x rest still) runs.1.1)
   where
     Still : Effect → Type 0
     Still y = y.index ≡ i → (s t : S) → Goes s (y.entry.call, y.reply) t → t ≡ s
@@ -104,9 +102,9 @@ without {S} Goes i s (x ∷ rest) still runs =
         either j other (inr has) = contains_rest x.index (indices_of left.others) j (left.whole j other has)
 
 -- the reply of a returned call is told
-same_effect : (entries : List Observation) (x y : Effect) → IsEffectOf entries x → IsEffectOf entries y →
+one_effect_of : (entries : List Observation) (x y : Effect) → IsEffectOf entries x → IsEffectOf entries y →
     HasReturned x.entry → y.index ≡ x.index → (y.entry ≡ x.entry) × (y.reply ≡ x.reply)
-same_effect entries x y x_is y_is returned same =
+one_effect_of entries x y x_is y_is returned same =
     let e : y.entry ≡ x.entry = same_Some y.entry x.entry (sym y_is.is_entry ∙
     ap (λ (k : ℕ). slice_get entries k) same ∙ x_is.is_entry) in
     let y_may : AllowsReply x.entry y.reply = subst (λ (o : Observation). AllowsReply o y.reply) e y_is.replies in
@@ -151,7 +149,7 @@ at_once {S} Goes entries to_come s taken x rest is returned nothing by = record 
     still : (y : Effect) → IsEffectOf entries y → y.index ≡ x.index → (s t : S) → Goes s (y.entry.call, y.reply) t →
         t ≡ s
     still y y_is same s t steps =
-        let both : (y.entry ≡ x.entry) × (y.reply ≡ x.reply) = same_effect entries x y is y_is returned same in
+        let both : (y.entry ≡ x.entry) × (y.reply ≡ x.reply) = one_effect_of entries x y is y_is returned same in
         nothing s t (subst (λ (r : Reply). Goes s (x.entry.call, r) t) both.1
         (subst (λ (o : Observation). Goes s (o.call, y.reply) t) both.0 steps))
 
@@ -168,7 +166,7 @@ at_once {S} Goes entries to_come s taken x rest is returned nothing by = record 
     moved : (j : ℕ) → Contains taken j ⊎ Contains (indices_of rest) j →
         Contains (x.index ∷ taken) j ⊎ Contains (indices_of left.others) j
     moved j (inl has) = inl (contains_rest x.index taken j has)
-    moved j (inr has) = which (apart_or_same j x.index)
+    moved j (inr has) = which (cases_eq j x.index)
       where
         which : (j ≡ x.index) ⊎ (j ≢ x.index) → Contains (x.index ∷ taken) j ⊎ Contains (indices_of left.others) j
         which (inl same) = inl (contains_first x.index taken j (sym same))

@@ -4,6 +4,7 @@ use Rattle.std.proofs.Common.{inr, Some}
 use Rattle.std.specs.Prelude.{slice_get}
 use Rattle.std.specs.List.{All, AllPairs, Contains}
 use Rattle.std.proofs.lemmas.List.Elements.{All-nil, All-cons, All-head, All-tail, All-weaker}
+use Rattle.std.proofs.lemmas.Option.{same_Some}
 use Rattle.stamp_core.specs.declared.call.Call.{Call}
 use Rattle.stamp_core.specs.declared.reply.Reply.{Reply}
 use Rattle.stamp_explain.specs.declared.observed.Observation.{Observation}
@@ -52,12 +53,9 @@ before_return Goes entries i returns s taken rest has by = record {
 }
 
 -- one entry stands at an index
-some_inj : {X : Type 0} (x y : X) → Some x ≡ Some y → x ≡ y
-some_inj x y e = cc
-
 pub same_entry : (entries : List Observation) (x : Effect) (i : ℕ) (a : Observation) → IsEffectOf entries x →
     x.index ≡ i → slice_get entries i ≡ Some a → x.entry ≡ a
-same_entry entries x i a is e at = some_inj x.entry a (sym is.is_entry ∙ ap (λ (k : ℕ). slice_get entries k) e ∙ at)
+same_entry entries x i a is e at = same_Some x.entry a (sym is.is_entry ∙ ap (λ (k : ℕ). slice_get entries k) e ∙ at)
 
 -- what comes later of an order had not returned when an earlier call of it began
 pub later_of : (entries : List Observation) (i : ℕ) (a e : Observation) (rest : List Effect) →

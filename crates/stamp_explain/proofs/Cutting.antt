@@ -4,8 +4,9 @@ use Rattle.std.proofs.Common.{refl, sym, ◌∙◌, ap, subst, inl, inr, arith, 
 use Rattle.std.specs.Prelude.{slice_get, map, MatchOption, if◌then◌else◌, nat_lt, ◌==◌, ◌&&◌, ◌||◌}
 use Rattle.std.specs.List.{All, AllPairs, AllZip, Contains}
 use Rattle.std.proofs.lemmas.List.Elements.{All-head, All-tail, All-map}
-use Rattle.std.proofs.lemmas.Option.{get_or_from_slice_get}
+use Rattle.std.proofs.lemmas.Option.{get_or_from_slice_get, same_Some, none-some}
 use Rattle.std.proofs.lemmas.Bool.Decides.{nat_tests}
+use Rattle.std.proofs.lemmas.Bool.{false≢true}
 use Rattle.stamp_core.specs.History.{History, IsLegal}
 use Rattle.stamp_core.specs.declared.call.Call.{Call}
 use Rattle.stamp_core.specs.declared.reply.Reply.{Reply}
@@ -41,32 +42,20 @@ less_before a b e k less lesser before = by e.returned refl before
         (sym (less.returned r at)) (subst (λ (n : ℕ). r.last < n) lesser.first before)
 
 -- lists whose elements are related, pair by pair
-there : (R : Observation → Observation → Type 0) (es ks : List Observation) (i : ℕ) (e : Observation) →
+zip_there : (R : Observation → Observation → Type 0) (es ks : List Observation) (i : ℕ) (e : Observation) →
     AllZip R es ks → slice_get es i ≡ Some e → (k : Observation) × ((slice_get ks i ≡ Some k) × R e k)
-there R [] ks i e all at = absurd (none_is (sym at))
-  where
-    none_is : Some e ≡ None → ⊥
-    none_is h = cc
-there R (x ∷ es) [] i e all at = absurd all
-there R (x ∷ es) (y ∷ ks) zero e all at = (y, (refl, subst (λ (o : Observation). R o y) (same at) all.0))
-  where
-    same : Some x ≡ Some e → x ≡ e
-    same h = cc
-there R (x ∷ es) (y ∷ ks) (suc i) e all at = there R es ks i e all.1 at
+zip_there R [] ks i e all at = absurd (none-some e at)
+zip_there R (x ∷ es) [] i e all at = absurd all
+zip_there R (x ∷ es) (y ∷ ks) zero e all at = (y, (refl, subst (λ (o : Observation). R o y) (same_Some x e at) all.0))
+zip_there R (x ∷ es) (y ∷ ks) (suc i) e all at = zip_there R es ks i e all.1 at
 
-pub back : (R : Observation → Observation → Type 0) (es ks : List Observation) (i : ℕ) (k : Observation) →
+pub zip_back : (R : Observation → Observation → Type 0) (es ks : List Observation) (i : ℕ) (k : Observation) →
     AllZip R es ks → slice_get ks i ≡ Some k → (e : Observation) × ((slice_get es i ≡ Some e) × R e k)
-back R [] [] i k all at = absurd (none_is (sym at))
-  where
-    none_is : Some k ≡ None → ⊥
-    none_is h = cc
-back R [] (y ∷ ks) i k all at = absurd all
-back R (x ∷ es) [] i k all at = absurd all
-back R (x ∷ es) (y ∷ ks) zero k all at = (x, (refl, subst (λ (o : Observation). R x o) (same at) all.0))
-  where
-    same : Some y ≡ Some k → y ≡ k
-    same h = cc
-back R (x ∷ es) (y ∷ ks) (suc i) k all at = back R es ks i k all.1 at
+zip_back R [] [] i k all at = absurd (none-some k at)
+zip_back R [] (y ∷ ks) i k all at = absurd all
+zip_back R (x ∷ es) [] i k all at = absurd all
+zip_back R (x ∷ es) (y ∷ ks) zero k all at = (x, (refl, subst (λ (o : Observation). R x o) (same_Some y k at) all.0))
+zip_back R (x ∷ es) (y ∷ ks) (suc i) k all at = zip_back R es ks i k all.1 at
 
 -- the same effects, with the entries of another list
 relaxed : List Observation → Effect → Effect
@@ -79,7 +68,7 @@ record AreRelaxed (ks : List Observation) (x : Effect) : Type 0 where
 relax : (es ks : List Observation) (x : Effect) → AllZip IsLessKnown es ks → IsEffectOf es x → AreRelaxed ks x
 relax es ks x all is =
     let found : (k : Observation) × ((slice_get ks x.index ≡ Some k) × IsLessKnown x.entry k) =
-    there IsLessKnown es ks x.index x.entry all is.is_entry in
+    zip_there IsLessKnown es ks x.index x.entry all is.is_entry in
     let same : found.0 ≡ get_or ks x.index x.entry = sym (get_or_from_slice_get ks x.index found.0 x.entry found.1.0)
     in
     record {
@@ -96,18 +85,18 @@ pairs_map R Q E f (x ∷ xs) step each all =
     (pairs_head R x xs all k d lt)))
     (pairs_map R Q E f xs step (All-tail E x xs each) (pairs_tail R x xs all))
 
-same_indices : (ks : List Observation) (xs : List Effect) → indices_of xs ≡ indices_of (map (relaxed ks) xs)
+relaxed_indices : (ks : List Observation) (xs : List Effect) → indices_of xs ≡ indices_of (map (relaxed ks) xs)
 unfolding relaxed
-same_indices ks [] = refl
-same_indices ks (x ∷ xs) = ap (λ (is : List ℕ). x.index ∷ is) (same_indices ks xs)
+relaxed_indices ks [] = refl
+relaxed_indices ks (x ∷ xs) = ap (λ (is : List ℕ). x.index ∷ is) (relaxed_indices ks xs)
 
-same_history : (ks : List Observation) (xs : List Effect) → All (AreRelaxed ks) xs →
+relaxed_history : (ks : List Observation) (xs : List Effect) → All (AreRelaxed ks) xs →
     history_of xs ≡ history_of (map (relaxed ks) xs)
 unfolding relaxed
-same_history ks [] each = refl
-same_history ks (x ∷ xs) each =
+relaxed_history ks [] each = refl
+relaxed_history ks (x ∷ xs) each =
     let c : (get_or ks x.index x.entry).call ≡ x.entry.call = (All-head (AreRelaxed ks) x xs each).less.call in
-    ap (λ (h : History). (x.entry.call, x.reply) ∷ h) (same_history ks xs (All-tail (AreRelaxed ks) x xs each)) ∙
+    ap (λ (h : History). (x.entry.call, x.reply) ∷ h) (relaxed_history ks xs (All-tail (AreRelaxed ks) x xs each)) ∙
     ap (λ (o : Call). (o, x.reply) ∷ history_of (map (relaxed ks) xs)) (sym c)
 
 pub less_known : (h : ObservedHistory) (ks : List Observation) → AllZip IsLessKnown h.entries ks → IsExplained h →
@@ -120,13 +109,13 @@ less_known h ks all explained = record {
     once = pairs_map AreApart AreApart (AreRelaxed ks) (relaxed ks) order (λ x y _ _ apart. apart) each by.once;
     returned = λ i k at returned.
         let was : (e : Observation) × ((slice_get h.entries i ≡ Some e) × IsLessKnown e k) =
-        back IsLessKnown h.entries ks i k all at in
-        subst (λ (is : List ℕ). Contains is i) (same_indices ks order)
+        zip_back IsLessKnown h.entries ks i k all at in
+        subst (λ (is : List ℕ). Contains is i) (relaxed_indices ks order)
         (by.returned i was.0 was.1.0 (returned.0, was.1.1.returned returned.0 returned.1));
     ordered = pairs_map RespectsBefore RespectsBefore (AreRelaxed ks) (relaxed ks) order
         (λ x y x_is y_is respects before. respects (less_before y.entry x.entry (get_or ks y.index y.entry)
         (get_or ks x.index x.entry) y_is.less x_is.less before)) each by.ordered;
-    legal = subst (λ (history : History). IsLegal h.limits h.width history) (same_history ks order each) by.legal;
+    legal = subst (λ (history : History). IsLegal h.limits h.width history) (relaxed_history ks order each) by.legal;
   };
 }
   where
@@ -154,30 +143,28 @@ pub less_by : (e : Observation) (t u : Bool) → (t ≡ true → u ≡ true) →
 less_by e false true sooner = record { call = refl; first = refl; returned = λ r at. cc }
 less_by e false false sooner = record { call = refl; first = refl; returned = λ r at. at }
 less_by e true true sooner = record { call = refl; first = refl; returned = λ r at. at }
-less_by e true false sooner = absurd (differ (sooner refl))
-  where
-    differ : false ≡ true → ⊥
-    differ h = cc
+less_by e true false sooner = absurd (false≢true (sooner refl))
 
 less_whole : (e : Observation) (t : Bool) → IsLessKnown e (if t then e else record e { returned = None })
 less_whole e false = record { call = refl; first = refl; returned = λ r at. cc }
 less_whole e true = record { call = refl; first = refl; returned = λ r at. at }
 
-IsSooner : ℕ → ℕ → ℕ → ℕ → Type 0
-IsSooner l b m c = (l < m) ⊎ ((l ≡ m) × (b ≤ c))
+-- the cut at l, with what returned there of the first b entries, is no later than that at m, with the first c
+IsNoLater : ℕ → ℕ → ℕ → ℕ → Type 0
+IsNoLater l b m c = (l < m) ⊎ ((l ≡ m) × (b ≤ c))
 
-still_returned : (l b m c i : ℕ) (o : Option Returned) → IsSooner l b m c → returned_by l b i o ≡ true →
+still_returned : (l b m c i : ℕ) (o : Option Returned) → IsNoLater l b m c → returned_by l b i o ≡ true →
     returned_by m c i o ≡ true
-unfolding IsSooner
+unfolding IsNoLater
 still_returned l b m c i None sooner is = is
 still_returned l b m c i (Some r) sooner is = at_return r.last sooner is
   where
-    at_return : (n : ℕ) → IsSooner l b m c → (nat_lt n l || ((n == l) && nat_lt i b)) ≡ true →
+    at_return : (n : ℕ) → IsNoLater l b m c → (nat_lt n l || ((n == l) && nat_lt i b)) ≡ true →
         (nat_lt n m || ((n == m) && nat_lt i c)) ≡ true
     at_return n (inl less) is = grind (arith, nat_tests)
     at_return n (inr same) is = grind (arith, nat_tests)
 
-cuts_less : (l b m c i : ℕ) (es : List Observation) → IsSooner l b m c →
+cuts_less : (l b m c i : ℕ) (es : List Observation) → IsNoLater l b m c →
     AllZip IsLessKnown (cut_entries m c i es) (cut_entries l b i es)
 cuts_less l b m c i [] sooner = tt
 cuts_less l b m c i (e ∷ es) sooner = (
@@ -198,21 +185,21 @@ pub explained_is_not_stuck : ExplainedIsNotStuck
 explained_is_not_stuck h i explained stuck =
     stuck.stuck (cuts_stay_explained h stuck.at.return.last (i + 1) explained)
 
-sooner_explained : (h : ObservedHistory) (l b m c : ℕ) → IsSooner l b m c → IsExplained (cut m c h) →
+sooner_explained : (h : ObservedHistory) (l b m c : ℕ) → IsNoLater l b m c → IsExplained (cut m c h) →
     IsExplained (cut l b h)
 sooner_explained h l b m c sooner explained = less_known (cut m c h) (cut_entries l b 0 h.entries)
     (cuts_less l b m c 0 h.entries sooner) explained
 
 -- a return before one that is stuck isn't
-not_sooner : (h : ObservedHistory) (i j : ℕ) (a : IsStuck h i) (b : IsStuck h j) →
-    ¬ IsSooner a.at.return.last (i + 1) b.at.return.last j
-not_sooner h i j a b sooner =
+stuck_is_not_before : (h : ObservedHistory) (i j : ℕ) (a : IsStuck h i) (b : IsStuck h j) →
+    ¬ IsNoLater a.at.return.last (i + 1) b.at.return.last j
+stuck_is_not_before h i j a b sooner =
     a.stuck (sooner_explained h a.at.return.last (i + 1) b.at.return.last j sooner b.explained)
 
-apart_in_time : (l m i j : ℕ) → ¬ IsSooner l (i + 1) m j → ¬ IsSooner m (j + 1) l i → i ≡ j
-unfolding IsSooner
+apart_in_time : (l m i j : ℕ) → ¬ IsNoLater l (i + 1) m j → ¬ IsNoLater m (j + 1) l i → i ≡ j
+unfolding IsNoLater
 apart_in_time l m i j one other = grind arith
 
 pub one_stuck : OneStuck
 one_stuck h i j a b =
-    apart_in_time a.at.return.last b.at.return.last i j (not_sooner h i j a b) (not_sooner h j i b a)
+    apart_in_time a.at.return.last b.at.return.last i j (stuck_is_not_before h i j a b) (stuck_is_not_before h j i b a)

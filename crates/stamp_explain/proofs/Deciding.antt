@@ -4,6 +4,7 @@ use Rattle.std.proofs.Common.{Option, None, zero, suc}
 use Rattle.std.specs.Prelude.{drop, slice_get}
 use Rattle.std.specs.List.{All, AllPairs}
 use Rattle.std.proofs.lemmas.Option.{same_Some, slice_get_within}
+use Rattle.std.proofs.lemmas.List.{get_or_default}
 use Rattle.stamp_core.specs.declared.call.Call.{Call}
 use Rattle.stamp_core.specs.declared.reply.Reply.{Reply}
 use Rattle.stamp_explain.specs.declared.observed.Observation.{Observation}
@@ -13,7 +14,7 @@ use Rattle.stamp_explain.specs.Search.{LockState, StateTransition, MayTake, afte
 use Rattle.stamp_explain.specs.Configuration.{Reaches, put_after}
 use Rattle.stamp_explain.specs.Configuration.Reaches.{begins, goes_past, goes_on_by}
 use Rattle.stamp_explain.specs.ExplainLaws.{TheOrderDecides}
-use Rattle.stamp_explain.proofs.Expanding.{one_reply, same_read}
+use Rattle.stamp_explain.proofs.Expanding.{one_reply}
 use Rattle.stamp_explain.proofs.Lists.{pairs_cons, pairs_none}
 
 -- the same state, and the same put
@@ -122,7 +123,7 @@ once h asked returns (goes_on_by {i} {to_come} {s} {put} {taken} way awaited x t
     (once h asked returns way)
   where
     get_at : (xs : List ℕ) (k d e : ℕ) → k < length xs → get_or xs k e ≡ get_or xs k d
-    get_at xs k d e lt = same_read xs k e d lt
+    get_at xs k d e lt = get_or_default xs k e d lt
 
 left : (h : ObservedHistory) (asked : Option ℕ) (returns : List ℕ) {xs : List ℕ} {s : LockState} {put : Option ℕ}
     {taken : List ℕ} →

@@ -1,5 +1,5 @@
 -- The returned calls in the order of their returns.
-use Rattle.std.proofs.Common.{◌≡◌, ◌≢◌, ◌⊎◌, ℕ, ◌+◌, ◌<◌, ◌≤◌, zero, suc, true, false, List, [], ◌∷◌, length}
+use Rattle.std.proofs.Common.{◌≡◌, ◌≢◌, ◌⊎◌, ℕ, ◌+◌, ◌<◌, ◌≤◌, zero, suc, false, List, [], ◌∷◌, length}
 use Rattle.std.proofs.Common.{get_or, refl, sym, ◌∙◌, ap, subst, inl, inr, arith}
 use Rattle.std.specs.List.{All, AllPairs}
 use Rattle.std.specs.List.Sorted.{IsPermutation, IsSorted, IsNonDecreasingBy}
@@ -12,6 +12,7 @@ use Rattle.std.proofs.lemmas.Option.{slice_get_within}
 use Rattle.std.proofs.lemmas.List.{length-map}
 use Rattle.std.proofs.lemmas.List.Elements.{All-nil, All-cons, All-weaker}
 use Rattle.std.proofs.lemmas.List.Sorted.{Contains-permutation, IsPermutation-sym}
+use Rattle.std.proofs.lemmas.Bool.{true≢false, cases_order}
 use Rattle.stamp_explain.specs.declared.observed.Observation.{Observation}
 use Rattle.stamp_explain.specs.TimelineKeys.{AreKeys, AreEnds, IsSooner, EndsAt, key_indices}
 use Rattle.stamp_explain.proofs.Lists.{pairs_none, pairs_cons}
@@ -23,29 +24,23 @@ pair_cmp p q = ordering_then (nat_cmp p.0 q.0) (nat_cmp p.1 q.1)
 NotAfter : ℕ × ℕ → ℕ × ℕ → Type 0
 NotAfter p q = (p.0 < q.0) ⊎ ((p.0 ≡ q.0) × (p.1 ≤ q.1))
 
-true_false : true ≡ false → ⊥
-true_false h = cc
-
-three : (n m : ℕ) → (n < m) ⊎ ((n ≡ m) ⊎ (m < n))
-three n m = grind arith
-
 -- what isn't less comes no sooner
 not_after : (p q : ℕ × ℕ) → is_lt (pair_cmp q p) ≡ false → NotAfter p q
 unfolding NotAfter
-not_after p q isnt = by (three q.0 p.0)
+not_after p q isnt = by (cases_order q.0 p.0)
   where
     then_is : (o : Ordering) → o ≡ nat_cmp q.0 p.0 → is_lt (ordering_then o (nat_cmp q.1 p.1)) ≡ false
     then_is o is = ap (λ (x : Ordering). is_lt (ordering_then x (nat_cmp q.1 p.1))) is ∙ isnt
 
-    second : q.0 ≡ p.0 → (q.1 < p.1) ⊎ ((q.1 ≡ p.1) ⊎ (p.1 < q.1)) → p.1 ≤ q.1
-    second same (inl less) = absurd (true_false (ap (λ (x : Ordering). is_lt x) (nat_cmp_is q.1 p.1 Less less) ∙
+    second : q.0 ≡ p.0 → (q.1 ≡ p.1) ⊎ ((q.1 < p.1) ⊎ (p.1 < q.1)) → p.1 ≤ q.1
+    second same (inl both) = omega (arith, both)
+    second same (inr (inl less)) = absurd (true≢false (ap (λ (x : Ordering). is_lt x) (nat_cmp_is q.1 p.1 Less less) ∙
         then_is Equal (nat_cmp_is q.0 p.0 Equal same)))
-    second same (inr (inl both)) = omega (arith, both)
     second same (inr (inr more)) = omega (arith, more)
 
-    by : (q.0 < p.0) ⊎ ((q.0 ≡ p.0) ⊎ (p.0 < q.0)) → (p.0 < q.0) ⊎ ((p.0 ≡ q.0) × (p.1 ≤ q.1))
-    by (inl less) = absurd (true_false (then_is Less (nat_cmp_is q.0 p.0 Less less)))
-    by (inr (inl same)) = inr (sym same, second same (three q.1 p.1))
+    by : (q.0 ≡ p.0) ⊎ ((q.0 < p.0) ⊎ (p.0 < q.0)) → (p.0 < q.0) ⊎ ((p.0 ≡ q.0) × (p.1 ≤ q.1))
+    by (inl same) = inr (sym same, second same (cases_order q.1 p.1))
+    by (inr (inl less)) = absurd (true≢false (then_is Less (nat_cmp_is q.0 p.0 Less less)))
     by (inr (inr more)) = inl more
 
 carries : (p q r : ℕ × ℕ) → NotAfter p q → NotAfter q r → NotAfter p r
@@ -107,11 +102,11 @@ get_index (x ∷ xs) (suc k) d = get_index xs k d
 strictly : (p q : ℕ × ℕ) → NotAfter p q → p.1 ≢ q.1 → IsSooner p q
 unfolding NotAfter
 strictly p q (inl less) apart = inl less
-strictly p q (inr (same, le)) apart = inr (same, by (three p.1 q.1))
+strictly p q (inr (same, le)) apart = inr (same, by (cases_order p.1 q.1))
   where
-    by : (p.1 < q.1) ⊎ ((p.1 ≡ q.1) ⊎ (q.1 < p.1)) → p.1 < q.1
-    by (inl less) = less
-    by (inr (inl both)) = absurd (apart both)
+    by : (p.1 ≡ q.1) ⊎ ((p.1 < q.1) ⊎ (q.1 < p.1)) → p.1 < q.1
+    by (inl both) = absurd (apart both)
+    by (inr (inl less)) = less
     by (inr (inr more)) = absurd (omega (arith, more, le))
 
 pub sorted_ends : (entries : List Observation) (keys ends : List (ℕ × ℕ)) →

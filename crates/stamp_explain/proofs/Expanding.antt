@@ -7,8 +7,9 @@ use Rattle.std.specs.Bool.{MatchBool}
 use Rattle.std.specs.List.{All, AllPairs, Contains}
 use Rattle.std.specs.Int.{bit_at}
 use Rattle.std.proofs.Common.{length-take-le}
-use Rattle.std.proofs.lemmas.List.{get_or-take}
-use Rattle.std.proofs.lemmas.Option.{same_Some, slice_get_within, get_or_from_slice_get, slice_get-get_or}
+use Rattle.std.proofs.lemmas.List.{get_or-take, get_or_default}
+use Rattle.std.proofs.lemmas.Option.{same_Some, slice_get_within, get_or_from_slice_get}
+use Rattle.std.proofs.lemmas.Bool.{cases_order}
 use Rattle.stamp_core.specs.LockEvent.{LockEvent}
 use Rattle.stamp_core.specs.Limits.{Bounds}
 use Rattle.stamp_core.specs.Call.{is_lock_call}
@@ -63,11 +64,6 @@ orderly h observed = record {
     which i j e f at_i at_j (inl lt) same = pair i j e f at_i at_j lt same
     which i j e f at_i at_j (inr lt) same = turned (pair j i f e at_j at_i lt (sym same))
 
--- the element read does not depend on what would be read past the end
-pub same_read : (xs : List ℕ) (k d e : ℕ) → k < length xs → get_or xs k d ≡ get_or xs k e
-same_read xs k d e lt = same_Some (get_or xs k d) (get_or xs k e) (sym (slice_get-get_or xs k d lt) ∙
-    slice_get-get_or xs k e lt)
-
 pub in_take : (xs : List ℕ) (n k j : ℕ) → k < n → n ≤ length xs → get_or xs k j ≡ j → Contains (take n xs) j
 in_take xs n k j lt le is =
     let lt_take : k < length (take n xs) = omega (arith, length-take-le n xs le) in
@@ -81,21 +77,18 @@ pub sooner_past : (entries : List Observation) (returns : List ℕ) (past : ℕ)
 sooner_past entries returns past a are lt at j f x at_j before not = by (are.whole j f at_j (has_returned f x before))
   where
     by : Contains returns j → Contains (take past returns) j
-    by (k, within, is) = which (cases k past)
+    by (k, within, is) = which (cases_order k past)
       where
-        cases : (k n : ℕ) → (k < n) ⊎ ((k ≡ n) ⊎ (n < k))
-        cases k n = grind arith
-
-        which : (k < past) ⊎ ((k ≡ past) ⊎ (past < k)) → Contains (take past returns) j
-        which (inl less) = let le : past ≤ length returns = omega arith in in_take returns past k j less le is
-        which (inr (inl same)) =
-            let here : get_or returns past 0 ≡ j = same_read returns past 0 j lt ∙
+        which : (k ≡ past) ⊎ ((k < past) ⊎ (past < k)) → Contains (take past returns) j
+        which (inl same) =
+            let here : get_or returns past 0 ≡ j = get_or_default returns past 0 j lt ∙
             ap (λ (n : ℕ). get_or returns n j) (sym same) ∙ is in
             let both : a ≡ f = same_Some a f (sym at ∙ ap (λ (n : ℕ). slice_get entries n) here ∙ at_j) in
             absurd (not (subst (λ (o : Observation). IsBefore o x) (sym both) before))
+        which (inr (inl less)) = let le : past ≤ length returns = omega arith in in_take returns past k j less le is
         which (inr (inr more)) =
             let first : slice_get entries (get_or returns past j) ≡ Some a =
-            ap (λ (n : ℕ). slice_get entries n) (same_read returns past j 0 lt) ∙ at in
+            ap (λ (n : ℕ). slice_get entries n) (get_or_default returns past j 0 lt) ∙ at in
             let second : slice_get entries (get_or returns k j) ≡ Some f = ap (λ (n : ℕ). slice_get entries n) is ∙
             at_j in
             absurd (not (no_later a f x (are.in_order past k j more within a f first second) before))
@@ -147,7 +140,7 @@ next_awaited h returns past a observed are once lt at = record {
         let less : k < past = omega (arith, length-take-le past returns le) in
         once k past (get_or returns past 0) less lt
         (sym (get_or-take past returns k (get_or returns past 0) less) ∙ is ∙
-        same_read returns past 0 (get_or returns past 0) lt)
+        get_or_default returns past 0 (get_or returns past 0) lt)
 
     by : (j : ℕ) (f : Observation) → slice_get h.entries j ≡ Some f → ¬ Contains (take past returns) j →
         IsBefore a f ⊎ IsBefore f a → IsBefore a f

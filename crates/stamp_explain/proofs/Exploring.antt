@@ -365,7 +365,3 @@ pub popped_node : (looked : ℕ) (store : Store) (before popped : List ℕ) (ind
 popped_node looked store before popped index v is split read =
     slice_get_read store.nodes.items (length store.nodes.items) index v refl
     (popped_inside looked store before popped index is split) read
-
-pub nil_of_length : (xs : List ℕ) → length xs ≡ 0 → xs ≡ []
-nil_of_length [] h = refl
-nil_of_length (x ∷ xs) h = absurd (omega arith)

@@ -5,7 +5,8 @@ use Rattle.std.specs.Prelude.{slice_get, if◌then◌else◌, nat_lt, ◌==◌, 
 use Rattle.std.specs.List.{AllPairs, AllZip, Contains}
 use Rattle.std.proofs.lemmas.List.Elements.{All-nil}
 use Rattle.std.proofs.lemmas.Bool.Decides.{nat_tests}
-use Rattle.std.proofs.lemmas.Option.{none-some, slice_get_within, get_or_from_slice_get, slice_get-get_or}
+use Rattle.std.proofs.lemmas.Option.{none-some, slice_get_within, get_or_from_slice_get, slice_get-get_or, same_Some}
+use Rattle.std.proofs.lemmas.Bool.{false≢true, cases_order}
 use Rattle.stamp_explain.specs.declared.observed.Observation.{Observation}
 use Rattle.stamp_explain.specs.declared.observed.Returned.{Returned}
 use Rattle.stamp_explain.specs.declared.found.Found.{Found}
@@ -19,12 +20,9 @@ use Rattle.stamp_explain.specs.Linearization.{IsLinearizationOf}
 use Rattle.stamp_explain.specs.Expand.{IsFoundApart}
 use Rattle.stamp_explain.specs.Answer.{IsUndecided, IsLastOrGivesUp, IsUnexplained, IsNotFound}
 use Rattle.stamp_explain.proofs.Lists.{pairs_none, none_in_empty}
-use Rattle.stamp_explain.proofs.Cutting.{IsLessKnown, cuts_stay_explained, less_known, back}
+use Rattle.stamp_explain.proofs.Cutting.{IsLessKnown, cuts_stay_explained, less_known, zip_back}
 use Rattle.stamp_explain.proofs.Seeing.{seen_explains_as_much}
 use Rattle.stamp_explain.specs.declared.linearization.Taken.{Taken}
-
-false_true : false ≡ true → ⊥
-false_true h = cc
 
 -- a call known by one test, and known so far by another
 returned_then : (l b i : ℕ) (e : Observation) (r : Returned) → (cut_entry l b i e).returned ≡ Some r →
@@ -56,7 +54,7 @@ less_known_of m c i e k call first was = by (returned_by m c i e.returned) refl
     by false is = record {
       call = call;
       first = first;
-      returned = λ r at. absurd (false_true (sym is ∙ ap (returned_by m c i) (was r at).0 ∙ (was r at).1));
+      returned = λ r at. absurd (false≢true (sym is ∙ ap (returned_by m c i) (was r at).0 ∙ (was r at).1));
     }
 
 -- what is known by the one test is known by the other
@@ -133,7 +131,7 @@ unknown i (e ∷ es) = (by (returned_by 0 0 i e.returned) (never e.returned), un
         at n = grind (arith, nat_tests)
 
     by : (t : Bool) → t ≡ false → (if t then e else record e { returned = None }).returned ≡ None
-    by true is = absurd (false_true (sym is))
+    by true is = absurd (false≢true (sym is))
     by false is = refl
 
 explained_by_none : (h : ObservedHistory) → ((i : ℕ) (e : Observation) → slice_get h.entries i ≡ Some e →
@@ -167,7 +165,7 @@ explained_unknown h = record { order = []; by = explained_by_none (cut 0 0 h) (�
     none : (i : ℕ) (k : Observation) → slice_get (cut_entries 0 0 0 h.entries) i ≡ Some k → ¬ HasReturned k
     none i k at has =
         let was : (e : Observation) × ((slice_get h.entries i ≡ Some e) × (k.returned ≡ None)) =
-        back (λ (e k : Observation). k.returned ≡ None) h.entries (cut_entries 0 0 0 h.entries) i k
+        zip_back (λ (e k : Observation). k.returned ≡ None) h.entries (cut_entries 0 0 0 h.entries) i k
         (unknown 0 h.entries) at in
         none-some has.0 (sym was.1.1 ∙ has.1)
 
@@ -214,14 +212,11 @@ later_at ends n m p x in_order at lt is more = subst (λ (y : ℕ × ℕ). IsSoo
     (subst (λ (q : ℕ × ℕ). IsSooner q (get_or ends n x)) (get_or_from_slice_get ends m p x at)
     (in_order m n x more lt))
 
-three : (n m : ℕ) → (n < m) ⊎ ((n ≡ m) ⊎ (m < n))
-three n m = grind arith
-
 -- what returned no later than this is known after it
 known_after : (ends : List (ℕ × ℕ)) (n m k : ℕ) (p : ℕ × ℕ) (r : Returned) → AllPairs IsSooner ends →
     slice_get ends m ≡ Some p → get_or ends n (r.last, k) ≡ (r.last, k) → n ≤ m →
     returned_by p.0 (p.1 + 1) k (Some r) ≡ true
-known_after ends n m k p r in_order at is le = by (three n m)
+known_after ends n m k p r in_order at is le = by (cases_order n m)
   where
     more : IsSooner (r.last, k) p → (r.last < p.0) ⊎ ((r.last ≡ p.0) × (k < p.1 + 1))
     more (inl less) = inl less
@@ -230,9 +225,9 @@ known_after ends n m k p r in_order at is le = by (three n m)
     there : (r.last, k) ≡ p → (r.last < p.0) ⊎ ((r.last ≡ p.0) × (k < p.1 + 1))
     there same = inr (ap (λ (q : ℕ × ℕ). q.0) same, omega (arith, ap (λ (q : ℕ × ℕ). q.1) same))
 
-    by : (n < m) ⊎ ((n ≡ m) ⊎ (m < n)) → returned_by p.0 (p.1 + 1) k (Some r) ≡ true
-    by (inl less) = test_by p.0 (p.1 + 1) k r (more (sooner_at ends n m p (r.last, k) in_order at is less))
-    by (inr (inl same)) = test_by p.0 (p.1 + 1) k r (there (same_at ends n m p (r.last, k) at is same))
+    by : (n ≡ m) ⊎ ((n < m) ⊎ (m < n)) → returned_by p.0 (p.1 + 1) k (Some r) ≡ true
+    by (inl same) = test_by p.0 (p.1 + 1) k r (there (same_at ends n m p (r.last, k) at is same))
+    by (inr (inl less)) = test_by p.0 (p.1 + 1) k r (more (sooner_at ends n m p (r.last, k) in_order at is less))
     by (inr (inr over)) = absurd (omega (arith, over, le))
 
 from_zero : (l b k : ℕ) (r : Returned) → returned_by l b (0 + k) (Some r) ≡ true → returned_by l b k (Some r) ≡ true
@@ -258,12 +253,12 @@ explained_at_first h ends p are at = less_known (cut 0 0 h) (cut_entries p.0 p.1
         less = by_test p k r is
 
         by : Contains ends (r.last, k) → ⊥
-        by (n, lt, same) = which (three n 0)
+        by (n, lt, same) = which (cases_order n 0)
           where
-            which : (n < 0) ⊎ ((n ≡ 0) ⊎ (0 < n)) → ⊥
-            which (inl below) = absurd (omega (arith, below))
-            which (inr (inl zero_is)) = irreflexive p (subst (λ (x : ℕ × ℕ). IsSooner x p)
+            which : (n ≡ 0) ⊎ ((n < 0) ⊎ (0 < n)) → ⊥
+            which (inl zero_is) = irreflexive p (subst (λ (x : ℕ × ℕ). IsSooner x p)
                 (same_at ends n 0 p (r.last, k) at same zero_is) less)
+            which (inr (inl below)) = absurd (omega (arith, below))
             which (inr (inr more)) = never_both (r.last, k) p less
                 (later_at ends n 0 p (r.last, k) are.in_order at lt same more)
 
@@ -285,12 +280,12 @@ explained_at_next h ends m p q are at next explained = less_known (cut p.0 (p.1 
         less = by_test q k r is
 
         by : Contains ends (r.last, k) → returned_by p.0 (p.1 + 1) k (Some r) ≡ true
-        by (n, lt, same) = which (three n (m + 1))
+        by (n, lt, same) = which (cases_order n (m + 1))
           where
-            which : (n < m + 1) ⊎ ((n ≡ m + 1) ⊎ (m + 1 < n)) → returned_by p.0 (p.1 + 1) k (Some r) ≡ true
-            which (inl below) = known_after ends n m k p r are.in_order at same (omega (arith, below))
-            which (inr (inl next_is)) = absurd (irreflexive q (subst (λ (x : ℕ × ℕ). IsSooner x q)
+            which : (n ≡ m + 1) ⊎ ((n < m + 1) ⊎ (m + 1 < n)) → returned_by p.0 (p.1 + 1) k (Some r) ≡ true
+            which (inl next_is) = absurd (irreflexive q (subst (λ (x : ℕ × ℕ). IsSooner x q)
                 (same_at ends n (m + 1) q (r.last, k) next same next_is) less))
+            which (inr (inl below)) = known_after ends n m k p r are.in_order at same (omega (arith, below))
             which (inr (inr more)) = absurd (never_both (r.last, k) q less
                 (later_at ends n (m + 1) q (r.last, k) are.in_order next lt same more))
 
@@ -370,13 +365,10 @@ between_below h most unexplained ends low high middle stuck p observed is le les
   inside = omega (arith, less, is.inside);
   below = is.below;
   above = λ q here explained. none ((seen_explains_as_much h p.0 (p.1 + 1) observed).1.0
-      (subst (λ (x : ℕ × ℕ). IsExplained (cut x.0 (x.1 + 1) h)) (same q p (sym here ∙ at)) explained));
+      (subst (λ (x : ℕ × ℕ). IsExplained (cut x.0 (x.1 + 1) h)) (same_Some q p (sym here ∙ at)) explained));
   whole = λ explained. none ((seen_explains_as_much h p.0 (p.1 + 1) observed).1.0
       (cuts_stay_explained h p.0 (p.1 + 1) explained));
 }
-  where
-    same : (x y : ℕ × ℕ) → Some x ≡ Some y → x ≡ y
-    same x y h = cc
 
 pub between_undecided : (h : ObservedHistory) (most : ℕ) (unexplained : Bool) (ends : List (ℕ × ℕ)) (low high middle
     : ℕ) (stuck : Bool)
@@ -388,16 +380,13 @@ between_undecided h most unexplained ends low high middle stuck p is le less at 
   inside = omega (arith, less, is.inside);
   below = is.below;
   above = λ q here. by q unexplained (subst (λ (x : ℕ × ℕ). IsGivenUp (seen_at x.0 (x.1 + 1) h) most)
-      (same p q (sym at ∙ here)) given_up);
+      (same_Some p q (sym at ∙ here)) given_up);
   whole = is.whole;
 }
   where
     by : (q : ℕ × ℕ) (b : Bool) → IsGivenUp (seen_at q.0 (q.1 + 1) h) most → IsAbove h most q b false
     by q true given_up = given_up
     by q false given_up = inr given_up
-
-    same : (x y : ℕ × ℕ) → Some x ≡ Some y → x ≡ y
-    same x y h = cc
 
 -- the call whose return is where the two meet
 record IsMet (h : ObservedHistory) (most : ℕ) (unexplained stuck : Bool) (p : ℕ × ℕ) : Type 0 where

@@ -4,7 +4,7 @@ use Rattle.std.proofs.Common.{sym, ◌∙◌, ap, subst, inl, inr, arith, Option
 use Rattle.std.specs.Prelude.{slice_get, MatchOption}
 use Rattle.std.specs.List.{All, AllPairs, Contains}
 use Rattle.std.proofs.lemmas.List.Elements.{All-head, All-tail, All-weaker, All-contains}
-use Rattle.std.proofs.lemmas.Option.{get_or_from_slice_get, slice_get_within}
+use Rattle.std.proofs.lemmas.Option.{get_or_from_slice_get, slice_get_within, same_Some}
 use Rattle.stamp_core.specs.LockEvent.{LockEvent}
 use Rattle.stamp_core.specs.Limits.{Bounds}
 use Rattle.stamp_core.specs.Content.{zeros, content_next}
@@ -81,9 +81,6 @@ has_returned e x before = by e.returned refl before
     by None e before = absurd before
     by (Some r) e before = (r, e)
 
-same_some : {X : Type 0} (x y : X) → Some x ≡ Some y → x ≡ y
-same_some x y e = cc
-
 pub first_of_pending : (entries : List Observation) (i : ℕ) (a : Observation) (to_come taken : List ℕ) →
     slice_get entries i ≡ Some a → ArePending entries (i ∷ to_come) taken → IsFirstReturn entries taken a
 first_of_pending entries i a to_come taken at pending j e x at_j not_yet before =
@@ -91,7 +88,7 @@ first_of_pending entries i a to_come taken at pending j e x at_j not_yet before 
   where
     by : (i ≡ j) ⊎ Contains to_come j → IsBefore a x
     by (inl same) = subst (λ (o : Observation). IsBefore o x)
-        (same_some e a (sym at_j ∙ ap (λ (k : ℕ). slice_get entries k) (sym same) ∙ at)) before
+        (same_Some e a (sym at_j ∙ ap (λ (k : ℕ). slice_get entries k) (sym same) ∙ at)) before
     by (inr has) = no_later a e x (All-contains (AreInOrder entries i) to_come j
         (pairs_head (AreInOrder entries) i to_come pending.in_order) has a e at at_j) before
 

@@ -84,10 +84,10 @@ pub record MovesTo (h : ObservedHistory) (returns : List ℕ) (c : Configuration
   pub one : length goes_on.later ≤ 1
   pub is_new : (b : Configuration h None returns) → IsFor h None returns w b → GoesOnFrom h returns b c → ⊥
 
-same_effect : (h : ObservedHistory) (past : List ℕ) (threads : ℕ) (one other : List ℕ) (i : ℕ) (e : Observation) →
+taken_in_both : (h : ObservedHistory) (past : List ℕ) (threads : ℕ) (one other : List ℕ) (i : ℕ) (e : Observation) →
     AreTaken h.entries past threads one → AreTaken h.entries past threads other → slice_get h.entries i ≡ Some e →
     Contains one i → Contains other i
-same_effect h past threads one other i e are also at has = by (are.only i e at has)
+taken_in_both h past threads one other i e are also at has = by (are.only i e at has)
   where
     by : Contains past i ⊎ ((bit_at threads e.thread ≡ 1) × IsNext h.entries past i e) → Contains other i
     by (inl is_past) = also.all_past i is_past
@@ -150,7 +150,7 @@ moves_by h returns v next c is leads = by next.took (leads.leads c.state c.taken
       };
       one = omega arith;
       is_new = λ b of on. l.may.fresh (subst (λ (xs : List ℕ). Contains xs l.effect.index) (sym on.taken)
-          (Contains-append_right on.later b.taken l.effect.index (same_effect h (take next.node.past returns)
+          (Contains-append_right on.later b.taken l.effect.index (taken_in_both h (take next.node.past returns)
           next.node.threads (l.effect.index ∷ c.taken) b.taken l.effect.index l.effect.entry l.stands.in_effect
           of.stands.in_effect l.may.effect.is_entry
           (contains_first l.effect.index c.taken l.effect.index refl))));

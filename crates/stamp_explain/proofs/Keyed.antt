@@ -6,13 +6,14 @@ use Rattle.std.specs.List.{AllPairs, Contains}
 use Rattle.std.specs.List.Sorted.{IsPermutation, IsNonDecreasingBy}
 use Rattle.std.specs.Bool.{Decides}
 use Rattle.std.proofs.lemmas.Bool.Decides.{nat_tests, Decides-eqb}
-use Rattle.std.proofs.lemmas.Option.{none-some}
+use Rattle.std.proofs.lemmas.Option.{none-some, same_Some}
 use Rattle.std.proofs.lemmas.List.Quantifiers.{all_pairs_push}
 use Rattle.std.proofs.lemmas.List.Elements.{Contains-push, Contains-push_cases, Contains-append_left}
 use Rattle.std.proofs.lemmas.List.Elements.{Contains-get_or, All-map}
 use Rattle.std.proofs.lemmas.List.Sorted.{Contains-permutation, IsPermutation-map, IsPermutation-sym}
 use Rattle.std.proofs.lemmas.Map.Keys.{IsDistinct-IsPermutation}
 use Rattle.std.proofs.lemmas.Map.Made.{AllPairs-from_IsDistinct, IsDistinct-from_AllPairs}
+use Rattle.std.proofs.lemmas.List.{map_push}
 use Rattle.stamp_explain.specs.declared.observed.Observation.{Observation}
 use Rattle.stamp_explain.specs.declared.observed.Returned.{Returned}
 use Rattle.stamp_explain.specs.TimelineKeys.{AreKeys, AreRising, EndsAt, BeginsAt, key_indices}
@@ -32,10 +33,6 @@ pub of_all : (Has : Observation → ℕ → Type 0) (entries : List Observation)
     k ≤ length entries → length entries ≤ k → AreKeys Has entries k keys → AreKeys Has entries (length entries) keys
 of_all Has entries k keys within all are = subst (λ (n : ℕ). AreKeys Has entries n keys)
     (omega (arith, within, all)) are
-
-map_push : (keys : List (ℕ × ℕ)) (p : ℕ × ℕ) → key_indices (keys ++ p ∷ []) ≡ key_indices keys ++ p.1 ∷ []
-map_push [] p = refl
-map_push (q ∷ keys) p = ap (λ (xs : List ℕ). q.1 ∷ xs) (map_push keys p)
 
 -- an index of the list is that of a key
 pub key_of_index : (keys : List (ℕ × ℕ)) (i : ℕ) → Contains (key_indices keys) i → (n : ℕ) × Contains keys (n, i)
@@ -57,7 +54,7 @@ index_of_key (q ∷ keys) p has = by (contains_cases q keys p has) (index_of_key
     by (inl same) later = contains_first q.1 (key_indices keys) p.1 (ap (λ (r : ℕ × ℕ). r.1) same)
     by (inr rest) later = contains_rest q.1 (key_indices keys) p.1 (later rest)
 
-earlier_or_last : (i k : ℕ) → i < k + 1 → (i < k) ⊎ (i ≡ k)
+pub earlier_or_last : (i k : ℕ) → i < k + 1 → (i < k) ⊎ (i ≡ k)
 earlier_or_last i k lt = grind arith
 
 pub one_key : (Has : Observation → ℕ → Type 0) (entries : List Observation) (k : ℕ) (keys : List (ℕ × ℕ))
@@ -67,7 +64,7 @@ one_key Has entries k keys e n are at has only = record {
   each = λ p found. each p (Contains-push_cases keys (n, k) p found);
   whole = λ i f m lt at_i has_m. whole i f m at_i has_m (earlier_or_last i k lt);
   below = λ p found. below p (Contains-push_cases keys (n, k) p found);
-  once = subst (AllPairs (λ (i j : ℕ). i ≢ j)) (sym (map_push keys (n, k)))
+  once = subst (AllPairs (λ (i j : ℕ). i ≢ j)) (sym (map_push (λ (p : ℕ × ℕ). p.1) keys (n, k)))
       (all_pairs_push (λ (i j : ℕ). i ≢ j) (key_indices keys) k are.once
       (λ j d lt same. absurd (omega (
         arith,
@@ -92,13 +89,10 @@ one_key Has entries k keys e n are at has only = record {
     whole i f m at_i has_m (inl less) = Contains-append_left keys ((n, k) ∷ []) (m, i)
         (are.whole i f m less at_i has_m)
     whole i f m at_i has_m (inr same) =
-        let both : f ≡ e = same_some f e (sym at_i ∙ ap (λ (j : ℕ). slice_get entries j) same ∙ at) in
+        let both : f ≡ e = same_Some f e (sym at_i ∙ ap (λ (j : ℕ). slice_get entries j) same ∙ at) in
         let number : m ≡ n = only m (subst (λ (o : Observation). Has o m) both has_m) in
         subst (λ (j : ℕ). Contains (keys ++ (n, k) ∷ []) (m, j)) (sym same)
         (subst (λ (j : ℕ). Contains (keys ++ (n, k) ∷ []) (j, k)) (sym number) (Contains-push keys (n, k)))
-      where
-        same_some : (x y : Observation) → Some x ≡ Some y → x ≡ y
-        same_some x y h = cc
 
     below : (p : ℕ × ℕ) → Contains keys p ⊎ ((n, k) ≡ p) → p.1 < k + 1
     below p (inl found) = omega (arith, are.below p found)
@@ -114,14 +108,11 @@ no_key Has entries k keys e are at none = record {
   once = are.once;
 }
   where
-    same_some : (x y : Observation) → Some x ≡ Some y → x ≡ y
-    same_some x y h = cc
-
     whole : (i : ℕ) (f : Observation) (m : ℕ) → slice_get entries i ≡ Some f → Has f m → (i < k) ⊎ (i ≡ k) →
         Contains keys (m, i)
     whole i f m at_i has_m (inl less) = are.whole i f m less at_i has_m
     whole i f m at_i has_m (inr same) =
-        let both : f ≡ e = same_some f e (sym at_i ∙ ap (λ (j : ℕ). slice_get entries j) same ∙ at) in
+        let both : f ≡ e = same_Some f e (sym at_i ∙ ap (λ (j : ℕ). slice_get entries j) same ∙ at) in
         absurd (none m (subst (λ (o : Observation). Has o m) both has_m))
 
 -- indices stand once each in whatever order
@@ -177,11 +168,8 @@ pub ends_more : (entries : List Observation) (k : ℕ) (keys : List (ℕ × ℕ)
     AreKeys EndsAt entries (k + 1) (keys ++ (r.last, k) ∷ [])
 ends_more entries k keys e r are at returned = one_key EndsAt entries k keys e r.last are at (r, (returned, refl)) only
   where
-    same_some : (x y : Returned) → Some x ≡ Some y → x ≡ y
-    same_some x y h = cc
-
     only : (m : ℕ) → EndsAt e m → m ≡ r.last
-    only m (q, (has, last)) = sym last ∙ ap (λ (x : Returned). x.last) (same_some q r (sym has ∙ returned))
+    only m (q, (has, last)) = sym last ∙ ap (λ (x : Returned). x.last) (same_Some q r (sym has ∙ returned))
 
 pub ends_same : (entries : List Observation) (k : ℕ) (keys : List (ℕ × ℕ)) (e : Observation) →
     AreKeys EndsAt entries k keys → slice_get entries k ≡ Some e → e.returned ≡ None →

@@ -3,7 +3,7 @@ use Rattle.std.proofs.Common.{◌≡◌, ℕ, ◌+◌, ◌<◌, ◌≤◌, suc, 
 use Rattle.std.proofs.Common.{arith, Option, None, Some}
 use Rattle.std.specs.Prelude.{drop, slice_get, slice_index}
 use Rattle.std.proofs.Math.Seq.{drop-cons}
-use Rattle.std.proofs.lemmas.List.{length-drop}
+use Rattle.std.proofs.lemmas.List.{drop_all}
 use Rattle.stamp_core.specs.declared.reply.Reply.{Reply}
 use Rattle.stamp_explain.specs.declared.node.Node.{Node}
 use Rattle.stamp_explain.specs.declared.linearization.Taken.{Taken}
@@ -112,20 +112,13 @@ pub record Ends (h : ObservedHistory) (returns : List ℕ) (v : Node) (left : Li
   pub ends : (s : LockState) (taken : List ℕ) → StandsFor h returns v s taken →
       ArePending h.entries (drop v.past returns) taken → EndsFor h returns v s taken left
 
-none_after : (xs : List ℕ) (n : ℕ) → length xs ≤ n → drop n xs ≡ []
-none_after xs n same = empty (drop n xs) (omega (arith, length-drop n xs, same))
-  where
-    empty : (ys : List ℕ) → length ys ≡ 0 → ys ≡ []
-    empty [] h = refl
-    empty (y ∷ ys) h = absurd (omega arith)
-
 -- nothing is left at a node with no return to come
 pub ends_last : (h : ObservedHistory) (returns : List ℕ) (v : Node) → length returns ≤ v.past → Ends h returns v []
 ends_last h returns v all = record {
   ends = λ s taken stands pending. record {
     rest = [];
     by = subst (λ (to_come : List ℕ). IsCompletedBy (StateTransition h.limits) h.entries to_come s taken [])
-        (sym (none_after returns v.past all)) (completed_by_none (StateTransition h.limits) h.entries s taken);
+        (sym (drop_all v.past returns all)) (completed_by_none (StateTransition h.limits) h.entries s taken);
     are = refl;
   };
 }

@@ -1,9 +1,10 @@
 -- Lists by their first element.
 use Rattle.std.proofs.Common.{◌≡◌, ◌≢◌, ◌⊎◌, ℕ, ◌<◌, zero, suc, List, [], ◌∷◌, ◌++◌, length, inl, inr, arith}
 use Rattle.std.proofs.Common.{subst}
-use Rattle.std.proofs.lemmas.List.Elements.{Contains-push_cases}
+use Rattle.std.proofs.lemmas.List.Elements.{Contains-push_cases, All-nil, All-cons, All-head, All-tail}
+use Rattle.std.proofs.lemmas.Bool.{cases_eq}
 use Rattle.std.specs.Prelude.{drop}
-use Rattle.std.specs.List.{All, AllPairs, Contains}
+use Rattle.std.specs.List.{All, AllPairs, AllZip, Contains}
 
 pub none_in_empty : {X : Type 0} (x : X) → ¬ Contains [] x
 none_in_empty x (k, lt, e) = absurd (omega arith)
@@ -46,14 +47,30 @@ pairs_drop R zero xs all = all
 pairs_drop R (suc n) [] all = all
 pairs_drop R (suc n) (x ∷ xs) all = pairs_drop R n xs (pairs_tail R x xs all)
 
+-- what holds of the elements of a list holds of those that they are related to, and of pairs too
+pub zip_all : {X Y : Type 0} (S : X → Y → Type 0) (P : X → Type 0) (Q : Y → Type 0) (xs : List X) (ys : List Y) →
+    ((x : X) (y : Y) → S x y → P x → Q y) → AllZip S xs ys → All P xs → All Q ys
+zip_all S P Q [] [] step zip all = All-nil Q
+zip_all S P Q [] (y ∷ ys) step zip all = absurd zip
+zip_all S P Q (x ∷ xs) [] step zip all = absurd zip
+zip_all S P Q (x ∷ xs) (y ∷ ys) step zip all = All-cons Q y ys (step x y zip.0 (All-head P x xs all))
+    (zip_all S P Q xs ys step zip.1 (All-tail P x xs all))
+
+pub zip_pairs : {X Y : Type 0} (S : X → Y → Type 0) (R : X → X → Type 0) (Q : Y → Y → Type 0) (xs : List X)
+    (ys : List Y) → ((x a : X) (y b : Y) → S x y → S a b → R x a → Q y b) → AllZip S xs ys → AllPairs R xs →
+    AllPairs Q ys
+zip_pairs S R Q [] [] step zip all = pairs_none Q
+zip_pairs S R Q [] (y ∷ ys) step zip all = absurd zip
+zip_pairs S R Q (x ∷ xs) [] step zip all = absurd zip
+zip_pairs S R Q (x ∷ xs) (y ∷ ys) step zip all = pairs_cons Q y ys
+    (zip_all S (R x) (Q y) xs ys (λ a b s r. step x a y b zip.0 s r) zip.1 (pairs_head R x xs all))
+    (zip_pairs S R Q xs ys step zip.1 (pairs_tail R x xs all))
+
 -- whether a number is in a list
 pub either_in : (xs : List ℕ) (i : ℕ) → Contains xs i ⊎ (¬ Contains xs i)
 either_in [] i = inr (none_in_empty i)
-either_in (x ∷ xs) i = by (same x i) (either_in xs i)
+either_in (x ∷ xs) i = by (cases_eq x i) (either_in xs i)
   where
-    same : (x i : ℕ) → (x ≡ i) ⊎ (x ≢ i)
-    same x i = grind arith
-
     by : (x ≡ i) ⊎ (x ≢ i) → Contains xs i ⊎ (¬ Contains xs i) → Contains (x ∷ xs) i ⊎ (¬ Contains (x ∷ xs) i)
     by (inl e) _ = inl (contains_first x xs i e)
     by (inr ne) (inl has) = inl (contains_rest x xs i has)

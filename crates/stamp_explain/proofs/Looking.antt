@@ -1,5 +1,5 @@
 -- The next node of a search: the last of those that wait and were not seen.
-use Rattle.std.proofs.Common.{◌≡◌, true, false, List, [], ◌∷◌, ◌++◌, sym, ◌∙◌, ap}
+use Rattle.std.proofs.Common.{◌≡◌, true, false, List, [], ◌∷◌, ◌++◌, ◌∙◌, ap}
 use Rattle.std.proofs.Common.{subst}
 use Rattle.std.specs.List.{All, Contains}
 use Rattle.std.proofs.lemmas.List.{append_assoc}
@@ -47,9 +47,3 @@ looked_at old now new waited before waiting last is popped stored = record {
     origins = stored.origins ∙ ap (λ (os : List Origin). os ++ last.origin ∷ []) is.origins;
   };
 }
-
-pub all_seen : (old now new : Store) (waited waiting after : List Waiting) → Looking old now waited waiting →
-    waiting ≡ [] → LooksAt old new waited after false
-all_seen old now new waited waiting after is none =
-    subst (All (λ (w : Waiting). Contains old.nodes.items w.node))
-    (sym (is.are ∙ ap (λ (ws : List Waiting). ws ++ is.passed) none)) is.seen

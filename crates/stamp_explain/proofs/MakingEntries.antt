@@ -5,7 +5,7 @@ use Rattle.std.specs.Prelude.{drop, take, map, slice_get, IsTrue, max}
 use Rattle.std.specs.Option.{option_map}
 use Rattle.std.specs.List.{All, AllZip, Contains}
 use Rattle.std.proofs.Math.Seq.{drop-cons}
-use Rattle.std.proofs.lemmas.List.{append_assoc, append-nil, length-map, length-drop, take_more}
+use Rattle.std.proofs.lemmas.List.{append_assoc, append-nil, length-map, take_more, map_push, drop_all}
 use Rattle.std.proofs.lemmas.List.Elements.{All-nil, All-cons, All-head, All-tail, All-weaker, All-more}
 use Rattle.std.proofs.lemmas.List.Elements.{Contains-push, Contains-append_left}
 use Rattle.std.proofs.lemmas.Option.{slice_get_read, none-some, same_Some, slice_get-map, slice_get_within}
@@ -35,11 +35,6 @@ pub none_told : (entries : List Observation) → IsLastTold (take 0 entries) 0
 none_told [] = record { over = All-nil (λ (e : Observation). told_until e ≤ 0); told = inl refl }
 none_told (e ∷ es) = record { over = All-nil (λ (o : Observation). told_until o ≤ 0); told = inl refl }
 
-map_push : (es : List Observation) (e : Observation) → map told_until (es ++ e ∷ []) ≡
-    map told_until es ++ told_until e ∷ []
-map_push [] e = refl
-map_push (x ∷ es) e = ap (λ (ns : List ℕ). told_until x ∷ ns) (map_push es e)
-
 pub told_more : (entries : List Observation) (i : ℕ) (e : Observation) (end n : ℕ) → i < length entries →
     e ≡ get_or entries i e → IsLastTold (take i entries) end → n ≡ max end (told_until e) →
     IsLastTold (take (i + 1) entries) n
@@ -62,7 +57,7 @@ told_more entries i e end n lt read is n_is = record {
 
     pushed : map told_until (take (i + 1) entries) ≡ map told_until (take i entries) ++ told_until e ∷ []
     pushed = ap (map told_until) (take_more entries i e lt ∙
-        ap (λ (o : Observation). take i entries ++ o ∷ []) (sym read)) ∙ map_push (take i entries) e
+        ap (λ (o : Observation). take i entries ++ o ∷ []) (sym read)) ∙ map_push told_until (take i entries) e
 
     by : (n ≡ end) ⊎ (n ≡ told_until e) → (end ≡ 0) ⊎ Contains (map told_until (take i entries)) end →
         (n ≡ 0) ⊎ Contains (map told_until (take (i + 1) entries)) n
@@ -214,13 +209,6 @@ makes_at h taken end k t entries q n e read is at same is_read =
     subst (λ (o : Observation). MakesEntryOf h taken end k t entries q n o)
     (same_Some step.entry e (sym step.is_entry ∙ here)) step.made
 
-none_left : (xs : List Effect) (k : ℕ) → length xs ≤ k → drop k xs ≡ []
-none_left xs k le = empty (drop k xs) (omega (arith, length-drop k xs, le))
-  where
-    empty : (ys : List Effect) → length ys ≡ 0 → ys ≡ []
-    empty [] h = refl
-    empty (y ∷ ys) h = absurd (omega arith)
-
 -- each entry ends when its call returned, or with the history
 ends_as_told : (hs : List Observation) (end q n : ℕ) (xs : List Effect) → All (IsEffectOf hs) xs →
     AllZip (EndsAsTold hs end) (indices_of xs) (points_from end q n xs)
@@ -262,7 +250,7 @@ all_made h taken end k entries q n observed is_end is all =
 
     made : entries ≡ points_from end 0 0 is.order
     made = sym (append-nil entries) ∙
-        ap (λ (xs : List Effect). entries ++ points_from end q n xs) (sym (none_left is.order k over)) ∙ is.points
+        ap (λ (xs : List Effect). entries ++ points_from end q n xs) (sym (drop_all k is.order over)) ∙ is.points
 
 -- it is a recorded history
 zip_lengths : {A B : Type 0} (R : A → B → Type 0) (xs : List A) (ys : List B) → AllZip R xs ys →

@@ -86,11 +86,11 @@ pub record Merges (xs ys : List Effect) : Type 0 where
   pub merge : IsMerge xs ys order
   pub ordered : AllPairs RespectsBefore order
 
-abbrev pub MayBeTold : Effect → Type 0
-MayBeTold x = IsInterval x.entry
+abbrev pub HasInterval : Effect → Type 0
+HasInterval x = IsInterval x.entry
 
 -- none of a list that begins no sooner had returned when this one began
-pub respects_all : (x y : Effect) (ys : List Effect) → x.entry.first ≤ y.entry.first → MayBeTold y →
+pub respects_all : (x y : Effect) (ys : List Effect) → x.entry.first ≤ y.entry.first → HasInterval y →
     All (RespectsBefore y) ys → All (RespectsBefore x) (y ∷ ys)
 respects_all x y ys le sound all = All-cons (RespectsBefore x) y ys (not_yet y.entry sound le)
     (All-weaker (RespectsBefore y) (RespectsBefore x) (λ z respects before. respects (sooner z.entry le before)) ys
@@ -120,15 +120,15 @@ pub all_right : (ys : List Effect) → IsMerge [] ys ys
 all_right [] = none
 all_right (y ∷ ys) = right (all_right ys)
 
-pub merges : (n : ℕ) (xs ys : List Effect) → length xs + length ys ≤ n → All MayBeTold xs → All MayBeTold ys →
+pub merges : (n : ℕ) (xs ys : List Effect) → length xs + length ys ≤ n → All HasInterval xs → All HasInterval ys →
     AllPairs RespectsBefore xs → AllPairs RespectsBefore ys → Merges xs ys
 merges n [] ys few a b p q = record { order = ys; merge = all_right ys; ordered = q }
 merges n (x ∷ xs) [] few a b p q = record { order = x ∷ xs; merge = all_left (x ∷ xs); ordered = p }
 merges zero (x ∷ xs) (y ∷ ys) few a b p q = absurd (omega arith)
 merges (suc n) (x ∷ xs) (y ∷ ys) few a b p q =
     by (cases_lt y.entry.first x.entry.first)
-    (λ _. merges n xs (y ∷ ys) (omega arith) (All-tail MayBeTold x xs a) b (pairs_tail RespectsBefore x xs p) q)
-    (λ _. merges n (x ∷ xs) ys (omega arith) a (All-tail MayBeTold y ys b) p (pairs_tail RespectsBefore y ys q))
+    (λ _. merges n xs (y ∷ ys) (omega arith) (All-tail HasInterval x xs a) b (pairs_tail RespectsBefore x xs p) q)
+    (λ _. merges n (x ∷ xs) ys (omega arith) a (All-tail HasInterval y ys b) p (pairs_tail RespectsBefore y ys q))
   where
     by : (y.entry.first < x.entry.first) ⊎ (x.entry.first ≤ y.entry.first) → (Unit {0} → Merges xs (y ∷ ys)) →
         (Unit {0} → Merges (x ∷ xs) ys) → Merges (x ∷ xs) (y ∷ ys)
@@ -138,7 +138,7 @@ merges (suc n) (x ∷ xs) (y ∷ ys) few a b p q =
           order = y ∷ m.order;
           merge = right m.merge;
           ordered = pairs_cons RespectsBefore y m.order (merge_all (RespectsBefore y) m.merge
-              (respects_all y x xs (omega arith) (All-head MayBeTold x xs a) (pairs_head RespectsBefore x xs p))
+              (respects_all y x xs (omega arith) (All-head HasInterval x xs a) (pairs_head RespectsBefore x xs p))
               (pairs_head RespectsBefore y ys q)) m.ordered;
         }
     by (inr le) on_left on_right =
@@ -147,7 +147,7 @@ merges (suc n) (x ∷ xs) (y ∷ ys) few a b p q =
           order = x ∷ m.order;
           merge = left m.merge;
           ordered = pairs_cons RespectsBefore x m.order (merge_all (RespectsBefore x) m.merge
-              (pairs_head RespectsBefore x xs p) (respects_all x y ys le (All-head MayBeTold y ys b)
+              (pairs_head RespectsBefore x xs p) (respects_all x y ys le (All-head HasInterval y ys b)
               (pairs_head RespectsBefore y ys q))) m.ordered;
         }
 
@@ -302,7 +302,7 @@ other_kind hs x y x_is y_is lock guarded same =
     true≢false (sym lock ∙ ap (λ (o : Observation). is_lock_call o.call) it ∙ guarded)
 
 pub sound_of : (h : ObservedHistory) (xs : List Effect) → IsObserved h → All (IsEffectOf h.entries) xs → All
-    MayBeTold xs
-sound_of h xs observed all = All-weaker (IsEffectOf h.entries) MayBeTold
+    HasInterval xs
+sound_of h xs observed all = All-weaker (IsEffectOf h.entries) HasInterval
     (λ x is. subst IsInterval (get_or_from_slice_get h.entries x.index x.entry x.entry is.is_entry)
     (observed.intervals x.index x.entry (slice_get_within h.entries x.index x.entry is.is_entry))) xs all

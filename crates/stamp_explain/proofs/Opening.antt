@@ -10,6 +10,7 @@ use Rattle.std.proofs.lemmas.List.Sorted.{Contains-permutation, IsPermutation-sy
 use Rattle.std.proofs.lemmas.List.{length-append, length-map, get_or_append_left, take_all}
 use Rattle.std.proofs.lemmas.Bool.Decides.{nat_tests}
 use Rattle.std.proofs.lemmas.Option.{same_Some, slice_get-get_or, get_or_from_slice_get, slice_get_within, none-some}
+use Rattle.std.proofs.lemmas.Bool.{false≢true}
 use Rattle.stamp_explain.specs.declared.observed.Observation.{Observation}
 use Rattle.stamp_explain.specs.declared.observed.Returned.{Returned}
 use Rattle.stamp_explain.specs.declared.timeline.Timeline.{Timeline}
@@ -23,6 +24,7 @@ use Rattle.stamp_explain.proofs.Lists.{none_in_empty, contains_cases, contains_f
 use Rattle.stamp_explain.proofs.Ending.{pair_cmp, sorted_rise}
 use Rattle.stamp_explain.proofs.AddingUnseen.{read_last}
 use Rattle.stamp_explain.proofs.Keyed.{indices_once, rising_has, rising_from, index_pairs, key_of_index, index_of_key}
+use Rattle.stamp_explain.proofs.Keyed.{earlier_or_last}
 
 -- the returned calls in the order of their returns
 pub returns_in_order : (h : ObservedHistory) (keys sorted : List (ℕ × ℕ)) →
@@ -52,12 +54,9 @@ returns_in_order h keys sorted are rises = record {
     no_later q r (Some x) (Some y) is_a is_b le = omega (
       arith,
       le,
-      ap (λ (z : Returned). z.last) (same_returned x q is_a),
-      ap (λ (z : Returned). z.last) (same_returned y r is_b),
+      ap (λ (z : Returned). z.last) (same_Some x q is_a),
+      ap (λ (z : Returned). z.last) (same_Some y r is_b),
     )
-      where
-        same_returned : (u v : Returned) → Some u ≡ Some v → u ≡ v
-        same_returned u v h = cc
 
     later : (p q : ℕ × ℕ) → p.0 ≤ q.0 → (a b : Observation) →
         (e : Observation) × ((slice_get h.entries p.1 ≡ Some e) × EndsAt e p.0) →
@@ -136,14 +135,11 @@ begins_one begins ranks last from k old new c rank is lt by_then ranked = record
   further = omega (arith, is.further);
   only = λ p has. only p (Contains-push_cases new (rank, key.1) p has);
   before = λ p has. Contains-append_left new ((rank, key.1) ∷ []) p (is.before p has);
-  whole = λ j d le less. whole j d le (cases j k less);
+  whole = λ j d le less. whole j d le (earlier_or_last j k less);
 }
   where
     key : ℕ × ℕ
     key = get_or begins k c
-
-    cases : (j k : ℕ) → j < k + 1 → (j < k) ⊎ (j ≡ k)
-    cases j k less = grind arith
 
     only : (p : ℕ × ℕ) → Contains new p ⊎ ((rank, key.1) ≡ p) → Contains old p ⊎ IsBegun begins ranks last p
     only p (inl has) = is.only p has
@@ -159,14 +155,11 @@ begins_one begins ranks last from k old new c rank is lt by_then ranked = record
     whole j d le (inl less) = Contains-append_left new ((rank, key.1) ∷ [])
         (get_or ranks (get_or begins j d).1 0, (get_or begins j d).1) (is.whole j d le less)
     whole j d le (inr same) =
-        let one : key ≡ get_or begins j d = same_key key (get_or begins j d)
+        let one : key ≡ get_or begins j d = same_Some key (get_or begins j d)
         (sym (slice_get-get_or begins k c lt) ∙ slice_get-get_or begins k d lt ∙
         ap (λ (n : ℕ). Some (get_or begins n d)) (sym same)) in
         subst (λ (q : ℕ × ℕ). Contains (new ++ (rank, key.1) ∷ []) (get_or ranks q.1 0, q.1)) one
         (subst (λ (n : ℕ). Contains (new ++ (rank, key.1) ∷ []) (n, key.1)) ranked (Contains-push new (rank, key.1)))
-      where
-        same_key : (p q : ℕ × ℕ) → Some p ≡ Some q → p ≡ q
-        same_key p q h = cc
 
 pub begins_end : (begins : List (ℕ × ℕ)) (ranks : List ℕ) (last from to : ℕ) (old new : List (ℕ × ℕ)) →
     BeginsTo begins ranks last from to old new → to ≤ length begins →
@@ -207,10 +200,7 @@ kept_has {X} test (y ∷ xs) x has is = by (test y) refl (contains_cases y xs x 
         Contains (cond b (y ∷ filter test xs) (filter test xs)) x
     by true y_is (inl same) later = contains_first y (filter test xs) x same
     by true y_is (inr rest) later = contains_rest y (filter test xs) x (later rest)
-    by false y_is (inl same) later = absurd (differ (sym y_is ∙ ap test same ∙ is))
-      where
-        differ : false ≡ true → ⊥
-        differ h = cc
+    by false y_is (inl same) later = absurd (false≢true (sym y_is ∙ ap test same ∙ is))
     by false y_is (inr rest) later = later rest
 
 -- whether a call is still open when so many returns are past
@@ -257,11 +247,8 @@ opens_at h ends begins ranks k from to c old more sorted is lt kept begins_more 
     end = (get_or ends k c).0
 
     same_ends : (m : ℕ) (d e : ℕ × ℕ) → m < length ends → get_or ends m d ≡ get_or ends m e
-    same_ends m d e less = same_key (get_or ends m d) (get_or ends m e) (sym (slice_get-get_or ends m d less) ∙
+    same_ends m d e less = same_Some (get_or ends m d) (get_or ends m e) (sym (slice_get-get_or ends m d less) ∙
         slice_get-get_or ends m e less)
-      where
-        same_key : (p q : ℕ × ℕ) → Some p ≡ Some q → p ≡ q
-        same_key p q h = cc
 
     from_sorted : (p : ℕ × ℕ) → Contains sorted p → Contains more p × (k ≤ p.0)
     from_sorted p has =
@@ -433,14 +420,11 @@ opens_at h ends begins ranks k from to c old more sorted is lt kept begins_more 
 pub opens_more : (h : ObservedHistory) (returns : List ℕ) (opens : List (Vec ℕ Global)) (v : Vec ℕ Global) (k : ℕ) →
     AreOpens h returns opens → length opens ≡ k → AreOpen h returns k v.items → AreOpens h returns (opens ++ v ∷ [])
 opens_more h returns opens v k are many calls = record {
-  each = λ j w at. by j w at (two j k (omega (arith, slice_get_within (opens ++ v ∷ []) j w at, longer)));
+  each = λ j w at. by j w at (earlier_or_last j k (omega (arith, slice_get_within (opens ++ v ∷ []) j w at, longer)));
 }
   where
     longer : length (opens ++ v ∷ []) ≡ k + 1
     longer = omega (arith, length-append opens (v ∷ []), many)
-
-    two : (j k : ℕ) → j < k + 1 → (j < k) ⊎ (j ≡ k)
-    two j k less = grind arith
 
     by : (j : ℕ) (w : Vec ℕ Global) → slice_get (opens ++ v ∷ []) j ≡ Some w → (j < k) ⊎ (j ≡ k) →
         AreOpen h returns j w.items
@@ -451,13 +435,10 @@ opens_more h returns opens v k are many calls = record {
         get_or_from_slice_get (opens ++ v ∷ []) j w w at))
     by j w at (inr same) =
         let here : slice_get (opens ++ v ∷ []) (length opens) ≡ Some v = read_last opens v in
-        let it : v ≡ w = same_vec v w (sym here ∙ ap (λ (n : ℕ). slice_get (opens ++ v ∷ []) n) (many ∙ sym same) ∙
+        let it : v ≡ w = same_Some v w (sym here ∙ ap (λ (n : ℕ). slice_get (opens ++ v ∷ []) n) (many ∙ sym same) ∙
         at) in
         subst (λ (n : ℕ). AreOpen h returns n w.items) (sym same)
         (subst (λ (x : Vec ℕ Global). AreOpen h returns k x.items) it calls)
-      where
-        same_vec : (x y : Vec ℕ Global) → Some x ≡ Some y → x ≡ y
-        same_vec x y h = cc
 
 -- what the lists are made of
 pub all_keys_are : (h : ObservedHistory) (es : List Observation) (end_keys ends begin_keys begins : List (ℕ × ℕ))

@@ -195,11 +195,11 @@ judged_apart h observed = (
 )
 
 -- an order of one of them completes a search for it among all calls
-completes : {S : Type 0} (Goes : S → Call × Reply → S → Type 0) (h : ObservedHistory) (p : Observation → Bool)
+part_completes : {S : Type 0} (Goes : S → Call × Reply → S → Type 0) (h : ObservedHistory) (p : Observation → Bool)
     (lock : Bool) (returns : List ℕ) (s : S) → (is : PartOrder h p) → AreReturnsOf h.entries lock returns →
     ((e : Observation) → is_lock_call e.call ≡ lock → p e ≡ true) → Runs Goes s (history_of is.order) →
     CanComplete Goes h.entries returns s []
-completes Goes h p lock returns s is are pass runs = record {
+part_completes Goes h p lock returns s is are pass runs = record {
   rest = is.order;
   by = record {
     effects = is.by.effects;
@@ -237,9 +237,9 @@ locality h locks records observed are_locks are_records = (apart, back)
         CanComplete RecordAlone h.entries records (zeros h.width) []
     apart explained =
         let both : PartOrder h is_of_lock × PartOrder h is_of_record = halves h explained in (
-          completes (LockAlone h.limits) h is_of_lock true locks [] both.0 are_locks (λ e lock. lock)
+          part_completes (LockAlone h.limits) h is_of_lock true locks [] both.0 are_locks (λ e lock. lock)
               (legal_locks h.limits [] (zeros h.width) both.0.order both.0.passes both.0.by.legal),
-          completes RecordAlone h is_of_record false records (zeros h.width) both.1 are_records
+          part_completes RecordAlone h is_of_record false records (zeros h.width) both.1 are_records
               (λ e guarded. is_not (is_lock_call e.call) guarded)
               (legal_records h.limits [] (zeros h.width) both.1.order (record_kinds h both.1) both.1.by.legal),
         )

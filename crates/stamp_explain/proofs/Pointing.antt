@@ -26,22 +26,22 @@ order_of hs [] (e ∷ es) z = absurd z
 order_of hs (i ∷ is) [] z = absurd z
 order_of hs (i ∷ is) (e ∷ es) z = effect_of hs i e z.0 ∷ order_of hs is es z.1
 
-same_indices : (hs : List Observation) (is : List ℕ) (es : List Entry) (z : AllZip (IsEntryOf hs) is es) →
+order_indices : (hs : List Observation) (is : List ℕ) (es : List Entry) (z : AllZip (IsEntryOf hs) is es) →
     is ≡ indices_of (order_of hs is es z)
 unfolding order_of effect_of
-same_indices hs [] [] z = refl
-same_indices hs [] (e ∷ es) z = absurd z
-same_indices hs (i ∷ is) [] z = absurd z
-same_indices hs (i ∷ is) (e ∷ es) z = ap (λ (xs : List ℕ). i ∷ xs) (same_indices hs is es z.1)
+order_indices hs [] [] z = refl
+order_indices hs [] (e ∷ es) z = absurd z
+order_indices hs (i ∷ is) [] z = absurd z
+order_indices hs (i ∷ is) (e ∷ es) z = ap (λ (xs : List ℕ). i ∷ xs) (order_indices hs is es z.1)
 
-same_history : (hs : List Observation) (is : List ℕ) (es : List Entry) (z : AllZip (IsEntryOf hs) is es) →
+order_history : (hs : List Observation) (is : List ℕ) (es : List Entry) (z : AllZip (IsEntryOf hs) is es) →
     entries_history es ≡ history_of (order_of hs is es z)
 unfolding order_of effect_of
-same_history hs [] [] z = refl
-same_history hs [] (e ∷ es) z = absurd z
-same_history hs (i ∷ is) [] z = absurd z
-same_history hs (i ∷ is) (e ∷ es) z =
-    ap (λ (h : History). (e.call, e.reply) ∷ h) (same_history hs is es z.1) ∙
+order_history hs [] [] z = refl
+order_history hs [] (e ∷ es) z = absurd z
+order_history hs (i ∷ is) [] z = absurd z
+order_history hs (i ∷ is) (e ∷ es) z =
+    ap (λ (h : History). (e.call, e.reply) ∷ h) (order_history hs is es z.1) ∙
     ap (λ (c : Call). (c, e.reply) ∷ history_of (order_of hs is es z.1)) z.0.call
 
 -- what holds of each index and entry holds of each effect
@@ -140,10 +140,10 @@ points_explain h r of linearized = record {
         (anything r.entries);
     once = all_apart h.entries of.indices r.entries of.entries of.once;
     returned = λ i e at returned. subst (λ (is : List ℕ). Contains is i)
-        (same_indices h.entries of.indices r.entries of.entries) (of.returned i e at returned);
+        (order_indices h.entries of.indices r.entries of.entries) (of.returned i e at returned);
     ordered = all_respect h.entries of.indices r.entries of.entries linearized.within linearized.rising;
     legal = subst (λ (history : History). IsLegal h.limits h.width history)
-        (same_history h.entries of.indices r.entries of.entries)
+        (order_history h.entries of.indices r.entries of.entries)
         (subst (λ (b : Bounds). IsLegal b h.width (entries_history r.entries)) of.limits
         (subst (λ (n : ℕ). IsLegal r.limits n (entries_history r.entries)) of.width linearized.legal));
   };

@@ -1,10 +1,11 @@
 -- Questions that are under way: an order needs none of them.
 use Rattle.std.proofs.Common.{◌≡◌, ◌≢◌, ◌⊎◌, ℕ, ◌+◌, List, ◌∷◌, length, get_or, refl, sym, ◌∙◌, ap, subst, inl, inr}
 use Rattle.std.proofs.Common.{Option, None, Some}
-use Rattle.std.proofs.Common.{true, false}
+use Rattle.std.proofs.Common.{true}
 use Rattle.std.specs.Prelude.{slice_get}
 use Rattle.std.specs.List.{All, Contains}
-use Rattle.std.proofs.lemmas.Option.{same_Some}
+use Rattle.std.proofs.lemmas.Option.{same_Some, none-some}
+use Rattle.std.proofs.lemmas.Bool.{false≢true}
 use Rattle.stamp_core.specs.Limits.{Bounds}
 use Rattle.stamp_core.specs.declared.call.Call.{Call}
 use Rattle.stamp_core.specs.declared.call.Call.TheVariants.{TryWrite, TryRead, WriteLock, ReadLock, Optimistic}
@@ -27,42 +28,36 @@ use Rattle.stamp_explain.proofs.Staying.{unchanging_calls_change_nothing}
 question_changes_nothing : (call : Call) (reply : Reply) → is_question call ≡ true → changes_nothing call reply ≡ true
 question_changes_nothing call reply asks = by call asks
   where
-    false_true : false ≡ true → ⊥
-    false_true h = cc
-
     by : (call : Call) → is_question call ≡ true → changes_nothing call reply ≡ true
-    by TryWrite asks = absurd (false_true asks)
-    by TryRead asks = absurd (false_true asks)
-    by WriteLock asks = absurd (false_true asks)
-    by ReadLock asks = absurd (false_true asks)
+    by TryWrite asks = absurd (false≢true asks)
+    by TryRead asks = absurd (false≢true asks)
+    by WriteLock asks = absurd (false≢true asks)
+    by ReadLock asks = absurd (false≢true asks)
     by Optimistic asks = refl
     by (Validate s) asks = refl
-    by (UnlockWrite s) asks = absurd (false_true asks)
-    by (UnlockRead s) asks = absurd (false_true asks)
-    by (Unlock s) asks = absurd (false_true asks)
-    by (ToWrite s) asks = absurd (false_true asks)
-    by (ToRead s) asks = absurd (false_true asks)
-    by (ToOptimistic s) asks = absurd (false_true asks)
-    by TryUnlockWrite asks = absurd (false_true asks)
-    by TryUnlockRead asks = absurd (false_true asks)
+    by (UnlockWrite s) asks = absurd (false≢true asks)
+    by (UnlockRead s) asks = absurd (false≢true asks)
+    by (Unlock s) asks = absurd (false≢true asks)
+    by (ToWrite s) asks = absurd (false≢true asks)
+    by (ToRead s) asks = absurd (false≢true asks)
+    by (ToOptimistic s) asks = absurd (false≢true asks)
+    by TryUnlockWrite asks = absurd (false≢true asks)
+    by TryUnlockRead asks = absurd (false≢true asks)
     by IsWriteLocked asks = refl
     by IsReadLocked asks = refl
     by ReadCount asks = refl
     by Get asks = refl
-    by (Put words) asks = absurd (false_true asks)
-    by (PutIf expected words) asks = absurd (false_true asks)
+    by (Put words) asks = absurd (false≢true asks)
+    by (PutIf expected words) asks = absurd (false≢true asks)
 
 -- an open question is under way, and is one
 open_question : (e : Observation) → is_open_question e ≡ true → (e.returned ≡ None) × (is_question e.call ≡ true)
 open_question e asks = by e.returned refl asks
   where
-    false_true : false ≡ true → ⊥
-    false_true h = cc
-
     by : (o : Option Returned) → e.returned ≡ o → asks_by e.call o ≡ true →
         (e.returned ≡ None) × (is_question e.call ≡ true)
     by None at asks = (at, asks)
-    by (Some r) at asks = absurd (false_true asks)
+    by (Some r) at asks = absurd (false≢true asks)
 
 -- what an order completes after a question under way, it completes without it
 pub without_question : (limits : Bounds) (entries : List Observation) (returns : List ℕ) (s u : LockState)
@@ -91,12 +86,9 @@ without_question limits entries returns s u taken x left are effect steps asks c
         (question_changes_nothing x.entry.call x.reply question.1) steps
 
     apart : (i : ℕ) → IsReturnAt entries i → x.index ≢ i
-    apart i at is = none_some at.return (sym question.0 ∙
+    apart i at is = none-some at.return (sym question.0 ∙
         ap (λ (o : Observation). o.returned) (same_Some x.entry at.entry (sym effect.is_entry ∙
         ap (λ (k : ℕ). slice_get entries k) is ∙ at.is_entry)) ∙ at.returned)
-      where
-        none_some : (r : Returned) → None ≡ Some r → ⊥
-        none_some r h = cc
 
     back : (i : ℕ) → IsReturnAt entries i → Contains (x.index ∷ taken) i ⊎ Contains (indices_of can.rest) i →
         Contains taken i ⊎ Contains (indices_of can.rest) i

@@ -8,6 +8,7 @@ use Rattle.std.specs.List.{AllPairs, Contains}
 use Rattle.std.proofs.Math.Seq.{take-suc}
 use Rattle.std.proofs.lemmas.List.{get_or-take}
 use Rattle.std.proofs.lemmas.List.Elements.{Contains-push, Contains-push_cases, Contains-append_left}
+use Rattle.std.proofs.lemmas.Bool.{cases_eq}
 use Rattle.stamp_explain.specs.TimelineKeys.{AreRanked}
 use Rattle.stamp_explain.proofs.Lists.{none_in_empty}
 
@@ -31,13 +32,10 @@ pub one_ranked : (calls : ℕ) (returns ranks : List ℕ) (k i : ℕ) → AllPai
     AreRanked calls returns (k + 1) (set ranks i k)
 one_ranked calls returns ranks k i once within is inside are = record {
   each = length-set ranks i k ∙ are.each;
-  known = λ j m lt le. known j m lt (cases m k le) (same j i);
-  behind = λ j lt. behind j lt (same j i);
+  known = λ j m lt le. known j m lt (cases m k le) (cases_eq j i);
+  behind = λ j lt. behind j lt (cases_eq j i);
 }
   where
-    same : (a b : ℕ) → (a ≡ b) ⊎ (a ≢ b)
-    same a b = grind arith
-
     cases : (m k : ℕ) → m ≤ k + 1 → (m ≤ k) ⊎ (m ≡ k + 1)
     cases m k le = grind arith
 

@@ -5,6 +5,7 @@ use Rattle.std.specs.Prelude.{slice_get, MatchOption, IsTrue}
 use Rattle.std.proofs.lemmas.List.{get_or-set_same, get_or-set_other, length-set}
 use Rattle.std.proofs.lemmas.Option.{none-some, same_Some, slice_get_within, slice_get_read}
 use Rattle.std.proofs.lemmas.Option.{get_or_from_slice_get}
+use Rattle.std.proofs.lemmas.Bool.{cases_eq}
 use Rattle.stamp_core.specs.Call.{call_suits}
 use Rattle.stamp_core.specs.declared.call.Call.{Call}
 use Rattle.stamp_core.specs.declared.reply.Reply.{Reply}
@@ -89,11 +90,8 @@ alike_apart a b e k alike other apart same = by (apart (sym alike.thread ∙ sam
 -- at each index the entries are alike
 pub each_alike : (es : List Observation) (i : ℕ) (e y : Observation) → slice_get es i ≡ Some e → IsAlike e y → (k : ℕ)
     (d : Observation) → IsAlike (get_or es k d) (get_or (set es i y) k d)
-each_alike es i e y at alike k d = by (equal k i)
+each_alike es i e y at alike k d = by (cases_eq k i)
   where
-    equal : (a b : ℕ) → (a ≡ b) ⊎ (a ≢ b)
-    equal a b = grind arith
-
     within : i < length es
     within = slice_get_within es i e at
 

@@ -6,10 +6,11 @@ use Rattle.std.specs.Prelude.{IsTrue, drop, option_map}
 use Rattle.std.specs.List.{All, AllPairs, AllZip, Contains}
 use Rattle.std.proofs.lemmas.List.Elements.{All-nil, All-cons, All-head, All-tail, All-map, All-filter, filter_passes}
 use Rattle.std.proofs.lemmas.List.Elements.{length_all_zip}
-use Rattle.std.proofs.lemmas.List.{append-nil, length-drop, length-map}
+use Rattle.std.proofs.lemmas.List.{append-nil, length-map, drop_all}
 use Rattle.std.proofs.lemmas.List.Kept.{AllPairs-filter}
 use Rattle.std.proofs.lemmas.Bool.Decides.{nat_tests}
-use Rattle.std.proofs.lemmas.Option.{none-some, slice_get-map}
+use Rattle.std.proofs.lemmas.Option.{none-some, slice_get-map, same_Some}
+use Rattle.std.proofs.lemmas.Bool.{false≢true}
 use Rattle.stamp_core.specs.History.{History, IsLegal, IsLegalFrom, appended_by}
 use Rattle.stamp_core.specs.Call.{call_suits}
 use Rattle.stamp_core.specs.Content.{content_next, zeros}
@@ -24,7 +25,7 @@ use Rattle.stamp_explain.specs.Observed.{ObservedHistory, IsBefore, IsObserved, 
 use Rattle.stamp_explain.specs.Explained.{Effect, IsEffectOf, history_of, indices_of, AreApart, RespectsBefore}
 use Rattle.stamp_explain.specs.Explained.{IsExplainedBy, IsExplained}
 use Rattle.stamp_explain.proofs.Lists.{pairs_none, pairs_cons, pairs_head, pairs_tail, none_in_empty, contains_cases}
-use Rattle.stamp_explain.proofs.Lists.{contains_first, contains_rest}
+use Rattle.stamp_explain.proofs.Lists.{contains_first, contains_rest, zip_all, zip_pairs}
 use Rattle.stamp_explain.proofs.Completing.{later_of, same_entry}
 use Rattle.stamp_explain.specs.Cut.{cut_entry, cut_entries, cut, begun_by, seen_at, returned_by}
 use Rattle.stamp_explain.specs.Apart.{indices_where}
@@ -99,15 +100,12 @@ kept_after_late p x es k i e late is = record {
     by (suc m) at = ap (λ (b : Bool). cond b (suc (index_in_whole p es m)) (suc (index_in_whole p es (suc m)))) late ∙
         ap (λ (n : ℕ). suc n) at
 
-some_inj : {X : Type 0} (x y : X) → Some x ≡ Some y → x ≡ y
-some_inj x y e = cc
-
 -- an entry that passes is kept somewhere
 pub rank_gives : (p : Observation → Bool) (es : List Observation) (i : ℕ) (e : Observation) → slice_get es i ≡ Some e →
     p e ≡ true → (k : ℕ) × IsKeptAt p es k i e
 rank_gives p [] i e at early = absurd (none-some e at)
 rank_gives p (x ∷ es) zero e at early =
-    let same : x ≡ e = some_inj x e at in (
+    let same : x ≡ e = same_Some x e at in (
       0,
       subst (λ (o : Observation). IsKeptAt p (x ∷ es) 0 0 o) same
           (kept_here p x es (ap p same ∙ early)),
@@ -131,7 +129,7 @@ index_gives p (x ∷ es) k e at = by (p x) refl k at (λ m here. index_gives p e
         (i : ℕ) × IsKeptAt p (x ∷ es) m i e
     by true is zero here later = (
       0,
-      subst (λ (o : Observation). IsKeptAt p (x ∷ es) 0 0 o) (some_inj x e here)
+      subst (λ (o : Observation). IsKeptAt p (x ∷ es) 0 0 o) (same_Some x e here)
           (kept_here p x es is),
     )
     by true is (suc m) here later = let found : (i : ℕ) × IsKeptAt p es m i e = later m here in
@@ -449,7 +447,7 @@ seen_as last bound i e = by (returned_by last bound i e.returned) refl
   where
     by_then : (o : Option Returned) (r : Returned) → o ≡ Some r → returned_by last bound i o ≡ true → r.last ≤ last
     by_then None r at is = absurd (none-some r at)
-    by_then (Some q) r at is = subst (λ (x : Returned). x.last ≤ last) (some_inj q r at) (within q.last is)
+    by_then (Some q) r at is = subst (λ (x : Returned). x.last ≤ last) (same_Some q r at) (within q.last is)
       where
         within : (n : ℕ) → (nat_lt n last || ((n == last) && nat_lt i bound)) ≡ true → n ≤ last
         within n is = grind (arith, nat_tests)
@@ -457,13 +455,10 @@ seen_as last bound i e = by (returned_by last bound i e.returned) refl
     sooner : (o : Option Returned) (r : Returned) → o ≡ Some r → r.last < last → returned_by last bound i o ≡ true
     sooner None r at lt = absurd (none-some r at)
     sooner (Some q) r at lt = within q.last
-        (subst (λ (x : Returned). x.last < last) (sym (some_inj q r at)) lt)
+        (subst (λ (x : Returned). x.last < last) (sym (same_Some q r at)) lt)
       where
         within : (n : ℕ) → n < last → (nat_lt n last || ((n == last) && nat_lt i bound)) ≡ true
         within n lt = grind (arith, nat_tests)
-
-    false_true : false ≡ true → ⊥
-    false_true h = cc
 
     by : (b : Bool) → returned_by last bound i e.returned ≡ b →
         IsSeenAs last e (if b then e else record e { returned = None })
@@ -479,29 +474,12 @@ seen_as last bound i e = by (returned_by last bound i e.returned) refl
       call = refl;
       first = refl;
       only = λ r at. absurd (none-some r at);
-      sooner = λ r at lt. absurd (false_true (sym is ∙ sooner e.returned r at lt));
+      sooner = λ r at lt. absurd (false≢true (sym is ∙ sooner e.returned r at lt));
     }
 
 all_seen_as : (last bound i : ℕ) (es : List Observation) → AllZip (IsSeenAs last) es (cut_entries last bound i es)
 all_seen_as last bound i [] = tt
 all_seen_as last bound i (e ∷ es) = (seen_as last bound i e, all_seen_as last bound (i + 1) es)
-
-zip_all : (S : Observation → Observation → Type 0) (P Q : Observation → Type 0) (es ks : List Observation) →
-    ((e k : Observation) → S e k → P e → Q k) → AllZip S es ks → All P es → All Q ks
-zip_all S P Q [] [] step zip all = All-nil Q
-zip_all S P Q [] (k ∷ ks) step zip all = absurd zip
-zip_all S P Q (e ∷ es) [] step zip all = absurd zip
-zip_all S P Q (e ∷ es) (k ∷ ks) step zip all = All-cons Q k ks (step e k zip.0 (All-head P e es all))
-    (zip_all S P Q es ks step zip.1 (All-tail P e es all))
-
-zip_pairs : (S R Q : Observation → Observation → Type 0) (es ks : List Observation) →
-    ((a b k l : Observation) → S a k → S b l → R a b → Q k l) → AllZip S es ks → AllPairs R es → AllPairs Q ks
-zip_pairs S R Q [] [] step zip all = pairs_none Q
-zip_pairs S R Q [] (k ∷ ks) step zip all = absurd zip
-zip_pairs S R Q (e ∷ es) [] step zip all = absurd zip
-zip_pairs S R Q (e ∷ es) (k ∷ ks) step zip all = pairs_cons Q k ks
-    (zip_all S (R e) (Q k) es ks (λ b l is r. step e b k l zip.0 is r) zip.1 (pairs_head R e es all))
-    (zip_pairs S R Q es ks step zip.1 (pairs_tail R e es all))
 
 -- an interval ended by then has begun by then
 record IsUntil (last : ℕ) (e : Observation) : Type 0 where
@@ -672,12 +650,5 @@ SeenSoFar last bound i es seen =
 pub all_seen : (last bound i : ℕ) (es seen : List Observation) → SeenSoFar last bound i es seen → length es ≤ i →
     seen ≡ begun_by last (cut_entries last bound 0 es)
 all_seen last bound i es seen so_far over = sym (append-nil seen) ∙
-    ap (λ (xs : List Observation). seen ++ begun_by last (cut_entries last bound i xs)) (sym (none_left es i over)) ∙
+    ap (λ (xs : List Observation). seen ++ begun_by last (cut_entries last bound i xs)) (sym (drop_all i es over)) ∙
     so_far
-  where
-    none_left : (xs : List Observation) (k : ℕ) → length xs ≤ k → drop k xs ≡ []
-    none_left xs k le = empty (drop k xs) (omega (arith, length-drop k xs, le))
-      where
-        empty : (ys : List Observation) → length ys ≡ 0 → ys ≡ []
-        empty [] h = refl
-        empty (y ∷ ys) h = absurd (omega arith)

@@ -23,6 +23,7 @@ use Rattle.stamp_explain.specs.Explained.{IsExplainedBy}
 use Rattle.stamp_explain.specs.Points.{IsEntryOf, IsRecordOfObserved, entry_with_point, ends_at, position_at, there_at}
 use Rattle.stamp_explain.specs.ExplainLaws.{ExplainedHasPoints}
 use Rattle.stamp_explain.proofs.Lists.{none_in_empty, contains_cases, pairs_none, pairs_cons, pairs_head, pairs_tail}
+use Rattle.stamp_explain.proofs.Lists.{zip_pairs}
 use Rattle.stamp_explain.proofs.Threads.{few_threads}
 
 -- the points of an order, where so many calls took effect at this position
@@ -110,10 +111,10 @@ not_over a b misses = by b.returned misses
         which (inl less) = absurd (misses less)
         which (inr le) = le
 
-ended : (o : Option Returned) (q p end : ℕ) → MatchOption o (Unit {0}) (λ (r : Returned). q ≤ r.last) → q ≤ end →
+not_past_end : (o : Option Returned) (q p end : ℕ) → MatchOption o (Unit {0}) (λ (r : Returned). q ≤ r.last) → q ≤ end →
     p ≤ 64 * q + 63 → p ≤ ends_at o end
-ended None q p end over most le = omega (arith, most, le)
-ended (Some r) q p end over most le = omega (arith, over, le)
+not_past_end None q p end over most le = omega (arith, most, le)
+not_past_end (Some r) q p end over most le = omega (arith, over, le)
 
 not_in : (ts : List ℕ) (t : ℕ) → ¬ Contains ts t → All (λ (u : ℕ). t ≢ u) ts
 not_in ts t misses = λ k d lt e. misses (subst (λ (u : ℕ). Contains ts u) (sym e) (Contains-get_or ts k d lt))
@@ -190,7 +191,7 @@ takes_beyond end q ts x xs is beyond = record {
   low = omega (arith, at, none, few, beyond);
   within = record {
     begun = omega (arith, at, none);
-    ended = ended x.entry.returned x.entry.first (64 * position_at q x.entry.first +
+    ended = not_past_end x.entry.returned x.entry.first (64 * position_at q x.entry.first +
         there_at q (length ts) x.entry.first) end it.interval most (omega (arith, at, none));
   };
 }
@@ -242,8 +243,8 @@ takes_here end q ts x xs is begun = record {
   low = omega (arith, at, here);
   within = record {
     begun = omega (arith, at, here, begun);
-    ended = ended x.entry.returned q (64 * position_at q x.entry.first + there_at q (length ts) x.entry.first) end
-        over_x is.reached (omega (arith, at, here, few));
+    ended = not_past_end x.entry.returned q (64 * position_at q x.entry.first +
+        there_at q (length ts) x.entry.first) end over_x is.reached (omega (arith, at, here, few));
   };
 }
   where
@@ -307,25 +308,6 @@ spread end q ts n (x ∷ xs) same is =
     step.within (subst (λ (low : ℕ). Spread low xs (points_from end position (there + 1) xs)) one_more
     (spread end position step.threads (there + 1) xs step.many step.ready))
 
--- what holds of effects holds of the entries that are spread of them
-zip_all : (P : Effect → Type 0) (Q : Entry → Type 0) → ((x : Effect) (e : Entry) → IsSpreadOf x e → P x → Q e) →
-    (xs : List Effect) (es : List Entry) → AllZip IsSpreadOf xs es → All P xs → All Q es
-zip_all P Q step [] [] z all = All-nil Q
-zip_all P Q step [] (e ∷ es) z all = absurd z
-zip_all P Q step (x ∷ xs) [] z all = absurd z
-zip_all P Q step (x ∷ xs) (e ∷ es) z all = All-cons Q e es (step x e z.0 (All-head P x xs all))
-    (zip_all P Q step xs es z.1 (All-tail P x xs all))
-
-zip_pairs : (R : Effect → Effect → Type 0) (Q : Entry → Entry → Type 0) →
-    ((x y : Effect) (e f : Entry) → IsSpreadOf x e → IsSpreadOf y f → R x y → Q e f) →
-    (xs : List Effect) (es : List Entry) → AllZip IsSpreadOf xs es → AllPairs R xs → AllPairs Q es
-zip_pairs R Q step [] [] z all = pairs_none Q
-zip_pairs R Q step [] (e ∷ es) z all = absurd z
-zip_pairs R Q step (x ∷ xs) [] z all = absurd z
-zip_pairs R Q step (x ∷ xs) (e ∷ es) z all =
-    pairs_cons Q e es (zip_all (R x) (Q e) (λ y f s r. step x y e f z.0 s r) xs es z.1 (pairs_head R x xs all))
-    (zip_pairs R Q step xs es z.1 (pairs_tail R x xs all))
-
 keeps : (x y : Effect) (e f : Entry) → IsSpreadOf x e → IsSpreadOf y f → AreRight x y → KeepsThreadOrder e f
 keeps x y e f e_is f_is right same = which (right.overlap (sym e_is.thread ∙ same ∙ f_is.thread))
   where
@@ -361,12 +343,12 @@ entries_of hs (x ∷ xs) (e ∷ es) z effects = (
     told None replies last = tt
     told (Some r) replies last = (z.0.reply ∙ sym replies, last)
 
-same_history : (xs : List Effect) (es : List Entry) → AllZip IsSpreadOf xs es → history_of xs ≡ entries_history es
-same_history [] [] z = refl
-same_history [] (e ∷ es) z = absurd z
-same_history (x ∷ xs) [] z = absurd z
-same_history (x ∷ xs) (e ∷ es) z =
-    ap (λ (h : History). (x.entry.call, x.reply) ∷ h) (same_history xs es z.1) ∙
+spread_history : (xs : List Effect) (es : List Entry) → AllZip IsSpreadOf xs es → history_of xs ≡ entries_history es
+spread_history [] [] z = refl
+spread_history [] (e ∷ es) z = absurd z
+spread_history (x ∷ xs) [] z = absurd z
+spread_history (x ∷ xs) (e ∷ es) z =
+    ap (λ (h : History). (x.entry.call, x.reply) ∷ h) (spread_history xs es z.1) ∙
     ap (λ (c : Call). (c, x.reply) ∷ entries_history es) (sym z.0.call) ∙
     ap (λ (r : Reply). (e.call, r) ∷ entries_history es) (sym z.0.reply)
 
@@ -400,8 +382,8 @@ overlaps h x y observed x_is y_is apart = by (cases_order x.index y.index)
     by (inr (inl less)) = in_order x y x_is y_is less
     by (inr (inr less)) = λ thread. swap (in_order y x y_is x_is less (sym thread))
 
-cut_entry : (h : ObservedHistory) (x : Effect) → IsObserved h → IsEffectOf h.entries x → IsKnown x
-cut_entry h x observed is =
+effect_is_known : (h : ObservedHistory) (x : Effect) → IsObserved h → IsEffectOf h.entries x → IsKnown x
+effect_is_known h x observed is =
     let lt : x.index < length h.entries = slice_get_within h.entries x.index x.entry is.is_entry in
     let same : get_or h.entries x.index x.entry ≡ x.entry = get_or_from_slice_get h.entries x.index x.entry x.entry
     is.is_entry in
@@ -422,13 +404,13 @@ latest : ℕ → List Effect → ℕ
 latest n [] = n
 latest n (x ∷ xs) = max x.entry.first (latest n xs)
 
-begun_by : (n : ℕ) (xs : List Effect) → All (λ (y : Effect). y.entry.first ≤ latest n xs) xs
+begun_by_latest : (n : ℕ) (xs : List Effect) → All (λ (y : Effect). y.entry.first ≤ latest n xs) xs
 unfolding latest
-begun_by n [] = All-nil (λ (y : Effect). y.entry.first ≤ n)
-begun_by n (x ∷ xs) = All-cons (λ (y : Effect). y.entry.first ≤ max x.entry.first (latest n xs)) x xs
+begun_by_latest n [] = All-nil (λ (y : Effect). y.entry.first ≤ n)
+begun_by_latest n (x ∷ xs) = All-cons (λ (y : Effect). y.entry.first ≤ max x.entry.first (latest n xs)) x xs
     (omega arith) (All-weaker (λ (y : Effect). y.entry.first ≤ latest n xs)
     (λ (y : Effect). y.entry.first ≤ max x.entry.first (latest n xs)) (λ y le. omega (arith, le)) xs
-    (begun_by n xs))
+    (begun_by_latest n xs))
 
 right_of : (h : ObservedHistory) (order : List Effect) → IsObserved h → IsExplainedBy h order →
     AllPairs AreRight order
@@ -444,7 +426,7 @@ right_of h order observed by i j d lt within =
 pub ready_of : (h : ObservedHistory) (end : ℕ) (order : List Effect) → IsObserved h → IsExplainedBy h order →
     All (λ (y : Effect). y.entry.first ≤ end) order → IsReady end 0 [] order
 ready_of h end order observed by begun = record {
-  known = λ k d lt. cut_entry h (get_or order k d) observed (by.effects k d lt);
+  known = λ k d lt. effect_is_known h (get_or order k d) observed (by.effects k d lt);
   right = right_of h order observed by;
   over = λ k d lt. from_start (get_or order k d).entry;
   free = λ k d lt le. none_in_empty (get_or order k d).entry.thread;
@@ -481,10 +463,10 @@ pub points_are_linearized : (h : ObservedHistory) (end : ℕ) (order : List Effe
 points_are_linearized h end order observed by begun = record {
   within = points.within;
   rising = points.rising;
-  apart = zip_pairs AreRight KeepsThreadOrder keeps order (points_from end 0 0 order) points.of
+  apart = zip_pairs IsSpreadOf AreRight KeepsThreadOrder order (points_from end 0 0 order) keeps points.of
       (right_of h order observed by);
   legal = subst (λ (history : History). IsLegal h.limits h.width history)
-      (same_history order (points_from end 0 0 order) points.of) by.legal;
+      (spread_history order (points_from end 0 0 order) points.of) by.legal;
 }
   where
     points : Spread (64 * 0 + 0) order (points_from end 0 0 order)
@@ -494,8 +476,8 @@ pub explained_has_points : ExplainedHasPoints
 explained_has_points h observed explained = (
   recorded h.limits h.width (points_from end 0 0 explained.order) [],
   (
-    points_are_of h end explained.order observed explained.by (begun_by 0 explained.order),
-    points_are_linearized h end explained.order observed explained.by (begun_by 0 explained.order),
+    points_are_of h end explained.order observed explained.by (begun_by_latest 0 explained.order),
+    points_are_linearized h end explained.order observed explained.by (begun_by_latest 0 explained.order),
   ),
 )
   where

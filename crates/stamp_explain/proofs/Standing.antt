@@ -6,6 +6,7 @@ use Rattle.std.specs.List.{Contains}
 use Rattle.std.specs.Int.{bit_at}
 use Rattle.std.proofs.lemmas.List.Elements.{Contains-push, Contains-push_cases, Contains-append_left}
 use Rattle.std.proofs.lemmas.Option.{same_Some}
+use Rattle.std.proofs.lemmas.Bool.{cases_eq}
 use Rattle.stamp_explain.specs.declared.observed.Observation.{Observation}
 use Rattle.stamp_explain.specs.declared.observed.Returned.{Returned}
 use Rattle.stamp_explain.specs.Observed.{IsBefore, IsInterval}
@@ -32,13 +33,10 @@ not_both e f ie if_ ef fe = by e.returned f.returned ie if_ ef fe
     by (Some p) None ie if_ ef fe = fe
     by (Some p) (Some q) ie if_ ef fe = omega arith
 
-same_or_not : (i j : ℕ) → (i ≡ j) ⊎ (i ≢ j)
-same_or_not i j = grind arith
-
 -- a thread has one next call
 pub one_next : (entries : List Observation) (past : List ℕ) (i j : ℕ) (e f : Observation) → AreOrderly entries →
     IsNext entries past i e → IsNext entries past j f → e.thread ≡ f.thread → i ≡ j
-one_next entries past i j e f orderly one other same = which (same_or_not i j)
+one_next entries past i j e f orderly one other same = which (cases_eq i j)
   where
     which : (i ≡ j) ⊎ (i ≢ j) → i ≡ j
     which (inl eq) = eq
@@ -65,8 +63,8 @@ pub taken_more : (entries : List Observation) (past : List ℕ) (old new : ℕ) 
 taken_more entries past old new taken i e orderly are next sets = record {
   only = λ j f at has. only j f at (contains_cases i taken j has);
   all_past = λ j has. contains_rest i taken j (are.all_past j has);
-  each_next = λ j f is bit. each j f is bit (same_or_not f.thread e.thread);
-  has_next = λ t bit. has t bit (same_or_not t e.thread);
+  each_next = λ j f is bit. each j f is bit (cases_eq f.thread e.thread);
+  has_next = λ t bit. has t bit (cases_eq t e.thread);
 }
   where
     has : (t : ℕ) → bit_at new t ≡ 1 → (t ≡ e.thread) ⊎ (t ≢ e.thread) → HasNext entries past t
@@ -87,7 +85,7 @@ taken_more entries past old new taken i e orderly are next sets = record {
         was : Contains past j ⊎ ((bit_at old f.thread ≡ 1) × IsNext entries past j f) →
             Contains past j ⊎ ((bit_at new f.thread ≡ 1) × IsNext entries past j f)
         was (inl is_past) = inl is_past
-        was (inr both) = inr (bit (same_or_not f.thread e.thread), both.1)
+        was (inr both) = inr (bit (cases_eq f.thread e.thread), both.1)
           where
             bit : (f.thread ≡ e.thread) ⊎ (f.thread ≢ e.thread) → bit_at new f.thread ≡ 1
             bit (inl same) = ap (λ (k : ℕ). bit_at new k) same ∙ sets.here
@@ -106,8 +104,8 @@ pub taken_past : (entries : List Observation) (past : List ℕ) (old new : ℕ) 
 taken_past entries past old new taken i e orderly are next has clears = record {
   only = λ j f at in_effect. only j f at (are.only j f at in_effect);
   all_past = λ j found. was (Contains-push_cases past i j found);
-  each_next = λ j f is bit. each j f is bit (same_or_not f.thread e.thread);
-  has_next = λ t bit. others t bit (same_or_not t e.thread);
+  each_next = λ j f is bit. each j f is bit (cases_eq f.thread e.thread);
+  has_next = λ t bit. others t bit (cases_eq t e.thread);
 }
   where
     was : {j : ℕ} → Contains past j ⊎ (i ≡ j) → Contains taken j
@@ -163,7 +161,7 @@ taken_past entries past old new taken i e orderly are next has clears = record {
         Contains past j ⊎ ((bit_at old f.thread ≡ 1) × IsNext entries past j f) →
         Contains (past ++ i ∷ []) j ⊎ ((bit_at new f.thread ≡ 1) × IsNext entries (past ++ i ∷ []) j f)
     only j f at (inl is_past) = inl (Contains-append_left past (i ∷ []) j is_past)
-    only j f at (inr both) = which (same_or_not f.thread e.thread)
+    only j f at (inr both) = which (cases_eq f.thread e.thread)
       where
         which : (f.thread ≡ e.thread) ⊎ (f.thread ≢ e.thread) →
             Contains (past ++ i ∷ []) j ⊎ ((bit_at new f.thread ≡ 1) × IsNext entries (past ++ i ∷ []) j f)

@@ -5,6 +5,7 @@ use Rattle.std.specs.Prelude.{if◌then◌else◌, nat_lt, ◌&&◌, ◌||◌}
 use Rattle.std.specs.Bool.{MatchBool}
 use Rattle.std.proofs.lemmas.List.{append-nil}
 use Rattle.std.proofs.lemmas.Bool.Decides.{nat_tests}
+use Rattle.std.proofs.lemmas.Bool.{false≢true}
 use Rattle.stamp_core.specs.LockEvent.{LockEvent, Counts, counts}
 use Rattle.stamp_core.specs.Layout.{Units, units_of}
 use Rattle.stamp_core.specs.Limits.{Bounds, units}
@@ -106,9 +107,6 @@ and_first : (a b c : Bool) → (a && b && c) ≡ true → a ≡ true
 and_first true b c h = refl
 and_first false b c h = cc
 
-not_true : false ≡ true → ⊥
-not_true h = cc
-
 -- a conversion changes to a stamp of another number
 other_stamp : (n r s : ℕ) → (r ≡ 0) ⊎ (r ≡ s) → 0 < n → n ≢ s → Stamp n ≡ Stamp r → ⊥
 other_stamp n r s (inl zero) some other e = let m : n ≡ r = stamp_inj n r e in omega arith
@@ -160,40 +158,40 @@ row_stays : (l : Bounds) (c : Counts) (call : Call) (reply : Reply) → AreLaidO
     changes_nothing call reply ≡ true → Stays (row l c call) reply
 row_stays l c TryWrite (Stamp s) are h = stays_if (may_write l c) _ _ _
     (λ _. stays_other _ _ _ (write_some (units l) (c.write_count + 1) s are (zero_is s h))) (λ _. stays_answer _ _)
-row_stays l c TryWrite _ are h = absurd (not_true h)
+row_stays l c TryWrite _ are h = absurd (false≢true h)
 row_stays l c TryRead (Stamp s) are h = stays_if (may_read l c) _ _ _
     (λ _. stays_other _ _ _ (read_some (units l) c.write_count (c.readers + 1) s are (zero_is s h)))
     (λ _. stays_answer _ _)
-row_stays l c TryRead _ are h = absurd (not_true h)
+row_stays l c TryRead _ are h = absurd (false≢true h)
 row_stays l c WriteLock (Stamp s) are h = stays_if (c.write_count == l.versions) _ _ _ (λ _. stays_answer _ _)
     (λ _. stays_if (may_write l c) _ _ _ (λ _. stays_other _ _ _
     (write_some (units l) (c.write_count + 1) s are (zero_is s h))) (λ _. stays_none _))
-row_stays l c WriteLock _ are h = absurd (not_true h)
-row_stays l c ReadLock _ are h = absurd (not_true h)
+row_stays l c WriteLock _ are h = absurd (false≢true h)
+row_stays l c ReadLock _ are h = absurd (false≢true h)
 row_stays l c Optimistic _ are h = stays_answer _ _
 row_stays l c (Validate s) _ are h = stays_answer _ _
 row_stays l c (UnlockWrite s) Mismatch are h = stays_if (is_held_write (units l) c s) _ _ _
     (λ _. stays_other _ _ _ (λ e. cc)) (λ _. stays_answer _ _)
-row_stays l c (UnlockWrite s) _ are h = absurd (not_true h)
+row_stays l c (UnlockWrite s) _ are h = absurd (false≢true h)
 row_stays l c (UnlockRead s) Mismatch are h = stays_if (is_held_read (units l) c s) _ _ _
     (λ _. stays_other _ _ _ (λ e. cc)) (λ _. stays_answer _ _)
-row_stays l c (UnlockRead s) _ are h = absurd (not_true h)
+row_stays l c (UnlockRead s) _ are h = absurd (false≢true h)
 row_stays l c (Unlock s) Mismatch are h = stays_if (is_held_write (units l) c s) _ _ _
     (λ _. stays_other _ _ _ (λ e. cc)) (λ _. stays_if (is_held_read (units l) c s) _ _ _
     (λ _. stays_other _ _ _ (λ e. cc)) (λ _. stays_answer _ _))
-row_stays l c (Unlock s) _ are h = absurd (not_true h)
+row_stays l c (Unlock s) _ are h = absurd (false≢true h)
 row_stays l c (ToWrite s) (Stamp r) are h = to_write_stays l c s r are (zero_or_own r s h)
-row_stays l c (ToWrite s) _ are h = absurd (not_true h)
+row_stays l c (ToWrite s) _ are h = absurd (false≢true h)
 row_stays l c (ToRead s) (Stamp r) are h = to_read_stays l c s r are (zero_or_own r s h)
-row_stays l c (ToRead s) _ are h = absurd (not_true h)
+row_stays l c (ToRead s) _ are h = absurd (false≢true h)
 row_stays l c (ToOptimistic s) (Stamp r) are h = to_optimistic_stays l c s r are (zero_or_own r s h)
-row_stays l c (ToOptimistic s) _ are h = absurd (not_true h)
+row_stays l c (ToOptimistic s) _ are h = absurd (false≢true h)
 row_stays l c TryUnlockWrite No are h = stays_if (c.writers == 1) _ _ _ (λ _. stays_other _ _ _ (λ e. cc))
     (λ _. stays_answer _ _)
-row_stays l c TryUnlockWrite _ are h = absurd (not_true h)
+row_stays l c TryUnlockWrite _ are h = absurd (false≢true h)
 row_stays l c TryUnlockRead No are h = stays_if (nat_lt 0 c.readers) _ _ _ (λ _. stays_other _ _ _ (λ e. cc))
     (λ _. stays_answer _ _)
-row_stays l c TryUnlockRead _ are h = absurd (not_true h)
+row_stays l c TryUnlockRead _ are h = absurd (false≢true h)
 row_stays l c IsWriteLocked _ are h = stays_answer _ _
 row_stays l c IsReadLocked _ are h = stays_answer _ _
 row_stays l c ReadCount _ are h = stays_answer _ _
@@ -207,9 +205,9 @@ none_more events appended none = ap (λ (more : List LockEvent). events ++ more)
 
 content_stays : (content : List ℕ) (call : Call) (reply : Reply) → changes_nothing call reply ≡ true →
     content_next content call reply ≡ content
-content_stays content (Put words) _ h = absurd (not_true h)
+content_stays content (Put words) _ h = absurd (false≢true h)
 content_stays content (PutIf expected words) No h = refl
-content_stays content (PutIf expected words) Yes h = absurd (not_true h)
+content_stays content (PutIf expected words) Yes h = absurd (false≢true h)
 content_stays content (PutIf expected words) (Stamp s) h = refl
 content_stays content (PutIf expected words) Done h = refl
 content_stays content (PutIf expected words) Mismatch h = refl
@@ -235,7 +233,7 @@ appended_none limits events content call reply are h replies =
         no_lock Get e = refl
         no_lock (Put words) e = refl
         no_lock (PutIf expected words) e = refl
-        no_lock _ e = absurd (not_true (sym e))
+        no_lock _ e = absurd (false≢true (sym e))
 
 pub unchanging_calls_change_nothing : UnchangingCallsChangeNothing
 unchanging_calls_change_nothing limits call reply s t h steps =

@@ -6,6 +6,8 @@ use Rattle.std.specs.Prelude.{slice_get, take, drop, MatchOption, true, false}
 use Rattle.std.specs.List.{Contains}
 use Rattle.std.specs.Int.{bit_at}
 use Rattle.std.proofs.lemmas.Option.{none-some, same_Some}
+use Rattle.std.proofs.lemmas.Bool.{false≢true, cases_order}
+use Rattle.std.proofs.lemmas.List.{get_or_default}
 use Rattle.stamp_explain.specs.declared.observed.Observation.{Observation}
 use Rattle.stamp_explain.specs.declared.observed.Returned.{Returned}
 use Rattle.stamp_explain.specs.declared.node.Node.{Node}
@@ -29,7 +31,7 @@ use Rattle.stamp_explain.proofs.Searching.{CompletesIn}
 use Rattle.stamp_explain.proofs.Staying.{unchanging_calls_change_nothing}
 use Rattle.stamp_explain.proofs.AtOnce.{TakesAtOnce, takes_at_once}
 use Rattle.stamp_explain.proofs.Settling.{follows_of, suffices_settled}
-use Rattle.stamp_explain.proofs.Expanding.{next_open, open_may, same_read}
+use Rattle.stamp_explain.proofs.Expanding.{next_open, open_may}
 use Rattle.stamp_explain.proofs.Lists.{none_in_empty, each_push, either_in}
 use Rattle.stamp_explain.proofs.Awaiting.{Awaits, awaited_at, leads_by_call, goes_on_to, alone, only_one, due}
 use Rattle.stamp_explain.proofs.Trying.{Tries, none_tried, tried_some, tried_not, suffice_open}
@@ -83,11 +85,8 @@ pub none_by_change : (h : ObservedHistory) (asked : Option ℕ) (returns : List 
     (k : ℕ) → NoneOfFirst h asked returns node calls k → is_unchanging_at h.entries (get_or calls k 0) ≡ false →
     NoneOfFirst h asked returns node calls (k + 1)
 none_by_change h asked returns node calls k before silent = none_of_more h asked returns node calls k before
-    (λ a s taken awaited stands x t at_once is may. false_true (sym silent ∙ ap (is_unchanging_at h.entries) is ∙
+    (λ a s taken awaited stands x t at_once is may. false≢true (sym silent ∙ ap (is_unchanging_at h.entries) is ∙
     ap unchanging_in may.effect.is_entry ∙ at_once.tells))
-  where
-    false_true : false ≡ true → ⊥
-    false_true h = cc
 
 -- it is the one that is asked
 pub none_by_asked : (h : ObservedHistory) (asked : ℕ) (returns : List ℕ) (node : Node) (calls : List ℕ) (k : ℕ) →
@@ -106,7 +105,7 @@ none_at_once h asked timeline node calls k are all before = record {
       let it : Contains calls x.index = are.whole x.index (open_may h timeline.returns.items node.past node.threads a s
       t taken x awaited.is_entry stands.in_effect may) in
       before.none a s taken awaited stands x t at_once it.0 (omega (arith, it.1, all)) it.1
-      (same_read calls it.0 0 x.index it.1 ∙ it.2) may;
+      (get_or_default calls it.0 0 x.index it.1 ∙ it.2) may;
 }
 
 -- of those that may take effect at once this one returned first
@@ -124,21 +123,18 @@ first_at_once h asked timeline node a s taken calls k x is stands are before ins
     returns : List ℕ
     returns = timeline.returns.items
 
-    three : (p k : ℕ) → (p < k) ⊎ ((p ≡ k) ⊎ (k < p))
-    three p k = grind arith
-
     by : (y : Effect) (t : LockState) → IsAtOnce asked y → MayTake (StateTransition h.limits) h.entries a s taken y t →
         Contains calls y.index → ¬ StandsBefore returns y.index x.index
-    by y t too may (p, lt, at) sooner = which (three p k)
+    by y t too may (p, lt, at) sooner = which (cases_order p k)
       where
         there : get_or calls p 0 ≡ y.index
-        there = same_read calls p 0 y.index lt ∙ at
+        there = get_or_default calls p 0 y.index lt ∙ at
 
-        which : (p < k) ⊎ ((p ≡ k) ⊎ (k < p)) → ⊥
-        which (inl less) =
-            before.none a s taken (awaited_at h timeline node a is) stands y t too p less lt there may
-        which (inr (inl same)) = sooner.later (subst (λ (j : ℕ). Contains (take sooner.index returns) j)
+        which : (p ≡ k) ⊎ ((p < k) ⊎ (k < p)) → ⊥
+        which (inl same) = sooner.later (subst (λ (j : ℕ). Contains (take sooner.index returns) j)
             (sym there ∙ ap (λ (m : ℕ). get_or calls m 0) same ∙ here) sooner.first)
+        which (inr (inl less)) =
+            before.none a s taken (awaited_at h timeline node a is) stands y t too p less lt there may
         which (inr (inr more)) = are.in_order k p 0 more lt
             (subst (λ (j : ℕ). StandsBefore returns j (get_or calls k 0)) (sym there)
             (subst (λ (j : ℕ). StandsBefore returns y.index j) (sym here) sooner))
@@ -206,13 +202,10 @@ unchanging_so : (e : Observation) (reply : Reply) → is_unchanging e ≡ true �
     HasReturned e × (changes_nothing e.call reply ≡ true)
 unchanging_so e reply is may = by e.returned refl is may
   where
-    false_true : false ≡ true → ⊥
-    false_true h = cc
-
     by : (o : Option Returned) → e.returned ≡ o → unchanging_by e.call o ≡ true →
         MatchOption o (Unit {0}) (λ (r : Returned). r.reply ≡ reply) →
         HasReturned e × (changes_nothing e.call reply ≡ true)
-    by None at is may = absurd (false_true is)
+    by None at is may = absurd (false≢true is)
     by (Some r) at is may = ((r, at), ap (changes_nothing e.call) (sym may) ∙ is)
 
 -- a call that changes nothing takes effect at once

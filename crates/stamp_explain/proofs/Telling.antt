@@ -1,10 +1,9 @@
 -- What an observer may tell, entry by entry.
-use Rattle.std.proofs.Common.{◌≡◌, ◌⊎◌, ℕ, ◌+◌, ◌<◌, ◌≤◌, List, length, get_or, sym, ◌∙◌, subst, inl, inr, arith}
+use Rattle.std.proofs.Common.{◌≡◌, ◌⊎◌, ℕ, ◌+◌, ◌<◌, ◌≤◌, length, get_or, sym, ◌∙◌, subst, inl, inr, arith}
 use Rattle.std.proofs.Common.{length-take-le}
 use Rattle.std.specs.Prelude.{take}
 use Rattle.std.specs.List.{All}
-use Rattle.std.proofs.lemmas.List.{get_or-take}
-use Rattle.std.proofs.lemmas.Option.{same_Some, slice_get-get_or}
+use Rattle.std.proofs.lemmas.List.{get_or-take, get_or_default}
 use Rattle.stamp_explain.specs.declared.observed.Observation.{Observation}
 use Rattle.stamp_explain.specs.Observed.{ObservedHistory, IsObserved, MayBeTold, DoNotOverlap}
 
@@ -15,10 +14,6 @@ pub record AreSoundBelow (h : ObservedHistory) (k : ℕ) : Type 0 where
 
 pub none_below : (h : ObservedHistory) → AreSoundBelow h 0
 none_below h = record { alone = λ i d lt. absurd (omega arith); apart = λ i j d lt less. absurd (omega arith) }
-
-same_read : (xs : List Observation) (k : ℕ) (d e : Observation) → k < length xs → get_or xs k d ≡ get_or xs k e
-same_read xs k d e lt =
-    same_Some (get_or xs k d) (get_or xs k e) (sym (slice_get-get_or xs k d lt) ∙ slice_get-get_or xs k e lt)
 
 pub one_below : (h : ObservedHistory) (k : ℕ) (e : Observation) → k < length h.entries → e ≡ get_or h.entries k e →
     AreSoundBelow h k → MayBeTold h.width e → All (λ (other : Observation). DoNotOverlap other e) (take k h.entries) →
@@ -32,7 +27,7 @@ one_below h k e within read below sound apart = record {
     cases i lt = grind arith
 
     here : (d : Observation) → e ≡ get_or h.entries k d
-    here d = read ∙ same_read h.entries k e d within
+    here d = read ∙ get_or_default h.entries k e d within
 
     alone : (i : ℕ) (d : Observation) → (i < k) ⊎ (i ≡ k) → MayBeTold h.width (get_or h.entries i d)
     alone i d (inl less) = below.alone i d less
@@ -73,5 +68,5 @@ not_apart h k e within read refuted is = refuted (λ i d lt.
     let le : k ≤ length h.entries = omega (arith, within) in
     let sooner : i < k = omega (arith, lt, length-take-le k h.entries le) in
     subst (λ (o : Observation). DoNotOverlap o e) (sym (get_or-take k h.entries i d sooner))
-    (subst (λ (o : Observation). DoNotOverlap (get_or h.entries i d) o) (sym (read ∙ same_read h.entries k e d within))
-    (is.apart i k d sooner within)))
+    (subst (λ (o : Observation). DoNotOverlap (get_or h.entries i d) o)
+    (sym (read ∙ get_or_default h.entries k e d within)) (is.apart i k d sooner within)))

@@ -3,7 +3,7 @@ use Rattle.std.proofs.Common.{◌≡◌, ℕ, ◌<◌, Bool, true, false, List, 
 use Rattle.std.proofs.Common.{Option, None, Some}
 use Rattle.std.specs.Prelude.{IsTrue, slice_get}
 use Rattle.std.specs.Bool.{MatchBool}
-use Rattle.std.proofs.lemmas.Bool.{MatchBool-at_true, MatchBool-at_false}
+use Rattle.std.proofs.lemmas.Bool.{MatchBool-at_true, MatchBool-at_false, false≢true}
 use Rattle.std.proofs.lemmas.Bool.Decides.{nat_tests}
 use Rattle.stamp_core.specs.LockEvent.{LockEvent}
 use Rattle.stamp_core.specs.Call.{is_lock_call, call_suits}
@@ -23,15 +23,12 @@ use Rattle.stamp_explain.specs.Node.{IsStateBy, Does, HasGone, content_by, words
 use Rattle.stamp_explain.specs.Transition.{LockGoes, RecordGoes}
 use Rattle.stamp_explain.proofs.Merging.{lock_leaves, record_appends}
 
-false_true : false ≡ true → ⊥
-false_true h = cc
-
 -- a call of the lock leaves the record's words
 lock_puts_none : (put : Option ℕ) (i : ℕ) (call : Call) (reply : Reply) → is_lock_call call ≡ true →
     put ≡ put_after put i call reply
-lock_puts_none put i Get reply lock = absurd (false_true lock)
-lock_puts_none put i (Put words) reply lock = absurd (false_true lock)
-lock_puts_none put i (PutIf expected words) reply lock = absurd (false_true lock)
+lock_puts_none put i Get reply lock = absurd (false≢true lock)
+lock_puts_none put i (Put words) reply lock = absurd (false≢true lock)
+lock_puts_none put i (PutIf expected words) reply lock = absurd (false≢true lock)
 lock_puts_none put i call reply lock = refl
 
 pub lock_went : (h : ObservedHistory) (i : ℕ) (e : Observation) (s : LockState) (bits next : ℕ) (writer : Option ℕ)

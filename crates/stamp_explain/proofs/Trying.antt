@@ -7,6 +7,8 @@ use Rattle.std.specs.List.{All, Contains}
 use Rattle.std.specs.Int.{bit_at}
 use Rattle.std.proofs.lemmas.List.Elements.{All-drop, Contains-append_left, Contains-push}
 use Rattle.std.proofs.lemmas.Option.{same_Some}
+use Rattle.std.proofs.lemmas.Bool.{false≢true}
+use Rattle.std.proofs.lemmas.List.{get_or_default}
 use Rattle.stamp_explain.specs.declared.observed.Observation.{Observation}
 use Rattle.stamp_explain.specs.declared.observed.Returned.{Returned}
 use Rattle.stamp_explain.specs.declared.node.Node.{Node}
@@ -31,7 +33,7 @@ use Rattle.stamp_explain.proofs.Searching.{CompletesIn, GoesPast, GoesOnBy, goes
 use Rattle.stamp_explain.proofs.Standing.{taken_by_bit}
 use Rattle.stamp_explain.proofs.Questions.{without_question}
 use Rattle.stamp_explain.proofs.Settling.{HopesWithin, hope_passes}
-use Rattle.stamp_explain.proofs.Expanding.{open_may, same_read}
+use Rattle.stamp_explain.proofs.Expanding.{open_may}
 use Rattle.stamp_explain.proofs.Awaiting.{Awaits, awaited_at, left_of, hope_completes, the_awaited, not_yet, due}
 use Rattle.stamp_explain.proofs.Awaiting.{pending, AwaitsOne, awaits_one}
 
@@ -134,11 +136,8 @@ pub tried_question : (h : ObservedHistory) (asked : Option ℕ) (returns : List 
     is_open_question e ≡ true) → Tries h asked returns node calls (k + 1) nexts
 tried_question h asked returns node calls k nexts tries more question =
     one_more_tried h asked returns node calls k nexts nexts tries more (λ w has. has)
-    (λ a s taken awaited stands x u may alike asks_not is. absurd (false_true (sym asks_not ∙
+    (λ a s taken awaited stands x u may alike asks_not is. absurd (false≢true (sym asks_not ∙
     question x.entry (ap (λ (i : ℕ). slice_get h.entries i) is ∙ may.effect.is_entry))))
-  where
-    false_true : false ≡ true → ⊥
-    false_true h = cc
 
 -- another goes ahead of it
 pub tried_later : (h : ObservedHistory) (asked : Option ℕ) (returns : List ℕ) (node : Node) (calls : List ℕ) (k : ℕ)
@@ -271,7 +270,7 @@ pub goes_or_waits : (h : ObservedHistory) (asked : Option ℕ) (timeline : Timel
     GoesOn h timeline.returns.items nexts most
 goes_or_waits h asked timeline node a calls k nexts s taken most u left x is are all stands tries fewer it again =
     by (tries.tried a s taken (awaited_at h timeline node a is) stands x u it.may it.object it.asks_not at.0 at.1
-    (omega (arith, all)) (same_read calls at.0 0 x.index at.1 ∙ at.2))
+    (omega (arith, all)) (get_or_default calls at.0 0 x.index at.1 ∙ at.2))
   where
     returns : List ℕ
     returns = timeline.returns.items

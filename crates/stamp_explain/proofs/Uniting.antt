@@ -24,7 +24,7 @@ use Rattle.stamp_explain.specs.Linearization.{IsLinearizationOf, taken_of}
 use Rattle.stamp_explain.specs.Apart.{indices_where, is_of_object, of_object, IsSubhistoryOf}
 use Rattle.stamp_explain.proofs.Lists.{pairs_none, pairs_cons, pairs_head, pairs_drop}
 use Rattle.stamp_explain.proofs.Merging.IsMerge.{none, left, right}
-use Rattle.stamp_explain.proofs.Merging.{merge_all, Merges, MayBeTold, respects_all, sound_of}
+use Rattle.stamp_explain.proofs.Merging.{merge_all, Merges, HasInterval, respects_all, sound_of}
 use Rattle.stamp_explain.proofs.Parting.{judged_apart, merged_explains}
 use Rattle.stamp_explain.proofs.Subhistories.{all_of_lock, no_calls_explained, none_of_record, subhistory_entries}
 use Rattle.stamp_explain.proofs.Seeing.{index_in_whole, kept, PartOrder, restored, restored_at, restored_many}
@@ -173,12 +173,12 @@ respects_left h p others o k t x es observed is first = by (inside_or_past other
         (All-nil (RespectsBefore x))
     by (inl (s, at)) =
         let call : IsCallAt h p (in_whole h p others o).order k s = call_at h p others o k s at in
-        let sound : All MayBeTold (in_whole h p others o).order =
+        let sound : All HasInterval (in_whole h p others o).order =
         sound_of h (in_whole h p others o).order observed (in_whole h p others o).by.effects in
         subst (All (RespectsBefore x)) (sym (next_left (in_whole h p others o).order k call.effect call.at))
         (respects_all x call.effect (drop (k + 1) (in_whole h p others o).order)
         (first s x.entry call.effect.entry at is call.is_kept)
-        (subst MayBeTold (get_or_from_slice_get (in_whole h p others o).order k call.effect call.effect call.at)
+        (subst HasInterval (get_or_from_slice_get (in_whole h p others o).order k call.effect call.effect call.at)
         (sound k call.effect (slice_get_within (in_whole h p others o).order k call.effect call.at)))
         (later_left (in_whole h p others o).order k call.effect call.at (in_whole h p others o).by.ordered))
 

@@ -8,6 +8,7 @@ use Rattle.std.proofs.lemmas.Bool.Decides.{nat_tests, Decides-ltb, Decides-eqb, 
 use Rattle.std.proofs.lemmas.Bool.Decides.{Decides-like, Decides-by_and}
 use Rattle.std.proofs.lemmas.List.{length-map, length-take, get_or-take}
 use Rattle.std.proofs.lemmas.List.Sums.{position_or_len_is}
+use Rattle.std.proofs.lemmas.Bool.{leb-true, le-leb}
 use Rattle.std.proofs.Math.Bool.{and-false}
 use Rattle.stamp_core.specs.Limits.{Bounds}
 use Rattle.stamp_core.specs.declared.script_error.ScriptError.{ScriptError}
@@ -29,7 +30,7 @@ fails true d n = absurd (n (d.0 refl))
 fails false d n = refl
 
 at_most : (n most : ℕ) → Decides (nat_le n most) (n ≤ most)
-at_most n most = (λ e. grind (arith, nat_tests), λ le. grind (arith, nat_tests))
+at_most n most = (leb-true n most, le-leb n most)
 
 short : (threads : List (Vec ScriptCall Global)) → Decides (are_short (map thread_calls threads)) (AreShort threads)
 short = Decides-by_and (λ (calls : Vec ScriptCall Global). nat_le (length calls.items) 10000)
@@ -44,9 +45,9 @@ one_suits width (PutIf a b) = Decides-like _ (λ h. (h.0.0, h.0.1, h.1)) (λ h. 
     (Decides-eqb (length b) width))
 one_suits width _ = (λ _. tt, λ _. refl)
 
-suited : (width : ℕ) (threads : List (Vec ScriptCall Global)) →
+suited_to_width : (width : ℕ) (threads : List (Vec ScriptCall Global)) →
     Decides (are_suited width (map thread_calls threads)) (AreOfWidth width threads)
-suited width = Decides-by_and (λ (calls : Vec ScriptCall Global). list_all (suits width) calls.items)
+suited_to_width width = Decides-by_and (λ (calls : Vec ScriptCall Global). list_all (suits width) calls.items)
     (λ (calls : Vec ScriptCall Global). All (Suits width) calls.items)
     (λ threads. are_suited width (map thread_calls threads))
     (λ calls. Decides-by_and (suits width) (Suits width) (list_all (suits width)) (one_suits width) refl
@@ -85,7 +86,7 @@ unsuited : (width : ℕ) (threads : List (Vec ScriptCall Global)) → (16 < widt
     (nat_le width 16 && are_suited width (map thread_calls threads)) ≡ false
 unsuited width threads (inl wide) = let test : nat_le width 16 ≡ false = grind (arith, nat_tests) in rw test refl
 unsuited width threads (inr not_all) = rw (fails (are_suited width (map thread_calls threads))
-    (suited width threads) not_all) (and-false (nat_le width 16))
+    (suited_to_width width threads) not_all) (and-false (nat_le width 16))
 
 -- the script that these parts make
 abbrev pub given_script : Bounds → ℕ → List (Vec ScriptCall Global) → List ℕ → Scripted
@@ -112,7 +113,7 @@ no_fault limits width threads steps good = rw (
   below_most (length steps) 1000000 good.2,
   none_unknown (length threads) steps good.3,
   (at_most width 16).1 good.4,
-  (suited width threads).1 good.5,
+  (suited_to_width width threads).1 good.5,
 ) refl
 
 pub is_first_fault : (limits : Bounds) (width : ℕ) (threads : List (Vec ScriptCall Global)) (steps : List ℕ)

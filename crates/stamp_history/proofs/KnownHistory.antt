@@ -1,11 +1,11 @@
 -- What was read makes a recorded history.
-use Rattle.std.proofs.Common.{◌≡◌, ◌⊎◌, ◌≤◌, ◌<◌, ◌==◌, ℕ, ◌+◌, suc, List, [], ◌∷◌, length, refl}
+use Rattle.std.proofs.Common.{◌≡◌, ◌⊎◌, ◌≤◌, ◌==◌, ℕ, ◌+◌, suc, List, [], ◌∷◌, length, refl}
 use Rattle.std.proofs.Common.{sym, ◌∙◌, ap, subst, inl, inr, arith, Bool, true, false, Option, Some}
 use Rattle.std.proofs.Common.{None, Result, Ok, Err, option_and_then}
 use Rattle.std.specs.Prelude.{nat_le, nat_lt, if◌then◌else◌, codes}
 use Rattle.std.specs.List.{All}
-use Rattle.std.proofs.lemmas.Bool.Decides.{nat_tests}
 use Rattle.std.proofs.lemmas.List.Elements.{All-nil, All-cons}
+use Rattle.std.proofs.lemmas.Bool.{ltb-true, leb-true, eqb-true}
 use Rattle.serde_json.specs.Data.{Data, Items, no_items, item}
 use Rattle.serde_json.specs.Events.{items_len}
 use Rattle.stamp_core.specs.Call.{call_suits}
@@ -69,18 +69,12 @@ entry_suits w i d e h =
     let in_range = ranged_ok (NotHistory (part.Entry i)) (Limit (part.Entry i)) (λ (x : Entry). nat_lt x.thread 64)
     (option_and_then (suited w) (value.entry d)) e h in
     record {
-      thread = below e.thread in_range.1;
+      thread = ltb-true e.thread 64 in_range.1;
       call = let_through (λ (x : Entry). call_suits w x.call) (value.entry d) e in_range.0;
     }
-  where
-    below : (n : ℕ) → nat_lt n 64 ≡ true → n < 64
-    below n t = grind (arith, nat_tests)
-
-pub at_most : (n m : ℕ) → nat_le n m ≡ true → n ≤ m
-at_most n m t = grind (arith, nat_tests)
 
 pub known_width : (d : Data) (w : ℕ) → width d ≡ Ok w → w ≤ 16
-known_width d w h = at_most w 16 (ranged_ok (NotHistory part.Width) (Limit part.Width) (λ n. nat_le n 16)
+known_width d w h = leb-true w 16 (ranged_ok (NotHistory part.Width) (Limit part.Width) (λ n. nat_le n 16)
     (whole_under (codes "width") d) w h).1
 
 -- the items under `entries` are no more than 640,000, and P holds of each as it is read
@@ -91,7 +85,7 @@ listed_known P one holds d xs h =
     let listed = bind_ok (listed_entries d) (each one 0) xs h in
     let in_range = ranged_ok (NotHistory part.Entries) (Limit part.Entries) (λ ds. nat_le (items_len ds) 640000)
     (list_under (codes "entries") d) listed.0 listed.1 in
-    let most = at_most (items_len listed.0) 640000 in_range.1 in
+    let most = leb-true (items_len listed.0) 640000 in_range.1 in
     let n = each_len one 0 listed.0 xs listed.2 in
     (omega arith, each_all P one holds 0 listed.0 xs listed.2)
 
@@ -105,13 +99,10 @@ counted_ok : (count : ℕ) (found : Option Items) (ds : Items) →
 counted_ok count None ds h = cc
 counted_ok count (Some xs) ds h = by (items_len xs == count) refl h
   where
-    same : (n m : ℕ) → (n == m) ≡ true → n ≡ m
-    same n m t = grind (arith, nat_tests)
-
     by : (b : Bool) → (items_len xs == count) ≡ b → kind (NotHistory part.Report) (if b then Some xs else None) ≡
         Ok ds → items_len ds ≡ count
     by true test h = let e : xs ≡ ds = cc in subst (λ (z : Items). items_len z ≡ count) e
-        (same (items_len xs) count test)
+        (eqb-true (items_len xs) count test)
     by false test h = cc
 
 known_reported : (count : ℕ) (d : Data) (pairs : List (ℕ × ℕ)) → reported count d ≡ Ok pairs → length pairs ≡ count

@@ -22,14 +22,14 @@ pub history-append : (xs ys : LockLog) → history_in (xs ++ ys) ≡ history_in 
 history-append [] ys = refl
 history-append (x ∷ xs) ys = ap (λ (l : History). x.made ∷ l) (history-append xs ys)
 
-calls-append : (xs ys : LockLog) → AreLockCalls xs → AreLockCalls ys → AreLockCalls (xs ++ ys)
-calls-append [] ys a b = b
-calls-append (x ∷ xs) ys a b = (a.0, calls-append xs ys a.1 b)
+lock_calls-append : (xs ys : LockLog) → AreLockCalls xs → AreLockCalls ys → AreLockCalls (xs ++ ys)
+lock_calls-append [] ys a b = b
+lock_calls-append (x ∷ xs) ys a b = (a.0, lock_calls-append xs ys a.1 b)
 
-is_reply : (limits : Bounds) (events : List LockEvent) (content : List ℕ) (call : Call)
+is_lock_reply : (limits : Bounds) (events : List LockEvent) (content : List ℕ) (call : Call)
     (reply : Reply) → IsTrue (is_lock_call call) → Replies (transition limits events call) reply →
     IsReply limits events content call reply
-is_reply limits events content call reply lock replies = rw lock replies
+is_lock_reply limits events content call reply lock replies = rw lock replies
 
 -- a history one call longer
 module _ (limits : Bounds) (log : LockLog) (call : Call) (name : List ℕ) (t : Transition)
@@ -44,10 +44,10 @@ module _ (limits : Bounds) (log : LockLog) (call : Call) (name : List ℕ) (t : 
   legal_longer lock legal =
       let replies : Replies (transition_after limits log call) t.reply =
       subst (λ (o : Option Transition). Replies o t.reply) (sym is) refl in
-      let answered = is_reply limits (events_after limits log) (content_after 0 (history_in log))
+      let answered = is_lock_reply limits (events_after limits log) (content_after 0 (history_in log))
       call t.reply lock replies in
       record {
-        calls = calls-append log (entry name (call, t.reply) ∷ []) legal.calls (lock, tt);
+        calls = lock_calls-append log (entry name (call, t.reply) ∷ []) legal.calls (lock, tt);
         legal = subst (IsLegal limits 0) (sym history_longer)
             (legal_more limits [] (zeros 0) (history_in log) (call, t.reply) legal.legal answered);
       }

@@ -1,62 +1,27 @@
 -- A new record: the first pass alone; no history and zeros, or one put and its words.
-use Rattle.std.proofs.Common.{◌≡◌, ℕ, zero, suc, ◌+◌, ◌≤◌, List, [], ◌∷◌, replicate, take, get_or}
-use Rattle.std.proofs.Common.{false, true≢false, refl, sym, ap, ◌∙◌, subst, arith, length-take-le}
+use Rattle.std.proofs.Common.{◌≡◌, ℕ, ◌+◌, ◌≤◌, List, [], ◌∷◌, replicate, take, get_or}
+use Rattle.std.proofs.Common.{false, true≢false, refl, sym, ◌∙◌, arith, length-take-le}
 use Rattle.std.proofs.Common.{add-one, length, Some, Bool}
 use Rattle.std.proofs.lemmas.List.{get_or-take, get_or-replicate, length-replicate}
-use mathlib.Core.Option.{some, some-injective, some-ne-none}
-use lib.ListN.{get_elem?}
 use Rattle.atomic_table.specs.Table.{opening}
 use Rattle.stamp_core.specs.Limits.{Bounds}
 use Rattle.stamp_core.specs.declared.call.Call.TheVariants.{Put}
 use Rattle.stamp_core.specs.declared.reply.Reply.TheVariants.{Done}
 use Rattle.stamp_threads.specs.declared.record_view.RecordEvent.TheVariants.{Mark}
 use Rattle.stamp_threads.specs.declared.record_view.RecordShape.{RecordShape}
-use Rattle.stamp_threads.specs.PassName.{IsRooted, AreRooted, HasGivenAll}
+use Rattle.stamp_threads.specs.PassName.{HasGivenAll}
 use Rattle.stamp_threads.specs.PassView.{entry}
-use Rattle.stamp_threads.specs.Seats.{StandsAt, AreSeated}
 use Rattle.stamp_threads.specs.RecordWord.{word_with}
 use Rattle.stamp_threads.specs.RecordLog.{RecordLog, IsLegalRecord}
 use Rattle.stamp_threads.specs.RecordPass.{RecordPassView, IsConsistentWith, first_pass}
 use Rattle.stamp_threads.proofs.RecordLogs.{legal_marked, legal_longer}
 use Rattle.stamp_threads.specs.RecordRule.{KnowsPart, IsKept, opening_log, opening_pass}
 use Rattle.stamp_threads.proofs.Beginnings.{begins_all}
-use Rattle.stamp_threads.proofs.ListElements.{only_one}
-use Rattle.stamp_threads.proofs.GivenNames.{regiven, not_longer}
-
--- it stands at the one place
-only_place : (v : RecordPassView) (i k : ℕ) (u : RecordPassView) →
-    StandsAt ((v ∷ []) ∷ []) i k u → (i ≡ 0) × (k ≡ 0) × (u ≡ v)
-only_place v zero k u st = only_one (λ l w. (zero ≡ 0) × (l ≡ 0) × (w ≡ v)) v
-    (refl, refl, refl) k u (subst (λ (l : List RecordPassView). get_elem? l k ≡ some u)
-    (sym (some-injective _ _ st.1)) st.2)
-only_place v (suc i) k u st = absurd (some-ne-none st.0 (sym st.1))
+use Rattle.stamp_threads.proofs.GivenNames.{not_longer}
+use Rattle.stamp_threads.proofs.NewComers.{stands_alone}
 
 later : (x : ℕ) (xs : List ℕ) (i : ℕ) → get_or (x ∷ xs) (i + 1) 0 ≡ get_or xs i 0
 later x xs i = rw add-one refl
-
--- the first pass stands beside no other
-stands_alone : (Now : RecordPassView → Type 0) (log : RecordLog) (v : RecordPassView) →
-    v.name ≡ 0 ∷ [] → v.splits ≡ 0 → Now v → AreRooted 1 log →
-    AreSeated Now 1 log ((v ∷ []) ∷ [])
-stands_alone Now log v name splits fits rooted =
-    let named : (u : RecordPassView) → u ≡ v → u.name ≡ 0 ∷ [] =
-    λ u e. ap (λ (w : RecordPassView). w.name) e ∙ name in
-    record {
-      fits = λ i k u st. subst Now (sym (only_place v i k u st).2) fits;
-      apart = λ i k j l u w a b e.
-          let p = only_place v i k u a in
-          let q = only_place v j l w b in
-          (p.0 ∙ sym q.0, p.1 ∙ sym q.1);
-      given = λ i k j l u w a b.
-          let p = only_place v i k u a in
-          let q = only_place v j l w b in
-          regiven u.name (0 ∷ []) u.splits 0 w.name (0 ∷ []) (named u p.2)
-          (ap (λ (x : RecordPassView). x.splits) p.2 ∙ splits) (named w q.2)
-          (not_longer (0 ∷ []) 0);
-      rooted = λ i k u st.
-          subst (IsRooted 1) (sym (named u (only_place v i k u st).2)) (omega arith);
-      entries = rooted;
-    }
 
 pub first_consistent : (width : ℕ) → IsConsistentWith width first_pass
 first_consistent width = record {
@@ -66,10 +31,10 @@ first_consistent width = record {
   given = tt;
 }
 
-pub opens : {enterable : Bool} (shape : RecordShape) (first : ℕ) → first ≡ word_with shape.limits.layout 0 false →
-    shape.width ≤ 16 → IsKept enterable (λ _. Unit {0}) shape
+pub record_opens : {enterable : Bool} (shape : RecordShape) (first : ℕ) →
+    first ≡ word_with shape.limits.layout 0 false → shape.width ≤ 16 → IsKept enterable (λ _. Unit {0}) shape
     (opening (take (shape.width + 1) (first ∷ replicate 16 0)) [] (first_pass ∷ []))
-opens shape first is narrow =
+record_opens shape first is narrow =
     let cells : List ℕ = take (shape.width + 1) (first ∷ replicate 16 0) in
     let fits : KnowsPart (λ _. Unit {0}) shape.width cells [] first_pass = record {
       part = record { known = begins_all []; own = refl; given = tt };

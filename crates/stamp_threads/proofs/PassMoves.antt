@@ -13,12 +13,12 @@ use Rattle.stamp_threads.proofs.GivenNames.{part-after_split, part-split_off}
 use Rattle.stamp_threads.proofs.SeatMoves.{gives, together, parted}
 use Rattle.stamp_threads.proofs.NewComers.{comes, new_part}
 
-with_views : {enterable : Bool} (limits : Bounds) (s : State (Unit {0}) (List LockPassView))
+lock_with_views : {enterable : Bool} (limits : Bounds) (s : State (Unit {0}) (List LockPassView))
     (r : IsKept enterable limits s) (roots : ℕ) (one_root : enterable ≡ false → roots ≡ 1)
     (views : List (List LockPassView)) →
     AreSeated (IsPart every r.log) roots r.log views →
     IsKept enterable limits record { words = s.words; homes = s.homes; views = views }
-with_views limits s r roots one_root views passes = record {
+lock_with_views limits s r roots one_root views passes = record {
   log = r.log;
   roots = roots;
   one_root = one_root;
@@ -38,7 +38,7 @@ splits_give enterable limits id me is =
     (map split_off vs)) (sym (ap (λ (m : Seated). m.0) is)) (λ s r at.
     let v : LockPassView = first_of me.0 in
     let f = r.passes.fits id 0 v (v ∷ [], at, refl) in
-    with_views limits s r r.roots r.one_root (set s.views id (after_split v ∷ []) ++ (split_off v ∷ []) ∷ [])
+    lock_with_views limits s r r.roots r.one_root (set s.views id (after_split v ∷ []) ++ (split_off v ∷ []) ∷ [])
     (gives (IsPart every r.log) r.roots r.log s.views r.passes id v at (part-after_split every r.log v f)
     (part-split_off every r.log v f)))
 
@@ -56,7 +56,7 @@ joins_share enterable limits id me other them is their =
     )) (λ s r at away there.
     let v : LockPassView = first_of me.0 in
     let u : LockPassView = first_of them.0 in
-    with_views limits s r r.roots r.one_root (set (set s.views id (v ∷ u ∷ [])) other [])
+    lock_with_views limits s r r.roots r.one_root (set (set s.views id (v ∷ u ∷ [])) other [])
     (together (IsPart every r.log) r.roots r.log s.views r.passes id v other u at away there))
 
 -- and on two again
@@ -68,7 +68,7 @@ splits_part enterable limits id me is =
     (sym (ap (λ (m : Seated). m.0) is)) (λ s r at.
     let v : LockPassView = first_of me.0 in
     let u : LockPassView = second_of me.0 in
-    with_views limits s r r.roots r.one_root (set s.views id (v ∷ []) ++ (u ∷ []) ∷ [])
+    lock_with_views limits s r r.roots r.one_root (set s.views id (v ∷ []) ++ (u ∷ []) ∷ [])
     (parted (IsPart every r.log) r.roots r.log s.views r.passes id v u at))
 
 pub splits_consistent : (limits : Bounds) (v : LockPassView) → IsConsistentWith limits v →
@@ -96,7 +96,7 @@ allows_enter limits slots may s r _ _ =
     let v : LockPassView = entering r.roots tt r.log (get_or s.words 0 0) in
     let part : IsPart every r.log v = new_part every r.roots tt r.log (get_or s.words 0 0) r.passes.entries in (
       v ∷ [],
-      with_views limits s r (r.roots + 1)
+      lock_with_views limits s r (r.roots + 1)
           (λ shut. absurd (true≢false (sym may ∙ shut))) (s.views ++ (v ∷ []) ∷ [])
           (comes (IsPart every r.log) r.roots r.log s.views r.passes tt (get_or s.words 0 0) part),
       (

@@ -73,9 +73,9 @@ content_longer width log name call reply =
     content_from-append (zeros width) (history_in log) ((call, reply) ∷ [])
 
 -- legality
-calls-append : (xs ys : History) → AreRecordCalls xs → AreRecordCalls ys → AreRecordCalls (xs ++ ys)
-calls-append [] ys a b = b
-calls-append (x ∷ xs) ys a b = (a.0, calls-append xs ys a.1 b)
+record_calls-append : (xs ys : History) → AreRecordCalls xs → AreRecordCalls ys → AreRecordCalls (xs ++ ys)
+record_calls-append [] ys a b = b
+record_calls-append (x ∷ xs) ys a b = (a.0, record_calls-append xs ys a.1 b)
 
 pub legal_marked : (width : ℕ) (log : RecordLog) (name : List ℕ) → IsLegalRecord width log →
     IsLegalRecord width (log ++ entry name Mark ∷ [])
@@ -85,11 +85,11 @@ legal_marked width log name legal = record {
       (legal.legal limits);
 }
 
-is_reply : (limits : Bounds) (width : ℕ) (log : RecordLog) (call : Call) (reply : Reply) →
+is_record_reply : (limits : Bounds) (width : ℕ) (log : RecordLog) (call : Call) (reply : Reply) →
     is_lock_call call ≡ false → RecordReplies (content_in width log) call reply →
     IsReply limits (events_of limits (history_in log)) (content_after width (history_in log)) call
     reply
-is_reply limits width log call reply other replies = rw other replies
+is_record_reply limits width log call reply other replies = rw other replies
 
 pub legal_longer : (width : ℕ) (log : RecordLog) (name : List ℕ) (call : Call) (reply : Reply) →
     is_lock_call call ≡ false → RecordReplies (content_in width log) call reply →
@@ -98,10 +98,10 @@ legal_longer width log name call reply other replies legal =
     let is = sym (history_longer log name call reply) in
     record {
       calls = subst AreRecordCalls is
-          (calls-append (history_in log) ((call, reply) ∷ []) legal.calls (other, tt));
+          (record_calls-append (history_in log) ((call, reply) ∷ []) legal.calls (other, tt));
       legal = λ limits. subst (IsLegal limits width) is
           (legal_more limits [] (zeros width) (history_in log) (call, reply) (legal.legal limits)
-          (is_reply limits width log call reply other replies));
+          (is_record_reply limits width log call reply other replies));
     }
 
 -- marks of the name that the event is under

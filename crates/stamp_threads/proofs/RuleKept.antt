@@ -88,9 +88,9 @@ Steps enterable limits s id word w = IsKept enterable limits
     IsConsistentWith limits w
 
 -- a step of this seat leaves this word, and one pass there, which has learned this
-abbrev Leaves : Bool → Bounds → State (Unit {0}) (List LockPassView) → ℕ → Seated → ℕ →
+abbrev LeavesOnePass : Bool → Bounds → State (Unit {0}) (List LockPassView) → ℕ → Seated → ℕ →
     (LockPassView → Type 0) → Type 0
-Leaves enterable limits s id me word Learned = (w : List LockPassView) × (a : Act (Unit {0})) ×
+LeavesOnePass enterable limits s id me word Learned = (w : List LockPassView) × (a : Act (Unit {0})) ×
     Valid s.homes me.1 a × IsKept enterable limits (stepped s 0 word id me.1 w a) ×
     (((w, carried_after me.1 a) ≡ alone (first_of w)) × Learned (first_of w))
 
@@ -179,10 +179,10 @@ module _ {enterable : Bool} (limits : Bounds) (s : State (Unit {0}) (List LockPa
     module _ (me : Seated) (is : me ≡ alone v) where
       -- where the step leaves the pass w
       leaves : (word : ℕ) (w : LockPassView) (Learned : LockPassView → Type 0) →
-          Steps enterable limits s id word w → Learned w → Leaves enterable limits s id me word Learned
+          Steps enterable limits s id word w → Learned w → LeavesOnePass enterable limits s id me word Learned
       leaves word w Learned t learned = (w ∷ [], keeps, tt, t.0, (λ i. (w ∷ [], (is i).1), learned))
 
-      pub load_leaves : Leaves enterable limits s id me (get_or s.words 0 0)
+      pub load_leaves : LeavesOnePass enterable limits s id me (get_or s.words 0 0)
           (Loaded limits call v (get_or s.words 0 0))
       load_leaves = leaves (get_or s.words 0 0) (after_load limits call after_finding r.log)
           (Loaded limits call v (get_or s.words 0 0)) loads
@@ -190,7 +190,7 @@ module _ {enterable : Bool} (limits : Bounds) (s : State (Unit {0}) (List LockPa
 
       pub win_leaves : (old new : ℕ) (reply : Reply) → get_or s.words 0 0 ≡ old →
           Changes limits (word_at limits old) call (word_at limits new) reply →
-          Leaves enterable limits s id me new (Won limits call v (get_or s.words 0 0))
+          LeavesOnePass enterable limits s id me new (Won limits call v (get_or s.words 0 0))
       win_leaves old new reply hit changes =
           let t = wins old new reply hit changes in
           leaves new (after_win limits call after_finding r.log) (Won limits call v (get_or s.words 0 0)) t
@@ -210,7 +210,7 @@ exchange_at : {enterable : Bool} (limits : Bounds) (s : State (Unit {0}) (List L
     get_elem? s.views id ≡ some (first_of me.0 ∷ []) →
     Changes limits (word_at limits old) call (word_at limits new) reply → (b : Bool) →
     eqb (get_or s.words 0 0) old ≡ b →
-    Leaves enterable limits s id me (either b new (get_or s.words 0 0)) (λ w. MatchBool b
+    LeavesOnePass enterable limits s id me (either b new (get_or s.words 0 0)) (λ w. MatchBool b
     (Won limits call (first_of me.0) (get_or s.words 0 0) w)
     (Loaded limits call (first_of me.0) (get_or s.words 0 0) w))
 exchange_at limits s r id me call old new reply lock is here changes true e =

@@ -1,4 +1,4 @@
-use Rattle.stamp_core.proofs.WordTransition.{answered, changed, waits}
+use Rattle.stamp_core.proofs.WordTransition.{answered, changed, waited}
 use Rattle.stamp_core.proofs.decision.transition.Goals as goal
 
 pub returns-in-Answer : goal.returns-in-Answer
@@ -9,4 +9,4 @@ returns-in-Change c = changed c.args.limits c.args.word c.in-Change.next c.args.
     c.in-Change.ensures.decides
 
 pub returns-in-Wait : goal.returns-in-Wait
-returns-in-Wait c = waits c.args.limits c.args.word c.args.call c.in-Wait.ensures.decides
+returns-in-Wait c = waited c.args.limits c.args.word c.args.call c.in-Wait.ensures.decides

@@ -1,4 +1,5 @@
-use Rattle.std.proofs.Common.{◌≡◌, ℕ, List, true, false, length, sym, ap, subst, arith}
+use Rattle.std.proofs.Common.{◌≡◌, ℕ, List, length, sym, ap, subst, arith}
+use Rattle.std.proofs.lemmas.Bool.{false≢true}
 use Rattle.stamp_core.specs.Limits.{Bounds}
 use Rattle.stamp_explain.specs.declared.observed.Observation.{Observation}
 use Rattle.stamp_explain.specs.Observed.{IsSmall, observed_as}
@@ -18,12 +19,9 @@ unreachable-requires c =
     )) c.loop-i.invariant in
     let small : IsSmall (of_object c.args.lock h) = of_object_small h c.args.lock
     c.entries-entry-items.ensures.small in
-    differ (c.in-None.ensures.some.1
+    false≢true (c.in-None.ensures.some.1
     (subst (λ (es : List Observation). IsSmall (observed_as c.limits.result c.width.result es)) (sym kept)
     (subst (λ (w : ℕ). IsSmall (observed_as c.limits.result w (of_object c.args.lock h).entries))
     (sym c.width.ensures.width)
     (subst (λ (l : Bounds). IsSmall (observed_as l h.width (of_object c.args.lock h).entries))
     (sym c.limits.ensures) small))))
-  where
-    differ : false ≡ true → ⊥
-    differ h = cc

@@ -1,8 +1,9 @@
 use Rattle.std.proofs.Common.{◌<◌, ◌∷◌, [], ℕ, List, sym, ◌∙◌, subst, arith, None}
+use Rattle.std.proofs.lemmas.List.{nil_from_length}
 use Rattle.stamp_core.specs.declared.reply.Reply.{Reply}
 use Rattle.stamp_explain.specs.declared.node.Next.{Next}
 use Rattle.stamp_explain.specs.Expand.{AddsUnseen}
-use Rattle.stamp_explain.proofs.Exploring.{is_zero, is_more, nil_of_length, popped_inside, popped_node}
+use Rattle.stamp_explain.proofs.Exploring.{is_zero, is_more, popped_inside, popped_node}
 use Rattle.stamp_explain.proofs.Asked.{AsksSoFar, asked_first, asked_more, asked_end, asked_on, asked_reached}
 use Rattle.stamp_explain.proofs.Asked.{beside_inside}
 use Rattle.stamp_explain.specs.Asking.{IsReachedBeside}
@@ -20,7 +21,7 @@ pub returns-in_default-clause-some : goal.returns-in_default-clause-some
 returns-in_default-clause-some c =
     asked_end c.args.asking.now c.loop.counter c.loop.store c.loop.waiting.items c.loop.replies.items c.requires
     c.loop.invariant
-    (nil_of_length c.loop.waiting.items (sym c.loop.waiting.ok.0 ∙ c.in_default.ensures.cases.0))
+    (nil_from_length c.loop.waiting.items (sym c.loop.waiting.ok.0 ∙ c.in_default.ensures.cases.0))
 
 pub index-requires : goal.index-requires
 index-requires c = subst (λ (n : ℕ). c.in-Some.index < n) (sym c.loop.store.nodes.ok.0)
@@ -56,7 +57,7 @@ pub returns-then-is_empty-clause-some : goal.returns-then-is_empty-clause-some
 returns-then-is_empty-clause-some c =
     asked_end c.args.asking.now c.loop.counter c.loop.store c.loop.waiting.items c.loop.replies.items c.requires
     c.loop.invariant
-    (nil_of_length c.loop.waiting.items (sym c.loop.waiting.ok.0 ∙ is_zero c.loop.waiting.len c.if-is_empty.ensures))
+    (nil_from_length c.loop.waiting.items (sym c.loop.waiting.ok.0 ∙ is_zero c.loop.waiting.len c.if-is_empty.ensures))
 
 pub returns-clause-none : goal.returns-clause-none
 returns-clause-none c =

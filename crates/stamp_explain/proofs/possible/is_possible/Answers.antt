@@ -1,4 +1,5 @@
-use Rattle.std.proofs.Common.{◌≡◌, ◌+◌, false, true, refl, sym, ◌∙◌, ap, subst}
+use Rattle.std.proofs.Common.{◌+◌, refl, sym, ◌∙◌, ap, subst}
+use Rattle.std.proofs.lemmas.Bool.{false≢true}
 use Rattle.stamp_explain.specs.Observed.{ObservedHistory, IsObserved}
 use Rattle.stamp_explain.specs.Cut.{seen_at}
 use Rattle.stamp_explain.specs.declared.found.Found.{Found}
@@ -34,7 +35,7 @@ returns-in-Linearization-clause-ok c = (
 
 pub returns-in-Nothing-clause-ok : goal.returns-in-Nothing-clause-ok
 returns-in-Nothing-clause-ok c = (
-  λ no. absurd (differ no),
+  λ no. absurd (false≢true no),
   λ is. absurd (subst (λ (f : Found). Tells c.args.observed.now c.args.entry c.args.most c.args.reply f)
       c.in-Nothing.is
       (found_tells c.args.observed.now c.in_ok-seen.seen c.args.entry c.args.most c.index-entries-entry.result
@@ -44,9 +45,6 @@ returns-in-Nothing-clause-ok c = (
       ap (λ (h : ObservedHistory). seen_at c.in-Some.returned.last (c.args.entry + 1) h) c.in_ok-asked.ensures)
       c.in_ok-find.ensures) is),
 )
-  where
-    differ : false ≡ true → ⊥
-    differ h = cc
 
 pub returns-clause-undecided : goal.returns-clause-undecided
 returns-clause-undecided c = λ _. subst (λ (f : Found). Tells c.args.observed.now c.args.entry c.args.most

@@ -1,6 +1,7 @@
-use Rattle.std.proofs.Common.{◌≡◌, ◌+◌, ◌↔◌, ℕ, List, Vec, Global, true, false, sym, ◌∙◌, ap, subst, arith}
+use Rattle.std.proofs.Common.{◌+◌, ◌↔◌, ℕ, List, Vec, Global, sym, ◌∙◌, ap, subst, arith}
 use Rattle.std.specs.List.{Contains}
 use Rattle.std.proofs.lemmas.List.{take_all}
+use Rattle.std.proofs.lemmas.Bool.{false≢true}
 use Rattle.stamp_core.specs.declared.reply.Reply.{Reply}
 use Rattle.stamp_explain.specs.Possible.{IsPossible}
 use Rattle.stamp_explain.proofs.Choosing.{AreChosen, one_chosen, none_more_chosen}
@@ -20,11 +21,8 @@ loop-reply-preserved c =
       | else-branch w ↦ subst (AreChosen P replies (k + 1)) (sym (ap (λ (v : Vec Reply Global). v.items) w.found-is))
           (none_more_chosen P replies k c.reply-item.result c.loop-reply.found.items c.loop-reply-test.true
           c.reply-item.is c.loop-reply.invariant
-          (λ is. differ (sym w.if-branch.false ∙ c.in_ok-is_possible.ensures.ok.1 is)))
+          (λ is. false≢true (sym w.if-branch.false ∙ c.in_ok-is_possible.ensures.ok.1 is)))
     ]
-  where
-    differ : false ≡ true → ⊥
-    differ h = cc
 
 pub returns-clause-possible : goal.returns-clause-possible
 returns-clause-possible c = record {

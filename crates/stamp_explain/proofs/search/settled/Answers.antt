@@ -1,6 +1,7 @@
-use Rattle.std.proofs.Common.{◌≡◌, false, true, get_or, sym, ◌∙◌, ap, arith, None}
+use Rattle.std.proofs.Common.{◌≡◌, get_or, sym, ◌∙◌, ap, arith, None}
 use Rattle.std.specs.Int.{bit_at}
 use Rattle.std.proofs.lemmas.Option.{same_Some}
+use Rattle.std.proofs.lemmas.Bool.{false≢true}
 use Rattle.stamp_explain.specs.declared.observed.Observation.{Observation}
 use Rattle.stamp_explain.specs.Expand.PassesTo.{passes_none, passes_more}
 use Rattle.stamp_explain.specs.Expand.{ComesNext}
@@ -41,10 +42,7 @@ returns-clause-settled c = elim c.loop-node-test.branch [
         let same : get_or w.entries.result.now w.index.result.now w.index-entries-index.result ≡ a =
         same_Some (get_or w.entries.result.now w.index.result.now w.index-entries-index.result) a
         (sym is.at ∙ it.is_entry) in
-        false_true (sym w.if-not-has_bit.true ∙ w.has_bit.ensures.1
+        false≢true (sym w.if-not-has_bit.true ∙ w.has_bit.ensures.1
         (ap (λ (o : Observation). bit_at c.loop-node.node.threads o.thread) same ∙ bit));
   }
 ]
-  where
-    false_true : false ≡ true → ⊥
-    false_true h = cc

@@ -1,4 +1,4 @@
-use Rattle.std.proofs.Common.{◌≡◌, true, false, get_or, sym, ◌∙◌, ap}
+use Rattle.std.proofs.Common.{◌≡◌, get_or, sym, ◌∙◌, ap}
 use Rattle.std.specs.Prelude.{IsTrue}
 use Rattle.std.specs.Int.{bit_at}
 use Rattle.stamp_core.specs.Call.{call_suits}
@@ -6,6 +6,7 @@ use Rattle.stamp_explain.specs.declared.observed.Observation.{Observation}
 use Rattle.stamp_explain.specs.Node.{SetsBit}
 use Rattle.stamp_explain.proofs.Expanding.{at_index, entry_is, none_by_bit, none_by_reply, taken_to, trying}
 use Rattle.std.proofs.Common.{subst}
+use Rattle.std.proofs.lemmas.Bool.{false≢true}
 use Rattle.stamp_explain.proofs.search.take_of.Goals as goal
 
 pub returns-then-has_bit : goal.returns-then-has_bit
@@ -40,12 +41,9 @@ returns-in-Some c returns are it = record {
       c.args.i it.entry c.index-entries-i.result it.is_entry c.entries.ensures.entries in
       taken_to c.args.observed.now returns c.args.node.now a c.args.i s taken c.with_bit.result c.in-Some.transition
       (trying c.requires.observed are awaited stands it)
-      (λ bit. false_true (sym c.if-has_bit.false ∙ c.has_bit.ensures.1
+      (λ bit. false≢true (sym c.if-has_bit.false ∙ c.has_bit.ensures.1
       (ap (λ (o : Observation). bit_at c.args.node.now.threads o.thread) (sym same) ∙ bit)))
       (λ e at. c.in-Some.ensures e s at stands.at)
       (subst (λ (o : Observation). SetsBit c.args.node.now.threads c.with_bit.result o.thread) (sym same)
       c.with_bit.ensures);
 }
-  where
-    false_true : false ≡ true → ⊥
-    false_true h = cc

@@ -1,5 +1,5 @@
 use Rattle.stamp_core.specs.LockDecision.{reply_as}
-use Rattle.stamp_core.proofs.WordTransition.{answered, changed, waits}
+use Rattle.stamp_core.proofs.WordTransition.{answered, changed, waited}
 use Rattle.stamp_explain.proofs.transition.small_transition.Goals as goal
 
 pub returns-in-Answer : goal.returns-in-Answer
@@ -11,4 +11,4 @@ returns-in-Change c = changed c.args.limits c.args.word c.in-Change.next c.args.
     c.in-Change.ensures.decides
 
 pub returns-in-Wait : goal.returns-in-Wait
-returns-in-Wait c = waits c.args.limits c.args.word c.args.call.now c.in-Wait.ensures.decides
+returns-in-Wait c = waited c.args.limits c.args.word c.args.call.now c.in-Wait.ensures.decides

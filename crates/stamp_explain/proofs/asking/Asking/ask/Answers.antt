@@ -1,5 +1,6 @@
-use Rattle.std.proofs.Common.{◌≡◌, false, true, get_or, sym, ◌∙◌, subst}
+use Rattle.std.proofs.Common.{◌≡◌, get_or, sym, ◌∙◌, subst}
 use Rattle.std.proofs.lemmas.Option.{same_Some}
+use Rattle.std.proofs.lemmas.Bool.{false≢true}
 use Rattle.stamp_explain.specs.declared.observed.Observation.{Observation}
 use Rattle.stamp_explain.specs.Observed.{IsBefore}
 use Rattle.stamp_explain.proofs.Awaiting.{awaits_of}
@@ -30,9 +31,6 @@ transition_of-requires-clause-inside c = asked_inside c.args.self.now c.requires
 pub transition_of-requires-clause-suits : goal.transition_of-requires-clause-suits
 transition_of-requires-clause-suits c = asked_suits c.args.self.now c.requires.asks
 
-false_true : false ≡ true → ⊥
-false_true h = cc
-
 pub returns-in_ok-add : goal.returns-in_ok-add
 returns-in_ok-add c =
     let a : Observation = get_or c.entries-entries.result.now c.index.result.now c.index-entries-index.result in
@@ -46,7 +44,7 @@ returns-in_ok-add c =
     (λ e at before.
     let is : e ≡ asked = same_Some e asked (sym at ∙ asked_read c.args.self.now c.entries-entries.result.now
     c.index-entries-self.result c.requires.asks c.entries-entries.ensures.entries) in
-    false_true (sym c.if-is_before.false ∙ c.is_before.ensures.1
+    false≢true (sym c.if-is_before.false ∙ c.is_before.ensures.1
     (subst (λ (o : Observation). IsBefore o c.index-entries-self.result) (sym c.index-entries-index.is)
     (subst (λ (o : Observation). IsBefore a o) (is ∙ sym c.index-entries-self.is) before))))
     c.in-Some.ensures c.in_ok-add.ensures

@@ -5,7 +5,7 @@ use Rattle.stamp_core.specs.declared.layout.Layout.{Layout}
 use Rattle.stamp_threads.specs.RecordWord.{word_with}
 use Rattle.stamp_threads.specs.RecordPass.{first_pass}
 use Rattle.stamp_threads.specs.RecordRule.{IsKept}
-use Rattle.stamp_threads.proofs.NewRecord.{opens}
+use Rattle.stamp_threads.proofs.NewRecord.{record_opens}
 use Rattle.stamp_threads.proofs.running_record.RuledRecord+AnyContent.new.Goals as goal
 
 pub of_table-requires-clause-kept : goal.of_table-requires-clause-kept
@@ -17,6 +17,6 @@ of_table-requires-clause-kept c =
     let same : width ≡ length (take (width + 1) (word ∷ replicate 16 0)) - 1 = omega arith in
     subst (λ (n : ℕ). IsKept false (λ _. Unit {0}) (record { limits = limits; width = n })
     (opening (take (width + 1) (word ∷ replicate 16 0)) [] (first_pass ∷ []))) same
-    (opens (record { limits = limits; width = width }) _
+    (record_opens (record { limits = limits; width = width }) _
     (c.opening_word.ensures ∙ ap (λ (l : Layout). word_with l 0 false) c.layout.ensures.layout)
     c.requires.1)
