@@ -37,8 +37,9 @@ IMPL = re.compile(r"^impl(?:<([^>{]*)>)? (?:([\w:]+)(?:<(\w*)[^{]*>)? for )?([^{
 STATED = re.compile(r"^fn (\S+): (.*)$", re.M)
 # What is said of an edit that shows little of the contract: it changes the form, and not a value alone.
 LACKS_NAMES = "only since the proof lacks names that the edit took away"
-# What a proof says that cites a name which the edit took away.
-NAMES = re.compile(r"has no field|is not in scope|has no `|was not admitted|rattle does not read")
+# What a proof says that cites a name which the edit took away, or a declaration that was rejected for one.
+NAMES = re.compile(r"has no field|is not in scope|has no `|was not admitted|rattle does not read"
+                   r"|is not admitted: rejected|, which was rejected, ")
 
 
 class Failed(Exception):
@@ -192,6 +193,15 @@ def owner_of(function):
     return "::".join([module, *names[: 2 if names[0][:1].isupper() else 1]]) if inside else function
 
 
+def faults_in(folder, said):
+    """What is wrong in the proofs of this folder, but that names aren't there and what comes of that: first the goals
+    of its contract, then what its calls require."""
+    # a message that has a long name goes on in an indented line
+    wrong = re.findall(rf"^(?:\./)?{re.escape(folder)}\S+: error.*(?:\n  .*)?", said, re.M)
+    wrong = [it.split("\n")[0] for it in wrong if not NAMES.search(it)]
+    return sorted(wrong, key=lambda it: "-requires" in it)
+
+
 def why_of(function, crate, said):
     """What the prover says against the function itself."""
     stated = dict(STATED.findall(said))[function]
@@ -199,10 +209,7 @@ def why_of(function, crate, said):
         return stated.partition("; ")[2] or stated
     # a proof by hand: what is wrong in its own files
     folder = "proofs/" + function.removeprefix(f"{crate.name}::").replace("::", "/") + "/"
-    # a message that has a long name goes on in an indented line
-    wrong = re.findall(rf"^(?:\./)?{re.escape(folder)}\S+: error.*(?:\n  .*)?", said, re.M)
-    wrong = [it.split("\n")[0] for it in wrong if not NAMES.search(it)]
-    return wrong[0] if wrong else None
+    return next(iter(faults_in(folder, said)), None)
 
 
 def round_of(edits, calls):
@@ -239,8 +246,7 @@ def judged_alone(crate, edit, said):
     if not unproved:
         return {edit.name: f"NOT REFUSED: {', '.join(edit.functions)} proved with it"}
     whys = [why for why in (why_of(it, crate, said) for it in unproved) if why and not why.startswith("it calls ")]
-    wrong = [line for line in said.split("\n") if re.match(r"(?:\./)?proofs/\S+: error", line)]
-    whys += [line for line in wrong if not NAMES.search(line)]
+    whys += faults_in("proofs/", said)
     return {edit.name: f"refused: {whys[0][:160]}" if whys else f"refused: {LACKS_NAMES}"}
 
 
