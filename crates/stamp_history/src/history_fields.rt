@@ -1,10 +1,11 @@
 //! The fields of a history, each over one JSON value.
 
 ghost use Rattle.std.specs.Prelude.{◌≡◌, ◌||◌, option_and_then};
+ghost use Rattle.std.specs.Result.{result_map_both};
 ghost use Rattle.serde_json.specs.Find.{as_array};
 ghost use Rattle.serde_json.specs.View.{view, items_view};
 ghost use Rattle.stamp_history.specs.EntryValue as entry;
-ghost use Rattle.stamp_history.specs.Gives.{Gives, result_map};
+ghost use Rattle.stamp_history.specs.Gives.{Gives};
 ghost use Rattle.stamp_history.specs.HistoryFields as field;
 ghost use Rattle.stamp_history.specs.JsonValue as json;
 ghost use Rattle.stamp_history.specs.JsonReading.{each};
@@ -100,7 +101,7 @@ pub fn read_width(value: &Value) -> Result<u64, ReadError>
 /// it has over 640,000.
 #[tactic(auto, using(crate::proofs::ItemLengths::lengths))]
 pub fn listed_entries(value: &Value) -> Result<&[Value], ReadError>
-    ensures { result_map (λ list. items_view list.now) result
+    ensures { result_map_both (λ list. items_view list.now) (λ e. e) result
         ≡ field.listed_entries (view value.now) }
 {
     match list_under(value, "entries") {
@@ -201,7 +202,7 @@ fn pairs_in(alloc: Global, list: &[Value]) -> Result<Vec<(u64, u64)>, ReadError>
 
 #[tactic(auto, using(crate::proofs::ItemLengths::lengths))]
 fn listed_report(count: usize, value: &Value) -> Result<&[Value], ReadError>
-    ensures { result_map (λ list. items_view list.now) result
+    ensures { result_map_both (λ list. items_view list.now) (λ e. e) result
         ≡ field.listed_report count (view value.now) }
 {
     match list_under(value, "report") {

@@ -1,9 +1,10 @@
 //! The fields of a replay beside its limits, each over one JSON value.
 
 ghost use Rattle.std.specs.Prelude.{◌≡◌};
+ghost use Rattle.std.specs.Result.{result_map_both};
 ghost use Rattle.serde_json.specs.View.{view, items_view};
 ghost use Rattle.stamp_history.specs.SmallCall.{core_call, core_calls};
-ghost use Rattle.stamp_history.specs.Gives.{Gives, result_map};
+ghost use Rattle.stamp_history.specs.Gives.{Gives};
 ghost use Rattle.stamp_history.specs.JsonReading.{each};
 ghost use Rattle.stamp_history.specs.ReplayFields as field;
 
@@ -34,7 +35,7 @@ pub(crate) fn check_top(value: &Value) -> Result<(), ReadError>
 
 #[tactic(auto, using(crate::proofs::ItemLengths::lengths))]
 fn listed_calls(value: &Value) -> Result<&[Value], ReadError>
-    ensures { result_map (λ list. items_view list.now) result
+    ensures { result_map_both (λ list. items_view list.now) (λ e. e) result
         ≡ field.listed_calls (view value.now) }
 {
     match list_under(value, "calls") {
@@ -45,7 +46,7 @@ fn listed_calls(value: &Value) -> Result<&[Value], ReadError>
 }
 
 fn call_at(index: u64, value: &Value) -> Result<SmallCall, ReadError>
-    ensures { result_map core_call result ≡ field.call_at index (view value.now) }
+    ensures { result_map_both core_call (λ e. e) result ≡ field.call_at index (view value.now) }
 {
     lock_call_of(value).ok_or(TextKind::Replay.mistake(Field::Call(index)))
 }

@@ -1,9 +1,10 @@
 //! The fields of a script beside its limits, each over one JSON value.
 
 ghost use Rattle.std.specs.Prelude.{◌≡◌, map};
+ghost use Rattle.std.specs.Result.{result_map_both};
 ghost use Rattle.serde_json.specs.View.{view, items_view};
 ghost use Rattle.stamp_machines.specs.ScriptFault.{thread_calls};
-ghost use Rattle.stamp_history.specs.Gives.{Gives, result_map};
+ghost use Rattle.stamp_history.specs.Gives.{Gives};
 ghost use Rattle.stamp_history.specs.JsonReading.{each};
 ghost use Rattle.stamp_history.specs.ScriptValue as field;
 
@@ -50,7 +51,7 @@ fn are_lists(list: &[Value]) -> bool
 }
 
 fn listed_threads(value: Value) -> Result<Vec<Value>, ReadError>
-    ensures { result_map (λ list. items_view list.items) result
+    ensures { result_map_both (λ list. items_view list.items) (λ e. e) result
         ≡ field.listed_threads (view value) }
 {
     match take_list(value, "threads") {
@@ -113,7 +114,7 @@ pub(crate) fn read_threads(alloc: Global, value: Value) -> Result<Vec<Vec<Script
 }
 
 fn listed_steps(value: &Value) -> Result<&[Value], ReadError>
-    ensures { result_map (λ list. items_view list.now) result
+    ensures { result_map_both (λ list. items_view list.now) (λ e. e) result
         ≡ field.listed_steps (view value.now) }
 {
     match list_under(value, "steps") {

@@ -13,11 +13,11 @@ use Rattle.stamp_threads.proofs.ListElements.{at_end, only_one}
 use Rattle.stamp_threads.proofs.GivenNames.{regiven, not_longer}
 use Rattle.stamp_threads.proofs.MadeBy.{other_name, skips}
 
--- a pass that stands beside no other stands at the one place
-only_place : {V : Type 0} (v : V) (i k : ℕ) (u : V) → StandsAt ((v ∷ []) ∷ []) i k u → (i ≡ 0) × (k ≡ 0) × (u ≡ v)
-only_place {V} v zero k u st = only_one (λ l w. (zero ≡ 0) × (l ≡ 0) × (w ≡ v)) v (refl, refl, refl) k u
+-- a pass that stands beside no other stands at the one index
+only_index : {V : Type 0} (v : V) (i k : ℕ) (u : V) → StandsAt ((v ∷ []) ∷ []) i k u → (i ≡ 0) × (k ≡ 0) × (u ≡ v)
+only_index {V} v zero k u st = only_one (λ l w. (zero ≡ 0) × (l ≡ 0) × (w ≡ v)) v (refl, refl, refl) k u
     (subst (λ (l : List V). get_elem? l k ≡ some u) (sym (some-injective _ _ st.1)) st.2)
-only_place v (suc i) k u st = absurd (some-ne-none st.0 (sym st.1))
+only_index v (suc i) k u st = absurd (some-ne-none st.0 (sym st.1))
 
 pub stands_alone : {E P : Type 0} (Fits : PassView E P → Type 0) (log : List (LogEntry E)) (v : PassView E P) →
     v.name ≡ 0 ∷ [] → v.splits ≡ 0 → Fits v → AreRooted 1 log → AreSeated Fits 1 log ((v ∷ []) ∷ [])
@@ -25,19 +25,19 @@ stands_alone {E} {P} Fits log v name splits fits rooted =
     let named : (u : PassView E P) → u ≡ v → u.name ≡ 0 ∷ [] =
     λ u e. ap (λ (w : PassView E P). w.name) e ∙ name in
     record {
-      fits = λ i k u st. subst Fits (sym (only_place v i k u st).2) fits;
+      fits = λ i k u st. subst Fits (sym (only_index v i k u st).2) fits;
       apart = λ i k j l u w a b e.
-          let p = only_place v i k u a in
-          let q = only_place v j l w b in
+          let p = only_index v i k u a in
+          let q = only_index v j l w b in
           (p.0 ∙ sym q.0, p.1 ∙ sym q.1);
       given = λ i k j l u w a b.
-          let p = only_place v i k u a in
-          let q = only_place v j l w b in
+          let p = only_index v i k u a in
+          let q = only_index v j l w b in
           regiven u.name (0 ∷ []) u.splits 0 w.name (0 ∷ []) (named u p.2)
           (ap (λ (x : PassView E P). x.splits) p.2 ∙ splits) (named w q.2)
           (not_longer (0 ∷ []) 0);
       rooted = λ i k u st.
-          subst (IsRooted 1) (sym (named u (only_place v i k u st).2)) (omega arith);
+          subst (IsRooted 1) (sym (named u (only_index v i k u st).2)) (omega arith);
       entries = rooted;
     }
 

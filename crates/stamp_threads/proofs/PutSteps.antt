@@ -99,7 +99,7 @@ module _ {enterable : Bool} (P : List ℕ → Type 0) (shape : RecordShape) (s :
         passes = one_after P shape s r id v here w refl refl cells' log' grows brings others;
         writer = λ _. record {
           seat = id;
-          place = 0;
+          index = 0;
           writer = w;
           stands = one_stands P shape s r id v here w refl refl cells' log' grows brings others;
           writes = tt;
@@ -172,7 +172,7 @@ module _ {enterable : Bool} (P : List ℕ → Type 0) (shape : RecordShape) (s :
             passes = one_after P shape s r id v here w refl refl cells' r.log grows brings others;
             writer = λ _. record {
               seat = id;
-              place = 0;
+              index = 0;
               writer = w;
               stands = one_stands P shape s r id v here w refl refl cells' r.log grows brings others;
               writes = subst IsWriting (sym (ap storing_one writing)) tt;

@@ -80,7 +80,7 @@ two_idle v w e f = two_of (λ _ u. u.phase ≡ Idle) v w e f
 writer_before : (log : RecordLog) (views : List (List RecordPassView)) (us : List RecordPassView) →
     HasWriter log views → HasWriter log (views ++ us ∷ [])
 writer_before log views us t = writer_in log views (views ++ us ∷ []) t
-    (stands_before views us t.seat t.place t.writer t.stands)
+    (stands_before views us t.seat t.index t.writer t.stands)
 
 -- a seat of idle passes gets others, and maybe one more seat is there
 module _ (log : RecordLog) (views : List (List RecordPassView)) (id : ℕ)
@@ -89,8 +89,8 @@ module _ (log : RecordLog) (views : List (List RecordPassView)) (id : ℕ)
     (t : HasWriter log views) where
   writer_stays : (ws : List RecordPassView) → HasWriter log (set views id ws)
   writer_stays ws = writer_in log views (set views id ws) t
-      (stands_else views id ws t.seat t.place t.writer
-      (not_on views id vs at idle t.seat t.place t.writer t.stands t.writes) t.stands)
+      (stands_else views id ws t.seat t.index t.writer
+      (not_on views id vs at idle t.seat t.index t.writer t.stands t.writes) t.stands)
 
   writer_beside : (ws us : List RecordPassView) → HasWriter log (set views id ws ++ us ∷ [])
   writer_beside ws us = writer_before log (set views id ws) us (writer_stays ws)

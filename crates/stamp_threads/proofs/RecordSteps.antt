@@ -42,12 +42,12 @@ OthersKnow P shape s log id cells' log' = (i k : ℕ) (u : RecordPassView) → i
     StandsAt s.views i k u → Knows P shape.width s.words log u.name u.phase →
     Knows P shape.width cells' log' u.name u.phase
 
--- the writer stands at its place in other views, too
+-- the writer stands at its index in other views, too
 pub writer_in : (log : RecordLog) (views views' : List (List RecordPassView)) (t : HasWriter log views) →
-    StandsAt views' t.seat t.place t.writer → HasWriter log views'
+    StandsAt views' t.seat t.index t.writer → HasWriter log views'
 writer_in log views views' t stands = record {
   seat = t.seat;
-  place = t.place;
+  index = t.index;
   writer = t.writer;
   stands = stands;
   writes = t.writes;
@@ -168,8 +168,8 @@ module _ {enterable : Bool} (P : List ℕ → Type 0) (shape : RecordShape) (s :
     pub others_mark : is_locked r.log ≡ true → marker_in r.log ≢ v.name
     others_mark l m =
         let t = r.writer l in
-        away_from t.seat t.place t.writer t.stands t.writes
-        (r.passes.apart t.seat t.place id 0 t.writer v t.stands stands_here
+        away_from t.seat t.index t.writer t.stands t.writes
+        (r.passes.apart t.seat t.index id 0 t.writer v t.stands stands_here
         (sym t.marker ∙ m)).0
 
     -- the writer stands where it stood
@@ -178,8 +178,8 @@ module _ {enterable : Bool} (P : List ℕ → Type 0) (shape : RecordShape) (s :
     writer_else ws l =
         let t = r.writer l in
         writer_in r.log s.views (set s.views id ws) t
-        (stands_else s.views id ws t.seat t.place t.writer
-        (away_from t.seat t.place t.writer t.stands t.writes) t.stands)
+        (stands_else s.views id ws t.seat t.index t.writer
+        (away_from t.seat t.index t.writer t.stands t.writes) t.stands)
 
   module _ (w : RecordPassView) (name : w.name ≡ v.name) (splits : w.splits ≡ v.splits)
       (cells' : List ℕ) (log' : RecordLog) (grows : Grows (v ∷ []) r.log log')

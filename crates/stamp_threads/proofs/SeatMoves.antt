@@ -15,7 +15,7 @@ use Rattle.stamp_threads.proofs.GivenNames.{regiven, child_unused, given_more, n
 use Rattle.stamp_threads.proofs.GivenNames.{last_or_before, child_rooted}
 
 module _ {E P : Type 0} (Fits : PassView E P → Type 0) (roots : ℕ) (log : List (LogEntry E)) where
-  -- each pass stood somewhere before, and goes from there to one place
+  -- each pass stood somewhere before, and goes from there to one index
   moved : (before after : List (List (PassView E P))) → AreSeated Fits roots log before →
       (forward : ℕ → ℕ → ℕ × ℕ)
       → ((i k : ℕ) (v : PassView E P) → StandsAt after i k v →
@@ -114,8 +114,8 @@ module _ {E P : Type 0} (Fits : PassView E P → Type 0) (roots : ℕ) (log : Li
         HasGiven x.name x.splits y.name
     gives_child i k x y a is j rest p = ⊎_elim
         (λ (t : (v.name ≡ a.0.name) × (v.splits ≡ j)).
-        let place = r.apart id 0 i k v a.0 standing a.1 t.0 in
-        let l = a.4 (sym place.0) in
+        let index = r.apart id 0 i k v a.0 standing a.1 t.0 in
+        let l = a.4 (sym index.0) in
         let f = t.1 in
         omega arith)
         (λ (t : (more : List ℕ) × (v.name ≡ a.0.name ++ j ∷ more)). let l =

@@ -13,7 +13,7 @@ use Rattle.stamp_threads.proofs.ListElements.{only_one, two_of}
 use Rattle.stamp_threads.proofs.MadeBy.{Grows}
 use Rattle.stamp_threads.proofs.GivenNames.{regiven}
 
--- at each place stands a pass of the same name that has split as often
+-- at each index stands a pass of the same name that has split as often
 abbrev pub Same : {E P : Type 0} → List (PassView E P) → List (PassView E P) → Type 0
 Same {E} {P} vs ws = (k : ℕ) (w : PassView E P) → get_elem? ws k ≡ some w →
     (v : PassView E P) × (get_elem? vs k ≡ some v) × IsSamePass v w

@@ -62,9 +62,9 @@ IsWriting _ = ⊥
 -- some pass that stands is writing, and made the last mark
 pub record HasWriter (log : RecordLog) (views : List (List RecordPassView)) : Type 0 where
   pub seat : ℕ
-  pub place : ℕ
+  pub index : ℕ
   pub writer : RecordPassView
-  pub stands : StandsAt views seat place writer
+  pub stands : StandsAt views seat index writer
   pub writes : IsWriting writer.phase
   pub marker : marker_in log ≡ writer.name
 

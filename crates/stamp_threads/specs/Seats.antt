@@ -15,7 +15,7 @@ use Rattle.stamp_threads.specs.PassView.{first_pass}
 abbrev pub StandsAt : {V : Type 0} → List (List V) → ℕ → ℕ → V → Type 0
 StandsAt {V} seats i k v = (vs : List V) × (get_elem? seats i ≡ some vs) × (get_elem? vs k ≡ some v)
 
--- each pass that stands is so; two places have two names; no name stands that a pass may still give;
+-- each pass that stands is so; the names of two are apart; no name stands that a pass may still give;
 -- and the names that stand, and those of the entries, have roots that were taken
 pub record AreSeated {E P : Type 0} (Fits : PassView E P → Type 0) (roots : ℕ)
     (log : List (LogEntry E)) (seats : List (List (PassView E P))) : Type 0 where

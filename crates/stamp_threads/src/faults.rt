@@ -43,8 +43,8 @@ impl fmt::Display for PutFault {
 
 impl Error for PutFault {}
 
-/// Why the words were not read. The get changed nothing, and its pass has made no call more. In the
-/// caller's place, where there is one, may stand any words.
+/// Why the words were not read. The get changed nothing, and its pass has made no call more. The
+/// caller's words, where it gave some, may be any.
 #[derive(Clone, Copy, PartialEq, Eq, Debug, Drop)]
 pub enum GetFault {
     /// 1: somebody had write mode. The lock word was this one. Try again later.

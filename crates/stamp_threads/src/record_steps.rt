@@ -70,18 +70,18 @@ pub fn acquire<C: WordsStep, P: ContentRule>(
     table.compare_exchange::<AcquireStep<C>>(seat, 0, free, held)
 }
 
-/// Stores the word of this place.
+/// Stores the word of this index.
 #[inline(always)]
-pub fn store<P: ContentRule>(table: &RecordTable<P>, seat: &mut RecordSeat, place: usize, word: u64)
+pub fn store<P: ContentRule>(table: &RecordTable<P>, seat: &mut RecordSeat, index: usize, word: u64)
     requires seat { IsAtSeat table.now.table_id table.now.key.shape seat.old.table_id seat.old.me }
-    requires inside { (place < table.now.key.shape.width) × (table.now.key.shape.width ≤ 16) }
+    requires inside { (index < table.now.key.shape.width) × (table.now.key.shape.width ≤ 16) }
     requires writing { (version : ℕ) × (words : List ℕ)
-        × ((first_of seat.old.me.0).phase ≡ Writing version words place)
-        × (word ≡ slice_index words place) }
+        × ((first_of seat.old.me.0).phase ≡ Writing version words index)
+        × (word ≡ slice_index words index) }
     ensures table { seat.new.table_id ≡ seat.old.table_id }
     ensures learned { seat.new.me ≡ alone (stored_one (first_of seat.old.me.0)) }
 {
-    table.store::<StoreStep>(seat, place + 1, word);
+    table.store::<StoreStep>(seat, index + 1, word);
 }
 
 /// Stores each of the words.
@@ -141,17 +141,17 @@ pub fn load_for_get<C: WordsStep, P: ContentRule>(
     table.load::<LoadForGetStep<C>>(seat, 0)
 }
 
-/// Loads the word of this place.
+/// Loads the word of this index.
 #[inline(always)]
-pub fn load_word<P: ContentRule>(table: &RecordTable<P>, seat: &mut RecordSeat, place: usize) -> u64
+pub fn load_word<P: ContentRule>(table: &RecordTable<P>, seat: &mut RecordSeat, index: usize) -> u64
     requires seat { IsAtSeat table.now.table_id table.now.key.shape seat.old.table_id seat.old.me }
-    requires inside { (place < table.now.key.shape.width) × (table.now.key.shape.width ≤ 16) }
+    requires inside { (index < table.now.key.shape.width) × (table.now.key.shape.width ≤ 16) }
     requires loading { (version : ℕ) × (words : List ℕ)
-        × ((first_of seat.old.me.0).phase ≡ Loading version words) × (length words ≡ place) }
+        × ((first_of seat.old.me.0).phase ≡ Loading version words) × (length words ≡ index) }
     ensures table { seat.new.table_id ≡ seat.old.table_id }
     ensures learned { seat.new.me ≡ alone (loaded_one (first_of seat.old.me.0) result) }
 {
-    table.load::<LoadWordStep>(seat, place + 1)
+    table.load::<LoadWordStep>(seat, index + 1)
 }
 
 /// Loads each of the words.

@@ -248,8 +248,8 @@ impl<P: ContentRule> RuledRecord<P> {
         Ok(Words::of_row(row, width))
     }
 
-    /// As `get_once`, into a place of the caller's that has the width. It refuses as `get_once` does;
-    /// any words may stand in the place then.
+    /// As `get_once`, into words of the caller's that have the width. It refuses as `get_once` does;
+    /// they may be any words then.
     #[inline(always)]
     pub fn get_into(&self, pass: &mut RecordPass, into: &mut [u64]) -> Result<(), GetFault>
         requires table { pass.old.table ≡ self.now.table }
