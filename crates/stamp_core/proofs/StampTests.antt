@@ -2,7 +2,8 @@
 use Rattle.std.proofs.Common.{◌≡◌, ◌⊎◌, ℕ, ◌-◌, ◌≤◌, ◌==◌, inl, inr, arith, true}
 use Rattle.std.specs.Prelude.{◌||◌, nat_lt}
 use Rattle.std.proofs.lemmas.Bool.Decides.{nat_tests}
-use Rattle.std.proofs.lemmas.Bool.{and_parts, and_from, or_cases, or_left, or_right, eqb-true, eq-eqb, ltb-true, lt-ltb}
+use Rattle.std.proofs.lemmas.Bool.{and_parts, and_from, or_cases, or_left, or_right}
+use Rattle.std.proofs.lemmas.Bool.{eqb-true, eq-eqb, ltb-true, lt-ltb}
 use Rattle.stamp_core.specs.LockEvent.{counts}
 use Rattle.stamp_core.specs.Layout.{Units}
 use Rattle.stamp_core.specs.Limits.{units}
@@ -87,13 +88,17 @@ tests_are_exact limits events s range well_formed =
 
     write_held : is_held_write (units limits) (counts events) s ≡ true → IsHeldWrite limits events s
     write_held h = let parts = and_parts ((counts events).writers == 1)
-        (is_write_stamp (units limits) (counts events).write_count s) h in
-        (write_of (units limits) (counts events).write_count s most parts.1, eqb-true (counts events).writers 1 parts.0)
+        (is_write_stamp (units limits) (counts events).write_count s) h in (
+          write_of (units limits) (counts events).write_count s most parts.1,
+          eqb-true (counts events).writers 1 parts.0,
+        )
 
     read_held : is_held_read (units limits) (counts events) s ≡ true → IsHeldRead limits events s
     read_held h = let parts = and_parts (nat_lt 0 (counts events).readers)
-        (is_read_stamp (units limits) (counts events).write_count s) h in
-        (read_of (units limits) (counts events).write_count s most parts.1, ltb-true 0 (counts events).readers parts.0)
+        (is_read_stamp (units limits) (counts events).write_count s) h in (
+          read_of (units limits) (counts events).write_count s most parts.1,
+          ltb-true 0 (counts events).readers parts.0,
+        )
 
     of_write_held : IsHeldWrite limits events s → is_held_write (units limits) (counts events) s ≡ true
     of_write_held w = and_from ((counts events).writers == 1)

@@ -8,9 +8,8 @@ use Rattle.std.specs.List.Sorted.{IsPermutation, IsSorted}
 use Rattle.std.proofs.lemmas.List.Elements.{Contains-get_or, Contains-push, Contains-push_cases, Contains-append_left}
 use Rattle.std.proofs.lemmas.List.Sorted.{Contains-permutation, IsPermutation-sym}
 use Rattle.std.proofs.lemmas.List.{length-append, length-map, get_or_append_left, take_all}
-use Rattle.std.proofs.lemmas.Bool.Decides.{nat_tests}
 use Rattle.std.proofs.lemmas.Option.{same_Some, slice_get-get_or, get_or_from_slice_get, slice_get_within, none-some}
-use Rattle.std.proofs.lemmas.Bool.{false≢true}
+use Rattle.std.proofs.lemmas.Bool.{false≢true, leb-true, le-leb}
 use Rattle.stamp_explain.specs.declared.observed.Observation.{Observation}
 use Rattle.stamp_explain.specs.declared.observed.Returned.{Returned}
 use Rattle.stamp_explain.specs.declared.timeline.Timeline.{Timeline}
@@ -207,12 +206,6 @@ kept_has {X} test (y ∷ xs) x has is = by (test y) refl (contains_cases y xs x 
 abbrev pub is_left : ℕ → ℕ × ℕ → Bool
 is_left past p = nat_le past p.0
 
-is_left_true : (past n : ℕ) → nat_le past n ≡ true → past ≤ n
-is_left_true past n is = grind (arith, nat_tests)
-
-left_is_true : (past n : ℕ) → past ≤ n → nat_le past n ≡ true
-left_is_true past n le = grind (arith, nat_tests)
-
 -- what one more return makes of the calls that are kept
 pub record OpensAt (h : ObservedHistory) (ends begins : List (ℕ × ℕ)) (ranks : List ℕ) (k to : ℕ)
     (sorted : List (ℕ × ℕ)) : Type 0 where
@@ -255,11 +248,11 @@ opens_at h ends begins ranks k from to c old more sorted is lt kept begins_more 
         let found : Contains more p × (nat_le k p.0 ≡ true) = kept_cases (is_left k) more p
         (Contains-permutation sorted (filter (is_left k) more) p
         (IsPermutation-sym (filter (is_left k) more) sorted moved) has) in
-        (found.0, is_left_true k p.0 found.1)
+        (found.0, leb-true k p.0 found.1)
 
     to_sorted : (p : ℕ × ℕ) → Contains more p → k ≤ p.0 → Contains sorted p
     to_sorted p has le = Contains-permutation (filter (is_left k) more) sorted p moved
-        (kept_has (is_left k) more p has (left_is_true k p.0 le))
+        (kept_has (is_left k) more p has (le-leb k p.0 le))
 
     -- no later return is sooner
     rise : (m : ℕ) (d : ℕ × ℕ) → k ≤ m → m < length ends → end ≤ (get_or ends m d).0

@@ -111,8 +111,8 @@ not_over a b misses = by b.returned misses
         which (inl less) = absurd (misses less)
         which (inr le) = le
 
-not_past_end : (o : Option Returned) (q p end : ℕ) → MatchOption o (Unit {0}) (λ (r : Returned). q ≤ r.last) → q ≤ end →
-    p ≤ 64 * q + 63 → p ≤ ends_at o end
+not_past_end : (o : Option Returned) (q p end : ℕ) → MatchOption o (Unit {0}) (λ (r : Returned). q ≤ r.last) →
+    q ≤ end → p ≤ 64 * q + 63 → p ≤ ends_at o end
 not_past_end None q p end over most le = omega (arith, most, le)
 not_past_end (Some r) q p end over most le = omega (arith, over, le)
 

@@ -5,7 +5,7 @@ use Rattle.std.specs.Prelude.{if◌then◌else◌, nat_lt, ◌&&◌, ◌||◌}
 use Rattle.std.specs.Bool.{MatchBool}
 use Rattle.std.proofs.lemmas.List.{append-nil}
 use Rattle.std.proofs.lemmas.Bool.Decides.{nat_tests}
-use Rattle.std.proofs.lemmas.Bool.{false≢true}
+use Rattle.std.proofs.lemmas.Bool.{false≢true, eqb-true}
 use Rattle.stamp_core.specs.LockEvent.{LockEvent, Counts, counts}
 use Rattle.stamp_core.specs.Layout.{Units, units_of}
 use Rattle.stamp_core.specs.Limits.{Bounds, units}
@@ -70,9 +70,6 @@ laid_out l = by (units_of l) (either_layout l)
 
 stamp_inj : (a b : ℕ) → Stamp a ≡ Stamp b → a ≡ b
 stamp_inj a b e = cc
-
-zero_is : (r : ℕ) → (r == 0) ≡ true → r ≡ 0
-zero_is r h = grind (arith, nat_tests)
 
 zero_or_own : (r s : ℕ) → ((r == 0) || (r == s)) ≡ true → (r ≡ 0) ⊎ (r ≡ s)
 zero_or_own r s h = grind (arith, nat_tests)
@@ -157,15 +154,15 @@ to_optimistic_stays l c s r are own =
 row_stays : (l : Bounds) (c : Counts) (call : Call) (reply : Reply) → AreLaidOut (units l) →
     changes_nothing call reply ≡ true → Stays (row l c call) reply
 row_stays l c TryWrite (Stamp s) are h = stays_if (may_write l c) _ _ _
-    (λ _. stays_other _ _ _ (write_some (units l) (c.write_count + 1) s are (zero_is s h))) (λ _. stays_answer _ _)
+    (λ _. stays_other _ _ _ (write_some (units l) (c.write_count + 1) s are (eqb-true s 0 h))) (λ _. stays_answer _ _)
 row_stays l c TryWrite _ are h = absurd (false≢true h)
 row_stays l c TryRead (Stamp s) are h = stays_if (may_read l c) _ _ _
-    (λ _. stays_other _ _ _ (read_some (units l) c.write_count (c.readers + 1) s are (zero_is s h)))
+    (λ _. stays_other _ _ _ (read_some (units l) c.write_count (c.readers + 1) s are (eqb-true s 0 h)))
     (λ _. stays_answer _ _)
 row_stays l c TryRead _ are h = absurd (false≢true h)
 row_stays l c WriteLock (Stamp s) are h = stays_if (c.write_count == l.versions) _ _ _ (λ _. stays_answer _ _)
     (λ _. stays_if (may_write l c) _ _ _ (λ _. stays_other _ _ _
-    (write_some (units l) (c.write_count + 1) s are (zero_is s h))) (λ _. stays_none _))
+    (write_some (units l) (c.write_count + 1) s are (eqb-true s 0 h))) (λ _. stays_none _))
 row_stays l c WriteLock _ are h = absurd (false≢true h)
 row_stays l c ReadLock _ are h = absurd (false≢true h)
 row_stays l c Optimistic _ are h = stays_answer _ _

@@ -12,6 +12,7 @@ use Rattle.std.proofs.lemmas.List.{length-append}
 use Rattle.std.proofs.lemmas.List.Quantifiers.{all_pairs_push}
 use Rattle.std.proofs.lemmas.List.Sorted.{Contains-permutation, IsPermutation-sym}
 use Rattle.std.proofs.lemmas.Map.Views.{Contains-from_any, list_any-from_Contains}
+use Rattle.std.proofs.lemmas.Bool.{and_parts, eqb-true}
 use Rattle.stamp_explain.specs.declared.node.Node.{Node}
 use Rattle.stamp_explain.specs.declared.node.Origin.{Origin}
 use Rattle.stamp_explain.specs.declared.store.Store.{Store}
@@ -27,22 +28,15 @@ same_option None (Some y) h = absurd (grind arith)
 same_option (Some x) None h = absurd (grind arith)
 same_option (Some x) (Some y) h = let e : x ≡ y = grind (arith, nat_tests) in ap (λ (k : ℕ). Some k) e
 
-both : (a b : Bool) → (a && b) ≡ true → (a ≡ true) × (b ≡ true)
-both true b h = (refl, h)
-both false b h = absurd (grind arith)
-
-same_number : (a b : ℕ) → (a == b) ≡ true → a ≡ b
-same_number a b h = grind (arith, nat_tests)
-
 pub exact_key : (a b : Key) → same_key a b ≡ true → a ≡ b
 exact_key a b h =
-    let last = both (a.0 == b.0 && a.1 == b.1 && option_eq nat_eq a.2 b.2) (a.3 == b.3) h in
-    let third = both (a.0 == b.0 && a.1 == b.1) (option_eq nat_eq a.2 b.2) last.0 in
-    let two = both (a.0 == b.0) (a.1 == b.1) third.0 in
-    let e0 : a.0 ≡ b.0 = same_number a.0 b.0 two.0 in
-    let e1 : a.1 ≡ b.1 = same_number a.1 b.1 two.1 in
+    let last = and_parts (a.0 == b.0 && a.1 == b.1 && option_eq nat_eq a.2 b.2) (a.3 == b.3) h in
+    let third = and_parts (a.0 == b.0 && a.1 == b.1) (option_eq nat_eq a.2 b.2) last.0 in
+    let two = and_parts (a.0 == b.0) (a.1 == b.1) third.0 in
+    let e0 : a.0 ≡ b.0 = eqb-true a.0 b.0 two.0 in
+    let e1 : a.1 ≡ b.1 = eqb-true a.1 b.1 two.1 in
     let e2 : a.2 ≡ b.2 = same_option a.2 b.2 third.1 in
-    let e3 : a.3 ≡ b.3 = same_number a.3 b.3 last.1 in
+    let e3 : a.3 ≡ b.3 = eqb-true a.3 b.3 last.1 in
     ap (λ (x : ℕ). (x, a.1, a.2, a.3)) e0 ∙ ap (λ (x : ℕ). (b.0, x, a.2, a.3)) e1 ∙
     ap (λ (x : Option ℕ). (b.0, b.1, x, a.3)) e2 ∙ ap (λ (x : ℕ). (b.0, b.1, b.2, x)) e3
 

@@ -8,7 +8,7 @@ use Rattle.std.proofs.lemmas.Bool.Decides.{nat_tests, Decides-ltb, Decides-eqb, 
 use Rattle.std.proofs.lemmas.Bool.Decides.{Decides-like, Decides-by_and}
 use Rattle.std.proofs.lemmas.List.{length-map, length-take, get_or-take}
 use Rattle.std.proofs.lemmas.List.Sums.{position_or_len_is}
-use Rattle.std.proofs.lemmas.Bool.{leb-true, le-leb}
+use Rattle.std.proofs.lemmas.Bool.{leb-true, le-leb, le-ltb, lt-ltb}
 use Rattle.std.proofs.Math.Bool.{and-false}
 use Rattle.stamp_core.specs.Limits.{Bounds}
 use Rattle.stamp_core.specs.declared.script_error.ScriptError.{ScriptError}
@@ -97,20 +97,14 @@ given_script limits width threads steps = record {
   steps = steps;
 }
 
-below_most : (n most : ℕ) → n ≤ most → nat_lt most n ≡ false
-below_most n most le = grind (arith, nat_tests)
-
-above_most : (n most : ℕ) → most < n → nat_lt most n ≡ true
-above_most n most lt = grind (arith, nat_tests)
-
 pub no_fault : (limits : Bounds) (width : ℕ) (threads : List (Vec ScriptCall Global)) (steps : List ℕ) →
     IsGood width threads steps → first_fault (given_script limits width threads steps) ≡ None
 unfolding first_fault
 no_fault limits width threads steps good = rw (
   length-map threads thread_calls,
-  below_most (length threads) 64 good.0,
+  le-ltb 64 (length threads) good.0,
   (short threads).1 good.1,
-  below_most (length steps) 1000000 good.2,
+  le-ltb 1000000 (length steps) good.2,
   none_unknown (length threads) steps good.3,
   (at_most width 16).1 good.4,
   (suited_to_width width threads).1 good.5,
@@ -121,34 +115,34 @@ pub is_first_fault : (limits : Bounds) (width : ℕ) (threads : List (Vec Script
     first_fault (given_script limits width threads steps) ≡ Some fault
 unfolding first_fault
 is_first_fault limits width threads steps TooManyThreads first =
-    rw (length-map threads thread_calls, above_most (length threads) 64 first) refl
+    rw (length-map threads thread_calls, lt-ltb 64 (length threads) first) refl
 is_first_fault limits width threads steps TooManyCalls first =
     rw (
       length-map threads thread_calls,
-      below_most (length threads) 64 first.0,
+      le-ltb 64 (length threads) first.0,
       fails (are_short (map thread_calls threads)) (short threads) first.1,
     ) refl
 is_first_fault limits width threads steps TooManySteps first =
     rw (
       length-map threads thread_calls,
-      below_most (length threads) 64 first.0,
+      le-ltb 64 (length threads) first.0,
       (short threads).1 first.1,
-      above_most (length steps) 1000000 first.2,
+      lt-ltb 1000000 (length steps) first.2,
     ) refl
 is_first_fault limits width threads steps (NoSuchThread i) first =
     rw (
       length-map threads thread_calls,
-      below_most (length threads) 64 first.0,
+      le-ltb 64 (length threads) first.0,
       (short threads).1 first.1,
-      below_most (length steps) 1000000 first.2,
+      le-ltb 1000000 (length steps) first.2,
       unknown_at (length threads) steps i first.3,
     ) refl
 is_first_fault limits width threads steps RecordWidth first =
     rw (
       length-map threads thread_calls,
-      below_most (length threads) 64 first.0,
+      le-ltb 64 (length threads) first.0,
       (short threads).1 first.1,
-      below_most (length steps) 1000000 first.2,
+      le-ltb 1000000 (length steps) first.2,
       none_unknown (length threads) steps first.3,
       unsuited width threads first.4,
     ) refl
