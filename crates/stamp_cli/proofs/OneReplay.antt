@@ -6,6 +6,7 @@ use Rattle.std.proofs.lemmas.List.{take_all}
 use Rattle.std.specs.Prelude.{IsTrue, slice_get}
 use Rattle.std.specs.List.{All, zip}
 use Rattle.std.specs.Bool.{MatchBool}
+use Rattle.std.proofs.lemmas.Option.{slice_get_within}
 use Rattle.stamp_core.specs.LockEvent.{LockEvent, counts}
 use Rattle.stamp_core.specs.Limits.{Bounds, units}
 use Rattle.stamp_core.specs.Word.{LockWord, word_number}
@@ -106,11 +107,6 @@ front_of_front (suc i) zero calls below = absurd (omega arith)
 front_of_front (suc i) (suc n) [] below = refl
 front_of_front (suc i) (suc n) (k ∷ ks) below = ap (λ (cs : List Call). k ∷ cs) (front_of_front i n ks (omega arith))
 
-is_within : (i : ℕ) (calls : List Call) (call : Call) → slice_get calls i ≡ Some call → i < length calls
-is_within i [] call is = cc
-is_within zero (k ∷ ks) call is = omega arith
-is_within (suc i) (k ∷ ks) call is = let h = is_within i ks call is in omega arith
-
 -- the calls before one that waits have legal replies, and no further ones have
 excluded : (limits : Bounds) (calls : List Call) (i : ℕ) (n : ℕ) (replies : List Reply) → AreOfLock calls → i < n →
     WaitsAt limits calls i → length replies ≡ length (take n calls) →
@@ -127,7 +123,7 @@ excluded limits calls i n replies lock below w same legal =
 earlier : (limits : Bounds) (calls : List Call) (i j : ℕ) → AreOfLock calls → WaitsAt limits calls i →
     WaitsAt limits calls j → i < j → ⊥
 earlier limits calls i j lock w v below =
-    let within = is_within j calls v.call v.is_call in
+    let within = slice_get_within calls j v.call v.is_call in
     excluded limits calls i j v.replies lock below w (v.each ∙ sym (length-take-le j calls (omega arith))) v.legal
 
 pub one_wait : (limits : Bounds) (calls : List Call) (i j : ℕ) → AreOfLock calls → WaitsAt limits calls i →
@@ -140,7 +136,7 @@ one_wait limits calls i j lock w v =
 pub waits_or_replayed : (limits : Bounds) (calls : List Call) (i : ℕ) (replies : List Reply) (word : LockWord) →
     AreOfLock calls → WaitsAt limits calls i → IsReplayed limits calls replies word → ⊥
 waits_or_replayed limits calls i replies word lock w done =
-    let within = is_within i calls w.call w.is_call in
+    let within = slice_get_within calls i w.call w.is_call in
     let whole : take (length calls) calls ≡ calls = take_all (length calls) calls (omega arith) in
     excluded limits calls i (length calls) replies lock within w (done.each ∙ sym (ap length whole))
     (rw whole done.legal)

@@ -34,15 +34,16 @@ decided limits call number d range is =
     subst (Decides limits (word_at limits number) call) is
     (decisions_are_transitions limits number call range)
 
-turn_on-leads : (p : PhaseState) (found : ℕ) (d : Decision) → AreInRange p.limits →
+-- it found another word
+pub lost : (p : PhaseState) (found : ℕ) (d : Decision) → AreInRange p.limits →
     IsTrue (is_lock_call p.call) → IsAdmitted p.limits (word_at p.limits found) →
     p.seen ≢ Some found → Decides p.limits (word_at p.limits found) p.call d →
     LeadsBy p found (turn_on found d)
-turn_on-leads p found (Answer reply) range lock a lost says =
-    record { won = λ won. absurd (lost won); answered = λ n. says }
-turn_on-leads p found (Change new reply) range lock a lost says =
+lost p found (Answer reply) range lock a other says =
+    record { won = λ won. absurd (other won); answered = λ n. says }
+lost p found (Change new reply) range lock a other says =
     record {
-      not_won = lost;
+      not_won = other;
       same = (refl, refl, refl);
       next = inl (
         refl,
@@ -51,9 +52,9 @@ turn_on-leads p found (Change new reply) range lock a lost says =
         by_number p.limits (word_at p.limits found) p.call new reply says,
       );
     }
-turn_on-leads p found Wait range lock a lost says =
+lost p found Wait range lock a other says =
     record {
-      not_won = lost;
+      not_won = other;
       same = (refl, refl, refl);
       next = inr (
         refl,
@@ -81,13 +82,6 @@ won p found new reply seen says =
       );
       answered = λ n. absurd (n seen);
     }
-
--- it found another word
-pub lost : (p : PhaseState) (found : ℕ) (d : Decision) → AreInRange p.limits →
-    IsTrue (is_lock_call p.call) → IsAdmitted p.limits (word_at p.limits found) →
-    p.seen ≢ Some found → Decides p.limits (word_at p.limits found) p.call d →
-    LeadsBy p found (turn_on found d)
-lost p found d range lock a other says = turn_on-leads p found d range lock a other says
 
 -- a word that was seen is one on which the call does not wait
 pub not_seen : (limits : Bounds) (call : Call) (seen : Option ℕ) (found : ℕ) →

@@ -4,6 +4,7 @@ use Rattle.std.proofs.Common.{refl, sym, ◌∙◌, subst, inl, inr, arith, leng
 use Rattle.std.proofs.Common.{get_or-set_same, get_or-set_other}
 use Rattle.std.specs.Prelude.{take}
 use Rattle.std.specs.List.{All, AllPairs}
+use Rattle.std.proofs.lemmas.Bool.{cases_eq}
 use Rattle.std.proofs.Math.ListN.{length-set}
 use Rattle.std.proofs.Math.Seq.{get_or-append_seam}
 use Rattle.std.proofs.lemmas.List.{take_more, get_or_append_left, get_or-take, length-replicate, get_or-replicate}
@@ -40,9 +41,6 @@ none_kept = record {
 follows_these : (spans : List Span) (s : Span) (n : ℕ) → IsFreeFrom spans s.thread n → n ≤ s.first →
     (k : ℕ) (d : Span) → k < length spans → Follows (get_or spans k d) s
 follows_these spans s n free le k d lt same = omega (arith, free.0 k d lt same, le)
-
-same_or_not : (n m : ℕ) → (n ≡ m) ⊎ (n ≢ m)
-same_or_not n m = grind arith
 
 free_of_other : (spans : List Span) (s : Span) (t n : ℕ) → s.thread ≢ t → IsFreeFrom spans t n →
     IsFreeFrom (spans ++ s ∷ []) t n
@@ -81,7 +79,7 @@ one_more spans free s are few rising le = record {
   follow = all_pairs_push Follows spans s are.follow
       (follows_these spans s (get_or free s.thread 0) (are.from s.thread few) le);
   threads = length-set free s.thread s.free ∙ are.threads;
-  from = λ t lt. by t lt (same_or_not s.thread t);
+  from = λ t lt. by t lt (cases_eq s.thread t);
 }
   where
     by : (t : ℕ) → t < 64 → (s.thread ≡ t) ⊎ (s.thread ≢ t) →

@@ -1,16 +1,13 @@
-use Rattle.std.proofs.Common.{◌≡◌, true, false}
+use Rattle.std.proofs.lemmas.Bool.{false≢true}
 use Rattle.stamp_observed.proofs.Following.{none_kept, next_follows, next_is_kept}
 use Rattle.stamp_observed.proofs.spans.follow.Goals as goal
-
-differ : false ≡ true → ⊥
-differ h = cc
 
 pub loop-span-init : goal.loop-span-init
 loop-span-init c = none_kept
 
 pub returns-then-span-free : goal.returns-then-span-free
 returns-then-span-free c = (
-  λ no. absurd (differ no),
+  λ no. absurd (false≢true no),
   λ pairs. absurd (next_is_kept c.args.spans.now c.loop-span.free c.loop-span.span-index _ c.loop-span-test.true
       c.loop-span.invariant (c.requires.threads c.loop-span.span-index _ c.loop-span-test.true) c.if-span-free.true
       pairs),
