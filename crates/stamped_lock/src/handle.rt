@@ -30,8 +30,8 @@ use std::sync::Wait;
 /// the handle: dropping a handle releases nothing.
 #[derive(Drop)]
 pub struct LockHandle<'a> {
-    pub(crate) running: &'a RunningLock,
-    pub(crate) pass: Pass,
+    running: &'a RunningLock,
+    pass: Pass,
     ghost table: { pass.table ≡ running.now.table },
 }
 
@@ -72,10 +72,11 @@ impl<'a> LockHandle<'a> {
         }
     }
 
-    /// Makes the call by `RunningLock::once`. This and `by_call` are functions of their own, built in,
-    /// for speed: so a call that `once_or_call` might need again is put into memory only where it lost.
+    /// Makes the call by `RunningLock::once`; the calls that are tried once go by it too. This and `by_call`
+    /// are functions of their own, built in, for speed: so a call that `once_or_call` might need again is
+    /// put into memory only where it lost.
     #[inline(always)]
-    fn by_once(&mut self, call: Call) -> Result<Reply, Lost>
+    pub(crate) fn by_once(&mut self, call: Call) -> Result<Reply, Lost>
         requires lock_call { IsTrue (is_lock_call call) }
         requires at_once { try_form call ≡ call }
         ensures made { MadeOrLost call (λ r. r) result self.old self.new }

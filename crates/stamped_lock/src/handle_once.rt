@@ -20,7 +20,7 @@ impl<'a> LockHandle<'a> {
     pub fn try_write_once(&mut self) -> Result<Option<Stamp>, Lost>
         ensures { MadeOrLost TryWrite stamped result self.old self.new }
     {
-        let reply = self.running.once(&mut self.pass, Call::TryWrite)?;
+        let reply = self.by_once(Call::TryWrite)?;
         Ok(stamp_unless_zero(reply))
     }
 
@@ -29,7 +29,7 @@ impl<'a> LockHandle<'a> {
     pub fn try_read_once(&mut self) -> Result<Option<Stamp>, Lost>
         ensures { MadeOrLost TryRead stamped result self.old self.new }
     {
-        let reply = self.running.once(&mut self.pass, Call::TryRead)?;
+        let reply = self.by_once(Call::TryRead)?;
         Ok(stamp_unless_zero(reply))
     }
 
@@ -38,9 +38,7 @@ impl<'a> LockHandle<'a> {
     pub fn unlock_read_once(&mut self, stamp: Stamp) -> Result<(), UnlockError>
         ensures { UnlockedOrLost (UnlockRead stamp) result self.old self.new }
     {
-        let reply = self
-            .running
-            .once(&mut self.pass, Call::UnlockRead(stamp.number()))?;
+        let reply = self.by_once(Call::UnlockRead(stamp.number()))?;
         release_in(reply)?;
         Ok(())
     }
@@ -50,9 +48,7 @@ impl<'a> LockHandle<'a> {
     pub fn unlock_once(&mut self, stamp: Stamp) -> Result<(), UnlockError>
         ensures { UnlockedOrLost (Unlock stamp) result self.old self.new }
     {
-        let reply = self
-            .running
-            .once(&mut self.pass, Call::Unlock(stamp.number()))?;
+        let reply = self.by_once(Call::Unlock(stamp.number()))?;
         release_in(reply)?;
         Ok(())
     }
@@ -62,9 +58,7 @@ impl<'a> LockHandle<'a> {
     pub fn try_convert_to_write_once(&mut self, stamp: Stamp) -> Result<Option<Stamp>, Lost>
         ensures { MadeOrLost (ToWrite stamp) stamped result self.old self.new }
     {
-        let reply = self
-            .running
-            .once(&mut self.pass, Call::ToWrite(stamp.number()))?;
+        let reply = self.by_once(Call::ToWrite(stamp.number()))?;
         Ok(stamp_unless_zero(reply))
     }
 
@@ -73,9 +67,7 @@ impl<'a> LockHandle<'a> {
     pub fn try_convert_to_read_once(&mut self, stamp: Stamp) -> Result<Option<Stamp>, Lost>
         ensures { MadeOrLost (ToRead stamp) stamped result self.old self.new }
     {
-        let reply = self
-            .running
-            .once(&mut self.pass, Call::ToRead(stamp.number()))?;
+        let reply = self.by_once(Call::ToRead(stamp.number()))?;
         Ok(stamp_unless_zero(reply))
     }
 
@@ -84,9 +76,7 @@ impl<'a> LockHandle<'a> {
     pub fn try_convert_to_optimistic_once(&mut self, stamp: Stamp) -> Result<Option<Stamp>, Lost>
         ensures { MadeOrLost (ToOptimistic stamp) stamped result self.old self.new }
     {
-        let reply = self
-            .running
-            .once(&mut self.pass, Call::ToOptimistic(stamp.number()))?;
+        let reply = self.by_once(Call::ToOptimistic(stamp.number()))?;
         Ok(stamp_unless_zero(reply))
     }
 
@@ -95,7 +85,7 @@ impl<'a> LockHandle<'a> {
     pub fn try_unlock_write_once(&mut self) -> Result<bool, Lost>
         ensures { MadeOrLost TryUnlockWrite tested result self.old self.new }
     {
-        let reply = self.running.once(&mut self.pass, Call::TryUnlockWrite)?;
+        let reply = self.by_once(Call::TryUnlockWrite)?;
         Ok(test_in(reply))
     }
 
@@ -104,7 +94,7 @@ impl<'a> LockHandle<'a> {
     pub fn try_unlock_read_once(&mut self) -> Result<bool, Lost>
         ensures { MadeOrLost TryUnlockRead tested result self.old self.new }
     {
-        let reply = self.running.once(&mut self.pass, Call::TryUnlockRead)?;
+        let reply = self.by_once(Call::TryUnlockRead)?;
         Ok(test_in(reply))
     }
 }
