@@ -306,7 +306,8 @@ def tried(crate, names):
             now = round_of(several, calls)
             told = judged(crate, now, crate.check(room, f"{room}/kept", now), calls, is_bare=False) if now else {}
             if not told:
-                raise Failed(f"none was judged of {', '.join(edit.name for edit in several)}")
+                # Each calls another of them by way of a function that isn't edited.
+                alone, several = alone + several, []
             lines |= told
             several = [it for it in several if it.name not in told]
         for edit in alone:
