@@ -1,4 +1,4 @@
-//! The line that answers an order.
+//! The line that answers a command.
 
 ghost use Rattle.std.specs.Prelude.{◌≡◌, ◌≢◌, ◌<◌, ◌≤◌, length, false};
 ghost use Rattle.std.specs.Prelude.{IfOk, IfErr, OnOk, Ok, Err};
@@ -89,7 +89,7 @@ fn text_of_migration(alloc: Global, input: &[u8]) -> Result<Vec<u8>, ServeFault>
     }
 }
 
-/// What the order reads of its source. A stamp makes no read.
+/// What the command reads of its source. A stamp makes no read.
 fn input_of<S: Source>(alloc: Global, order: Order, source: &mut S) -> Result<Vec<u8>, ServeFault>
     ensures reads { MakesAtMost (S.reads source.old) (S.reads source.new) (most_reads_of order) (most_taken_of order) }
     ensures took { TakesAtMost (S.left source.old) (S.left source.new) (most_taken_of order) }
@@ -107,7 +107,7 @@ fn input_of<S: Source>(alloc: Global, order: Order, source: &mut S) -> Result<Ve
     }
 }
 
-/// The line that answers the order on this input, whose length is not tested.
+/// The line that answers the command on this input, whose length is not tested.
 fn line_of_input(alloc: Global, order: Order, input: &[u8]) -> Result<Line, ServeFault>
     ensures answer { LineUnlessMemory (AnswersOrder order input.now) result }
     ensures inner { IfErr result (λ e. is_of_end e ≡ false) }
@@ -124,7 +124,7 @@ fn line_of_input(alloc: Global, order: Order, input: &[u8]) -> Result<Line, Serv
     Ok(accepted(text))
 }
 
-/// The line that answers the order on what it reads of the source, without its line feed.
+/// The line that answers the command on what it reads of the source, without its line feed.
 pub(crate) fn line_of_order<S: Source>(
     alloc: Global,
     order: Order,

@@ -3,7 +3,7 @@
 
 ghost use Rattle.stamp_cli.specs.Laws.{OneAnswer};
 
-/// An order has one answer to what it reads. So a line is written, and an input refused, exactly
+/// A command has one answer to what it reads. So a line is written, and an input refused, exactly
 /// where the answer is so.
 pub fn one_answer()
     ensures { OneAnswer }

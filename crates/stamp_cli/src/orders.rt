@@ -28,7 +28,7 @@ pub enum Order {
     StampIn(Layout, u64),
 }
 
-/// Why arguments are no order.
+/// Why arguments are no command.
 #[derive(Clone, Copy, Debug, PartialEq, Eq)]
 pub enum CommandFault {
     /// 1: the arguments are no form of the command line.
@@ -117,7 +117,7 @@ fn form_of(args: &[&str]) -> Option<Order>
     }
 }
 
-/// The order that the program's arguments give. Errors: 1 `Bad` where they are no form of the command line.
+/// The command that the program's arguments give. Errors: 1 `Bad` where they are no form of the command line.
 pub fn order_of(args: &[&str]) -> Result<Order, CommandFault>
     ensures { result ≡ order.order_in (map (λ arg. arg.now) args.now) }
 {

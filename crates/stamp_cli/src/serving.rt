@@ -16,7 +16,7 @@ use crate::sinks::Sink;
 use crate::sources::Source;
 use std::alloc::Global;
 
-/// Answers the order: reads what it needs of the source and writes one line, or says why not. What it
+/// Answers the command: reads what it needs of the source and writes one line, or says why not. What it
 /// returns is `Verdict::Bad` where the line says that a history is bad, and else `Verdict::Accepted`. Where
 /// a write fails, 6 `WriteFault`, a beginning of the line may be out; any other refusal writes nothing.
 /// What was read of the source is gone also after a refusal. An input has at most 16,777,216 bytes (one

@@ -119,7 +119,7 @@ impl Join<LockPasses> for ShareSeat {
     ghost spent = { [] };
 }
 
-/// And each on one of its own again.
+/// Two passes of one seat go each on a seat of its own.
 pub struct PartSeats;
 
 impl Split<LockPasses> for PartSeats {

@@ -22,7 +22,7 @@ pub struct Patience {
 }
 
 impl Patience {
-    /// That of a call which has not tried yet.
+    /// The patience of a call that has not tried yet.
     pub fn new() -> Patience {
         Patience { rounds: 0 }
     }

@@ -183,28 +183,29 @@ impl<'a> LockHandle<'a> {
         release_in(self.once_or_call(rt, Call::Unlock(stamp.number())))
     }
 
-    /// Goes on in write mode (`tryConvertToWriteLock`): from write mode with the same stamp, from read
-    /// mode if there is no other reader, from an optimistic stamp if it is valid and nobody holds the
-    /// lock. None otherwise: the lock is as it was, and the old stamp still stands. It waits for no
-    /// holder.
+    /// Converts a stamp to write mode (`tryConvertToWriteLock`): from write mode with the same stamp, from
+    /// read mode if there is no other reader, from an optimistic stamp if it is valid and nobody holds the
+    /// lock. After it release by the new stamp alone. None otherwise: the lock is as it was, and the old
+    /// stamp still stands. It waits for no holder.
     pub fn try_convert_to_write<R: Wait>(&mut self, rt: &R, stamp: Stamp) -> Option<Stamp>
         ensures { Made (ToWrite stamp) (stamped result) self.old self.new }
     {
         stamp_unless_zero(self.once_or_call(rt, Call::ToWrite(stamp.number())))
     }
 
-    /// Goes on in read mode (`tryConvertToReadLock`): from write mode, from read mode with the same
-    /// stamp, from an optimistic stamp if it is valid and there is room for a reader. None otherwise:
-    /// the lock is as it was, and the old stamp still stands. It waits for no holder.
+    /// Converts a stamp to read mode (`tryConvertToReadLock`): from write mode, from read mode with the
+    /// same stamp, from an optimistic stamp if it is valid and there is room for a reader. After it release
+    /// by the new stamp alone. None otherwise: the lock is as it was, and the old stamp still stands. It
+    /// waits for no holder.
     pub fn try_convert_to_read<R: Wait>(&mut self, rt: &R, stamp: Stamp) -> Option<Stamp>
         ensures { Made (ToRead stamp) (stamped result) self.old self.new }
     {
         stamp_unless_zero(self.once_or_call(rt, Call::ToRead(stamp.number())))
     }
 
-    /// Releases the mode that the stamp matches, and answers an optimistic stamp
-    /// (`tryConvertToOptimisticRead`); a valid optimistic stamp is answered itself. None otherwise: the
-    /// lock is as it was. It waits for no holder.
+    /// Converts a stamp to an optimistic one (`tryConvertToOptimisticRead`): it releases the mode that the
+    /// stamp matches; a valid optimistic stamp is answered itself. After it release nothing by the old
+    /// stamp. None otherwise: the lock is as it was. It waits for no holder.
     pub fn try_convert_to_optimistic<R: Wait>(&mut self, rt: &R, stamp: Stamp) -> Option<Stamp>
         ensures { Made (ToOptimistic stamp) (stamped result) self.old self.new }
     {
