@@ -3,7 +3,6 @@
 #![tactic(auto)]
 
 mod answer;
-mod arguments;
 mod check_text;
 mod faults;
 mod input;
@@ -18,7 +17,6 @@ mod sources;
 mod stamp_text;
 
 pub use answer::within;
-pub use arguments::read_arguments;
 pub use faults::{ServeFault, fault_line};
 pub use input::{MOST_BYTES, read_input};
 pub use line::{Line, Verdict, accepted};

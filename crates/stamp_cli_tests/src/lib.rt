@@ -2,8 +2,6 @@
 #![tactic(auto)]
 
 #[cfg(test)]
-mod arguments_tests;
-#[cfg(test)]
 mod ends_tests;
 #[cfg(test)]
 mod serve_tests;

@@ -1,13 +1,27 @@
 //! Finds an order that explains an observed history: standard input in, one line out.
 #![tactic(auto)]
 
-use stamp_cli::{
-    CommandFault, ReadSource, ServeFault, Verdict, WriteSink, fault_line, read_arguments,
-};
+use stamp_cli::{CommandFault, ReadSource, ServeFault, Verdict, WriteSink, fault_line};
 use stamp_explain_cli::{Explanation, most_of, serve_explanation};
 use std::alloc::AllocError;
-use std::io;
 use std::process::ExitCode;
+use std::rt::Env;
+use std::{env, io};
+
+/// The most configurations that the program's arguments allow. Those that are no text allow none.
+fn most_given(rt: &(impl Env + AllocGlobal)) -> Result<Result<u64, CommandFault>, AllocError> {
+    let args: Vec<String> = match env::args(rt) {
+        Ok(args) => args.collect(rt.alloc())?,
+        Err(fault) if fault.kind() == io::ErrorKind::OutOfMemory => return Err(AllocError),
+        Err(_) => return Ok(Err(CommandFault::Bad)),
+    };
+    let texts: Vec<&str> = args
+        .iter()
+        .skip(1)
+        .map(|arg| arg.as_str())
+        .collect(rt.alloc())?;
+    Ok(most_of(&texts))
+}
 
 /// Explains what comes from standard input to standard output.
 fn answer_input(
@@ -27,7 +41,7 @@ fn print_fault(rt: &(impl Eprint + AllocGlobal), fault: &ServeFault) {
 }
 
 fn main(rt: HostRuntime) -> ExitCode {
-    let most = match read_arguments(&rt, |args| most_of(args)) {
+    let most = match most_given(&rt) {
         Ok(Ok(most)) => most,
         Ok(Err(CommandFault::Bad)) => {
             let _ = rt.eprintln("stamped: bad command line");

@@ -11,10 +11,28 @@ use crate::faults::{PictureFault, fault_line};
 use crate::orders::{PictureOrder, order_of};
 use crate::serving::serve;
 use crate::style::STYLE;
-use stamp_cli::{CommandFault, ReadSource, ServeFault, Verdict, WriteSink, read_arguments};
+use stamp_cli::{CommandFault, ReadSource, ServeFault, Verdict, WriteSink};
 use std::alloc::AllocError;
-use std::io;
 use std::process::ExitCode;
+use std::rt::Env;
+use std::{env, io};
+
+/// The order that the program's arguments give. Those that are no text give none.
+fn order_given(
+    rt: &(impl Env + AllocGlobal),
+) -> Result<Result<PictureOrder, CommandFault>, AllocError> {
+    let args: Vec<String> = match env::args(rt) {
+        Ok(args) => args.collect(rt.alloc())?,
+        Err(fault) if fault.kind() == io::ErrorKind::OutOfMemory => return Err(AllocError),
+        Err(_) => return Ok(Err(CommandFault::Bad)),
+    };
+    let texts: Vec<&str> = args
+        .iter()
+        .skip(1)
+        .map(|arg| arg.as_str())
+        .collect(rt.alloc())?;
+    Ok(order_of(&texts))
+}
 
 /// Serves the order between standard input and standard output.
 fn answer_input(
@@ -34,7 +52,7 @@ fn print_fault(rt: &(impl Eprint + AllocGlobal), fault: &PictureFault) {
 }
 
 fn main(rt: HostRuntime) -> ExitCode {
-    let order = match read_arguments(&rt, |args| order_of(args)) {
+    let order = match order_given(&rt) {
         Ok(Ok(order)) => order,
         Ok(Err(CommandFault::Bad)) => {
             let _ = rt.eprintln("stamped: bad command line");
