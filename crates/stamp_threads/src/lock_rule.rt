@@ -97,9 +97,9 @@ impl<C: CallStep> Play<(), LockPasses> for EnterLockStep<C> {
 }
 
 /// A pass gives a new one.
-pub struct GivePass;
+pub struct SplitStep;
 
-impl Split<LockPasses> for GivePass {
+impl Split<LockPasses> for SplitStep {
     ghost use Rattle.std.specs.Prelude.{map};
     ghost use Rattle.stamp_threads.specs.PassView.{after_split, split_off};
 

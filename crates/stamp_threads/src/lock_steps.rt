@@ -10,8 +10,8 @@ ghost use Rattle.stamp_threads.specs.LockRule.{Loaded, Exchanged};
 ghost use Rattle.stamp_threads.specs.LockPassesMet.{LockPassesMet};
 
 use crate::lock_rule::{
-    CallStep, EnterLockStep, ExchangeStep, GivePass, LoadStep, LockKey, LockPasses, LockRule,
-    MeetLockStep, PartSeats, ShareSeat,
+    CallStep, EnterLockStep, ExchangeStep, LoadStep, LockKey, LockPasses, LockRule, MeetLockStep,
+    PartSeats, ShareSeat, SplitStep,
 };
 use atomic_table::{Seat, Shared};
 use stamp_core::{Call, Reply};
@@ -78,7 +78,7 @@ pub fn split(table: &LockTable, seat: &mut LockSeat) -> LockSeat
     ensures given { StandsAlone seat.old.table_id seat.new (after_split (first_of seat.old.me.0)) }
     ensures new { StandsAlone seat.old.table_id result (split_off (first_of seat.old.me.0)) }
 {
-    table.split_seat::<GivePass>(seat)
+    table.split_seat::<SplitStep>(seat)
 }
 
 /// A load by a seat that holds two passes: it shows that both knew beginnings of one history.

@@ -1,6 +1,6 @@
 //! The rule of a record's words, and what each step on them tells. These types are for proofs
 //! alone.
-use crate::lock_rule::{GivePass, PartSeats, ShareSeat};
+use crate::lock_rule::{PartSeats, ShareSeat, SplitStep};
 use crate::record_view::{RecordKey, RecordPasses};
 use atomic_table::{Join, Play, Split, TableRule};
 use std::marker::{Brand, PhantomData};
@@ -81,9 +81,9 @@ impl<C: WordsStep> Play<(), RecordPasses> for AcquireStep<C> {
 }
 
 /// A store of a word of the record.
-pub struct StoreStep;
+pub struct StoreWordStep;
 
-impl Play<(), RecordPasses> for StoreStep {
+impl Play<(), RecordPasses> for StoreWordStep {
     ghost use Rattle.stamp_threads.specs.RecordRule.{StoreTells};
 
     ghost then = { StoreTells };
@@ -153,7 +153,7 @@ impl<C: WordsStep> Play<(), RecordPasses> for MeetRecordStep<C> {
     ghost then = { MeetTells C.shape };
 }
 
-impl Split<RecordPasses> for GivePass {
+impl Split<RecordPasses> for SplitStep {
     ghost use Rattle.std.specs.Prelude.{map};
     ghost use Rattle.stamp_threads.specs.PassView.{after_split, split_off};
 

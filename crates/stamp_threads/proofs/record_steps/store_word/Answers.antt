@@ -1,6 +1,6 @@
 use Rattle.std.proofs.Common.{rules, arith}
 use Rattle.stamp_threads.proofs.PutSteps.{allows_store}
-use Rattle.stamp_threads.proofs.record_steps.store.Goals as goal
+use Rattle.stamp_threads.proofs.record_steps.store_word.Goals as goal
 
 pub store-requires : goal.store-requires
 store-requires g c = (
