@@ -39,7 +39,7 @@ use Rattle.stamp_machines.specs.declared.machine.Turn.{Turn}
 use Rattle.stamp_machines.specs.declared.machine.Turn.TheVariants.{Going, Done}
 use Rattle.stamp_machines.specs.Access.{words_after, found_by}
 use Rattle.stamp_machines.specs.Job.{job_in}
-use Rattle.stamp_machines.specs.LocalAccess.{LocalAccess, LoadLock, CasLock, LoadItem, StoreItem}
+use Rattle.stamp_machines.specs.LocalAccess.{LocalAccess, LoadLock, CasLock, LoadWord, StoreWord}
 use Rattle.stamp_machines.specs.LocalAccess.{with_lock, lock_after, local_found}
 use Rattle.stamp_machines.specs.Machine.{plan_of, after_access, lock_turn}
 use Rattle.stamp_machines.specs.Invariant.{Invariant, IsOf, events_in, job_at}
@@ -286,8 +286,8 @@ lock-bounded limits shape call word now own changes (phases.Done r) same bounded
 found-is : (a : LocalAccess) (word : ℕ) → IsToLock a → local_found a word [] ≡ word
 found-is LoadLock word h = refl
 found-is (CasLock old new) word h = refl
-found-is (LoadItem i) word h = absurd h
-found-is (StoreItem i v) word h = absurd h
+found-is (LoadWord i) word h = absurd h
+found-is (StoreWord i v) word h = absurd h
 
 turn-bounded : (script : Scripted) (world : World) (b : Begun) (stage : Stage) (own changes : ℕ) →
     Invariant script world → IsSound script → b.machine.shape ≡ shape_of script →

@@ -15,7 +15,7 @@ use Rattle.stamp_machines.specs.RecordStage.{RecordStageTurn}
 -- how many read and write locks a call at this stage holds
 abbrev pub read_by : RecordStage → ℕ
 read_by LoadingLock = 0
-read_by (Copying first loaded) = 0
+read_by (Copying lock_word loaded) = 0
 read_by (Locking Share seen) = 0
 read_by (Locking (Leave s loaded) seen) = 1
 read_by (Locking (Refuse s) seen) = 1
@@ -29,7 +29,7 @@ read_by (Releasing s a) = 0
 
 abbrev pub written_by : RecordStage → ℕ
 written_by LoadingLock = 0
-written_by (Copying first loaded) = 0
+written_by (Copying lock_word loaded) = 0
 written_by (Locking e seen) = 0
 written_by (Reading s loaded) = 0
 written_by (Checking s loaded) = 1
@@ -47,10 +47,10 @@ IsRead limits k s =
 
 abbrev pub FitsRecordStage : Bounds → ℕ → ℕ → List ℕ → List ℕ → Job → RecordStage → Type 0
 FitsRecordStage limits k w content items job LoadingLock = is_get job ≡ true
-FitsRecordStage limits k w content items job (Copying first loaded) =
-    (is_get job ≡ true) × ((counts_at limits first).write_count ≤ k)
+FitsRecordStage limits k w content items job (Copying lock_word loaded) =
+    (is_get job ≡ true) × ((counts_at limits lock_word).write_count ≤ k)
     × (length loaded ≤ length content)
-    × ((counts_at limits first).write_count ≡ k → (w ≡ 0) × (loaded ≡ take (length loaded) content))
+    × ((counts_at limits lock_word).write_count ≡ k → (w ≡ 0) × (loaded ≡ take (length loaded) content))
 FitsRecordStage limits k w content items job (Locking Share seen) = Unit {0}
 FitsRecordStage limits k w content items job (Locking (Leave s loaded) seen) =
     (is_get job ≡ true) × IsRead limits k s × (loaded ≡ content)

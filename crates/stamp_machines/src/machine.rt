@@ -148,7 +148,7 @@ fn next(
     match stage {
         Stage::OnLock { seen } => after_on_lock(shape, call, loaded, seen, found, reply),
         Stage::LoadingLock => ControlFlow::Continue(after_lock_load(shape, call, loaded, found)),
-        Stage::Copying { first } => after_copy(shape, call, first, loaded, found, reply),
+        Stage::Copying { lock_word } => after_copy(shape, call, lock_word, loaded, found, reply),
         Stage::Locking { own_call, seen } => {
             after_locking(shape, call, own_call, seen, loaded, found, reply)
         }

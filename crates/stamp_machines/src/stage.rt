@@ -13,7 +13,7 @@ ghost use Rattle.stamp_machines.specs.MachineState.{first_stage, record_limits};
 ghost use Rattle.stamp_machines.specs.Machine.{record_turn};
 ghost use Rattle.stamp_machines.specs.MachineFields.{stage_at, going_at, turn_in, own_call_in};
 ghost use Rattle.stamp_machines.specs.MachineFields.{job_of, released_reply, IsStage, IsNextStage};
-ghost use Rattle.stamp_machines.specs.MachineFields.{IsRecordCall, IsWriter, IsOwnLockCall};
+ghost use Rattle.stamp_machines.specs.MachineFields.{IsRecordCall, IsPutCall, IsOwnLockCall};
 
 use crate::loaded_words::LoadedWords;
 use crate::shape::Shape;
@@ -49,7 +49,7 @@ pub(crate) enum Stage {
     LoadingLock,
     /// It was found free, and words are being loaded without a lock.
     Copying {
-        first: u64,
+        lock_word: u64,
     },
     /// A lock call on the record's lock.
     Locking {
@@ -144,16 +144,16 @@ fn is_free(limits: Limits, found: u64) -> bool
     !limits.word(found).is_writing()
 }
 
-/// Nobody writes, nor has since the first word was found.
-fn is_unchanged(limits: Limits, first: u64, found: u64) -> bool
+/// Nobody writes, nor has since `lock_word` was found.
+fn is_unchanged(limits: Limits, lock_word: u64, found: u64) -> bool
     requires word { IsAdmitted limits (word_at limits found) }
-    requires first { IsAdmitted limits (word_at limits first) }
-    ensures { result ≡ unchanged limits first found }
+    requires lock_word { IsAdmitted limits (word_at limits lock_word) }
+    ensures { result ≡ unchanged limits lock_word found }
 {
     // By this call the prover knows that the limits are in range.
     let _ = limits.layout();
     let now = limits.word(found);
-    !now.is_writing() && now.writes() == limits.word(first).writes()
+    !now.is_writing() && now.writes() == limits.word(lock_word).writes()
 }
 
 /// A lock call on the record's lock, before its first access.
@@ -188,7 +188,7 @@ pub(crate) fn after_lock_load(
 {
     loaded.clear();
     if is_free(shape.record_limits(), found) {
-        Stage::Copying { first: found }
+        Stage::Copying { lock_word: found }
     } else {
         locking(shape, call, loaded, OwnLockCall::Share)
     }
@@ -200,27 +200,27 @@ pub(crate) fn after_lock_load(
 pub(crate) fn after_copy(
     shape: &Shape,
     call: &Call,
-    first: u64,
+    lock_word: u64,
     loaded: &mut LoadedWords,
     found: u64,
     reply: &mut Reply,
 ) -> ControlFlow<(), Stage>
     requires call { IsRecordCall shape.now call.now }
-    requires first { IsAdmitted (record_limits shape.now)
-        (word_at (record_limits shape.now) first) }
+    requires lock_word { IsAdmitted (record_limits shape.now)
+        (word_at (record_limits shape.now) lock_word) }
     requires length { length loaded.old ≤ shape.now.width }
     requires word { shape.now.width ≤ length loaded.old →
         IsAdmitted (record_limits shape.now) (word_at (record_limits shape.now) found) }
     ensures after { turn_in shape.now call.now loaded.new reply.new result
         ≡ record_turn shape.now call.now (job_of call.now)
         (after (record_limits shape.now) shape.now.width (job_of call.now)
-        (on_record.Copying first loaded.old) found) }
+        (on_record.Copying lock_word loaded.old) found) }
     ensures sound { IsNextStage shape.now call.now loaded.old loaded.new result }
 {
     if loaded.len() < shape.word_count() {
         loaded.push(found);
-        ControlFlow::Continue(Stage::Copying { first })
-    } else if is_unchanged(shape.record_limits(), first, found) {
+        ControlFlow::Continue(Stage::Copying { lock_word })
+    } else if is_unchanged(shape.record_limits(), lock_word, found) {
         *reply = Reply::Content(loaded.words());
         ControlFlow::Break(())
     } else {
@@ -280,7 +280,7 @@ pub(crate) fn after_check(
     loaded: &mut LoadedWords,
     found: u64,
 ) -> Stage
-    requires call { IsWriter shape.now call.now }
+    requires call { IsPutCall shape.now call.now }
     requires length { length loaded.old < shape.now.width }
     requires fits { stamp < 2 ^ 63 }
     ensures after { going_at shape.now call.now loaded.new result
@@ -333,7 +333,7 @@ pub(crate) fn after_store(
     loaded: &LoadedWords,
     found: u64,
 ) -> Stage
-    requires call { IsWriter shape.now call.now }
+    requires call { IsPutCall shape.now call.now }
     requires length { stored < shape.now.width }
     requires fits { stamp < 2 ^ 63 }
     ensures after { going_at shape.now call.now loaded.now result
@@ -356,7 +356,7 @@ pub(crate) fn after_store(
 }
 
 fn claimed(shape: &Shape, call: &Call, stamp: u64, loaded: &mut LoadedWords) -> Stage
-    requires call { IsWriter shape.now call.now }
+    requires call { IsPutCall shape.now call.now }
     requires fits { stamp < 2 ^ 63 }
     ensures after { going_at shape.now call.now loaded.new result
         ≡ record_turn shape.now call.now (job_of call.now) (claimed (job_of call.now) stamp) }
@@ -371,7 +371,7 @@ fn claimed(shape: &Shape, call: &Call, stamp: u64, loaded: &mut LoadedWords) -> 
 
 /// The conversion answered this stamp, 0 where it could not be.
 fn upgraded(shape: &Shape, call: &Call, stamp: u64, loaded: &LoadedWords, got: u64) -> Stage
-    requires call { IsWriter shape.now call.now }
+    requires call { IsPutCall shape.now call.now }
     requires fits { got < 2 ^ 63 }
     ensures after { going_at shape.now call.now loaded.now result
         ≡ record_turn shape.now call.now (job_of call.now)
