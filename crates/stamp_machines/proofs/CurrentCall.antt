@@ -22,7 +22,7 @@ use Rattle.stamp_machines.specs.declared.shape.Shape.{Shape}
 use Rattle.stamp_machines.specs.MachineState.{first_stage, start}
 use Rattle.stamp_machines.specs.Script.{Scripted, Suits, calls_of}
 use Rattle.stamp_machines.specs.declared.state.Begun.{Begun}
-use Rattle.stamp_machines.specs.World.{World, current_of, begin, resolved, shape_of, stamps_of}
+use Rattle.stamp_machines.specs.World.{World, current_of, begun_call, resolved, shape_of, stamps_of}
 use Rattle.stamp_machines.specs.Invariant.{doing_at, doing_in, IsOf}
 use Rattle.stamp_machines.specs.RecordKept.{read_by, written_by, read_in, written_in, FitsRecordStage, FitsIn}
 
@@ -121,7 +121,7 @@ next-ready : (limits : Bounds) (script : Scripted) (stamps : ℕ → List ℕ) (
     (content items : List ℕ) (c : Option ScriptCall) (b : Begun) →
     (All (λ calls. All (Suits script.width) calls) script.threads) → length content ≡ script.width →
     slice_get (calls_of script t) (length (stamps t)) ≡ c →
-    begin (shape_of script) stamps position c ≡ Some b → (t < length script.threads)
+    begun_call (shape_of script) stamps position c ≡ Some b → (t < length script.threads)
     × Ready limits (shape_of script) k w content items None b
 next-ready limits script stamps position t k w content items None b h n e q = cc
 next-ready limits script stamps position t k w content items (Some c) b h n e q =

@@ -26,8 +26,8 @@ use Rattle.stamp_machines.specs.LockPhase.{PhaseTurn, turn_on, tried, phase_afte
 use Rattle.stamp_machines.specs.LockPhase.{phase_plan}
 use Rattle.stamp_machines.specs.MachineState.{Stage, OnLock, OnRecord, start, first_stage}
 use Rattle.stamp_machines.specs.Script.{Scripted, IsSound, calls_of}
-use Rattle.stamp_machines.specs.World.{World, current, current_of, begin, shape_of, stamps_of}
-use Rattle.stamp_machines.specs.World.{resolved, world_after, stepped, step, entry_of, execution_of}
+use Rattle.stamp_machines.specs.World.{World, current, current_of, begun_call, shape_of, stamps_of}
+use Rattle.stamp_machines.specs.World.{resolved, world_after, world_stepped, step, entry_of, execution_of}
 use Rattle.stamp_machines.specs.World.{finished_calls}
 use Rattle.stamp_machines.specs.Interference.{lock_word, interferes, changes_by_others, own_since}
 use Rattle.stamp_machines.specs.Interference.{changes_since, own_steps, interference, NeverWaits}
@@ -247,7 +247,7 @@ current-bounded script steps n b all = by (slice_index_or (execution_of script s
         rw (lock, none) refl
 
     begins : (c : Option ScriptCall) →
-        begin (shape_of script) (λ k. stamps_of k (execution_of script steps).entries)
+        begun_call (shape_of script) (λ k. stamps_of k (execution_of script steps).entries)
         (execution_of script steps).position c ≡ Some b → BoundedSlot script steps n (Some b)
     begins None e = cc
     begins (Some c) e =
@@ -427,8 +427,8 @@ step-bounded script steps n sound few all = by (current script world n) refl
 
     by : (c : Option Begun) → current script world n ≡ c → AreBounded script (steps ++ n ∷ [])
     by None e =
-        let now : execution_of script (steps ++ n ∷ []) ≡ stepped world n None =
-        execution_of-more script steps n ∙ ap (stepped world n) e in
+        let now : execution_of script (steps ++ n ∷ []) ≡ world_stepped world n None =
+        execution_of-more script steps n ∙ ap (world_stepped world n) e in
         record {
           slots = λ t. rw (ap (λ (w : World). w.begun) now) (idle t e);
           entries = rw (ap (λ (w : World). w.entries) now)
@@ -450,8 +450,8 @@ step-bounded script steps n sound few all = by (current script world n) refl
     by (Some b) e =
         let of : IsOf (shape_of script) (Some b) = current-of script world n b k sound e in
         let bounded : BoundedSlot script steps n (Some b) = current-bounded script steps n b all e in
-        let now : execution_of script (steps ++ n ∷ []) ≡ stepped world n (Some b) =
-        execution_of-more script steps n ∙ ap (stepped world n) e in
+        let now : execution_of script (steps ++ n ∷ []) ≡ world_stepped world n (Some b) =
+        execution_of-more script steps n ∙ ap (world_stepped world n) e in
         lands-bounded script steps n b (words_after (plan_of b.machine) world.words)
         (after_access b.machine (found_by (plan_of b.machine) world.words)) all bounded now
         (after_same b.machine _)

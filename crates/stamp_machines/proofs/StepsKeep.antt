@@ -36,7 +36,7 @@ use Rattle.stamp_machines.specs.Machine.{plan_in, after_in, plan_of, after_acces
 use Rattle.stamp_machines.specs.Machine.{record_turn}
 use Rattle.stamp_machines.specs.Script.{Scripted, IsSound}
 use Rattle.stamp_machines.specs.declared.state.Begun.{Begun}
-use Rattle.stamp_machines.specs.World.{World, opening, opening_word, current, world_after, stepped, step}
+use Rattle.stamp_machines.specs.World.{World, opening, opening_word, current, world_after, world_stepped, step}
 use Rattle.stamp_machines.specs.World.{execution_of, entry_of, shape_of}
 use Rattle.stamp_machines.specs.RecordKept.{Doing, RecordKept, MovedRightly, Stands, read_in, written_in}
 use Rattle.stamp_machines.specs.RecordKept.{read_by, written_by, FitsIn, SameFor, AloneFor}
@@ -386,10 +386,10 @@ of-shape script world t b e h =
     (found_by (plan_in s b.machine.call b.machine.stage) world.words) b.machine.stage)))
     (sym e) h
 
-stepped-kept : (script : Scripted) (world : World) (t : ℕ) (c : Option Begun) → Invariant script world →
+world_stepped-kept : (script : Scripted) (world : World) (t : ℕ) (c : Option Begun) → Invariant script world →
     IsSound script → world.position < 1000000 → current script world t ≡ c →
-    Invariant script (stepped world t c)
-stepped-kept script world t None k sound room e =
+    Invariant script (world_stepped world t c)
+world_stepped-kept script world t None k sound room e =
     record {
       legal = k.legal;
       represented = k.represented;
@@ -400,7 +400,7 @@ stepped-kept script world t None k sound room e =
       begun = k.begun;
       few = (let f = k.few in omega (arith, f));
     }
-stepped-kept script world t (Some b) k sound room e =
+world_stepped-kept script world t (Some b) k sound room e =
     let r = call-ready script world t b k sound e in
     of-shape script world t b r.1.of.0
     (begun-kept script world t b b.machine.stage k sound room r.0 r.1 refl)
@@ -408,7 +408,7 @@ stepped-kept script world t (Some b) k sound room e =
 pub step-kept : (script : Scripted) (world : World) (t : ℕ) → Invariant script world → IsSound script →
     world.position < 1000000 → Invariant script (step script world t)
 step-kept script world t k sound room =
-    stepped-kept script world t (current script world t) k sound room refl
+    world_stepped-kept script world t (current script world t) k sound room refl
 
 none-begun : (shape : Shape) (n k : ℕ) →
     IsOf shape (slice_index_or (replicate {A = Option Begun} n None) k None)
@@ -467,7 +467,7 @@ position-step script world t = go (current script world t)
     done b words (machines.Going m) = refl
     done b words (machines.Done r) = refl
 
-    go : (c : Option Begun) → (stepped world t c).position ≡ world.position + 1
+    go : (c : Option Begun) → (world_stepped world t c).position ≡ world.position + 1
     go None = refl
     go (Some b) = done b _ _
 

@@ -31,6 +31,7 @@ abbrev pub job_or : Option Job → Job
 job_or None = Getting
 job_or (Some job) = job
 
+-- the job of a call of the record; a lock call has none, and stands here as `Getting`
 abbrev pub job_of : Call → Job
 job_of call = job_or (job_in call)
 

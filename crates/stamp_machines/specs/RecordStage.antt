@@ -27,7 +27,7 @@ pub data OwnLockCall : Type 0 where
 pub data RecordStage : Type 0 where
   LoadingLock : RecordStage
   Copying : ℕ → List ℕ → RecordStage  -- the lock word first found, the words loaded
-  Locking : OwnLockCall → Option ℕ → RecordStage  -- a lock phase, with the word that it decided on
+  Locking : OwnLockCall → Option ℕ → RecordStage  -- a lock phase, with the word that it has seen
   Reading : ℕ → List ℕ → RecordStage  -- under a read stamp
   Checking : ℕ → List ℕ → RecordStage  -- under a write stamp, of a put_if
   Storing : ℕ → ℕ → RecordStage  -- under a write stamp, this many words stored

@@ -26,7 +26,7 @@ use stamp_core::{Call, Reply};
 use std::marker::Model;
 use std::ops::ControlFlow;
 
-/// A call that is being made.
+/// A call, one access at a time: `plan` tells the next one, and `resume` goes on by what it found.
 #[derive(Drop)]
 pub struct Machine {
     shape: Shape,
@@ -35,7 +35,7 @@ pub struct Machine {
     stage: Stage,
 }
 
-/// What an access leads to.
+/// What `resume` gives: the machine, to go on, or the reply of the call that has ended.
 #[derive(Drop)]
 pub enum Turn {
     /// The call goes on.

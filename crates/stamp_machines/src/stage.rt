@@ -118,7 +118,7 @@ pub(crate) fn new_word(call: &Call, i: usize) -> u64
     }
 }
 
-/// The call that this is.
+/// The lock's call that this own lock call makes.
 #[inline(always)]
 pub(crate) fn call_for(own_call: OwnLockCall) -> Call
     ensures call { (loaded : List ℕ) → result ≡ call_for (own_call_in loaded own_call) }
