@@ -74,19 +74,20 @@ FitsRecordStage limits k w content items job (Releasing s a) =
     (s ≡ write_stamp (units limits) k) × (a ≡ reply_to content job)
     × (items ≡ content_with content job)
 
-pub record Doing : Type 0 where
+-- a call of the record, as `OnRecord job stage` says where it stands
+pub record RecordCallAt : Type 0 where
   pub job : Job
   pub stage : RecordStage
 
-abbrev pub read_in : Option Doing → ℕ
+abbrev pub read_in : Option RecordCallAt → ℕ
 read_in None = 0
 read_in (Some d) = read_by d.stage
 
-abbrev pub written_in : Option Doing → ℕ
+abbrev pub written_in : Option RecordCallAt → ℕ
 written_in None = 0
 written_in (Some d) = written_by d.stage
 
-abbrev pub FitsIn : Bounds → ℕ → ℕ → List ℕ → List ℕ → Option Doing → Type 0
+abbrev pub FitsIn : Bounds → ℕ → ℕ → List ℕ → List ℕ → Option RecordCallAt → Type 0
 FitsIn limits k w content items None = Unit {0}
 FitsIn limits k w content items (Some d) =
     (0 < length content) × ((is_get d.job ≡ true) ⊎ (length (new_words d.job) ≡ length content))
@@ -94,7 +95,7 @@ FitsIn limits k w content items (Some d) =
 
 -- what holds of the record after every step, by the content that the finished calls leave
 pub record RecordKept (limits : Bounds) (lock : ℕ) (items : List ℕ) (content : List ℕ)
-    (doing : List (Option Doing)) : Type 0 where
+    (doing : List (Option RecordCallAt)) : Type 0 where
   pub admitted : IsAdmittedAt limits lock
   pub writers : sum_by written_in doing ≡ (counts_at limits lock).writers
   pub readers : sum_by read_in doing ≡ (counts_at limits lock).readers
@@ -120,7 +121,7 @@ AloneFor limits before lock lock' =
 
 -- what the access of one thread, whose call stood at `before`, makes of the record
 pub record Moved (limits : Bounds) (before : RecordStage) (lock : ℕ) (items : List ℕ) (content : List ℕ)
-    (lock' : ℕ) (items' : List ℕ) (content' : List ℕ) (now : Option Doing) : Type 0 where
+    (lock' : ℕ) (items' : List ℕ) (content' : List ℕ) (now : Option RecordCallAt) : Type 0 where
   pub admitted : IsAdmittedAt limits lock'
   pub writers : (counts_at limits lock').writers + written_by before
       ≡ (counts_at limits lock).writers + written_in now
@@ -136,7 +137,7 @@ pub record Moved (limits : Bounds) (before : RecordStage) (lock : ℕ) (items : 
       ⊎ AloneFor limits before lock lock'
 
 -- the call after an access, the content after it, and that what it answered is right
-abbrev pub now_of : Job → RecordStageTurn → Option Doing
+abbrev pub now_of : Job → RecordStageTurn → Option RecordCallAt
 now_of job (Going stage) = Some (record { job = job; stage = stage })
 now_of job (Done a) = None
 
