@@ -4,7 +4,7 @@
 
 pub mod check_laws;
 mod checking;
-mod judging;
+mod going_on;
 mod migration;
 pub mod migration_laws;
 mod walk;

@@ -6,7 +6,7 @@ ghost use Rattle.stamp_core.specs.Content.{zeros};
 ghost use Rattle.stamp_check.specs.Walk.{IsAbove, IsWalk, Advances};
 
 use crate::checking::Why;
-use crate::judging::{lock_goes_on, record_goes_on};
+use crate::going_on::{lock_goes_on, record_goes_on};
 use stamp_core::{Entry, Limits, Word, Words};
 
 /// What is kept of the entries so far.

@@ -14,7 +14,7 @@ use Rattle.stamp_core.specs.CountedDecision.{decision}
 use Rattle.stamp_machines.specs.Job.{Job}
 use Rattle.stamp_machines.specs.RecordStage as on_record
 use Rattle.stamp_machines.specs.RecordStage.{RecordStage, OwnLockCall, call_for}
-use Rattle.stamp_machines.specs.LocalAccess.{LoadLock, LoadItem, with_lock}
+use Rattle.stamp_machines.specs.LocalAccess.{LoadLock, LoadWord, with_lock}
 use Rattle.stamp_machines.specs.LockPhase.{phase_plan, plan_on}
 use Rattle.stamp_machines.specs.declared.shape.Shape.{Shape}
 use Rattle.stamp_machines.specs.MachineState.{Stage, OnLock, OnRecord, record_limits}
@@ -45,10 +45,10 @@ copying-safe : (shape : Shape) (call : Call) (job : Job) (first : ℕ) (loaded :
 copying-safe shape call job first loaded words n w = go (nat_lt (length loaded) shape.width) refl
   where
     go : (b : Bool) → nat_lt (length loaded) shape.width ≡ b →
-        (index_of (with_lock 1 (if b then LoadItem (length loaded) else LoadLock)) < length words)
+        (index_of (with_lock 1 (if b then LoadWord (length loaded) else LoadLock)) < length words)
         × (shape.width ≤ length loaded →
         IsAdmittedAt (record_limits shape)
-        (found_by (with_lock 1 (if b then LoadItem (length loaded) else LoadLock)) words))
+        (found_by (with_lock 1 (if b then LoadWord (length loaded) else LoadLock)) words))
     go true q =
         let h : length loaded < shape.width = grind (arith, nat_tests, q) in
         (omega (arith, h, n), λ k. absurd (omega (arith, h, k)))

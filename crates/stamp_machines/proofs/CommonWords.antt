@@ -12,7 +12,7 @@ use Rattle.stamp_core.specs.declared.decision.Decision.{Decision}
 use Rattle.stamp_core.specs.declared.decision.Decision.TheVariants.{Answer, Change, Wait}
 use Rattle.stamp_machines.specs.Access.{words_after, found_by}
 use Rattle.stamp_core.specs.CountedDecision.{decision}
-use Rattle.stamp_machines.specs.LocalAccess.{LocalAccess, LoadLock, CasLock, LoadItem, StoreItem}
+use Rattle.stamp_machines.specs.LocalAccess.{LocalAccess, LoadLock, CasLock, LoadWord, StoreWord}
 use Rattle.stamp_machines.specs.LocalAccess.{lock_after, items_after, with_lock, local_found}
 use Rattle.stamp_machines.specs.LockPhase.{phase_plan, plan_on}
 
@@ -20,8 +20,8 @@ use Rattle.stamp_machines.specs.LockPhase.{phase_plan, plan_on}
 abbrev pub IsToLock : LocalAccess → Type 0
 IsToLock LoadLock = Unit {0}
 IsToLock (CasLock old new) = Unit {0}
-IsToLock (LoadItem i) = ⊥
-IsToLock (StoreItem i v) = ⊥
+IsToLock (LoadWord i) = ⊥
+IsToLock (StoreWord i v) = ⊥
 
 pub phase-to_lock : (limits : Bounds) (call : Call) (seen : Option ℕ) →
     IsToLock (phase_plan limits call seen)
@@ -48,8 +48,8 @@ on-lock (CasLock old new) x y items h = go (x == old)
         ≡ (if b then new else x) ∷ y ∷ items
     go true = refl
     go false = refl
-on-lock (LoadItem i) x y items h = absurd h
-on-lock (StoreItem i v) x y items h = absurd h
+on-lock (LoadWord i) x y items h = absurd h
+on-lock (StoreWord i v) x y items h = absurd h
 
 -- an access to a lock's word changes no other
 word-set : (at : ℕ) (a : LocalAccess) (words : List ℕ) → IsToLock a →
@@ -61,8 +61,8 @@ word-set at (CasLock old new) words h = go (slice_index words at == old)
         ≡ slice_set words at (if b then new else slice_index words at)
     go true = refl
     go false = sym (set-get_or words at 0)
-word-set at (LoadItem i) words h = absurd h
-word-set at (StoreItem i v) words h = absurd h
+word-set at (LoadWord i) words h = absurd h
+word-set at (StoreWord i v) words h = absurd h
 
 pub phase-word_set : (at : ℕ) (limits : Bounds) (call : Call) (seen : Option ℕ) (words : List ℕ) →
     words_after (with_lock at (phase_plan limits call seen)) words
@@ -81,8 +81,8 @@ found-lock : (a : LocalAccess) (x y : ℕ) (items : List ℕ) → IsToLock a →
     found_by (with_lock 0 a) (x ∷ y ∷ items) ≡ local_found a x []
 found-lock LoadLock x y items h = refl
 found-lock (CasLock old new) x y items h = refl
-found-lock (LoadItem i) x y items h = absurd h
-found-lock (StoreItem i v) x y items h = absurd h
+found-lock (LoadWord i) x y items h = absurd h
+found-lock (StoreWord i v) x y items h = absurd h
 
 two-more : (i : ℕ) → 2 + i ≡ suc (suc i)
 two-more i = omega arith
@@ -96,15 +96,15 @@ on-record (CasLock old new) x y items = go (y == old)
         ≡ x ∷ (if b then new else y) ∷ items
     go true = refl
     go false = refl
-on-record (LoadItem i) x y items = refl
-on-record (StoreItem i v) x y items = rw (two-more i) refl
+on-record (LoadWord i) x y items = refl
+on-record (StoreWord i v) x y items = rw (two-more i) refl
 
 found-record : (a : LocalAccess) (x y : ℕ) (items : List ℕ) →
     found_by (with_lock 1 a) (x ∷ y ∷ items) ≡ local_found a y items
 found-record LoadLock x y items = refl
 found-record (CasLock old new) x y items = refl
-found-record (LoadItem i) x y items = rw (two-more i) refl
-found-record (StoreItem i v) x y items = rw (two-more i) refl
+found-record (LoadWord i) x y items = rw (two-more i) refl
+found-record (StoreWord i v) x y items = rw (two-more i) refl
 
 -- an access to the lock leaves all other words
 pub record LockMoves (words : List ℕ) (a : LocalAccess) : Type 0 where

@@ -22,8 +22,8 @@ use Rattle.stamp_machines.specs.declared.shape.Shape.{Shape}
 use Rattle.stamp_machines.specs.MachineState.{first_stage, start}
 use Rattle.stamp_machines.specs.Script.{Scripted, Suits, calls_of}
 use Rattle.stamp_machines.specs.declared.state.Begun.{Begun}
-use Rattle.stamp_machines.specs.World.{World, current_of, begin, resolved, shape_of, stamps_of}
-use Rattle.stamp_machines.specs.Invariant.{doing_at, doing_in, IsOf}
+use Rattle.stamp_machines.specs.World.{World, current_of, begun_call, resolved, shape_of, stamps_of}
+use Rattle.stamp_machines.specs.Invariant.{record_call_at, record_call_in, IsOf}
 use Rattle.stamp_machines.specs.RecordKept.{read_by, written_by, read_in, written_in, FitsRecordStage, FitsIn}
 
 first_place_reads : (job : Job) → read_by (first_record_stage job) ≡ 0
@@ -73,10 +73,10 @@ suits-job stamps width (PutIf a b) s = (s.0, inr s.2)
 pub record Ready (limits : Bounds) (shape : Shape) (k w : ℕ) (content items : List ℕ)
     (slot : Option Begun) (b : Begun) : Type 0 where
   pub of : IsOf shape (Some b)
-  pub reads : read_in (doing_in slot) ≡ read_in (doing_at b.machine.stage)
-  pub writes : written_in (doing_in slot) ≡ written_in (doing_at b.machine.stage)
-  pub fits : FitsIn limits k w content items (doing_at b.machine.stage)
-  pub lock : doing_at b.machine.stage ≡ None → doing_in slot ≡ None
+  pub reads : read_in (record_call_in slot) ≡ read_in (record_call_at b.machine.stage)
+  pub writes : written_in (record_call_in slot) ≡ written_in (record_call_at b.machine.stage)
+  pub fits : FitsIn limits k w content items (record_call_at b.machine.stage)
+  pub lock : record_call_at b.machine.stage ≡ None → record_call_in slot ≡ None
 
 first-ready : (limits : Bounds) (shape : Shape) (k w : ℕ) (content items : List ℕ) (call : Call)
     (first : ℕ) (j : Option Job) → job_in call ≡ j → SuitsJob (length content) j →
@@ -121,7 +121,7 @@ next-ready : (limits : Bounds) (script : Scripted) (stamps : ℕ → List ℕ) (
     (content items : List ℕ) (c : Option ScriptCall) (b : Begun) →
     (All (λ calls. All (Suits script.width) calls) script.threads) → length content ≡ script.width →
     slice_get (calls_of script t) (length (stamps t)) ≡ c →
-    begin (shape_of script) stamps position c ≡ Some b → (t < length script.threads)
+    begun_call (shape_of script) stamps position c ≡ Some b → (t < length script.threads)
     × Ready limits (shape_of script) k w content items None b
 next-ready limits script stamps position t k w content items None b h n e q = cc
 next-ready limits script stamps position t k w content items (Some c) b h n e q =
@@ -140,7 +140,7 @@ pub current-ready : (limits : Bounds) (script : Scripted) (world : World) (t : �
     (content items : List ℕ) (slot : Option Begun) (b : Begun) →
     (All (λ calls. All (Suits script.width) calls) script.threads) → length content ≡ script.width →
     length world.begun ≡ length script.threads → slice_index_or world.begun t None ≡ slot →
-    IsOf (shape_of script) slot → FitsIn limits k w content items (doing_in slot) →
+    IsOf (shape_of script) slot → FitsIn limits k w content items (record_call_in slot) →
     current_of script (λ x. stamps_of x world.entries) world.position t slot ≡ Some b →
     (t < length world.begun) × Ready limits (shape_of script) k w content items slot b
 current-ready limits script world t k w content items (Some d) b h n l at o f e =

@@ -36,8 +36,8 @@ use Rattle.stamp_machines.specs.RecordStage.{RecordStageTurn}
 use Rattle.stamp_machines.specs.MachineState.{MachineState, Stage, OnLock, OnRecord, start}
 use Rattle.stamp_machines.specs.Machine.{after_access, after_in, lock_turn, record_turn}
 use Rattle.stamp_machines.specs.Script.{Scripted, IsSound, Suits, calls_of}
-use Rattle.stamp_machines.specs.World.{World, opening, current, current_of, begin, shape_of}
-use Rattle.stamp_machines.specs.World.{stamps_of, is_of, resolved, world_after, stepped, step, entry_of}
+use Rattle.stamp_machines.specs.World.{World, opening, current, current_of, begun_call, shape_of}
+use Rattle.stamp_machines.specs.World.{stamps_of, is_of, resolved, world_after, world_stepped, step, entry_of}
 use Rattle.stamp_machines.specs.World.{execution_of, finished_calls}
 use Rattle.stamp_machines.proofs.CurrentCall.{thread-within, call-suits}
 use Rattle.stamp_machines.proofs.EntryOrder.{each_slot, slot_none}
@@ -158,7 +158,7 @@ current-one : (script : Scripted) (world : World) (t : ℕ) (b : Begun) → IsSo
 current-one script world t b sound counts = by (slice_index_or world.begun t None) refl
   where
     begins : (c : Option ScriptCall) → slice_get (calls_of script t) (count_of world.entries t) ≡ c →
-        begin (shape_of script) (λ k. stamps_of k world.entries) world.position c ≡ Some b →
+        begun_call (shape_of script) (λ k. stamps_of k world.entries) world.position c ≡ Some b →
         IsOneOf script world.entries t (Some b)
     begins None at e = cc
     begins (Some c) at e =
@@ -266,7 +266,7 @@ step-counted : (script : Scripted) (world : World) (t : ℕ) → IsSound script 
     IsCounted script (step script world t)
 step-counted script world t sound counts = by (current script world t) refl
   where
-    by : (c : Option Begun) → current script world t ≡ c → IsCounted script (stepped world t c)
+    by : (c : Option Begun) → current script world t ≡ c → IsCounted script (world_stepped world t c)
     by None e = record { in_range = counts.in_range; suits = counts.suits; begun = counts.begun }
     by (Some b) e =
         lands-counted script world t b _ _ counts (current-one script world t b sound counts e)

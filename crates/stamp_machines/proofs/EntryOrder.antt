@@ -22,8 +22,8 @@ use Rattle.stamp_machines.specs.declared.state.Begun.{Begun}
 use Rattle.stamp_machines.specs.declared.machine.Turn.{Turn}
 use Rattle.stamp_machines.specs.declared.machine.Turn.TheVariants.{Going, Done}
 use Rattle.stamp_machines.specs.Script.{Scripted, calls_of}
-use Rattle.stamp_machines.specs.World.{World, opening, current, current_of, begin, shape_of}
-use Rattle.stamp_machines.specs.World.{stamps_of, world_after, stepped, step, entry_of, execution_of}
+use Rattle.stamp_machines.specs.World.{World, opening, current, current_of, begun_call, shape_of}
+use Rattle.stamp_machines.specs.World.{stamps_of, world_after, world_stepped, step, entry_of, execution_of}
 
 -- the list with one slot set
 pub slot_other : (xs : List (Option Begun)) (i k : ℕ) (v : Option Begun) → (k == i) ≡ false →
@@ -86,7 +86,7 @@ current-since : (script : Scripted) (world : World) (t : ℕ) (b : Begun) → In
 current-since script world t b o = by (slice_index_or world.begun t None) refl
   where
     begins : (c : Option ScriptCall) →
-        begin (shape_of script) (λ k. stamps_of k world.entries) world.position c ≡ Some b →
+        begun_call (shape_of script) (λ k. stamps_of k world.entries) world.position c ≡ Some b →
         IsSince world.position world.entries t (Some b)
     begins None e = cc
     begins (Some c) e =
@@ -196,8 +196,8 @@ step-order script world t o legal = by (current script world t) refl legal
     lands b words (Done r) since legal = done-order script world t b words r o since legal
 
     by : (c : Option Begun) → current script world t ≡ c →
-        IsLegal script.limits script.width (history_of (stepped world t c).entries) →
-        InOrder script (stepped world t c)
+        IsLegal script.limits script.width (history_of (world_stepped world t c).entries) →
+        InOrder script (world_stepped world t c)
     by None e legal = record {
       linearized = o.linearized;
       points = o.points;

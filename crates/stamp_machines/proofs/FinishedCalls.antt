@@ -8,7 +8,7 @@ use Rattle.std.proofs.Math.Seq.{drop-append_seam}
 use Rattle.stamp_core.specs.declared.entry.Entry.{Entry}
 use Rattle.stamp_machines.specs.Script.{Scripted, IsSound}
 use Rattle.stamp_machines.specs.Invariant.{Invariant}
-use Rattle.stamp_machines.specs.World.{World, execution_of, finished_calls, step, stepped, world_after}
+use Rattle.stamp_machines.specs.World.{World, execution_of, finished_calls, step, world_stepped, world_after}
 use Rattle.stamp_machines.specs.World.{current, stamps_of, opening}
 use Rattle.stamp_machines.specs.StepKind.{IsOfKind}
 use Rattle.stamp_machines.specs.CompletionsFields.{IsAfter, calls_until, calls_after, HandsOn}
@@ -31,16 +31,16 @@ world_after-entries : (world : World) (t : ℕ) (b : Begun) (words : List ℕ) (
 world_after-entries world t b words (turned.Going m) = ([], sym (append-nil world.entries))
 world_after-entries world t b words (turned.Done r) = (_, refl)
 
-stepped-entries : (world : World) (t : ℕ) (o : Option Begun) →
-    (more : List Entry) × ((stepped world t o).entries ≡ world.entries ++ more)
-stepped-entries world t None = ([], sym (append-nil world.entries))
-stepped-entries world t (Some b) = world_after-entries world t b _ _
+world_stepped-entries : (world : World) (t : ℕ) (o : Option Begun) →
+    (more : List Entry) × ((world_stepped world t o).entries ≡ world.entries ++ more)
+world_stepped-entries world t None = ([], sym (append-nil world.entries))
+world_stepped-entries world t (Some b) = world_after-entries world t b _ _
 
 entries-more : (script : Scripted) (world : World) (steps : List ℕ) →
     (more : List Entry) × ((fold (step script) world steps).entries ≡ world.entries ++ more)
 entries-more script world [] = ([], sym (append-nil world.entries))
 entries-more script world (t ∷ steps) =
-    let one = stepped-entries world t (current script world t) in
+    let one = world_stepped-entries world t (current script world t) in
     let rest = entries-more script (step script world t) steps in (
       one.0 ++ rest.0,
       rest.1 ∙ ap (λ (es : List Entry). es ++ rest.0) one.1
@@ -62,10 +62,10 @@ world_after-last world t b words (turned.Done r) e more =
     let one = append_cancel_left world.entries _ (e ∷ []) more in
     cc
 
-stepped-last : (world : World) (t : ℕ) (o : Option Begun) (e : Entry) →
-    (stepped world t o).entries ≡ world.entries ++ e ∷ [] → e.last ≡ world.position
-stepped-last world t None e more = absurd (no_entry world.entries e more)
-stepped-last world t (Some b) e more = world_after-last world t b _ _ e more
+world_stepped-last : (world : World) (t : ℕ) (o : Option Begun) (e : Entry) →
+    (world_stepped world t o).entries ≡ world.entries ++ e ∷ [] → e.last ≡ world.position
+world_stepped-last world t None e more = absurd (no_entry world.entries e more)
+world_stepped-last world t (Some b) e more = world_after-last world t b _ _ e more
 
 -- all that a script finishes is what it has finished and what it still does
 until-and-after : (script : Scripted) (made : ℕ) →
@@ -171,7 +171,7 @@ handed-on : (script : Scripted) (old new : RunState) (made t : ℕ) (p : StepKin
 handed-on script old new made t Idle none entries until told =
     let world : World = world_at (calls_until script made) old made in
     going script old new made t none until
-    (sym entries ∙ ap (λ (o : Option Begun). (stepped world t o).entries) told)
+    (sym entries ∙ ap (λ (o : Option Begun). (world_stepped world t o).entries) told)
 handed-on script old new made t Going none entries until told =
     going script old new made t none until (sym entries ∙ told.1)
 handed-on script old new made t Ended none entries until told =
@@ -185,7 +185,7 @@ handed-on script old new made t Ended none entries until told =
     (until ∙ ap (λ (es : List Entry). gone ++ es) one) in
     let ended : made + 1 ≡ told.0.last + 1 =
     ap (λ (n : ℕ). n + 1)
-    (sym (stepped-last (world_at gone old made) t (current script (world_at gone old made) t) told.0 told.1)) in
+    (sym (world_stepped-last (world_at gone old made) t (current script (world_at gone old made) t) told.0 told.1)) in
     rw (one, rest, ended) refl
 
 pub step-passed : (script : Scripted) (old new : RunState) (made t : ℕ) (p : StepKind) →

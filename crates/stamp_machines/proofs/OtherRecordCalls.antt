@@ -10,17 +10,17 @@ use Rattle.stamp_machines.specs.Job.{Job}
 use Rattle.stamp_machines.specs.RecordStage.{RecordStage, LoadingLock, Copying, Locking, Reading, Checking}
 use Rattle.stamp_machines.specs.RecordStage.{Storing, Releasing, Share, Leave, Refuse}
 use Rattle.stamp_machines.specs.RecordStage.{Upgrade, ReleaseFirst, Claim}
-use Rattle.stamp_machines.specs.RecordKept.{read_by, written_by, FitsRecordStage, FitsIn, Doing, read_in}
+use Rattle.stamp_machines.specs.RecordKept.{read_by, written_by, FitsRecordStage, FitsIn, RecordCallAt, read_in}
 use Rattle.stamp_machines.specs.RecordKept.{written_in, RecordKept, Moved, SameFor, AloneFor}
 
-pub le_sum : (f : Option Doing → ℕ) (xs : List (Option Doing)) (j : ℕ) → f None ≡ 0 →
+pub le_sum : (f : Option RecordCallAt → ℕ) (xs : List (Option RecordCallAt)) (j : ℕ) → f None ≡ 0 →
     f (slice_index_or xs j None) ≤ sum_by f xs
 le_sum f [] j z = omega (arith, z)
 le_sum f (x ∷ xs) zero z = omega (arith, sum_by-cons f x xs)
 le_sum f (x ∷ xs) (suc j) z = omega (arith, sum_by-cons f x xs, le_sum f xs j z)
 
 -- where one index has the whole sum, each other has nothing of it
-zero_elsewhere : (f : Option Doing → ℕ) (xs : List (Option Doing)) (i j : ℕ) → f None ≡ 0 →
+zero_elsewhere : (f : Option RecordCallAt → ℕ) (xs : List (Option RecordCallAt)) (i j : ℕ) → f None ≡ 0 →
     sum_by f xs ≡ f (slice_index_or xs i None) → (i == j) ≡ false → f (slice_index_or xs j None) ≡ 0
 zero_elsewhere f [] i j z h n = z
 zero_elsewhere f (x ∷ xs) zero zero z h n = cc
@@ -63,7 +63,7 @@ quiet-fits limits k w k' w' content content' items items' job (Releasing t a) l 
     absurd (omega arith)
 
 quiet-fits_in : (limits : Bounds) (k w k' w' : ℕ) (content content' items items' : List ℕ)
-    (d : Option Doing) → length content' ≡ length content → read_in d ≡ 0 → written_in d ≡ 0 →
+    (d : Option RecordCallAt) → length content' ≡ length content → read_in d ≡ 0 → written_in d ≡ 0 →
     (k' ≡ k + 1) ⊎ ((w ≡ 1) × (k' ≡ k)) → FitsIn limits k w content items d →
     FitsIn limits k' w' content' items' d
 quiet-fits_in limits k w k' w' content content' items items' None l r s e h = tt
@@ -75,17 +75,17 @@ quiet-fits_in limits k w k' w' content content' items items' (Some d) l r s e h 
 )
 
 same-fits_in : (limits : Bounds) (k w k' w' : ℕ) (content content' items items' : List ℕ)
-    (d : Option Doing) → (k' ≡ k) × (w' ≡ w) × (content' ≡ content) × (items' ≡ items) →
+    (d : Option RecordCallAt) → (k' ≡ k) × (w' ≡ w) × (content' ≡ content) × (items' ≡ items) →
     FitsIn limits k w content items d → FitsIn limits k' w' content' items' d
 same-fits_in limits k w k' w' content content' items items' d e h = rw (e.0, e.1, e.2, e.3) h
 
-at_set_same : (xs : List (Option Doing)) (i : ℕ) (v : Option Doing) → i < length xs →
+at_set_same : (xs : List (Option RecordCallAt)) (i : ℕ) (v : Option RecordCallAt) → i < length xs →
     slice_index_or (slice_set xs i v) i None ≡ v
 at_set_same [] i v h = absurd (omega arith)
 at_set_same (x ∷ xs) zero v h = refl
 at_set_same (x ∷ xs) (suc i) v h = at_set_same xs i v (omega arith)
 
-at_set_other : (xs : List (Option Doing)) (i j : ℕ) (v : Option Doing) → (i == j) ≡ false →
+at_set_other : (xs : List (Option RecordCallAt)) (i j : ℕ) (v : Option RecordCallAt) → (i == j) ≡ false →
     slice_index_or (slice_set xs i v) j None ≡ slice_index_or xs j None
 at_set_other [] i j v n = refl
 at_set_other (x ∷ xs) zero zero v n = cc
@@ -94,8 +94,8 @@ at_set_other (x ∷ xs) (suc i) zero v n = refl
 at_set_other (x ∷ xs) (suc i) (suc j) v n = at_set_other xs i j v (grind arith)
 
 -- one access keeps what holds of the record
-pub moved-kept : (limits : Bounds) (lock : ℕ) (items content : List ℕ) (doing : List (Option Doing))
-    (t : ℕ) (before : RecordStage) (lock' : ℕ) (items' content' : List ℕ) (now : Option Doing) →
+pub moved-kept : (limits : Bounds) (lock : ℕ) (items content : List ℕ) (doing : List (Option RecordCallAt))
+    (t : ℕ) (before : RecordStage) (lock' : ℕ) (items' content' : List ℕ) (now : Option RecordCallAt) →
     RecordKept limits lock items content doing → t < length doing →
     read_in (slice_index_or doing t None) ≡ read_by before →
     written_in (slice_index_or doing t None) ≡ written_by before →

@@ -36,7 +36,7 @@ use Rattle.stamp_machines.specs.RecordStage.{unchanged}
 use Rattle.stamp_machines.specs.LockPhase as phases
 use Rattle.stamp_machines.specs.LockPhase.{plan_on, phase_plan, phase_after}
 use Rattle.stamp_machines.specs.LockPhase.{PhaseTurn}
-use Rattle.stamp_machines.specs.LocalAccess.{LoadLock, LoadItem, lock_after, items_after}
+use Rattle.stamp_machines.specs.LocalAccess.{LoadLock, LoadWord, lock_after, items_after}
 use Rattle.stamp_machines.specs.LocalAccess.{local_found}
 use Rattle.stamp_machines.specs.RecordKept.{read_by, written_by, FitsRecordStage, SameFor, AloneFor, MovedRightly}
 use Rattle.stamp_machines.specs.RecordKept.{Stands, IsRead}
@@ -136,13 +136,13 @@ copying limits n job first loaded lock items content s e = go (nat_lt (length lo
 
     go : (b : Bool) → nat_lt (length loaded) n ≡ b →
         MovedRightly limits job (Copying first loaded) lock items content
-        (lock_after (if b then LoadItem (length loaded) else LoadLock) lock)
-        (items_after (if b then LoadItem (length loaded) else LoadLock) items) (if b
+        (lock_after (if b then LoadWord (length loaded) else LoadLock) lock)
+        (items_after (if b then LoadWord (length loaded) else LoadLock) items) (if b
         then Going (Copying first
-        (loaded ++ local_found (if b then LoadItem (length loaded) else LoadLock) lock
+        (loaded ++ local_found (if b then LoadWord (length loaded) else LoadLock) lock
         items ∷ []))
         else (if unchanged limits first
-        (local_found (if b then LoadItem (length loaded) else LoadLock) lock items)
+        (local_found (if b then LoadWord (length loaded) else LoadLock) lock items)
         then Done (reply.Content loaded) else Going (Locking Share None)))
     go true q =
         let h : length loaded < length content = grind (arith, q, e) in

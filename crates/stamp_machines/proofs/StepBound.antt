@@ -26,8 +26,8 @@ use Rattle.stamp_machines.specs.LockPhase.{PhaseTurn, turn_on, tried, phase_afte
 use Rattle.stamp_machines.specs.LockPhase.{phase_plan}
 use Rattle.stamp_machines.specs.MachineState.{Stage, OnLock, OnRecord, start, first_stage}
 use Rattle.stamp_machines.specs.Script.{Scripted, IsSound, calls_of}
-use Rattle.stamp_machines.specs.World.{World, current, current_of, begin, shape_of, stamps_of}
-use Rattle.stamp_machines.specs.World.{resolved, world_after, stepped, step, entry_of, execution_of}
+use Rattle.stamp_machines.specs.World.{World, current, current_of, begun_call, shape_of, stamps_of}
+use Rattle.stamp_machines.specs.World.{resolved, world_after, world_stepped, step, entry_of, execution_of}
 use Rattle.stamp_machines.specs.World.{finished_calls}
 use Rattle.stamp_machines.specs.Interference.{lock_word, interferes, changes_by_others, own_since}
 use Rattle.stamp_machines.specs.Interference.{changes_since, own_steps, interference, NeverWaits}
@@ -39,7 +39,7 @@ use Rattle.stamp_machines.specs.declared.machine.Turn.{Turn}
 use Rattle.stamp_machines.specs.declared.machine.Turn.TheVariants.{Going, Done}
 use Rattle.stamp_machines.specs.Access.{words_after, found_by}
 use Rattle.stamp_machines.specs.Job.{job_in}
-use Rattle.stamp_machines.specs.LocalAccess.{LocalAccess, LoadLock, CasLock, LoadItem, StoreItem}
+use Rattle.stamp_machines.specs.LocalAccess.{LocalAccess, LoadLock, CasLock, LoadWord, StoreWord}
 use Rattle.stamp_machines.specs.LocalAccess.{with_lock, lock_after, local_found}
 use Rattle.stamp_machines.specs.Machine.{plan_of, after_access, lock_turn}
 use Rattle.stamp_machines.specs.Invariant.{Invariant, IsOf, events_in, job_at}
@@ -247,7 +247,7 @@ current-bounded script steps n b all = by (slice_index_or (execution_of script s
         rw (lock, none) refl
 
     begins : (c : Option ScriptCall) →
-        begin (shape_of script) (λ k. stamps_of k (execution_of script steps).entries)
+        begun_call (shape_of script) (λ k. stamps_of k (execution_of script steps).entries)
         (execution_of script steps).position c ≡ Some b → BoundedSlot script steps n (Some b)
     begins None e = cc
     begins (Some c) e =
@@ -286,8 +286,8 @@ lock-bounded limits shape call word now own changes (phases.Done r) same bounded
 found-is : (a : LocalAccess) (word : ℕ) → IsToLock a → local_found a word [] ≡ word
 found-is LoadLock word h = refl
 found-is (CasLock old new) word h = refl
-found-is (LoadItem i) word h = absurd h
-found-is (StoreItem i v) word h = absurd h
+found-is (LoadWord i) word h = absurd h
+found-is (StoreWord i v) word h = absurd h
 
 turn-bounded : (script : Scripted) (world : World) (b : Begun) (stage : Stage) (own changes : ℕ) →
     Invariant script world → IsSound script → b.machine.shape ≡ shape_of script →
@@ -427,8 +427,8 @@ step-bounded script steps n sound few all = by (current script world n) refl
 
     by : (c : Option Begun) → current script world n ≡ c → AreBounded script (steps ++ n ∷ [])
     by None e =
-        let now : execution_of script (steps ++ n ∷ []) ≡ stepped world n None =
-        execution_of-more script steps n ∙ ap (stepped world n) e in
+        let now : execution_of script (steps ++ n ∷ []) ≡ world_stepped world n None =
+        execution_of-more script steps n ∙ ap (world_stepped world n) e in
         record {
           slots = λ t. rw (ap (λ (w : World). w.begun) now) (idle t e);
           entries = rw (ap (λ (w : World). w.entries) now)
@@ -450,8 +450,8 @@ step-bounded script steps n sound few all = by (current script world n) refl
     by (Some b) e =
         let of : IsOf (shape_of script) (Some b) = current-of script world n b k sound e in
         let bounded : BoundedSlot script steps n (Some b) = current-bounded script steps n b all e in
-        let now : execution_of script (steps ++ n ∷ []) ≡ stepped world n (Some b) =
-        execution_of-more script steps n ∙ ap (stepped world n) e in
+        let now : execution_of script (steps ++ n ∷ []) ≡ world_stepped world n (Some b) =
+        execution_of-more script steps n ∙ ap (world_stepped world n) e in
         lands-bounded script steps n b (words_after (plan_of b.machine) world.words)
         (after_access b.machine (found_by (plan_of b.machine) world.words)) all bounded now
         (after_same b.machine _)

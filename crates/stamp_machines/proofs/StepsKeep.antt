@@ -36,11 +36,12 @@ use Rattle.stamp_machines.specs.Machine.{plan_in, after_in, plan_of, after_acces
 use Rattle.stamp_machines.specs.Machine.{record_turn}
 use Rattle.stamp_machines.specs.Script.{Scripted, IsSound}
 use Rattle.stamp_machines.specs.declared.state.Begun.{Begun}
-use Rattle.stamp_machines.specs.World.{World, opening, opening_word, current, world_after, stepped, step}
+use Rattle.stamp_machines.specs.World.{World, opening, opening_word, current, world_after, world_stepped, step}
 use Rattle.stamp_machines.specs.World.{execution_of, entry_of, shape_of}
-use Rattle.stamp_machines.specs.RecordKept.{Doing, RecordKept, MovedRightly, Stands, read_in, written_in}
+use Rattle.stamp_machines.specs.RecordKept.{RecordCallAt, RecordKept, MovedRightly, Stands, read_in, written_in}
 use Rattle.stamp_machines.specs.RecordKept.{read_by, written_by, FitsIn, SameFor, AloneFor}
-use Rattle.stamp_machines.specs.Invariant.{Invariant, IsOf, doing_in, doing_at, job_at, content_in, events_in}
+use Rattle.stamp_machines.specs.Invariant.{Invariant, IsOf, record_call_in, record_call_at, job_at, content_in}
+use Rattle.stamp_machines.specs.Invariant.{events_in}
 use Rattle.stamp_machines.proofs.LockPhaseSteps.{PhaseLeaves, phase-leaves, counts-of}
 use Rattle.stamp_machines.proofs.OtherRecordCalls.{moved-kept, le_sum}
 use Rattle.stamp_machines.specs.Laws.{ReleasesWinAlways}
@@ -55,20 +56,20 @@ use Rattle.stamp_core.specs.Linearized.{history_of}
 use Rattle.stamp_core.proofs.WordNumbers.{in_range}
 
 map-index : (xs : List (Option Begun)) (t : ℕ) →
-    slice_index_or (map doing_in xs) t None ≡ doing_in (slice_index_or xs t None)
+    slice_index_or (map record_call_in xs) t None ≡ record_call_in (slice_index_or xs t None)
 map-index [] t = refl
 map-index (x ∷ xs) zero = refl
 map-index (x ∷ xs) (suc t) = map-index xs t
 
-length-map : (xs : List (Option Begun)) → length (map doing_in xs) ≡ length xs
+length-map : (xs : List (Option Begun)) → length (map record_call_in xs) ≡ length xs
 length-map [] = refl
 length-map (x ∷ xs) = ap suc (length-map xs)
 
-set-none : (xs : List (Option Doing)) (i : ℕ) → slice_index_or xs i None ≡ None →
+set-none : (xs : List (Option RecordCallAt)) (i : ℕ) → slice_index_or xs i None ≡ None →
     slice_set xs i None ≡ xs
 set-none [] i h = refl
-set-none (x ∷ xs) zero h = ap (λ (y : Option Doing). y ∷ xs) (sym h)
-set-none (x ∷ xs) (suc i) h = ap (λ (ys : List (Option Doing)). x ∷ ys) (set-none xs i h)
+set-none (x ∷ xs) zero h = ap (λ (y : Option RecordCallAt). y ∷ xs) (sym h)
+set-none (x ∷ xs) (suc i) h = ap (λ (ys : List (Option RecordCallAt)). x ∷ ys) (set-none xs i h)
 
 each_after_set : (P : Option Begun → Type 0) (xs : List (Option Begun)) (i : ℕ) (v : Option Begun) →
     ((k : ℕ) → P (slice_index_or xs k None)) → P v → (k : ℕ) →
@@ -92,7 +93,7 @@ going-kept : (script : Scripted) (world : World) (t : ℕ) (b : Begun) (words : 
     length words ≡ 2 + script.width → slice_index words 0 ≡ slice_index world.words 0 →
     RecordKept (record_limits (shape_of script)) (slice_index words 1) (drop 2 words)
     (content_in script world)
-    (map doing_in (slice_set world.begun t (Some (record { machine = m; first = b.first })))) →
+    (map record_call_in (slice_set world.begun t (Some (record { machine = m; first = b.first })))) →
     (counts_at (record_limits (shape_of script)) (slice_index words 1)).write_count ≤ world.position
     + 1 → Invariant script (world_after world t b words (machines.Going m))
 going-kept script world t b words m k o n s r f =
@@ -125,7 +126,7 @@ done-kept : (script : Scripted) (world : World) (t : ℕ) (b : Begun) (words : L
     AnswersAtEnd script world b.machine.call r events content →
     RepresentsAt script.limits (slice_index words 0) events →
     RecordKept (record_limits (shape_of script)) (slice_index words 1) (drop 2 words) content
-    (map doing_in (slice_set world.begun t None)) → length content ≡ script.width →
+    (map record_call_in (slice_set world.begun t None)) → length content ≡ script.width →
     length words ≡ 2 + script.width →
     (counts_at (record_limits (shape_of script)) (slice_index words 1)).write_count ≤ world.position
     + 1 → Invariant script (world_after world t b words (machines.Done r))
@@ -178,7 +179,7 @@ record-ends script world call job r j e =
 -- a step of a lock call
 lock-step : (script : Scripted) (world : World) (t : ℕ) (b : Begun) (now : ℕ) (words : List ℕ)
     (p : PhaseTurn) → Invariant script world → IsSound script → b.machine.shape ≡ shape_of script →
-    job_in b.machine.call ≡ None → doing_in (slice_index_or world.begun t None) ≡ None →
+    job_in b.machine.call ≡ None → record_call_in (slice_index_or world.begun t None) ≡ None →
     words ≡ now ∷ slice_index world.words 1 ∷ drop 2 world.words → length words ≡ 2 + script.width →
     PhaseLeaves script.limits b.machine.call (slice_index world.words 0) now p →
     Invariant script (world_after world t b words (lock_turn b.machine.shape b.machine.call p))
@@ -186,9 +187,9 @@ lock-step script world t b now words (phases.Going seen) k sound o j z w n l =
     going-kept script world t b words (record b.machine { stage = OnLock seen }) k (o, j) n (rw w l)
     (rw (
       w,
-      map-set doing_in world.begun t
+      map-set record_call_in world.begun t
           (Some (record { machine = record b.machine { stage = OnLock seen }; first = b.first })),
-      set-none (map doing_in world.begun) t (map-index world.begun t ∙ z),
+      set-none (map record_call_in world.begun) t (map-index world.begun t ∙ z),
     ) k.record_kept)
     (rw w (let f = k.few in omega (arith, f)))
 lock-step script world t b now words (phases.Done r) k sound o j z w n l =
@@ -201,8 +202,8 @@ lock-step script world t b now words (phases.Done r) k sound o j z w n l =
     (rw w (l.represented (events_in script world) k.represented))
     (rw (
       w,
-      map-set doing_in world.begun t None,
-      set-none (map doing_in world.begun) t (map-index world.begun t ∙ z),
+      map-set record_call_in world.begun t None,
+      set-none (map record_call_in world.begun) t (map-index world.begun t ∙ z),
     ) k.record_kept)
     k.width n
     (rw w (let f = k.few in omega (arith, f)))
@@ -211,8 +212,8 @@ lock-step script world t b now words (phases.Done r) k sound o j z w n l =
 record-step : (script : Scripted) (world : World) (t : ℕ) (b : Begun) (job : Job) (stage : RecordStage)
     (lock : ℕ) (items words : List ℕ) (turned : RecordStageTurn) → Invariant script world →
     t < length world.begun → b.machine.shape ≡ shape_of script → job_in b.machine.call ≡ Some job →
-    read_in (doing_in (slice_index_or world.begun t None)) ≡ read_by stage →
-    written_in (doing_in (slice_index_or world.begun t None)) ≡ written_by stage →
+    read_in (record_call_in (slice_index_or world.begun t None)) ≡ read_by stage →
+    written_in (record_call_in (slice_index_or world.begun t None)) ≡ written_by stage →
     words ≡ slice_index world.words 0 ∷ lock ∷ items → length words ≡ 2 + script.width →
     (counts_at (record_limits (shape_of script)) lock).write_count ≤ world.position + 1 →
     MovedRightly (record_limits (shape_of script)) job stage (slice_index world.words 1) (drop 2 world.words)
@@ -224,21 +225,21 @@ record-step script world t b job stage lock items words (on_record.Going to) k h
     (rw w refl)
     (rw (
       w,
-      map-set doing_in world.begun t
+      map-set record_call_in world.begun t
           (Some (record {
             machine = record b.machine { stage = OnRecord job to };
             first = b.first;
           })),
     )
-    (moved-kept _ _ _ _ (map doing_in world.begun) t stage _ _ _ _ k.record_kept
+    (moved-kept _ _ _ _ (map record_call_in world.begun) t stage _ _ _ _ k.record_kept
     (rw (length-map world.begun) h) (rw (map-index world.begun t) rd)
     (rw (map-index world.begun t) wr) s.0))
     (rw w f)
 record-step script world t b job stage lock items words (on_record.Done r) k h o j rd wr w n f s =
     done-kept script world t b words r _ _ k (record-ends script world b.machine.call job r j s.1)
     (rw w k.represented)
-    (rw (w, map-set doing_in world.begun t None)
-    (moved-kept _ _ _ _ (map doing_in world.begun) t stage _ _ _ _ k.record_kept
+    (rw (w, map-set record_call_in world.begun t None)
+    (moved-kept _ _ _ _ (map record_call_in world.begun) t stage _ _ _ _ k.record_kept
     (rw (length-map world.begun) h) (rw (map-index world.begun t) rd)
     (rw (map-index world.begun t) wr) s.0))
     (s.0.same_width ∙ k.width) n
@@ -275,7 +276,7 @@ call-ready script world t b k sound e =
     let limits : Bounds = record_limits (shape_of script) in
     let fits : FitsIn limits (counts_at limits (slice_index world.words 1)).write_count
     (counts_at limits (slice_index world.words 1)).writers (content_in script world)
-    (drop 2 world.words) (doing_in (slice_index_or world.begun t None)) =
+    (drop 2 world.words) (record_call_in (slice_index_or world.begun t None)) =
     rw (map-index world.begun t) at (k.record_kept.fits t) in
     current-ready limits script world t _ _ (content_in script world) (drop 2 world.words)
     (slice_index_or world.begun t None) b sound.suited k.width k.threads refl (k.begun t) fits e
@@ -288,10 +289,10 @@ pub record-stands : (script : Scripted) (world : World) (t : ℕ) (b : Begun) (j
     (drop 2 world.words) (content_in script world)
 record-stands script world t b job stage k room ready e =
     let limits : Bounds = record_limits (shape_of script) in
-    let d : doing_at b.machine.stage ≡ Some (record { job = job; stage = stage }) = ap doing_at e in
-    let rd : read_in (doing_in (slice_index_or world.begun t None)) ≡ read_by stage =
+    let d : record_call_at b.machine.stage ≡ Some (record { job = job; stage = stage }) = ap record_call_at e in
+    let rd : read_in (record_call_in (slice_index_or world.begun t None)) ≡ read_by stage =
     ready.reads ∙ ap read_in d in
-    let wr : written_in (doing_in (slice_index_or world.begun t None)) ≡ written_by stage =
+    let wr : written_in (record_call_in (slice_index_or world.begun t None)) ≡ written_by stage =
     ready.writes ∙ ap written_in d in
     let f : FitsIn limits (counts_at limits (slice_index world.words 1)).write_count
     (counts_at limits (slice_index world.words 1)).writers (content_in script world)
@@ -304,14 +305,14 @@ record-stands script world t b job stage k room ready e =
       width = rk.width;
       some = f.0;
       free = rk.free;
-      reads = (let at : read_in (slice_index_or (map doing_in world.begun) t None)
-          ≡ read_in (doing_in (slice_index_or world.begun t None)) = ap read_in
+      reads = (let at : read_in (slice_index_or (map record_call_in world.begun) t None)
+          ≡ read_in (record_call_in (slice_index_or world.begun t None)) = ap read_in
           (map-index world.begun t) in
-          omega (arith, le_sum read_in (map doing_in world.begun) t refl, at, rk.readers, rd));
-      writes = (let at : written_in (slice_index_or (map doing_in world.begun) t None)
-          ≡ written_in (doing_in (slice_index_or world.begun t None)) = ap written_in
+          omega (arith, le_sum read_in (map record_call_in world.begun) t refl, at, rk.readers, rd));
+      writes = (let at : written_in (slice_index_or (map record_call_in world.begun) t None)
+          ≡ written_in (record_call_in (slice_index_or world.begun t None)) = ap written_in
           (map-index world.begun t) in
-          omega (arith, le_sum written_in (map doing_in world.begun) t refl, at, rk.writers, wr));
+          omega (arith, le_sum written_in (map record_call_in world.begun) t refl, at, rk.writers, wr));
       words = f.1;
       fits = f.2;
     }
@@ -333,7 +334,7 @@ begun-kept script world t b (OnLock seen) k sound room h ready e =
     let l = phase-leaves script.limits b.machine.call (slice_index world.words 0) [] seen sound.range
     w in
     let j : job_in b.machine.call ≡ None = ready.of.1 ∙ ap job_at e in
-    let slot : doing_in (slice_index_or world.begun t None) ≡ None = ready.lock (ap doing_at e) in
+    let slot : record_call_in (slice_index_or world.begun t None) ≡ None = ready.lock (ap record_call_at e) in
     let n : length (words_after (with_lock 0 a) world.words) ≡ 2 + script.width =
     length-words_after (with_lock 0 a) world.words ∙ k.memory in
     rw m.found (subst
@@ -347,11 +348,11 @@ begun-kept script world t b (OnRecord job stage) k sound room h ready e =
     let limits : Bounds = record_limits (shape_of script) in
     let a : LocalAccess = on_record.plan limits script.width job stage in
     let m = record-moves world.words script.width a k.memory in
-    let d : doing_at b.machine.stage ≡ Some (record { job = job; stage = stage }) = ap doing_at e in
+    let d : record_call_at b.machine.stage ≡ Some (record { job = job; stage = stage }) = ap record_call_at e in
     let j : job_in b.machine.call ≡ Some job = ready.of.1 ∙ ap job_at e in
-    let rd : read_in (doing_in (slice_index_or world.begun t None)) ≡ read_by stage =
+    let rd : read_in (record_call_in (slice_index_or world.begun t None)) ≡ read_by stage =
     ready.reads ∙ ap read_in d in
-    let wr : written_in (doing_in (slice_index_or world.begun t None)) ≡ written_by stage =
+    let wr : written_in (record_call_in (slice_index_or world.begun t None)) ≡ written_by stage =
     ready.writes ∙ ap written_in d in
     let st = record-stands script world t b job stage k room ready e in
     let s = own-step limits script.width job stage (slice_index world.words 1) (drop 2 world.words)
@@ -386,10 +387,10 @@ of-shape script world t b e h =
     (found_by (plan_in s b.machine.call b.machine.stage) world.words) b.machine.stage)))
     (sym e) h
 
-stepped-kept : (script : Scripted) (world : World) (t : ℕ) (c : Option Begun) → Invariant script world →
+world_stepped-kept : (script : Scripted) (world : World) (t : ℕ) (c : Option Begun) → Invariant script world →
     IsSound script → world.position < 1000000 → current script world t ≡ c →
-    Invariant script (stepped world t c)
-stepped-kept script world t None k sound room e =
+    Invariant script (world_stepped world t c)
+world_stepped-kept script world t None k sound room e =
     record {
       legal = k.legal;
       represented = k.represented;
@@ -400,7 +401,7 @@ stepped-kept script world t None k sound room e =
       begun = k.begun;
       few = (let f = k.few in omega (arith, f));
     }
-stepped-kept script world t (Some b) k sound room e =
+world_stepped-kept script world t (Some b) k sound room e =
     let r = call-ready script world t b k sound e in
     of-shape script world t b r.1.of.0
     (begun-kept script world t b b.machine.stage k sound room r.0 r.1 refl)
@@ -408,7 +409,7 @@ stepped-kept script world t (Some b) k sound room e =
 pub step-kept : (script : Scripted) (world : World) (t : ℕ) → Invariant script world → IsSound script →
     world.position < 1000000 → Invariant script (step script world t)
 step-kept script world t k sound room =
-    stepped-kept script world t (current script world t) k sound room refl
+    world_stepped-kept script world t (current script world t) k sound room refl
 
 none-begun : (shape : Shape) (n k : ℕ) →
     IsOf shape (slice_index_or (replicate {A = Option Begun} n None) k None)
@@ -416,11 +417,11 @@ none-begun shape zero k = tt
 none-begun shape (suc n) zero = tt
 none-begun shape (suc n) (suc k) = none-begun shape n k
 
-none-doing : (n : ℕ) → map doing_in (replicate {A = Option Begun} n None) ≡ replicate n None
+none-doing : (n : ℕ) → map record_call_in (replicate {A = Option Begun} n None) ≡ replicate n None
 none-doing zero = refl
-none-doing (suc n) = ap (λ (xs : List (Option Doing)). None ∷ xs) (none-doing n)
+none-doing (suc n) = ap (λ (xs : List (Option RecordCallAt)). None ∷ xs) (none-doing n)
 
-none-summed : (f : Option Doing → ℕ) (n : ℕ) → f None ≡ 0 → sum_by f (replicate n None) ≡ 0
+none-summed : (f : Option RecordCallAt → ℕ) (n : ℕ) → f None ≡ 0 → sum_by f (replicate n None) ≡ 0
 none-summed f zero z = refl
 none-summed f (suc n) z = omega (arith, sum_by-cons f None (replicate n None), none-summed f n z)
 
@@ -467,7 +468,7 @@ position-step script world t = go (current script world t)
     done b words (machines.Going m) = refl
     done b words (machines.Done r) = refl
 
-    go : (c : Option Begun) → (stepped world t c).position ≡ world.position + 1
+    go : (c : Option Begun) → (world_stepped world t c).position ≡ world.position + 1
     go None = refl
     go (Some b) = done b _ _
 
@@ -490,7 +491,7 @@ stage-safe : (script : Scripted) (world : World) (call : Call) (stage : Stage) �
     FitsIn (record_limits (shape_of script))
     (counts_at (record_limits (shape_of script)) (slice_index world.words 1)).write_count
     (counts_at (record_limits (shape_of script)) (slice_index world.words 1)).writers
-    (content_in script world) (drop 2 world.words) (doing_at stage) →
+    (content_in script world) (drop 2 world.words) (record_call_at stage) →
     IsSafeIn (shape_of script) call stage world.words
 stage-safe script world call (OnLock seen) k room f =
     lock-safe (shape_of script) call seen world.words k.memory

@@ -20,8 +20,8 @@ use Rattle.stamp_machines.specs.declared.machine.Turn.TheVariants as turned
 use Rattle.stamp_machines.specs.declared.running.Stepped.{Stepped}
 use Rattle.stamp_machines.specs.declared.running.Stepped.TheVariants.{Idle, Going, Ended}
 use Rattle.stamp_machines.specs.Script.{Scripted, IsSound, calls_of}
-use Rattle.stamp_machines.specs.World.{World, current, current_of, begin, shape_of, stamps_of}
-use Rattle.stamp_machines.specs.World.{resolved, world_after, stepped, entry_of, execution_of}
+use Rattle.stamp_machines.specs.World.{World, current, current_of, begun_call, shape_of, stamps_of}
+use Rattle.stamp_machines.specs.World.{resolved, world_after, world_stepped, entry_of, execution_of}
 use Rattle.stamp_machines.specs.World.{finished_calls}
 use Rattle.stamp_machines.specs.MachineState.{start}
 use Rattle.stamp_machines.specs.Stepped.{AnswersStep}
@@ -98,7 +98,7 @@ current-measured script steps n b s all =
     none = drop_all (length steps) steps (omega arith)
 
     begins : (c : Option ScriptCall) → m ≡ idle_meter →
-        begin (shape_of script) (λ k. stamps_of k (execution_of script steps).entries)
+        begun_call (shape_of script) (λ k. stamps_of k (execution_of script steps).entries)
         (execution_of script steps).position c ≡ Some b → Measures script steps s.changes n b m
     begins None z e = cc
     begins (Some c) z e =
@@ -299,7 +299,7 @@ tallied-ended script steps n s b e words (turned.Done r) sound few within all me
 tallied-idle : (script : Scripted) (steps : List ℕ) (n : ℕ) (s : TallyState) → IsSound script →
     length steps ≤ 1000000 → IsTallied script steps s →
     current script (execution_of script steps) n ≡ None →
-    execution_of script (steps ++ n ∷ []) ≡ stepped (execution_of script steps) n None →
+    execution_of script (steps ++ n ∷ []) ≡ world_stepped (execution_of script steps) n None →
     IsTallied script (steps ++ n ∷ []) s
 tallied-idle script steps n s sound few all idle now =
     let longer = one_more steps n in
@@ -356,18 +356,18 @@ tallied-more script steps n s told sound few within all says =
         IsTallied script (steps ++ n ∷ []) (tally_after s n (change_by script steps n) told)
     by None e Idle says =
         tallied-idle script steps n s sound few all e
-        (execution_of-more script steps n ∙ ap (stepped world n) e)
+        (execution_of-more script steps n ∙ ap (world_stepped world n) e)
     by None e Going says = let some = rw e at says.0 in cc
     by None e (Ended x) says = absurd (longer-than world.entries x (sym (rw e at says)))
     by (Some b) e Idle says = let apart : Some b ≡ None = sym e ∙ says in cc
     by (Some b) e Going says =
         tallied-going script steps n s b _ _ sound few within all
         (current-measured script steps n b s all e)
-        (execution_of-more script steps n ∙ ap (stepped world n) e) (rw e at says.1)
+        (execution_of-more script steps n ∙ ap (world_stepped world n) e) (rw e at says.1)
     by (Some b) e (Ended x) says =
         tallied-ended script steps n s b x _ _ sound few within all
         (current-measured script steps n b s all e)
-        (execution_of-more script steps n ∙ ap (stepped world n) e) (rw e at says)
+        (execution_of-more script steps n ∙ ap (world_stepped world n) e) (rw e at says)
 
 pub none-tallied : (script : Scripted) (threads : ℕ) → threads ≡ length script.threads →
     IsTallied script [] (record { changes = 0; meters = replicate threads idle_meter; report = [] })

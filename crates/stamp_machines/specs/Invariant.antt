@@ -11,16 +11,16 @@ use Rattle.stamp_machines.specs.MachineState.{Stage, OnLock, OnRecord, record_li
 use Rattle.stamp_machines.specs.Script.{Scripted}
 use Rattle.stamp_machines.specs.World.{World, shape_of}
 use Rattle.stamp_machines.specs.declared.state.Begun.{Begun}
-use Rattle.stamp_machines.specs.RecordKept.{Doing, RecordKept}
+use Rattle.stamp_machines.specs.RecordKept.{RecordCallAt, RecordKept}
 
 -- the record's call that a stage is of
-abbrev pub doing_at : Stage → Option Doing
-doing_at (OnLock seen) = None
-doing_at (OnRecord job stage) = Some (record { job = job; stage = stage })
+abbrev pub record_call_at : Stage → Option RecordCallAt
+record_call_at (OnLock seen) = None
+record_call_at (OnRecord job stage) = Some (record { job = job; stage = stage })
 
-abbrev pub doing_in : Option Begun → Option Doing
-doing_in None = None
-doing_in (Some b) = doing_at b.machine.stage
+abbrev pub record_call_in : Option Begun → Option RecordCallAt
+record_call_in None = None
+record_call_in (Some b) = record_call_at b.machine.stage
 
 abbrev pub job_at : Stage → Option Job
 job_at (OnLock seen) = None
@@ -45,7 +45,7 @@ pub record Invariant (script : Scripted) (world : World) : Type 0 where
   pub represented : RepresentsAt script.limits (slice_index world.words 0) (events_in script world)
   -- the record's lock and its words are those of the content of this history
   pub record_kept : RecordKept (record_limits (shape_of script)) (slice_index world.words 1)
-      (drop 2 world.words) (content_in script world) (map doing_in world.begun)
+      (drop 2 world.words) (content_in script world) (map record_call_in world.begun)
   pub width : length (content_in script world) ≡ script.width
   pub memory : length world.words ≡ 2 + script.width
   pub threads : length world.begun ≡ length script.threads

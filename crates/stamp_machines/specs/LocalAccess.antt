@@ -6,31 +6,31 @@ use Rattle.stamp_machines.specs.declared.access.Access.TheVariants.{Load, Cas, S
 pub data LocalAccess : Type 0 where
   LoadLock : LocalAccess
   CasLock : ℕ → ℕ → LocalAccess
-  LoadItem : ℕ → LocalAccess
-  StoreItem : ℕ → ℕ → LocalAccess
+  LoadWord : ℕ → LocalAccess
+  StoreWord : ℕ → ℕ → LocalAccess
 
 -- on the common words, where the lock is word i; the record's words come after both locks
 abbrev pub with_lock : ℕ → LocalAccess → Access
 with_lock i LoadLock = Load i
 with_lock i (CasLock old new) = Cas i old new
-with_lock i (LoadItem j) = Load (2 + j)
-with_lock i (StoreItem j value) = Store (2 + j) value
+with_lock i (LoadWord j) = Load (2 + j)
+with_lock i (StoreWord j value) = Store (2 + j) value
 
 -- the lock's word and the record's words after the access, and what it finds
 abbrev pub lock_after : LocalAccess → ℕ → ℕ
 lock_after LoadLock lock = lock
 lock_after (CasLock old new) lock = if lock == old then new else lock
-lock_after (LoadItem i) lock = lock
-lock_after (StoreItem i value) lock = lock
+lock_after (LoadWord i) lock = lock
+lock_after (StoreWord i value) lock = lock
 
 abbrev pub items_after : LocalAccess → List ℕ → List ℕ
 items_after LoadLock items = items
 items_after (CasLock old new) items = items
-items_after (LoadItem i) items = items
-items_after (StoreItem i value) items = slice_set items i value
+items_after (LoadWord i) items = items
+items_after (StoreWord i value) items = slice_set items i value
 
 abbrev pub local_found : LocalAccess → ℕ → List ℕ → ℕ
 local_found LoadLock lock items = lock
 local_found (CasLock old new) lock items = lock
-local_found (LoadItem i) lock items = slice_index items i
-local_found (StoreItem i value) lock items = slice_index items i
+local_found (LoadWord i) lock items = slice_index items i
+local_found (StoreWord i value) lock items = slice_index items i

@@ -42,7 +42,7 @@ pub record Goes (p : PhaseState) (found : ℕ) (q : PhaseState) : Type 0 where
       ⊎ ((q.seen ≡ None) × ((p.call ≡ WriteLock) ⊎ (p.call ≡ ReadLock))
       × HasNone p.limits (word_at p.limits found) p.call)
 
--- where the phase leads to have found this word
+-- what comes of finding this word: the turn of the phase
 abbrev pub LeadsBy : PhaseState → ℕ → PhaseTurn → Type 0
 LeadsBy p found (phases.Going seen) = Goes p found (record p { seen = seen })
 LeadsBy p found (phases.Done reply) = Ends p found reply
@@ -51,15 +51,15 @@ LeadsBy p found (phases.Done reply) = Ends p found reply
 abbrev pub on_lock : Bounds → Call → Option ℕ → PhaseState
 on_lock limits call seen = record { at = 0; limits = limits; call = call; seen = seen }
 
--- the lock phase that the machine of a lock call is: on word 0
 abbrev pub seen_in : Stage → Option ℕ
 seen_in (OnLock seen) = seen
 seen_in (OnRecord job stage) = None
 
+-- the lock phase that the machine of a lock call is: on word 0
 abbrev pub lock_phase : MachineState → PhaseState
 lock_phase m = record { at = 0; limits = m.shape.limits; call = m.call; seen = seen_in m.stage }
 
--- where it leads to have found this word
+-- what comes of finding this word: the turn of the machine
 abbrev pub Leads : PhaseState → ℕ → Turn → Type 0
 Leads p found (Going m) = Goes p found (lock_phase m)
 Leads p found (Done reply) = Ends p found reply

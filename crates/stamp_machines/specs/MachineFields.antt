@@ -31,6 +31,7 @@ abbrev pub job_or : Option Job → Job
 job_or None = Getting
 job_or (Some job) = job
 
+-- the job of a call of the record; a lock call has none, and stands here as `Getting`
 abbrev pub job_of : Call → Job
 job_of call = job_or (job_in call)
 
@@ -50,7 +51,7 @@ released_reply job is_stored = if is_stored then stored_reply job else No
 abbrev pub stage_at : Call → List ℕ → Stage → states.Stage
 stage_at call loaded (OnLock seen) = states.OnLock seen
 stage_at call loaded LoadingLock = OnRecord (job_of call) on_record.LoadingLock
-stage_at call loaded (Copying first) = OnRecord (job_of call) (on_record.Copying first loaded)
+stage_at call loaded (Copying lock_word) = OnRecord (job_of call) (on_record.Copying lock_word loaded)
 stage_at call loaded (Locking own_call seen) =
     OnRecord (job_of call) (on_record.Locking (own_call_in loaded own_call) seen)
 stage_at call loaded (Reading stamp) = OnRecord (job_of call) (on_record.Reading stamp loaded)
@@ -78,9 +79,9 @@ IsRecordCall shape call =
     (is_lock_call call ≡ false) × (0 < shape.width) × (shape.width ≤ 16)
     × ((is_get (job_of call) ≡ true) ⊎ (length (new_words (job_of call)) ≡ shape.width))
 
--- a call that changes the record
-abbrev pub IsWriter : Shape → Call → Type 0
-IsWriter shape call =
+-- a put or a put_if of the record's width
+abbrev pub IsPutCall : Shape → Call → Type 0
+IsPutCall shape call =
     (is_lock_call call ≡ false) × (0 < shape.width) × (shape.width ≤ 16)
     × (is_get (job_of call) ≡ false) × (length (new_words (job_of call)) ≡ shape.width)
 
@@ -88,24 +89,24 @@ abbrev pub IsOwnLockCall : Shape → Call → List ℕ → OwnLockCall → Type 
 IsOwnLockCall shape call loaded Share = IsRecordCall shape call
 IsOwnLockCall shape call loaded (Leave stamp) = IsRecordCall shape call × (1 ≤ length loaded)
 IsOwnLockCall shape call loaded (Refuse stamp) = IsRecordCall shape call
-IsOwnLockCall shape call loaded (Upgrade stamp) = IsWriter shape call
-IsOwnLockCall shape call loaded (ReleaseFirst stamp) = IsWriter shape call
-IsOwnLockCall shape call loaded Claim = IsWriter shape call
+IsOwnLockCall shape call loaded (Upgrade stamp) = IsPutCall shape call
+IsOwnLockCall shape call loaded (ReleaseFirst stamp) = IsPutCall shape call
+IsOwnLockCall shape call loaded Claim = IsPutCall shape call
 
 abbrev pub IsStage : Shape → Call → List ℕ → Stage → Type 0
 IsStage shape call loaded (OnLock seen) = IsLockPhase shape.limits call seen
 IsStage shape call loaded LoadingLock = IsRecordCall shape call
-IsStage shape call loaded (Copying first) =
-    IsRecordCall shape call × IsAdmittedAt (record_limits shape) first
+IsStage shape call loaded (Copying lock_word) =
+    IsRecordCall shape call × IsAdmittedAt (record_limits shape) lock_word
     × (length loaded ≤ shape.width)
 IsStage shape call loaded (Locking own_call seen) =
     IsOwnLockCall shape call loaded own_call
     × IsChanging (record_limits shape) (call_for (own_call_in loaded own_call)) seen
 IsStage shape call loaded (Reading stamp) = IsRecordCall shape call × (length loaded < shape.width)
 IsStage shape call loaded (Checking stamp) =
-    IsWriter shape call × (length loaded < shape.width) × (stamp < 2 ^ 63)
+    IsPutCall shape call × (length loaded < shape.width) × (stamp < 2 ^ 63)
 IsStage shape call loaded (Storing stamp stored) =
-    IsWriter shape call × (stored < shape.width) × (stamp < 2 ^ 63)
+    IsPutCall shape call × (stored < shape.width) × (stamp < 2 ^ 63)
 IsStage shape call loaded (Releasing stamp is_stored) =
     (is_lock_call call ≡ false) × (stamp < 2 ^ 63)
 

@@ -34,6 +34,6 @@ phase_in shape call (OnRecord job stage) = None
 abbrev pub phase_of : MachineState → Option MachinePhase
 phase_of m = phase_in m.shape m.call m.stage
 
--- where it leads to have found this word: to where the phase leads
+-- what comes of finding this word: the machine's turn by where the phase leads
 abbrev pub LeadsIn : MachinePhase → ℕ → Turn → Type 0
 LeadsIn p found turn = (t : PhaseTurn) × LeadsBy p.state found t × (turn ≡ p.turn t)

@@ -8,7 +8,7 @@ use Rattle.stamp_machines.specs.declared.shape.Shape.{Shape}
 
 -- where a call stands between two of its accesses
 pub data Stage : Type 0 where
-  OnLock : Option ℕ → Stage  -- a lock phase on word 0, with the word that it decided on
+  OnLock : Option ℕ → Stage  -- a lock phase on word 0, with the word that it has seen
   OnRecord : Job → RecordStage → Stage  -- a call of the record
 
 pub record MachineState : Type 0 where

@@ -15,7 +15,7 @@ use Rattle.stamp_machines.specs.RecordStage.{RecordStageTurn}
 -- how many read and write locks a call at this stage holds
 abbrev pub read_by : RecordStage → ℕ
 read_by LoadingLock = 0
-read_by (Copying first loaded) = 0
+read_by (Copying lock_word loaded) = 0
 read_by (Locking Share seen) = 0
 read_by (Locking (Leave s loaded) seen) = 1
 read_by (Locking (Refuse s) seen) = 1
@@ -29,7 +29,7 @@ read_by (Releasing s a) = 0
 
 abbrev pub written_by : RecordStage → ℕ
 written_by LoadingLock = 0
-written_by (Copying first loaded) = 0
+written_by (Copying lock_word loaded) = 0
 written_by (Locking e seen) = 0
 written_by (Reading s loaded) = 0
 written_by (Checking s loaded) = 1
@@ -47,10 +47,10 @@ IsRead limits k s =
 
 abbrev pub FitsRecordStage : Bounds → ℕ → ℕ → List ℕ → List ℕ → Job → RecordStage → Type 0
 FitsRecordStage limits k w content items job LoadingLock = is_get job ≡ true
-FitsRecordStage limits k w content items job (Copying first loaded) =
-    (is_get job ≡ true) × ((counts_at limits first).write_count ≤ k)
+FitsRecordStage limits k w content items job (Copying lock_word loaded) =
+    (is_get job ≡ true) × ((counts_at limits lock_word).write_count ≤ k)
     × (length loaded ≤ length content)
-    × ((counts_at limits first).write_count ≡ k → (w ≡ 0) × (loaded ≡ take (length loaded) content))
+    × ((counts_at limits lock_word).write_count ≡ k → (w ≡ 0) × (loaded ≡ take (length loaded) content))
 FitsRecordStage limits k w content items job (Locking Share seen) = Unit {0}
 FitsRecordStage limits k w content items job (Locking (Leave s loaded) seen) =
     (is_get job ≡ true) × IsRead limits k s × (loaded ≡ content)
@@ -74,19 +74,20 @@ FitsRecordStage limits k w content items job (Releasing s a) =
     (s ≡ write_stamp (units limits) k) × (a ≡ reply_to content job)
     × (items ≡ content_with content job)
 
-pub record Doing : Type 0 where
+-- a call of the record, as `OnRecord job stage` says where it stands
+pub record RecordCallAt : Type 0 where
   pub job : Job
   pub stage : RecordStage
 
-abbrev pub read_in : Option Doing → ℕ
+abbrev pub read_in : Option RecordCallAt → ℕ
 read_in None = 0
 read_in (Some d) = read_by d.stage
 
-abbrev pub written_in : Option Doing → ℕ
+abbrev pub written_in : Option RecordCallAt → ℕ
 written_in None = 0
 written_in (Some d) = written_by d.stage
 
-abbrev pub FitsIn : Bounds → ℕ → ℕ → List ℕ → List ℕ → Option Doing → Type 0
+abbrev pub FitsIn : Bounds → ℕ → ℕ → List ℕ → List ℕ → Option RecordCallAt → Type 0
 FitsIn limits k w content items None = Unit {0}
 FitsIn limits k w content items (Some d) =
     (0 < length content) × ((is_get d.job ≡ true) ⊎ (length (new_words d.job) ≡ length content))
@@ -94,7 +95,7 @@ FitsIn limits k w content items (Some d) =
 
 -- what holds of the record after every step, by the content that the finished calls leave
 pub record RecordKept (limits : Bounds) (lock : ℕ) (items : List ℕ) (content : List ℕ)
-    (doing : List (Option Doing)) : Type 0 where
+    (doing : List (Option RecordCallAt)) : Type 0 where
   pub admitted : IsAdmittedAt limits lock
   pub writers : sum_by written_in doing ≡ (counts_at limits lock).writers
   pub readers : sum_by read_in doing ≡ (counts_at limits lock).readers
@@ -120,7 +121,7 @@ AloneFor limits before lock lock' =
 
 -- what the access of one thread, whose call stood at `before`, makes of the record
 pub record Moved (limits : Bounds) (before : RecordStage) (lock : ℕ) (items : List ℕ) (content : List ℕ)
-    (lock' : ℕ) (items' : List ℕ) (content' : List ℕ) (now : Option Doing) : Type 0 where
+    (lock' : ℕ) (items' : List ℕ) (content' : List ℕ) (now : Option RecordCallAt) : Type 0 where
   pub admitted : IsAdmittedAt limits lock'
   pub writers : (counts_at limits lock').writers + written_by before
       ≡ (counts_at limits lock).writers + written_in now
@@ -136,7 +137,7 @@ pub record Moved (limits : Bounds) (before : RecordStage) (lock : ℕ) (items : 
       ⊎ AloneFor limits before lock lock'
 
 -- the call after an access, the content after it, and that what it answered is right
-abbrev pub now_of : Job → RecordStageTurn → Option Doing
+abbrev pub now_of : Job → RecordStageTurn → Option RecordCallAt
 now_of job (Going stage) = Some (record { job = job; stage = stage })
 now_of job (Done a) = None
 

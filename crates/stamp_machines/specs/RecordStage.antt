@@ -11,7 +11,7 @@ use Rattle.stamp_core.specs.Decision.{stamp_in}
 use Rattle.stamp_machines.specs.LockNumber.{counts_at}
 use Rattle.stamp_machines.specs.Job.{Job, Getting, Putting, PuttingIf, new_words, expects, is_get}
 use Rattle.stamp_machines.specs.Job.{stored_reply}
-use Rattle.stamp_machines.specs.LocalAccess.{LocalAccess, LoadLock, CasLock, LoadItem, StoreItem}
+use Rattle.stamp_machines.specs.LocalAccess.{LocalAccess, LoadLock, CasLock, LoadWord, StoreWord}
 use Rattle.stamp_machines.specs.LockPhase as phases
 use Rattle.stamp_machines.specs.LockPhase.{PhaseTurn, phase_plan, phase_after}
 
@@ -27,7 +27,7 @@ pub data OwnLockCall : Type 0 where
 pub data RecordStage : Type 0 where
   LoadingLock : RecordStage
   Copying : ℕ → List ℕ → RecordStage  -- the lock word first found, the words loaded
-  Locking : OwnLockCall → Option ℕ → RecordStage  -- a lock phase, with the word that it decided on
+  Locking : OwnLockCall → Option ℕ → RecordStage  -- a lock phase, with the word that it has seen
   Reading : ℕ → List ℕ → RecordStage  -- under a read stamp
   Checking : ℕ → List ℕ → RecordStage  -- under a write stamp, of a put_if
   Storing : ℕ → ℕ → RecordStage  -- under a write stamp, this many words stored
@@ -52,12 +52,12 @@ first_record_stage (PuttingIf a b) = Locking Share None
 
 abbrev pub plan : Bounds → ℕ → Job → RecordStage → LocalAccess
 plan limits n job LoadingLock = LoadLock
-plan limits n job (Copying first loaded) =
-    if nat_lt (length loaded) n then LoadItem (length loaded) else LoadLock
+plan limits n job (Copying lock_word loaded) =
+    if nat_lt (length loaded) n then LoadWord (length loaded) else LoadLock
 plan limits n job (Locking e seen) = phase_plan limits (call_for e) seen
-plan limits n job (Reading s loaded) = LoadItem (length loaded)
-plan limits n job (Checking s loaded) = LoadItem (length loaded)
-plan limits n job (Storing s i) = StoreItem i (slice_index (new_words job) i)
+plan limits n job (Reading s loaded) = LoadWord (length loaded)
+plan limits n job (Checking s loaded) = LoadWord (length loaded)
+plan limits n job (Storing s i) = StoreWord i (slice_index (new_words job) i)
 plan limits n job (Releasing s a) = CasLock s (s + (units limits).writer)
 
 -- after the write lock
@@ -80,9 +80,9 @@ passed job e (phases.Going seen) = Going (Locking e seen)
 passed job e (phases.Done r) = own_call_done job e (stamp_in r)
 
 abbrev pub unchanged : Bounds → ℕ → ℕ → Bool
-unchanged limits first found =
+unchanged limits lock_word found =
     ((counts_at limits found).writers == 0)
-    && ((counts_at limits found).write_count == (counts_at limits first).write_count)
+    && ((counts_at limits found).write_count == (counts_at limits lock_word).write_count)
 
 abbrev pub all_read : Job → ℕ → List ℕ → RecordStageTurn
 all_read job s loaded =
@@ -94,9 +94,9 @@ abbrev pub after : Bounds → ℕ → Job → RecordStage → ℕ → RecordStag
 after limits n job LoadingLock found =
     if (counts_at limits found).writers == 0 then Going (Copying found [])
     else Going (Locking Share None)
-after limits n job (Copying first loaded) found =
-    if nat_lt (length loaded) n then Going (Copying first (loaded ++ found ∷ []))
-    else (if unchanged limits first found then Done (reply.Content loaded)
+after limits n job (Copying lock_word loaded) found =
+    if nat_lt (length loaded) n then Going (Copying lock_word (loaded ++ found ∷ []))
+    else (if unchanged limits lock_word found then Done (reply.Content loaded)
     else Going (Locking Share None))
 after limits n job (Locking e seen) found =
     passed job e (phase_after limits (call_for e) seen found)

@@ -93,9 +93,9 @@ resolved stamps Get = call.Get
 resolved stamps (Put a) = call.Put a
 resolved stamps (PutIf a b) = call.PutIf a b
 
-abbrev pub begin : Shape → (ℕ → List ℕ) → ℕ → Option ScriptCall → Option Begun
-begin shape stamps position None = None
-begin shape stamps position (Some c) =
+abbrev pub begun_call : Shape → (ℕ → List ℕ) → ℕ → Option ScriptCall → Option Begun
+begun_call shape stamps position None = None
+begun_call shape stamps position (Some c) =
     Some (record { machine = start shape (resolved stamps c); first = position })
 
 abbrev pub shape_of : Scripted → Shape
@@ -104,7 +104,7 @@ shape_of script = record { limits = script.limits; width = script.width }
 -- the call after a thread's finished calls, which begins at this position
 abbrev pub next_call : Scripted → (ℕ → List ℕ) → ℕ → ℕ → Option Begun
 next_call script stamps position thread =
-    begin (shape_of script) stamps position
+    begun_call (shape_of script) stamps position
     (slice_get (calls_of script thread) (length (stamps thread)))
 
 abbrev pub current_of : Scripted → (ℕ → List ℕ) → ℕ → ℕ → Option Begun → Option Begun
@@ -150,14 +150,14 @@ world_after world thread b words (turned.Done reply) =
       position = world.position + 1;
     }
 
-abbrev pub stepped : World → ℕ → Option Begun → World
-stepped world thread None = record world { position = world.position + 1 }
-stepped world thread (Some b) =
+abbrev pub world_stepped : World → ℕ → Option Begun → World
+world_stepped world thread None = record world { position = world.position + 1 }
+world_stepped world thread (Some b) =
     world_after world thread b (words_after (plan_of b.machine) world.words)
     (after_access b.machine (found_by (plan_of b.machine) world.words))
 
 abbrev pub step : Scripted → World → ℕ → World
-step script world thread = stepped world thread (current script world thread)
+step script world thread = world_stepped world thread (current script world thread)
 
 -- what a schedule of these steps does
 unfoldable pub execution_of : Scripted → List ℕ → World

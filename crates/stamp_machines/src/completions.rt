@@ -33,8 +33,7 @@ impl<'a> Model for Completions<'a> {
     ghost invariant = { IsCompleting };
 }
 
-/// Makes the script's step after those made, where no entry is kept. There is none either where
-/// memory is refused.
+/// Makes the script's next step. No entry is kept before it, nor after it where memory is refused.
 #[inline(always)]
 fn make_step(script: &Script, state: &mut RunState, made: usize) -> Result<StepKind, AllocError>
     requires few { made < length script.now.steps }

@@ -19,14 +19,14 @@ use crate::loaded_words::LoadedWords;
 use crate::lock_phase::{decide_on, lock_access};
 use crate::shape::Shape;
 use crate::stage::{
-    OwnLockCall, Stage, call_for, checked, copied, ended, first_stage, lock_loaded, new_word, read,
-    released_reply, stored,
+    OwnLockCall, Stage, after_check, after_copy, after_lock_load, after_own_call, after_read,
+    after_store, call_for, first_stage, new_word, released_reply,
 };
 use stamp_core::{Call, Reply};
 use std::marker::Model;
 use std::ops::ControlFlow;
 
-/// A call that is being made.
+/// A call, one access at a time: `plan` tells the next one, and `resume` goes on by what it found.
 #[derive(Drop)]
 pub struct Machine {
     shape: Shape,
@@ -35,7 +35,7 @@ pub struct Machine {
     stage: Stage,
 }
 
-/// What an access leads to.
+/// What `resume` gives: the machine, to go on, or the reply of the call that has ended.
 #[derive(Drop)]
 pub enum Turn {
     /// The call goes on.
@@ -68,7 +68,7 @@ fn after_on_lock(
 ) -> ControlFlow<(), Stage>
     requires stage { IsStage shape.now call.now loaded.now (Stage.OnLock seen) }
     requires found { IsFoundIn shape.now (stage_at call.now loaded.now (Stage.OnLock seen)) found }
-    ensures next { turn_in shape.now call.now loaded.now reply.new result
+    ensures after { turn_in shape.now call.now loaded.now reply.new result
         ≡ after_in shape.now call.now found (stage_at call.now loaded.now (Stage.OnLock seen)) }
     ensures sound { IsNextStage shape.now call.now loaded.now loaded.now result }
     ensures leads { Leads (lock_phase
@@ -102,7 +102,7 @@ fn after_locking(
     requires stage { IsStage shape.now call.now loaded.old (Stage.Locking own_call seen) }
     requires found { IsFoundIn shape.now (stage_at call.now loaded.old (Stage.Locking own_call seen))
         found }
-    ensures next { turn_in shape.now call.now loaded.new reply.new result
+    ensures after { turn_in shape.now call.now loaded.new reply.new result
         ≡ after_in shape.now call.now found
         (stage_at call.now loaded.old (Stage.Locking own_call seen)) }
     ensures sound { IsNextStage shape.now call.now loaded.old loaded.new result }
@@ -114,7 +114,7 @@ fn after_locking(
     let (_, next) = decide_on(limits, &call_for(own_call), seen, found, reply);
     match next {
         ControlFlow::Continue(seen) => ControlFlow::Continue(Stage::Locking { own_call, seen }),
-        ControlFlow::Break(()) => ended(shape, call, own_call, loaded, reply),
+        ControlFlow::Break(()) => after_own_call(shape, call, own_call, loaded, reply),
     }
 }
 
@@ -131,7 +131,7 @@ fn next(
 ) -> ControlFlow<(), Stage>
     requires stage { IsStage shape.now call.now loaded.old stage }
     requires found { IsFoundIn shape.now (stage_at call.now loaded.old stage) found }
-    ensures next { turn_in shape.now call.now loaded.new reply.new result
+    ensures after { turn_in shape.now call.now loaded.new reply.new result
         ≡ after_in shape.now call.now found (stage_at call.now loaded.old stage) }
     ensures sound { IsNextStage shape.now call.now loaded.old loaded.new result }
     ensures leads { IsTrue (is_lock_call call.now) →
@@ -147,17 +147,19 @@ fn next(
 {
     match stage {
         Stage::OnLock { seen } => after_on_lock(shape, call, loaded, seen, found, reply),
-        Stage::LoadingLock => ControlFlow::Continue(lock_loaded(shape, call, loaded, found)),
-        Stage::Copying { first } => copied(shape, call, first, loaded, found, reply),
+        Stage::LoadingLock => ControlFlow::Continue(after_lock_load(shape, call, loaded, found)),
+        Stage::Copying { lock_word } => after_copy(shape, call, lock_word, loaded, found, reply),
         Stage::Locking { own_call, seen } => {
             after_locking(shape, call, own_call, seen, loaded, found, reply)
         }
-        Stage::Reading { stamp } => ControlFlow::Continue(read(shape, call, stamp, loaded, found)),
+        Stage::Reading { stamp } => ControlFlow::Continue(after_read(
+            shape, call, stamp, loaded, found,
+        )),
         Stage::Checking { stamp } => {
-            ControlFlow::Continue(checked(shape, call, stamp, loaded, found))
+            ControlFlow::Continue(after_check(shape, call, stamp, loaded, found))
         }
         Stage::Storing { stamp, stored: i } => {
-            ControlFlow::Continue(stored(shape, call, stamp, i, loaded, found))
+            ControlFlow::Continue(after_store(shape, call, stamp, i, loaded, found))
         }
         Stage::Releasing { is_stored, .. } => {
             *reply = released_reply(call, is_stored);

@@ -13,7 +13,7 @@ ghost use Rattle.stamp_machines.specs.MachineState.{first_stage, record_limits};
 ghost use Rattle.stamp_machines.specs.Machine.{record_turn};
 ghost use Rattle.stamp_machines.specs.MachineFields.{stage_at, going_at, turn_in, own_call_in};
 ghost use Rattle.stamp_machines.specs.MachineFields.{job_of, released_reply, IsStage, IsNextStage};
-ghost use Rattle.stamp_machines.specs.MachineFields.{IsRecordCall, IsWriter, IsOwnLockCall};
+ghost use Rattle.stamp_machines.specs.MachineFields.{IsRecordCall, IsPutCall, IsOwnLockCall};
 
 use crate::loaded_words::LoadedWords;
 use crate::shape::Shape;
@@ -49,7 +49,7 @@ pub(crate) enum Stage {
     LoadingLock,
     /// It was found free, and words are being loaded without a lock.
     Copying {
-        first: u64,
+        lock_word: u64,
     },
     /// A lock call on the record's lock.
     Locking {
@@ -118,7 +118,7 @@ pub(crate) fn new_word(call: &Call, i: usize) -> u64
     }
 }
 
-/// The call that this is.
+/// The lock's call that this own lock call makes.
 #[inline(always)]
 pub(crate) fn call_for(own_call: OwnLockCall) -> Call
     ensures call { (loaded : List ℕ) → result ≡ call_for (own_call_in loaded own_call) }
@@ -144,22 +144,22 @@ fn is_free(limits: Limits, found: u64) -> bool
     !limits.word(found).is_writing()
 }
 
-/// Nobody writes, nor has since the first word was found.
-fn is_unchanged(limits: Limits, first: u64, found: u64) -> bool
+/// Nobody writes, nor has since `lock_word` was found.
+fn is_unchanged(limits: Limits, lock_word: u64, found: u64) -> bool
     requires word { IsAdmitted limits (word_at limits found) }
-    requires first { IsAdmitted limits (word_at limits first) }
-    ensures { result ≡ unchanged limits first found }
+    requires lock_word { IsAdmitted limits (word_at limits lock_word) }
+    ensures { result ≡ unchanged limits lock_word found }
 {
     // By this call the prover knows that the limits are in range.
     let _ = limits.layout();
     let now = limits.word(found);
-    !now.is_writing() && now.writes() == limits.word(first).writes()
+    !now.is_writing() && now.writes() == limits.word(lock_word).writes()
 }
 
 /// A lock call on the record's lock, before its first access.
 fn locking(shape: &Shape, call: &Call, loaded: &LoadedWords, own_call: OwnLockCall) -> Stage
     requires { IsOwnLockCall shape.now call.now loaded.now own_call }
-    ensures next { going_at shape.now call.now loaded.now result
+    ensures after { going_at shape.now call.now loaded.now result
         ≡ record_turn shape.now call.now (job_of call.now)
         (on_record.Going (on_record.Locking (own_call_in loaded.now own_call) None)) }
     ensures sound { IsStage shape.now call.now loaded.now result }
@@ -172,10 +172,15 @@ fn locking(shape: &Shape, call: &Call, loaded: &LoadedWords, own_call: OwnLockCa
 
 /// Where a get goes on after its first load of the record's lock has found this.
 #[inline(always)]
-pub(crate) fn lock_loaded(shape: &Shape, call: &Call, loaded: &mut LoadedWords, found: u64) -> Stage
+pub(crate) fn after_lock_load(
+    shape: &Shape,
+    call: &Call,
+    loaded: &mut LoadedWords,
+    found: u64,
+) -> Stage
     requires call { IsRecordCall shape.now call.now }
     requires word { IsAdmitted (record_limits shape.now) (word_at (record_limits shape.now) found) }
-    ensures next { going_at shape.now call.now loaded.new result
+    ensures after { going_at shape.now call.now loaded.new result
         ≡ record_turn shape.now call.now (job_of call.now)
         (after (record_limits shape.now) shape.now.width (job_of call.now) (on_record.LoadingLock)
         found) }
@@ -183,7 +188,7 @@ pub(crate) fn lock_loaded(shape: &Shape, call: &Call, loaded: &mut LoadedWords, 
 {
     loaded.clear();
     if is_free(shape.record_limits(), found) {
-        Stage::Copying { first: found }
+        Stage::Copying { lock_word: found }
     } else {
         locking(shape, call, loaded, OwnLockCall::Share)
     }
@@ -192,30 +197,30 @@ pub(crate) fn lock_loaded(shape: &Shape, call: &Call, loaded: &mut LoadedWords, 
 /// Where a get that copies without a lock goes on after a load has found this: one of a word, or,
 /// after the last word, the second one of the lock.
 #[inline(always)]
-pub(crate) fn copied(
+pub(crate) fn after_copy(
     shape: &Shape,
     call: &Call,
-    first: u64,
+    lock_word: u64,
     loaded: &mut LoadedWords,
     found: u64,
     reply: &mut Reply,
 ) -> ControlFlow<(), Stage>
     requires call { IsRecordCall shape.now call.now }
-    requires first { IsAdmitted (record_limits shape.now)
-        (word_at (record_limits shape.now) first) }
+    requires lock_word { IsAdmitted (record_limits shape.now)
+        (word_at (record_limits shape.now) lock_word) }
     requires length { length loaded.old ≤ shape.now.width }
     requires word { shape.now.width ≤ length loaded.old →
         IsAdmitted (record_limits shape.now) (word_at (record_limits shape.now) found) }
-    ensures next { turn_in shape.now call.now loaded.new reply.new result
+    ensures after { turn_in shape.now call.now loaded.new reply.new result
         ≡ record_turn shape.now call.now (job_of call.now)
         (after (record_limits shape.now) shape.now.width (job_of call.now)
-        (on_record.Copying first loaded.old) found) }
+        (on_record.Copying lock_word loaded.old) found) }
     ensures sound { IsNextStage shape.now call.now loaded.old loaded.new result }
 {
     if loaded.len() < shape.word_count() {
         loaded.push(found);
-        ControlFlow::Continue(Stage::Copying { first })
-    } else if is_unchanged(shape.record_limits(), first, found) {
+        ControlFlow::Continue(Stage::Copying { lock_word })
+    } else if is_unchanged(shape.record_limits(), lock_word, found) {
         *reply = Reply::Content(loaded.words());
         ControlFlow::Break(())
     } else {
@@ -225,7 +230,7 @@ pub(crate) fn copied(
 
 /// Where a call that reads under a read lock goes on after its load of a word has found this.
 #[inline(always)]
-pub(crate) fn read(
+pub(crate) fn after_read(
     shape: &Shape,
     call: &Call,
     stamp: u64,
@@ -234,7 +239,7 @@ pub(crate) fn read(
 ) -> Stage
     requires call { IsRecordCall shape.now call.now }
     requires length { length loaded.old < shape.now.width }
-    ensures next { going_at shape.now call.now loaded.new result
+    ensures after { going_at shape.now call.now loaded.new result
         ≡ record_turn shape.now call.now (job_of call.now)
         (after (record_limits shape.now) shape.now.width (job_of call.now)
         (on_record.Reading stamp loaded.old) found) }
@@ -251,7 +256,7 @@ pub(crate) fn read(
 fn all_read(shape: &Shape, call: &Call, stamp: u64, loaded: &LoadedWords) -> Stage
     requires call { IsRecordCall shape.now call.now }
     requires some { 1 ≤ length loaded.now }
-    ensures next { going_at shape.now call.now loaded.now result
+    ensures after { going_at shape.now call.now loaded.now result
         ≡ record_turn shape.now call.now (job_of call.now)
         (all_read (job_of call.now) stamp loaded.now) }
     ensures sound { IsStage shape.now call.now loaded.now result }
@@ -268,17 +273,17 @@ fn all_read(shape: &Shape, call: &Call, stamp: u64, loaded: &LoadedWords) -> Sta
 /// Where a `PutIf` that compares under a write lock goes on after its load of a word has found
 /// this.
 #[inline(always)]
-pub(crate) fn checked(
+pub(crate) fn after_check(
     shape: &Shape,
     call: &Call,
     stamp: u64,
     loaded: &mut LoadedWords,
     found: u64,
 ) -> Stage
-    requires call { IsWriter shape.now call.now }
+    requires call { IsPutCall shape.now call.now }
     requires length { length loaded.old < shape.now.width }
     requires fits { stamp < 2 ^ 63 }
-    ensures next { going_at shape.now call.now loaded.new result
+    ensures after { going_at shape.now call.now loaded.new result
         ≡ record_turn shape.now call.now (job_of call.now)
         (after (record_limits shape.now) shape.now.width (job_of call.now)
         (on_record.Checking stamp loaded.old) found) }
@@ -320,7 +325,7 @@ pub(crate) fn released_reply(call: &Call, is_stored: bool) -> Reply
 
 /// Where a call goes on after it has stored the word of this index.
 #[inline(always)]
-pub(crate) fn stored(
+pub(crate) fn after_store(
     shape: &Shape,
     call: &Call,
     stamp: u64,
@@ -328,10 +333,10 @@ pub(crate) fn stored(
     loaded: &LoadedWords,
     found: u64,
 ) -> Stage
-    requires call { IsWriter shape.now call.now }
+    requires call { IsPutCall shape.now call.now }
     requires length { stored < shape.now.width }
     requires fits { stamp < 2 ^ 63 }
-    ensures next { going_at shape.now call.now loaded.now result
+    ensures after { going_at shape.now call.now loaded.now result
         ≡ record_turn shape.now call.now (job_of call.now)
         (after (record_limits shape.now) shape.now.width (job_of call.now)
         (on_record.Storing stamp stored) found) }
@@ -351,9 +356,9 @@ pub(crate) fn stored(
 }
 
 fn claimed(shape: &Shape, call: &Call, stamp: u64, loaded: &mut LoadedWords) -> Stage
-    requires call { IsWriter shape.now call.now }
+    requires call { IsPutCall shape.now call.now }
     requires fits { stamp < 2 ^ 63 }
-    ensures next { going_at shape.now call.now loaded.new result
+    ensures after { going_at shape.now call.now loaded.new result
         ≡ record_turn shape.now call.now (job_of call.now) (claimed (job_of call.now) stamp) }
     ensures sound { IsStage shape.now call.now loaded.new result }
 {
@@ -366,9 +371,9 @@ fn claimed(shape: &Shape, call: &Call, stamp: u64, loaded: &mut LoadedWords) -> 
 
 /// The conversion answered this stamp, 0 where it could not be.
 fn upgraded(shape: &Shape, call: &Call, stamp: u64, loaded: &LoadedWords, got: u64) -> Stage
-    requires call { IsWriter shape.now call.now }
+    requires call { IsPutCall shape.now call.now }
     requires fits { got < 2 ^ 63 }
-    ensures next { going_at shape.now call.now loaded.now result
+    ensures after { going_at shape.now call.now loaded.now result
         ≡ record_turn shape.now call.now (job_of call.now)
         (own_call_done (job_of call.now) (on_record.Upgrade stamp) got) }
     ensures sound { IsStage shape.now call.now loaded.now result }
@@ -386,7 +391,7 @@ fn upgraded(shape: &Shape, call: &Call, stamp: u64, loaded: &LoadedWords, got: u
 /// Words are to be loaded under the read lock of this stamp.
 fn read_locked(shape: &Shape, call: &Call, stamp: u64, loaded: &mut LoadedWords) -> Stage
     requires { IsRecordCall shape.now call.now }
-    ensures next { going_at shape.now call.now loaded.new result
+    ensures after { going_at shape.now call.now loaded.new result
         ≡ record_turn shape.now call.now (job_of call.now)
         (on_record.Going (on_record.Reading stamp [])) }
     ensures sound { IsStage shape.now call.now loaded.new result }
@@ -397,7 +402,7 @@ fn read_locked(shape: &Shape, call: &Call, stamp: u64, loaded: &mut LoadedWords)
 
 /// Where a call goes on after a lock call on the record's lock has ended with the reply that stands
 /// in `reply`. Where the call itself has ended by that, its own reply is written there.
-pub(crate) fn ended(
+pub(crate) fn after_own_call(
     shape: &Shape,
     call: &Call,
     own_call: OwnLockCall,
@@ -406,7 +411,7 @@ pub(crate) fn ended(
 ) -> ControlFlow<(), Stage>
     requires own_call { IsOwnLockCall shape.now call.now loaded.old own_call }
     requires fits { stamp_in reply.old < 2 ^ 63 }
-    ensures next { turn_in shape.now call.now loaded.new reply.new result
+    ensures after { turn_in shape.now call.now loaded.new reply.new result
         ≡ record_turn shape.now call.now (job_of call.now)
         (own_call_done (job_of call.now) (own_call_in loaded.old own_call) (stamp_in reply.old)) }
     ensures sound { IsNextStage shape.now call.now loaded.old loaded.new result }

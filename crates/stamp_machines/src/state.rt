@@ -1,4 +1,4 @@
-//! What the threads of a running script are at.
+//! The state of a run: the common words, each thread's call under way, and the entries.
 ghost use Rattle.std.specs.Prelude.{◌≡◌, ◌<◌, ◌≤◌, ◌+◌, ◌^◌, ℕ, length, map, replicate, vec_len};
 ghost use Rattle.std.specs.Prelude.{vec_capacity, IfOk, OnOk, None, Some, slice_index};
 ghost use Rattle.std.specs.Prelude.{slice_index_or, slice_get, slice_set, ◌==◌, ◌++◌, ◌∷◌, []};

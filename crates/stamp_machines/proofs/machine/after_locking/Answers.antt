@@ -15,5 +15,5 @@ returns-in-Break-clause-phase c = (
   Done c.decide_on-next.new.reply,
   rw (c.record_limits-limits.ensures, c.call_for.ensures.call c.args.loaded.now, c.in-Break.is) at
       (c.decide_on-next.ensures.leads 1),
-  c.ended.ensures.next,
+  c.after_own_call.ensures.after,
 )

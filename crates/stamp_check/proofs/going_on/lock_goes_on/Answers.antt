@@ -1,6 +1,6 @@
 use Rattle.stamp_core.specs.LockDecision.{reply_as}
 use Rattle.stamp_check.proofs.ChangedWords.{changed_goes_on}
-use Rattle.stamp_check.proofs.judging.lock_goes_on.Goals as goal
+use Rattle.stamp_check.proofs.going_on.lock_goes_on.Goals as goal
 
 pub returns-in-Change : goal.returns-in-Change
 returns-in-Change c =
