@@ -173,8 +173,8 @@ same_calls_before h i e at = record {
         sym (ap (λ (o : Observation). o.call) (get_or_from_slice_get h.entries i e d at)) ∙
         sym (ap (λ (n : ℕ). (get_or h.entries n d).call) same)
 
-content_alike : (h g : ObservedHistory) (writer : Option ℕ) → AreSameCalls h g →
-    content_by g.width g.entries writer ≡ content_by h.width h.entries writer
+content_alike : (h g : ObservedHistory) (put : Option ℕ) → AreSameCalls h g →
+    content_by g.width g.entries put ≡ content_by h.width h.entries put
 content_alike h g None is = ap (λ (w : ℕ). zeros w) is.width
 content_alike h g (Some k) is = by (inside k (length h.entries))
   where
@@ -206,21 +206,21 @@ content_alike h g (Some k) is = by (inside k (length h.entries))
         read None (Some f) at at_g = put f lt
         read None None at at_g = neither at at_g
 
-pub at_same : (h g : ObservedHistory) (bits : ℕ) (writer : Option ℕ) (s : LockState) → AreSameCalls h g →
-    IsStateBy h bits writer s → IsStateBy g bits writer s
-at_same h g bits writer s is at = record {
+pub at_same : (h g : ObservedHistory) (bits : ℕ) (put : Option ℕ) (s : LockState) → AreSameCalls h g →
+    IsStateBy h bits put s → IsStateBy g bits put s
+at_same h g bits put s is at = record {
   word = subst (λ (l : Bounds). Represents l (word_at l bits) s.0) (sym is.limits) at.word;
-  content = content_alike h g writer is ∙ at.content;
+  content = content_alike h g put is ∙ at.content;
 }
 
-pub at_alike : (h g : ObservedHistory) (i bits : ℕ) (writer : Option ℕ) (s : LockState) → AreAlike h g i →
-    IsStateBy h bits writer s → IsStateBy g bits writer s
-at_alike h g i bits writer s is at = at_same h g bits writer s (same_calls_of h g i is) at
+pub at_alike : (h g : ObservedHistory) (i bits : ℕ) (put : Option ℕ) (s : LockState) → AreAlike h g i →
+    IsStateBy h bits put s → IsStateBy g bits put s
+at_alike h g i bits put s is at = at_same h g bits put s (same_calls_of h g i is) at
 
 pub stands_alike : (h g : ObservedHistory) (i : ℕ) (returns : List ℕ) (node : Node) (s : LockState)
     (taken : List ℕ) → AreAlike h g i → StandsFor h returns node s taken → StandsFor g returns node s taken
 stands_alike h g i returns node s taken is stands = record {
-  at = at_alike h g i node.bits node.writer s is stands.at;
+  at = at_alike h g i node.bits node.put s is stands.at;
   in_effect = taken_alike h g i (take node.past returns) node.threads taken is stands.in_effect;
 }
 
@@ -246,10 +246,10 @@ pub opening_alike : (h g : ObservedHistory) (i : ℕ) (node : Node) → AreAlike
     IsFirstNode g node
 opening_alike h g i node is opens = record {
   past = opens.past;
-  writer = opens.writer;
+  put = opens.put;
   threads = opens.threads;
-  at = subst (λ (w : ℕ). IsStateBy g node.bits node.writer ([], zeros w)) (sym is.width)
-      (at_alike h g i node.bits node.writer ([], zeros h.width) is opens.at);
+  at = subst (λ (w : ℕ). IsStateBy g node.bits node.put ([], zeros w)) (sym is.width)
+      (at_alike h g i node.bits node.put ([], zeros h.width) is opens.at);
 }
 
 open_alike : (h g : ObservedHistory) (i : ℕ) (returns : List ℕ) (past k : ℕ) → AreAlike h g i →

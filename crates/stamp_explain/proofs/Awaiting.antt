@@ -133,7 +133,7 @@ only_one w v has = by (contains_cases w [] v has)
 -- a return is past
 abbrev pub past_of : Node → ℕ → Next
 past_of node threads = record {
-  node = record { past = node.past + 1; bits = node.bits; writer = node.writer; threads = threads };
+  node = record { past = node.past + 1; bits = node.bits; put = node.put; threads = threads };
   took = None;
 }
 

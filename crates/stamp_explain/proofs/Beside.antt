@@ -431,8 +431,8 @@ not_begun asking node a e reply h asks is awaits at before = record {
 -- what was found of the call while it is under way
 abbrev pub WentBefore : Asking → Node → Option CallTransition → Type 0
 WentBefore asking node found = (e : Observation) (s : LockState) →
-    slice_get asking.before.entries asking.index ≡ Some e → IsStateBy asking.before node.bits node.writer s →
-    HasGone asking.before asking.index e node.writer s found
+    slice_get asking.before.entries asking.index ≡ Some e → IsStateBy asking.before node.bits node.put s →
+    HasGone asking.before asking.index e node.put s found
 
 -- it gets no other reply
 pub asked_takes : (asking : Asking) (node : Node) (found : Option CallTransition) (reply : Reply)
@@ -445,19 +445,19 @@ asked_takes asking node found reply h asks is went others = record {
       let at_x : slice_get h.entries asking.index ≡ Some x.entry =
       ap (λ (k : ℕ). slice_get h.entries k) (sym same) ∙ may.effect.is_entry in
       let is_x : x.entry ≡ returned_with is.at.entry is.at.return reply = asked_entry asking reply h x.entry is at_x in
-      let at : IsStateBy (without_return asking.index is.at.entry asking.seen) node.bits node.writer s =
-      at_same asking.seen (without_return asking.index is.at.entry asking.seen) node.bits node.writer s
+      let at : IsStateBy (without_return asking.index is.at.entry asking.seen) node.bits node.put s =
+      at_same asking.seen (without_return asking.index is.at.entry asking.seen) node.bits node.put s
       (same_calls_before asking.seen asking.index is.at.entry is.at.is_entry)
-      (at_alike h asking.seen asking.index node.bits node.writer s (turned asking.seen h asking.index alike)
+      (at_alike h asking.seen asking.index node.bits node.put s (turned asking.seen h asking.index alike)
       stands.at) in
       let replied : reply ≡ x.reply = subst (λ (o : Observation). AllowsReply o x.reply) is_x may.effect.replies in
       let steps : StateTransition asking.seen.limits s (is.at.entry.call, x.reply) u =
       subst (λ (o : Observation). StateTransition asking.seen.limits s (o.call, x.reply) u) is_x
       (subst (λ (l : Bounds). StateTransition l s (x.entry.call, x.reply) u) alike.limits may.goes) in
       by found refl s u x.reply replied steps
-      (subst (λ (g : ObservedHistory). HasGone g asking.index y node.writer s found) before (went y s here (subst (λ
+      (subst (λ (g : ObservedHistory). HasGone g asking.index y node.put s found) before (went y s here (subst (λ
       (g : ObservedHistory).
-      IsStateBy g node.bits node.writer s) (sym before) at)));
+      IsStateBy g node.bits node.put s) (sym before) at)));
 }
   where
     y : Observation
@@ -480,7 +480,7 @@ asked_takes asking node found reply h asks is went others = record {
 
     by : (o : Option CallTransition) → found ≡ o → (s u : LockState) (r : Reply) → reply ≡ r →
         StateTransition asking.seen.limits s (is.at.entry.call, r) u →
-        HasGone (without_return asking.index is.at.entry asking.seen) asking.index y node.writer s o → ⊥
+        HasGone (without_return asking.index is.at.entry asking.seen) asking.index y node.put s o → ⊥
     by None at s u r replied steps gone = gone r u tt steps
     by (Some did) at s u r replied steps gone = others did at
         (one_reply asking.seen.limits s.0 s.1 is.at.entry.call did.reply r gone.goes.replies steps.replies ∙
@@ -527,12 +527,12 @@ asked_gets asking node did a asks is awaits begun went = record {
       begun = begun asks.at.entry asks.at.is_entry;
     };
     next = after_call asking.seen.limits is.reached.state (asks.at.entry.call, did.reply);
-    goes = (subst (λ (g : ObservedHistory). HasGone g asking.index y node.writer is.reached.state (Some did))
+    goes = (subst (λ (g : ObservedHistory). HasGone g asking.index y node.put is.reached.state (Some did))
         asks.before
-        (went y is.reached.state here (subst (λ (g : ObservedHistory). IsStateBy g node.bits node.writer
+        (went y is.reached.state here (subst (λ (g : ObservedHistory). IsStateBy g node.bits node.put
         is.reached.state)
         (sym asks.before) (at_same asking.seen (without_return asking.index asks.at.entry asking.seen) node.bits
-        node.writer is.reached.state (same_calls_before asking.seen asking.index asks.at.entry asks.at.is_entry)
+        node.put is.reached.state (same_calls_before asking.seen asking.index asks.at.entry asks.at.is_entry)
         is.reached.stands.at)))).goes;
   };
 }

@@ -21,7 +21,7 @@ abbrev pub configuration_of : (h : ObservedHistory) (asked : Option ℕ) (return
 configuration_of h asked returns v reached = record {
   to_come = drop v.past returns;
   state = reached.state;
-  put = v.writer;
+  put = v.put;
   taken = reached.taken;
   way = reached.way;
 }
@@ -31,7 +31,7 @@ pub record IsFor (h : ObservedHistory) (asked : Option ℕ) (returns : List ℕ)
     (c : Configuration h asked returns) : Type 0 where
   pub inside : v.past ≤ length returns
   pub to_come : c.to_come ≡ drop v.past returns
-  pub put : c.put ≡ v.writer
+  pub put : c.put ≡ v.put
   pub stands : StandsFor h returns v c.state c.taken
 
 pub is_for_its : (h : ObservedHistory) (asked : Option ℕ) (returns : List ℕ) (v : Node)
@@ -65,17 +65,17 @@ one_bit : (a b : ℕ) → a < 2 → b < 2 → (a ≡ 1 → b ≡ 1) → (b ≡ 1
 one_bit a b less also there back = grind arith
 
 abbrev node_of : ℕ → ℕ → Option ℕ → ℕ → Node
-node_of past bits writer threads = record { past = past; bits = bits; writer = writer; threads = threads }
+node_of past bits put threads = record { past = past; bits = bits; put = put; threads = threads }
 
 -- nodes whose configurations are one are one
 pub one_node : (h : ObservedHistory) (asked : Option ℕ) (returns : List ℕ) (v w : Node)
     (c d : Configuration h asked returns) →
     IsFor h asked returns v c → IsFor h asked returns w d → AreOne h asked returns c d → v ≡ w
 one_node h asked returns v w c d is also one =
-    ap (λ (n : ℕ). node_of n v.bits v.writer v.threads) past ∙
-    ap (λ (n : ℕ). node_of w.past n v.writer v.threads) bits ∙
+    ap (λ (n : ℕ). node_of n v.bits v.put v.threads) past ∙
+    ap (λ (n : ℕ). node_of w.past n v.put v.threads) bits ∙
     ap (λ (o : Option ℕ). node_of w.past w.bits o v.threads) (sym is.put ∙ one.put ∙ also.put) ∙
-    ap (λ (n : ℕ). node_of w.past w.bits w.writer n) threads
+    ap (λ (n : ℕ). node_of w.past w.bits w.put n) threads
   where
     past : v.past ≡ w.past
     past = omega (

@@ -154,7 +154,7 @@ deepens_first h returns store node begins is = record {
     first = record {
       to_come = drop node.past returns;
       state = first_state h.width;
-      put = node.writer;
+      put = node.put;
       taken = [];
       way = opening_way h None returns node is;
     }

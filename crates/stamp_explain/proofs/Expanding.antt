@@ -214,7 +214,7 @@ none_by_bit h returns node a i s taken is bit x u may same =
 -- it gives another reply
 pub none_by_reply : (h : ObservedHistory) (returns : List ℕ) (node : Node) (a : Observation) (i : ℕ)
     (s : LockState) (taken : List ℕ) → Trying h returns node a i s taken →
-    ((e : Observation) → slice_get h.entries i ≡ Some e → HasGone h i e node.writer s None) →
+    ((e : Observation) → slice_get h.entries i ≡ Some e → HasGone h i e node.put s None) →
     Takes h returns node a i s taken None
 none_by_reply h returns node a i s taken is gone x u may same =
     gone x.entry (ap (λ (k : ℕ). slice_get h.entries k) (sym same) ∙ may.effect.is_entry) x.reply u
@@ -224,10 +224,10 @@ none_by_reply h returns node a i s taken is gone x u may same =
 pub taken_to : (h : ObservedHistory) (returns : List ℕ) (node : Node) (a : Observation) (i : ℕ) (s : LockState)
     (taken : List ℕ) (threads : ℕ) (did : CallTransition) → (is : Trying h returns node a i s taken) →
     bit_at node.threads is.it.entry.thread ≢ 1 →
-    ((e : Observation) → slice_get h.entries i ≡ Some e → HasGone h i e node.writer s (Some did)) →
+    ((e : Observation) → slice_get h.entries i ≡ Some e → HasGone h i e node.put s (Some did)) →
     SetsBit node.threads threads is.it.entry.thread → Takes h returns node a i s taken
     (Some (record {
-      node = record { past = node.past; bits = did.bits; writer = did.writer; threads = threads };
+      node = record { past = node.past; bits = did.bits; put = did.put; threads = threads };
       took = Some i;
     }))
 taken_to h returns node a i s taken threads did is bit gone sets = record {
@@ -243,7 +243,7 @@ taken_to h returns node a i s taken threads did is bit gone sets = record {
     begun = is.it.begun a is.at;
     goes = went.goes;
   };
-  put = went.writer;
+  put = went.leaves;
   stands = stands;
   only = λ x u may same.
       let entry : x.entry ≡ e = same_Some x.entry e (sym may.effect.is_entry ∙
@@ -262,14 +262,14 @@ taken_to h returns node a i s taken threads did is bit gone sets = record {
     e : Observation
     e = is.it.entry
 
-    went : Does h i e node.writer s did
+    went : Does h i e node.put s did
     went = gone e is.it.is_entry
 
     effect : Effect
     effect = record { index = i; entry = e; reply = did.reply }
 
     made : Node
-    made = record { past = node.past; bits = did.bits; writer = did.writer; threads = threads }
+    made = record { past = node.past; bits = did.bits; put = did.put; threads = threads }
 
     stands : StandsFor h returns made (after_call h.limits s (e.call, did.reply)) (i ∷ taken)
     stands = record {

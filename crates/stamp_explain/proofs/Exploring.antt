@@ -94,10 +94,10 @@ opening_stands h returns node is = record {
     no_bit t bit = absurd (omega (arith, bit_at-zero t, bit))
 
 pub opening_way : (h : ObservedHistory) (asked : Option ℕ) (returns : List ℕ) (node : Node) → IsFirstNode h node →
-    Reaches h asked returns (drop node.past returns) (first_state h.width) node.writer []
+    Reaches h asked returns (drop node.past returns) (first_state h.width) node.put []
 opening_way h asked returns node is =
     subst (λ (put : Option ℕ). Reaches h asked returns (drop node.past returns) (first_state h.width) put [])
-    (sym is.writer) (subst (λ (n : ℕ). Reaches h asked returns (drop n returns) (first_state h.width) None []) (sym
+    (sym is.put) (subst (λ (n : ℕ). Reaches h asked returns (drop n returns) (first_state h.width) None []) (sym
     is.past)
     begins)
 

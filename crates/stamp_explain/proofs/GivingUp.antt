@@ -161,7 +161,7 @@ deepened_more h returns store waiting expanded most awaited is enough = record {
     many = length-take-le (most + 1) cs (omega (arith, counted))
 
     none : Node
-    none = record { past = 0; bits = 0; writer = None; threads = 0 }
+    none = record { past = 0; bits = 0; put = None; threads = 0 }
 
     node_at : (k : ℕ) → k < most + 1 → slice_get nodes k ≡ Some (get_or nodes k none)
     node_at k lt = slice_get-get_or nodes k none (omega (arith, lt, is.count, enough))

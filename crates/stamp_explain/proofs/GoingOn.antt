@@ -100,7 +100,7 @@ reached_of h returns v c is = record {
   taken = c.taken;
   inside = is.inside;
   stands = is.stands;
-  way = subst (λ (rs : List ℕ). Reaches h None returns rs c.state v.writer c.taken) is.to_come
+  way = subst (λ (rs : List ℕ). Reaches h None returns rs c.state v.put c.taken) is.to_come
       (subst (λ (put : Option ℕ). Reaches h None returns c.to_come c.state put c.taken) is.put c.way);
 }
 

@@ -35,11 +35,11 @@ come_as_well returns past w lt same = sym (come returns past lt) ∙ ap (λ (n :
 -- a way goes on where the awaited call returns
 pub way_past : (h : ObservedHistory) (asked : Option ℕ) (returns : List ℕ) (node w : Node) (s : LockState)
     (taken : List ℕ) →
-    node.past < length returns → Reaches h asked returns (drop node.past returns) s node.writer taken →
-    ComesByReturn h returns node w s taken → Reaches h asked returns (drop w.past returns) s w.writer taken
+    node.past < length returns → Reaches h asked returns (drop node.past returns) s node.put taken →
+    ComesByReturn h returns node w s taken → Reaches h asked returns (drop w.past returns) s w.put taken
 way_past h asked returns node w s taken inside way l =
     subst (λ (put : Option ℕ). Reaches h asked returns (drop w.past returns) s put taken) (sym l.put)
-    (goes_past (subst (λ (to_come : List ℕ). Reaches h asked returns to_come s node.writer taken) there way)
+    (goes_past (subst (λ (to_come : List ℕ). Reaches h asked returns to_come s node.put taken) there way)
     l.in_effect)
   where
     there : drop node.past returns ≡ slice_index returns node.past ∷ drop w.past returns
@@ -49,15 +49,15 @@ way_past h asked returns node w s taken inside way l =
 -- and where a call takes effect
 pub way_by : (h : ObservedHistory) (asked : Option ℕ) (returns : List ℕ) (node w : Node) (s : LockState)
     (taken : List ℕ) (i : ℕ) →
-    node.past < length returns → Reaches h asked returns (drop node.past returns) s node.writer taken →
+    node.past < length returns → Reaches h asked returns (drop node.past returns) s node.put taken →
     (l : ComesByCall h asked returns node w s taken i) →
-    Reaches h asked returns (drop w.past returns) l.state w.writer (l.effect.index ∷ taken)
+    Reaches h asked returns (drop w.past returns) l.state w.put (l.effect.index ∷ taken)
 way_by h asked returns node w s taken i inside way l =
     subst (λ (put : Option ℕ). Reaches h asked returns (drop w.past returns) l.state put (l.effect.index ∷ taken))
     (sym l.put) (subst (λ (to_come : List ℕ). Reaches h asked returns to_come l.state
-    (put_after node.writer l.effect.index l.effect.entry.call l.effect.reply) (l.effect.index ∷ taken))
+    (put_after node.put l.effect.index l.effect.entry.call l.effect.reply) (l.effect.index ∷ taken))
     (come_as_well returns node.past w.past inside l.past)
-    (goes_on_by (subst (λ (to_come : List ℕ). Reaches h asked returns to_come s node.writer taken)
+    (goes_on_by (subst (λ (to_come : List ℕ). Reaches h asked returns to_come s node.put taken)
     (come returns node.past inside) way) l.awaited l.effect l.state l.is_awaited l.not_yet l.tried l.may))
 
 -- so the next node is reached, by a return or by a call

@@ -31,10 +31,10 @@ one_transition limits word events others call range is also = ap (λ (c : Counts
     (sym (counts_in-represented limits word events range is) ∙ counts_in-represented limits word others range also)
 
 -- a call has one reply in all states that the numbers stand for
-one_reply_at : (h : ObservedHistory) (bits : ℕ) (writer : Option ℕ) (s t : LockState) (call : Call)
-    (reply : Reply) → AreInRange h.limits → IsStateBy h bits writer s → IsStateBy h bits writer t →
+one_reply_at : (h : ObservedHistory) (bits : ℕ) (put : Option ℕ) (s t : LockState) (call : Call)
+    (reply : Reply) → AreInRange h.limits → IsStateBy h bits put s → IsStateBy h bits put t →
     IsReply h.limits s.0 s.1 call reply → IsReply h.limits t.0 t.1 call reply
-one_reply_at h bits writer s t call reply range at there is =
+one_reply_at h bits put s t call reply range at there is =
     subst (λ (content : List ℕ). IsReply h.limits t.0 content call reply) (sym at.content ∙ there.content)
     (subst (λ (o : Option Transition). MatchBool (is_lock_call call) (Replies o reply) (RecordReplies s.1 call reply))
     (one_transition h.limits (word_at h.limits bits) s.0 t.0 call range at.word there.word) is)
@@ -53,7 +53,7 @@ replied h node i e returned range led is_entry at f s is there =
     (ap (λ (o : Observation). o.returned) here ∙ at) led.is_effect.replies in
     subst (λ (o : Observation). IsReply h.limits s.0 s.1 o.call returned.reply) same
     (subst (λ (reply : Reply). IsReply h.limits s.0 s.1 led.effect.entry.call reply) (sym told)
-    (one_reply_at h node.bits node.writer led.state s led.effect.entry.call led.effect.reply range led.at there
+    (one_reply_at h node.bits node.put led.state s led.effect.entry.call led.effect.reply range led.at there
     led.goes.replies))
 
 -- the same, where the entry is read

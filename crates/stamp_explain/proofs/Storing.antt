@@ -74,22 +74,22 @@ exact_node : (v w : Node) → key_of v ≡ key_of w → v ≡ w
 exact_node v w h =
     let e0 : v.past ≡ w.past = ap (λ (k : Key). k.0) h in
     let e1 : v.bits ≡ w.bits = ap (λ (k : Key). k.1) h in
-    let e2 : v.writer ≡ w.writer = ap (λ (k : Key). k.2) h in
+    let e2 : v.put ≡ w.put = ap (λ (k : Key). k.2) h in
     let e3 : v.threads ≡ w.threads = ap (λ (k : Key). k.3) h in
     ap (λ (x : ℕ). record v { past = x }) e0 ∙ ap (λ (x : ℕ). record {
       past = w.past;
       bits = x;
-      writer = v.writer;
+      put = v.put;
       threads = v.threads;
     }) e1 ∙ ap (λ (x : Option ℕ). record {
       past = w.past;
       bits = w.bits;
-      writer = x;
+      put = x;
       threads = v.threads;
     }) e2 ∙ ap (λ (x : ℕ). record {
       past = w.past;
       bits = w.bits;
-      writer = w.writer;
+      put = w.put;
       threads = x;
     }) e3
 

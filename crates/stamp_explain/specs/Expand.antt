@@ -61,7 +61,7 @@ pub record ComesByCall (h : ObservedHistory) (asked : Option ℕ) (returns : Lis
   pub tried : IsTried h asked returns awaited s taken effect
   pub state : LockState
   pub may : MayTake (StateTransition h.limits) h.entries awaited s taken effect state
-  pub put : w.writer ≡ put_after node.writer effect.index effect.entry.call effect.reply
+  pub put : w.put ≡ put_after node.put effect.index effect.entry.call effect.reply
   pub stands : StandsFor h returns w state (effect.index ∷ taken)
 
 -- or the awaited call, which is in effect, returns
@@ -69,7 +69,7 @@ pub record ComesByReturn (h : ObservedHistory) (returns : List ℕ) (node w : No
     (taken : List ℕ) : Type 0 where
   pub past : w.past ≡ node.past + 1
   pub in_effect : Contains taken (slice_index returns node.past)
-  pub put : w.writer ≡ node.writer
+  pub put : w.put ≡ node.put
   pub stands : StandsFor h returns w s taken
 
 abbrev pub ComesNextBy : ObservedHistory → Option ℕ → List ℕ → Node → Node → LockState → List ℕ → Option ℕ → Type 0
@@ -109,7 +109,7 @@ pub record ComesAfter (h : ObservedHistory) (asked : Option ℕ) (returns : List
 -- where a call took effect at a node, in some state that this stands for
 pub record IsLedBy (h : ObservedHistory) (node : Node) (i : ℕ) : Type 0 where
   pub state : LockState
-  pub at : IsStateBy h node.bits node.writer state
+  pub at : IsStateBy h node.bits node.put state
   pub effect : Effect
   pub next : LockState
   pub index : effect.index ≡ i
@@ -143,7 +143,7 @@ pub record IsTakenTo (h : ObservedHistory) (returns : List ℕ) (node : Node) (a
   pub took : w.took ≡ Some effect.index
   pub state : LockState
   pub may : MayTake (StateTransition h.limits) h.entries a s taken effect state
-  pub put : w.node.writer ≡ put_after node.writer effect.index effect.entry.call effect.reply
+  pub put : w.node.put ≡ put_after node.put effect.index effect.entry.call effect.reply
   pub stands : StandsFor h returns w.node state (effect.index ∷ taken)
   pub only : (x : Effect) (u : LockState) → MayTake (StateTransition h.limits) h.entries a s taken x u → x.index ≡ i →
       StandsFor h returns w.node u (x.index ∷ taken)

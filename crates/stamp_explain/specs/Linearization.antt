@@ -23,7 +23,7 @@ pub record IsLinearizationOf (h : ObservedHistory) (taken : List Taken) : Type 0
 -- the call that took effect at a node, with the reply that it gets in each state that the node stands for
 abbrev pub RepliesAt : ObservedHistory → Node → Taken → Type 0
 RepliesAt h node taken = (e : Observation) (s : LockState) → slice_get h.entries taken.entry ≡ Some e →
-    IsStateBy h node.bits node.writer s → IsReply h.limits s.0 s.1 e.call taken.reply
+    IsStateBy h node.bits node.put s → IsReply h.limits s.0 s.1 e.call taken.reply
 
 abbrev pub IsTakenAt : ObservedHistory → Node → Option ℕ → Option Taken → Type 0
 IsTakenAt h node None None = Unit {0}

@@ -54,22 +54,22 @@ pub record AreTaken (entries : List Observation) (past : List ℕ) (threads : �
   pub has_next : (thread : ℕ) → bit_at threads thread ≡ 1 → HasNext entries past thread
 
 -- the state of lock and record by numbers: of the word, and of the entry that put the content
-pub record IsStateBy (h : ObservedHistory) (bits : ℕ) (writer : Option ℕ) (s : LockState) : Type 0 where
+pub record IsStateBy (h : ObservedHistory) (bits : ℕ) (put : Option ℕ) (s : LockState) : Type 0 where
   pub word : Represents h.limits (word_at h.limits bits) s.0
-  pub content : content_by h.width h.entries writer ≡ s.1
+  pub content : content_by h.width h.entries put ≡ s.1
 
 -- the state and the calls in effect that a node stands for
 pub record StandsFor (h : ObservedHistory) (returns : List ℕ) (node : Node) (s : LockState) (taken : List ℕ) : Type
     0 where
-  pub at : IsStateBy h node.bits node.writer s
+  pub at : IsStateBy h node.bits node.put s
   pub in_effect : AreTaken h.entries (take node.past returns) node.threads taken
 
 -- the node at which a search begins
 pub record IsFirstNode (h : ObservedHistory) (node : Node) : Type 0 where
   pub past : node.past ≡ 0
-  pub writer : node.writer ≡ None
+  pub put : node.put ≡ None
   pub threads : node.threads ≡ 0
-  pub at : IsStateBy h node.bits node.writer (first_state h.width)
+  pub at : IsStateBy h node.bits node.put (first_state h.width)
 
 -- what the call of this entry does in a state, with the words of this put in the record, which its observation
 -- allows: the state afterwards and the reply
@@ -77,8 +77,8 @@ pub record Does (h : ObservedHistory) (i : ℕ) (e : Observation) (put : Option 
     (transition : CallTransition) : Type 0 where
   pub may : AllowsReply e transition.reply
   pub goes : StateTransition h.limits s (e.call, transition.reply) (after_call h.limits s (e.call, transition.reply))
-  pub at : IsStateBy h transition.bits transition.writer (after_call h.limits s (e.call, transition.reply))
-  pub writer : transition.writer ≡ put_after put i e.call transition.reply
+  pub at : IsStateBy h transition.bits transition.put (after_call h.limits s (e.call, transition.reply))
+  pub leaves : transition.put ≡ put_after put i e.call transition.reply
 
 -- what was found of a call in the state: what it does, or that no reply that its observation allows is given
 abbrev pub HasGone : ObservedHistory → ℕ → Observation → Option ℕ → LockState → Option CallTransition → Type 0
@@ -88,13 +88,13 @@ HasGone h i e put s None = (reply : Reply) (t : LockState) → AllowsReply e rep
 ) t
 HasGone h i e put s (Some transition) = Does h i e put s transition
 
--- the node stands for what a way through the search reaches, with the words of its writer in the record
+-- the node stands for what a way through the search reaches, with the words of its put in the record
 pub record IsReached (h : ObservedHistory) (asked : Option ℕ) (returns : List ℕ) (node : Node) : Type 0 where
   pub state : LockState
   pub taken : List ℕ
   pub inside : node.past ≤ length returns
   pub stands : StandsFor h returns node state taken
-  pub way : Reaches h asked returns (drop node.past returns) state node.writer taken
+  pub way : Reaches h asked returns (drop node.past returns) state node.put taken
 
 -- the bit of this thread is set, or cleared, and the others are as before; no bit is set that was not
 pub record SetsBit (old new k : ℕ) : Type 0 where

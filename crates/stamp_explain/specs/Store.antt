@@ -11,7 +11,7 @@ abbrev pub Key : Type 0
 Key = ℕ × ℕ × Option ℕ × ℕ
 
 abbrev pub key_of : Node → Key
-key_of node = (node.past, node.bits, node.writer, node.threads)
+key_of node = (node.past, node.bits, node.put, node.threads)
 
 -- the set has the nodes of the list, and each stands there once
 pub record Keeps (store : Store) : Type 0 where

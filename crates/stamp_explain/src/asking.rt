@@ -162,7 +162,7 @@ impl Asking {
         if is_before(awaited, &entries[self.index]) {
             return Ok(());
         }
-        if let Some(transition) = transition_of(&self.before, node.bits, node.writer, self.index) {
+        if let Some(transition) = transition_of(&self.before, node.bits, node.put, self.index) {
             add(replies, transition.reply)?;
         }
         Ok(())

@@ -27,7 +27,7 @@ fn reply_at(observed: &Observed, node: &Node, i: usize) -> Reply
     requires led { IsLedBy observed.now node.now i }
     ensures { RepliesAt observed.now node.now (record { entry = i; reply = result }) }
 {
-    let Some(transition) = transition_of(observed, node.bits, node.writer, i) else {
+    let Some(transition) = transition_of(observed, node.bits, node.put, i) else {
         unreachable!();
     };
     transition.reply

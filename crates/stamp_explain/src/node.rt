@@ -11,7 +11,7 @@ use stamp_core::Reply;
 pub(crate) struct Node {
     pub(crate) past: usize,
     pub(crate) bits: u64,
-    pub(crate) writer: Option<usize>,
+    pub(crate) put: Option<usize>,
     pub(crate) threads: u64,
 }
 
@@ -37,11 +37,11 @@ pub(crate) struct Waiting {
     pub(crate) origin: Origin,
 }
 
-/// The transition of a call: the number of the word and the writer afterwards, and the reply.
+/// The transition of a call: the number of the word and the put afterwards, and the reply.
 #[derive(Clone, Copy)]
 pub(crate) struct CallTransition {
     pub(crate) bits: u64,
-    pub(crate) writer: Option<usize>,
+    pub(crate) put: Option<usize>,
     pub(crate) reply: Reply,
 }
 

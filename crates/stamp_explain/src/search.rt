@@ -66,13 +66,13 @@ pub(crate) fn take_of(observed: &Observed, node: &Node, i: usize) -> Option<Next
     if has_bit(node.threads, thread) {
         return None;
     }
-    match transition_of(observed, node.bits, node.writer, i) {
+    match transition_of(observed, node.bits, node.put, i) {
         None => None,
         Some(transition) => Some(Next {
             node: Node {
                 past: node.past,
                 bits: transition.bits,
-                writer: transition.writer,
+                put: transition.put,
                 threads: with_bit(node.threads, thread),
             },
             took: Some(i),
@@ -98,7 +98,7 @@ pub(crate) fn settled(observed: &Observed, timeline: &Timeline, next: &Next) -> 
         node = Node {
             past: node.past + 1,
             bits: node.bits,
-            writer: node.writer,
+            put: node.put,
             threads: without_bit(node.threads, thread),
         };
     }
@@ -241,7 +241,7 @@ pub(crate) fn opening(observed: &Observed) -> Node
     Node {
         past: 0,
         bits: Word::opening_in(observed.limits().layout()).bits(),
-        writer: None,
+        put: None,
         threads: 0,
     }
 }

@@ -17,7 +17,7 @@ pub(crate) struct Store {
 fn key(node: Node) -> (usize, u64, Option<usize>, u64)
     ensures { result ≡ key_of node }
 {
-    (node.past, node.bits, node.writer, node.threads)
+    (node.past, node.bits, node.put, node.threads)
 }
 
 impl Store {

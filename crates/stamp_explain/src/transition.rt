@@ -55,12 +55,12 @@ fn lock_transition(limits: Limits, bits: u64, entry: &Observation) -> Option<(u6
 }
 
 /// The words that the record holds after the put of this entry; zeros after none.
-fn content_of(observed: &Observed, writer: Option<usize>) -> Words
+fn content_of(observed: &Observed, put: Option<usize>) -> Words
     requires { 0 < observed.now.width }
-    ensures { result ≡ content_by observed.now.width observed.now.entries writer }
+    ensures { result ≡ content_by observed.now.width observed.now.entries put }
 {
     let zeros = Words::zeros(observed.width() as usize);
-    let Some(i) = writer else {
+    let Some(i) = put else {
         return zeros;
     };
     match observed.entries().get(i) {
@@ -77,22 +77,22 @@ fn content_of(observed: &Observed, writer: Option<usize>) -> Words
 #[inline(never)]
 fn record_transition(
     observed: &Observed,
-    writer: Option<usize>,
+    put: Option<usize>,
     i: usize,
     entry: &Observation,
 ) -> Option<(Option<usize>, Reply)>
     requires { 0 < observed.now.width }
-    ensures { RecordGoes observed.now.width observed.now.entries writer i entry.now result }
+    ensures { RecordGoes observed.now.width observed.now.entries put i entry.now result }
 {
-    let content = content_of(observed, writer);
+    let content = content_of(observed, put);
     let (next, reply) = match entry.call {
-        Call::Get => (writer, Reply::Content(content)),
+        Call::Get => (put, Reply::Content(content)),
         Call::Put(_) => (Some(i), Reply::Done),
         Call::PutIf(expected, _) => {
             if content.is_same(&expected) {
                 (Some(i), Reply::Yes)
             } else {
-                (writer, Reply::No)
+                (put, Reply::No)
             }
         }
         _ => return None,
@@ -109,7 +109,7 @@ fn record_transition(
 pub(crate) fn transition_of(
     observed: &Observed,
     bits: u64,
-    writer: Option<usize>,
+    put: Option<usize>,
     i: usize,
 ) -> Option<CallTransition>
     requires admitted { IsAdmitted observed.now.limits (word_at observed.now.limits bits) }
@@ -117,23 +117,23 @@ pub(crate) fn transition_of(
     requires suits { (e : Observation) → slice_get observed.now.entries i ≡ Some e
         → IsTrue (call_suits observed.now.width e.call) }
     ensures { (e : Observation) (s : LockState) → slice_get observed.now.entries i ≡ Some e
-        → IsStateBy observed.now bits writer s → HasGone observed.now i e writer s result }
+        → IsStateBy observed.now bits put s → HasGone observed.now i e put s result }
 {
     let entry = &observed.entries()[i];
     if entry.call.is_lock_call() {
         match lock_transition(observed.limits(), bits, entry) {
             Some((next, reply)) => Some(CallTransition {
                 bits: next,
-                writer,
+                put,
                 reply,
             }),
             None => None,
         }
     } else {
-        match record_transition(observed, writer, i, entry) {
+        match record_transition(observed, put, i, entry) {
             Some((next, reply)) => Some(CallTransition {
                 bits,
-                writer: next,
+                put: next,
                 reply,
             }),
             None => None,

@@ -11,7 +11,7 @@ use Rattle.stamp_explain.proofs.asking.add_unseen.Goals.{then-branch+in_ok-push,
 
 -- what is read where nothing stands
 abbrev blank : Next
-blank = record { node = record { past = 0; bits = 0; writer = None; threads = 0 }; took = None }
+blank = record { node = record { past = 0; bits = 0; put = None; threads = 0 }; took = None }
 
 -- whether it was added, by the branch
 stored_so : {old new : Store} {node : Node} {origin : Origin} {added b : Bool} → added ≡ b →
