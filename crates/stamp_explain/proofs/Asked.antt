@@ -18,8 +18,8 @@ use Rattle.stamp_explain.specs.Node.{IsReached, IsFirstNode}
 use Rattle.stamp_explain.specs.Expand.{ComesNextBy, AddsUnseen, nodes_of}
 use Rattle.stamp_explain.specs.Expand.{ComesByReturn, PassesTo}
 use Rattle.stamp_explain.specs.Expand.PassesTo.{passes_none, passes_more}
-use Rattle.stamp_explain.specs.Asking.{AreLed, AreMore, AreReplies, Gets, GetsMore}
-use Rattle.stamp_explain.specs.Asking.{IsSeenWith, IsAsking, IsReachedBeside, ComesNextBeside}
+use Rattle.stamp_explain.specs.Asking.{ComeAfterBeside, AreMore, AreReplies, Gets, GetsMore}
+use Rattle.stamp_explain.specs.Asking.{IsSeenWith, IsAsking, IsReachedBeside, ComesAfterBeside}
 use Rattle.stamp_explain.specs.Asking.{SufficeUnless}
 use Rattle.stamp_explain.proofs.Lists.{none_in_empty, contains_cases, pairs_none}
 use Rattle.stamp_explain.proofs.Answering.{timeline_alike}
@@ -61,7 +61,7 @@ passed_reached asking v w taken is (passes_more {u} before step) =
     }
 
 leads_beside : (asking : Asking) (node : Node) (next : Next) → IsReachedBeside asking node →
-    ComesNextBeside asking node next → IsReachedBeside asking next.node
+    ComesAfterBeside asking node next → IsReachedBeside asking next.node
 leads_beside asking node next is leads = by next.took refl (leads.leads.comes.leads s taken is.reached.stands)
   where
     h : ObservedHistory
@@ -143,7 +143,7 @@ asked_first asking old new waiting next empty is adds = record {
 
 pub asked_more : (asking : Asking) (looked : ℕ) (old new : Store) (before popped after : List ℕ) (nexts : List Next)
     (replies more : List Reply) (index : ℕ) (v : Node) → AsksSoFar asking looked old before replies →
-    before ≡ popped ++ index ∷ [] → slice_get old.nodes.items index ≡ Some v → AreLed asking v nexts →
+    before ≡ popped ++ index ∷ [] → slice_get old.nodes.items index ≡ Some v → ComeAfterBeside asking v nexts →
     AreMore replies more → GetsMore asking replies more → SufficeUnless asking v nexts more →
     AddsUnseen old new index popped after nexts → AsksSoFar asking (looked + 1) new after more
 asked_more asking looked old new before popped after nexts replies more index v is split at led grows gets suffice

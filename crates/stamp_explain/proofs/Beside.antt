@@ -31,8 +31,8 @@ use Rattle.stamp_explain.specs.Expand.{Suffice, Took, IsNotInEffect, IsTakenTo}
 use Rattle.stamp_explain.specs.Expand.{IsChoiceOf, IsNoChoice, PassesTo}
 use Rattle.stamp_explain.specs.Expand.IsNoChoice.{of_other, questions, comes_later, stays}
 use Rattle.stamp_explain.specs.Possible.{without_return, returned_with}
-use Rattle.stamp_explain.specs.Asking.{Adds, AreAsked, AreLed, AreMore, Gets}
-use Rattle.stamp_explain.specs.Asking.{IsSeenWith, IsAsking, IsReachedBeside, ComesNextBeside, NoneIsAtOnceBeside}
+use Rattle.stamp_explain.specs.Asking.{Adds, AreAsked, ComeAfterBeside, AreMore, Gets}
+use Rattle.stamp_explain.specs.Asking.{IsSeenWith, IsAsking, IsReachedBeside, ComesAfterBeside, NoneIsAtOnceBeside}
 use Rattle.stamp_explain.specs.Asking.{SufficeBeside}
 use Rattle.stamp_explain.specs.Ahead.{GivesWay}
 use Rattle.stamp_explain.proofs.Lists.{each_push, none_in_empty}
@@ -168,7 +168,7 @@ pub at_once_leads : (asking : Asking) (node : Node) (a : Observation) (calls : L
     NoneOfFirst asking.seen (Some asking.index) asking.timeline.returns.items node calls k → k < length calls →
     is_unchanging_at asking.seen.entries (get_or calls k 0) ≡ true →
     Took asking.seen asking.timeline.returns.items node (get_or calls k 0) (Some w) →
-    get_or calls k 0 ≢ asking.index → Settles asking w next → ComesNextBeside asking node next
+    get_or calls k 0 ≢ asking.index → Settles asking w next → ComesAfterBeside asking node next
 at_once_leads asking node a calls k w next awaits reached bit are before inside still took other settles = record {
   leads = follows_of asking.seen (Some asking.index) asking.timeline.returns.items node w next
       (leads_at_once asking.seen (Some asking.index) asking.timeline node a calls k w awaits bit are before inside
@@ -202,7 +202,7 @@ awaited_inside asking node i asks inside read =
 
 -- of the last k of these calls, those beside the one asked were tried
 pub record TriesBeside (asking : Asking) (node : Node) (calls : List ℕ) (k : ℕ) (nexts : List Next) : Type 0 where
-  pub led : AreLed asking node nexts
+  pub led : ComeAfterBeside asking node nexts
   pub tries : (reply : Reply) (h : ObservedHistory) → IsSeenWith asking reply h →
       Took h asking.timeline.returns.items node asking.index None →
       Tries h (Some asking.index) asking.timeline.returns.items node calls k nexts
@@ -354,7 +354,7 @@ beside_some asking node a calls k nexts w next awaits reached bit none_at_once a
     settles =
     record {
       led = record {
-        each = each_push (ComesNextBeside asking node) nexts next is.led.each (record {
+        each = each_push (ComesAfterBeside asking node) nexts next is.led.each (record {
           leads = follows_of asking.seen (Some asking.index) asking.timeline.returns.items node w next
               (choice_leads asking.seen (Some asking.index) asking.timeline node a calls
               (get_or calls (length calls - 1 - k) 0) w awaits bit none_at_once are awaited at choice) settles.passes
@@ -431,8 +431,8 @@ not_begun asking node a e reply h asks is awaits at before = record {
 -- what was found of the call while it is under way
 abbrev pub WentBefore : Asking → Node → Option CallTransition → Type 0
 WentBefore asking node found = (e : Observation) (s : LockState) →
-    slice_get asking.before.entries asking.index ≡ Some e → IsStateBy asking.before node.bits node.put s →
-    HasGone asking.before asking.index e node.put s found
+    slice_get asking.unreturned.entries asking.index ≡ Some e → IsStateBy asking.unreturned node.bits node.put s →
+    HasGone asking.unreturned asking.index e node.put s found
 
 -- it gets no other reply
 pub asked_takes : (asking : Asking) (node : Node) (found : Option CallTransition) (reply : Reply)
@@ -455,9 +455,9 @@ asked_takes asking node found reply h asks is went others = record {
       subst (λ (o : Observation). StateTransition asking.seen.limits s (o.call, x.reply) u) is_x
       (subst (λ (l : Bounds). StateTransition l s (x.entry.call, x.reply) u) alike.limits may.goes) in
       by found refl s u x.reply replied steps
-      (subst (λ (g : ObservedHistory). HasGone g asking.index y node.put s found) before (went y s here (subst (λ
+      (subst (λ (g : ObservedHistory). HasGone g asking.index y node.put s found) unreturned (went y s here (subst (λ
       (g : ObservedHistory).
-      IsStateBy g node.bits node.put s) (sym before) at)));
+      IsStateBy g node.bits node.put s) (sym unreturned) at)));
 }
   where
     y : Observation
@@ -466,14 +466,14 @@ asked_takes asking node found reply h asks is went others = record {
     same_entry : asks.at.entry ≡ is.at.entry
     same_entry = same_Some asks.at.entry is.at.entry (sym asks.at.is_entry ∙ is.at.is_entry)
 
-    before : asking.before ≡ without_return asking.index is.at.entry asking.seen
-    before = asks.before ∙ ap (λ (o : Observation). without_return asking.index o asking.seen) same_entry
+    unreturned : asking.unreturned ≡ without_return asking.index is.at.entry asking.seen
+    unreturned = asks.unreturned ∙ ap (λ (o : Observation). without_return asking.index o asking.seen) same_entry
 
     within : asking.index < length asking.seen.entries
     within = slice_get_within asking.seen.entries asking.index is.at.entry is.at.is_entry
 
-    here : slice_get asking.before.entries asking.index ≡ Some y
-    here = ap (λ (g : ObservedHistory). slice_get g.entries asking.index) before ∙
+    here : slice_get asking.unreturned.entries asking.index ≡ Some y
+    here = ap (λ (g : ObservedHistory). slice_get g.entries asking.index) unreturned ∙
         slice_get-get_or (set asking.seen.entries asking.index y) asking.index y
         (omega (arith, within, length-set asking.seen.entries asking.index y)) ∙
         ap (λ (o : Observation). Some o) (get_or-set_same asking.seen.entries asking.index y y within)
@@ -528,10 +528,10 @@ asked_gets asking node did a asks is awaits begun went = record {
     };
     next = after_call asking.seen.limits is.reached.state (asks.at.entry.call, did.reply);
     goes = (subst (λ (g : ObservedHistory). HasGone g asking.index y node.put is.reached.state (Some did))
-        asks.before
+        asks.unreturned
         (went y is.reached.state here (subst (λ (g : ObservedHistory). IsStateBy g node.bits node.put
         is.reached.state)
-        (sym asks.before) (at_same asking.seen (without_return asking.index asks.at.entry asking.seen) node.bits
+        (sym asks.unreturned) (at_same asking.seen (without_return asking.index asks.at.entry asking.seen) node.bits
         node.put is.reached.state (same_calls_before asking.seen asking.index asks.at.entry asks.at.is_entry)
         is.reached.stands.at)))).goes;
   };
@@ -543,8 +543,8 @@ asked_gets asking node did a asks is awaits begun went = record {
     within : asking.index < length asking.seen.entries
     within = slice_get_within asking.seen.entries asking.index asks.at.entry asks.at.is_entry
 
-    here : slice_get asking.before.entries asking.index ≡ Some y
-    here = ap (λ (g : ObservedHistory). slice_get g.entries asking.index) asks.before ∙
+    here : slice_get asking.unreturned.entries asking.index ≡ Some y
+    here = ap (λ (g : ObservedHistory). slice_get g.entries asking.index) asks.unreturned ∙
         slice_get-get_or (set asking.seen.entries asking.index y) asking.index y
         (omega (arith, within, length-set asking.seen.entries asking.index y)) ∙
         ap (λ (o : Observation). Some o) (get_or-set_same asking.seen.entries asking.index y y within)
@@ -572,17 +572,17 @@ asked_read asking read d asks same = asks.at.is_entry ∙ ap (λ (o : Observatio
     (sym (get_or_from_slice_get asking.seen.entries asking.index asks.at.entry d asks.at.is_entry)) ∙
     ap (λ (es : List Observation). Some (get_or es asking.index d)) (sym same)
 
-pub asked_inside : (asking : Asking) → IsAsking asking → asking.index < length asking.before.entries
+pub asked_inside : (asking : Asking) → IsAsking asking → asking.index < length asking.unreturned.entries
 asked_inside asking asks = omega (
   arith,
   slice_get_within asking.seen.entries asking.index asks.at.entry asks.at.is_entry,
-  ap (λ (g : ObservedHistory). length g.entries) asks.before,
+  ap (λ (g : ObservedHistory). length g.entries) asks.unreturned,
   length-set asking.seen.entries asking.index (record asks.at.entry { returned = None }),
 )
 
 pub asked_suits : (asking : Asking) → IsAsking asking → (e : Observation) →
-    slice_get asking.before.entries asking.index ≡ Some e → IsTrue (call_suits asking.before.width e.call)
-asked_suits asking asks e at = subst (λ (g : ObservedHistory). IsTrue (call_suits g.width e.call)) (sym asks.before)
+    slice_get asking.unreturned.entries asking.index ≡ Some e → IsTrue (call_suits asking.unreturned.width e.call)
+asked_suits asking asks e at = subst (λ (g : ObservedHistory). IsTrue (call_suits g.width e.call)) (sym asks.unreturned)
     (subst (λ (o : Observation). IsTrue (call_suits asking.seen.width o.call)) same
     (at_index (λ (o : Observation). IsTrue (call_suits asking.seen.width o.call)) asking.seen.entries asking.index
     asks.at.entry asks.observed.suit asks.at.is_entry))
@@ -597,4 +597,4 @@ asked_suits asking asks e at = subst (λ (g : ObservedHistory). IsTrue (call_sui
     same = same_Some y e (sym (slice_get-get_or (set asking.seen.entries asking.index y) asking.index y
         (omega (arith, within, length-set asking.seen.entries asking.index y)) ∙
         ap (λ (o : Observation). Some o) (get_or-set_same asking.seen.entries asking.index y y within)) ∙
-        ap (λ (g : ObservedHistory). slice_get g.entries asking.index) (sym asks.before) ∙ at)
+        ap (λ (g : ObservedHistory). slice_get g.entries asking.index) (sym asks.unreturned) ∙ at)

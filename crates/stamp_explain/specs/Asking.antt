@@ -20,7 +20,7 @@ pub record IsAsking (asking : Asking) : Type 0 where
   pub at : IsReturnAt asking.seen.entries asking.index
   pub observed : IsObserved asking.seen
   pub timeline : IsTimeline asking.seen asking.timeline
-  pub before : asking.before ≡ without_return asking.index at.entry asking.seen
+  pub unreturned : asking.unreturned ≡ without_return asking.index at.entry asking.seen
 
 -- a node that it reached, where the call that is asked takes no effect, and the awaited one has not
 pub record IsReachedBeside (asking : Asking) (node : Node) : Type 0 where
@@ -47,12 +47,12 @@ pub record IsSeenWith (asking : Asking) (reply : Reply) (h : ObservedHistory) : 
   pub is : h ≡ with_reply asking.index at.entry at.return reply asking.seen
 
 -- this node comes next, and the call that was asked takes no effect there
-pub record ComesNextBeside (asking : Asking) (node : Node) (next : Next) : Type 0 where
+pub record ComesAfterBeside (asking : Asking) (node : Node) (next : Next) : Type 0 where
   pub leads : ComesAfter asking.seen (Some asking.index) asking.timeline.returns.items node next
   pub other : next.took ≢ Some asking.index
 
-pub record AreLed (asking : Asking) (node : Node) (nexts : List Next) : Type 0 where
-  pub each : (w : Next) → Contains nexts w → ComesNextBeside asking node w
+pub record ComeAfterBeside (asking : Asking) (node : Node) (nexts : List Next) : Type 0 where
+  pub each : (w : Next) → Contains nexts w → ComesAfterBeside asking node w
 
 -- none is lost, and they stay different
 pub record AreMore (old new : List Reply) : Type 0 where

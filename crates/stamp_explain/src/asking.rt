@@ -11,12 +11,12 @@ ghost use Rattle.stamp_explain.specs.Cut.{index_then};
 ghost use Rattle.stamp_explain.specs.Expand.{AddsUnseen, Suffice, Took};
 ghost use Rattle.stamp_explain.specs.Store.{Keeps};
 ghost use Rattle.stamp_explain.specs.Possible.{without_return};
-ghost use Rattle.stamp_explain.specs.Asking.{Adds, AreAsked, AreLed, AreMore, AreReplies, GetsMore, IsSeenWith, IsAsking, IsAskingAt, ComesNextBeside, MayGoOnBeside, NoneIsAtOnceBeside, SufficeBeside, SufficeUnless};
+ghost use Rattle.stamp_explain.specs.Asking.{Adds, AreAsked, ComeAfterBeside, AreMore, AreReplies, GetsMore, IsSeenWith, IsAsking, IsAskingAt, ComesAfterBeside, MayGoOnBeside, NoneIsAtOnceBeside, SufficeBeside, SufficeUnless};
 
 use crate::cut::seen_at;
 use crate::node::{Next, Node, Origin};
 use crate::observed::{Observation, Observed, Returned};
-use crate::search::{choice_of, opening, settled, take_of};
+use crate::search::{choice_of, first_node, settled, take_of};
 use crate::soundness::is_before;
 use crate::store::Store;
 use crate::timeline::{Timeline, timeline_of};
@@ -30,7 +30,7 @@ use std::alloc::{AllocError, Global};
 #[derive(Drop)]
 pub(crate) struct Asking {
     pub(crate) seen: Observed,
-    pub(crate) before: Observed,
+    pub(crate) unreturned: Observed,
     pub(crate) timeline: Timeline,
     pub(crate) index: usize,
 }
@@ -87,11 +87,11 @@ pub(crate) fn asking_of(
 {
     let index = index_then(observed.entries(), entry, returned.last);
     let seen = seen_at(alloc, observed, returned.last, entry + 1)?;
-    let before = without_return(alloc, &seen, index, observation)?;
+    let unreturned = without_return(alloc, &seen, index, observation)?;
     let timeline = timeline_of(alloc, &seen)?;
     Ok(Asking {
         seen,
-        before,
+        unreturned,
         timeline,
         index,
     })
@@ -114,7 +114,7 @@ impl Asking {
     /// The one node that comes next, where another open call takes effect that changes nothing.
     fn at_once(&self, node: &Node) -> Option<Next>
         requires { MayGoOnBeside self.now node.now }
-        ensures leads { IfSome result (λ next. ComesNextBeside self.now node.now next) }
+        ensures leads { IfSome result (λ next. ComesAfterBeside self.now node.now next) }
         ensures one { IfSome result (λ next. SufficeBeside self.now node.now (next ∷ [])) }
         ensures none { IfNone result (NoneIsAtOnceBeside self.now node.now) }
     {
@@ -132,7 +132,7 @@ impl Asking {
     fn choices(&self, node: &Node, nexts: &mut Vec<Next>) -> Result<(), AllocError>
         requires at { MayGoOnBeside self.now node.now }
         requires at_once { NoneIsAtOnceBeside self.now node.now }
-        ensures leads { IfOk result (λ _. AreLed self.now node.now nexts.new.items) }
+        ensures leads { IfOk result (λ _. ComeAfterBeside self.now node.now nexts.new.items) }
         ensures whole { IfOk result (λ _. (reply : Reply) (h : ObservedHistory) → IsSeenWith self.now reply h
             → Took h self.now.timeline.returns.items node.now self.now.index None
             → Suffice h self.now.timeline.returns.items node.now nexts.new.items) }
@@ -162,7 +162,7 @@ impl Asking {
         if is_before(awaited, &entries[self.index]) {
             return Ok(());
         }
-        if let Some(transition) = transition_of(&self.before, node.bits, node.put, self.index) {
+        if let Some(transition) = transition_of(&self.unreturned, node.bits, node.put, self.index) {
             add(replies, transition.reply)?;
         }
         Ok(())
@@ -176,7 +176,7 @@ impl Asking {
         replies: &mut Vec<Reply>,
     ) -> Result<(), AllocError>
         requires { MayGoOnBeside self.now node.now }
-        ensures leads { IfOk result (λ _. AreLed self.now node.now nexts.new.items) }
+        ensures leads { IfOk result (λ _. ComeAfterBeside self.now node.now nexts.new.items) }
         ensures more { IfOk result (λ _. AreMore replies.old.items replies.new.items) }
         ensures gets { IfOk result (λ _. GetsMore self.now replies.old.items replies.new.items) }
         ensures whole { IfOk result (λ _. SufficeUnless self.now node.now nexts.new.items replies.new.items) }
@@ -229,7 +229,7 @@ pub(crate) fn replies_of(
     let mut store = Store::new(alloc);
     let mut waiting = Vec::new(alloc);
     let first = Next {
-        node: opening(&asking.seen),
+        node: first_node(&asking.seen),
         took: None,
     };
     add_unseen(&mut store, &mut waiting, 0, &[first])?;

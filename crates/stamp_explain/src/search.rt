@@ -215,7 +215,7 @@ pub(crate) fn search(
     let returns = timeline.returns.as_slice();
     // Where there is no choice, there is a node for each call, beside the first.
     let room = returns.len().saturating_add(2);
-    let mut store = Store::beginning(alloc, opening(observed), room)?;
+    let mut store = Store::beginning(alloc, first_node(observed), room)?;
     let mut waiting = Vec::new(alloc);
     let mut nexts = Vec::new(alloc);
     for _ in 0..=most {
@@ -235,7 +235,7 @@ pub(crate) fn search(
 }
 
 /// The node at which a search begins.
-pub(crate) fn opening(observed: &Observed) -> Node
+pub(crate) fn first_node(observed: &Observed) -> Node
     ensures { IsFirstNode observed.now result }
 {
     Node {

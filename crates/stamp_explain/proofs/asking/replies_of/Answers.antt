@@ -13,9 +13,9 @@ pub loop-init : goal.loop-init
 loop-init c = subst (λ (rs : List Reply). AsksSoFar c.args.asking.now 0 c.add_unseen.new.store
     c.add_unseen.new.waiting.items rs) (sym c.new-replies.ensures.items)
     (asked_first c.args.asking.now c.new-store.result c.add_unseen.new.store c.add_unseen.new.waiting.items
-    (record { node = c.opening.result; took = None }) c.new-store.ensures.nodes c.opening.ensures
+    (record { node = c.first_node.result; took = None }) c.new-store.ensures.nodes c.first_node.ensures
     (subst (λ (ps : List ℕ). AddsUnseen c.new-store.result c.add_unseen.new.store 0 ps c.add_unseen.new.waiting.items
-    (record { node = c.opening.result; took = None } ∷ [])) c.new-waiting.ensures.items c.in_ok-add_unseen.ensures))
+    (record { node = c.first_node.result; took = None } ∷ [])) c.new-waiting.ensures.items c.in_ok-add_unseen.ensures))
 
 pub returns-in_default-clause-some : goal.returns-in_default-clause-some
 returns-in_default-clause-some c =

@@ -10,8 +10,8 @@ pub loop-init : goal.loop-init
 loop-init c = subst (λ (ws : List Waiting). IsAtLast c.args.observed.now c.args.timeline.now.returns.items
     c.in_ok-store.store
     ws 0) (sym c.new-waiting.ensures.items)
-    (deepens_first c.args.observed.now c.args.timeline.now.returns.items c.in_ok-store.store c.opening.result
-    c.in_ok-store.ensures c.opening.ensures)
+    (deepens_first c.args.observed.now c.args.timeline.now.returns.items c.in_ok-store.store c.first_node.result
+    c.in_ok-store.ensures c.first_node.ensures)
 
 pub linearization_to-requires-clause-end : goal.linearization_to-requires-clause-end
 linearization_to-requires-clause-end c = last_ends (last_read c.loop.invariant c.len-index.ensures c.index.ensures)
