@@ -4,7 +4,7 @@
 use stamp_cli::{
     CommandFault, ReadSource, ServeFault, Verdict, WriteSink, fault_line, read_arguments,
 };
-use stamp_explain_cli::{Explanation, most_of, serve_explanation};
+use stamp_explain_cli::{VerdictAndNote, most_configurations_of, serve_explanation};
 use std::alloc::AllocError;
 use std::io;
 use std::process::ExitCode;
@@ -13,7 +13,7 @@ use std::process::ExitCode;
 fn answer_input(
     rt: &(impl Input + Print + AllocGlobal),
     most: u64,
-) -> Result<Explanation, ServeFault> {
+) -> Result<VerdictAndNote, ServeFault> {
     let mut source = ReadSource::new(rt.reader());
     let mut sink = WriteSink::new(io::writer(rt));
     serve_explanation(rt.alloc(), most, &mut source, &mut sink)
@@ -27,7 +27,7 @@ fn print_fault(rt: &(impl Eprint + AllocGlobal), fault: &ServeFault) {
 }
 
 fn main(rt: HostRuntime) -> ExitCode {
-    let most = match read_arguments(&rt, |args| most_of(args)) {
+    let most = match read_arguments(&rt, |args| most_configurations_of(args)) {
         Ok(Ok(most)) => most,
         Ok(Err(CommandFault::Bad)) => {
             let _ = rt.eprintln("stamped: bad command line");
@@ -38,7 +38,7 @@ fn main(rt: HostRuntime) -> ExitCode {
             return ExitCode::FAILURE;
         }
     };
-    let Explanation { verdict, note } = match answer_input(&rt, most) {
+    let VerdictAndNote { verdict, note } = match answer_input(&rt, most) {
         Ok(explanation) => explanation,
         Err(fault) => {
             print_fault(&rt, &fault);
