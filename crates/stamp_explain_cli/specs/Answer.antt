@@ -1,4 +1,4 @@
--- The line that answers an observed history, with what is said of it, or why there is none.
+-- The line that answers an observed history, with the note beside it, or why there is none.
 use Rattle.std.specs.Prelude.{◌≡◌, ◌≢◌, ℕ, List, Option, Result, Ok, Err, String}
 use Rattle.std.specs.declared.alloc.AllocError.{AllocError}
 use Rattle.std.specs.declared.alloc.Global.{Global}
@@ -16,7 +16,7 @@ use Rattle.stamp_explain_cli.specs.FindingText.{finding_text, finding_verdict}
 use Rattle.stamp_explain_cli.specs.Note.{IsNote}
 use Rattle.stamp_explain_cli.specs.declared.answer.LineAndNote as made
 
--- a line and what is said beside it, as contracts see them
+-- a line and the note beside it, as contracts see them
 pub record LineAndNoteView : Type 0 where
   pub line : LineView
   pub note : Result (Option (String Global)) AllocError
@@ -24,7 +24,7 @@ pub record LineAndNoteView : Type 0 where
 abbrev pub view_in : made.LineAndNote → LineAndNoteView
 view_in answer = record { line = line_in answer.line; note = answer.note }
 
--- this is found of an observed history, the line says it, and this is said of it
+-- this is found of an observed history, the line says it, and this is the note
 pub record SaysWhatIsFound (h : ObservedHistory) (most : ℕ) (answer : LineAndNoteView) : Type 0 where
   pub found : Finding
   pub is : IsFinding h most found

@@ -6,13 +6,13 @@ use Rattle.stamp_explain.specs.Points.{HasPoints}
 use Rattle.stamp_explain.specs.Answer.{IsUndecided, IsUnexplained}
 use Rattle.stamp_observed.specs.ObservedFault.{IsFirstFault}
 use Rattle.stamp_explain_cli.specs.declared.finding.Finding.{Finding}
-use Rattle.stamp_explain_cli.specs.declared.finding.Finding.TheVariants.{Unseen, Explained, Stuck, Unexplained}
+use Rattle.stamp_explain_cli.specs.declared.finding.Finding.TheVariants.{Faulty, Explained, Stuck, Unexplained}
 use Rattle.stamp_explain_cli.specs.declared.finding.Finding.TheVariants.{Undecided}
 
 -- its first fault. Or it may be observed, and: this recorded history is of it and linearized by its points; or it
 -- is stuck at the return of this entry; or undecided there, whether or not it is known to be unexplained
 abbrev pub IsFinding : ObservedHistory → ℕ → Finding → Type 0
-IsFinding h most (Unseen fault) = IsFirstFault h fault.entry fault.why
+IsFinding h most (Faulty fault) = IsFirstFault h fault.entry fault.why
 IsFinding h most (Explained made) = IsObserved h × HasPoints h made
 IsFinding h most (Stuck i) = IsObserved h × IsStuck h i
 IsFinding h most (Unexplained i) = IsObserved h × IsUnexplained h most i

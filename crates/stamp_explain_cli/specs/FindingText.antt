@@ -7,7 +7,7 @@ use Rattle.stamp_observed.specs.declared.judging.ObservedWhy.{ObservedWhy}
 use Rattle.stamp_observed.specs.declared.judging.ObservedWhy.TheVariants.{Interval, Overlap}
 use Rattle.stamp_observed.specs.declared.judging.ObservedFault.{ObservedFault}
 use Rattle.stamp_explain_cli.specs.declared.finding.Finding.{Finding}
-use Rattle.stamp_explain_cli.specs.declared.finding.Finding.TheVariants.{Unseen, Explained, Stuck, Unexplained}
+use Rattle.stamp_explain_cli.specs.declared.finding.Finding.TheVariants.{Faulty, Explained, Stuck, Unexplained}
 use Rattle.stamp_explain_cli.specs.declared.finding.Finding.TheVariants.{Undecided}
 
 abbrev pub why_text : ObservedWhy → List ℕ
@@ -19,14 +19,14 @@ bad_text fault = codes "bad " ++ decimal fault.entry ++ codes " " ++ why_text fa
 
 -- a recorded history as its text
 abbrev pub finding_text : Finding → List ℕ
-finding_text (Unseen fault) = bad_text fault
+finding_text (Faulty fault) = bad_text fault
 finding_text (Explained made) = history_text made
 finding_text (Stuck i) = codes "stuck " ++ decimal i
 finding_text (Unexplained i) = codes "undecided " ++ decimal i
 finding_text (Undecided i) = codes "undecided " ++ decimal i
 
 abbrev pub finding_verdict : Finding → Verdict
-finding_verdict (Unseen fault) = Bad
+finding_verdict (Faulty fault) = Bad
 finding_verdict (Explained made) = Accepted
 finding_verdict (Stuck i) = Bad
 finding_verdict (Unexplained i) = Bad

@@ -1,4 +1,4 @@
--- What is said of a history that no order explains.
+-- The note of a history that no order explains.
 use Rattle.std.specs.Prelude.{ℕ, ◌≡◌, ◌++◌, List, [], ◌∷◌, Option, Some, None, Result, Ok, Err, Vec, String}
 use Rattle.std.specs.Prelude.{codes, decimal, string_bytes}
 use Rattle.std.specs.List.{flat_map}
@@ -25,13 +25,13 @@ ArePossibleAt h most i (Some replies) = AreAllPossible h i replies
 abbrev pub others_text : List Reply → List ℕ
 others_text replies = flat_map (λ (r : Reply). codes ", " ++ reply_text r) replies
 
-abbrev pub possible_text : List Reply → List ℕ
-possible_text [] = codes "; no reply was possible, it would have waited"
-possible_text (r ∷ replies) = codes "; possible: " ++ reply_text r ++ others_text replies
+abbrev pub replies_text : List Reply → List ℕ
+replies_text [] = codes "; no reply was possible, it would have waited"
+replies_text (r ∷ replies) = codes "; possible: " ++ reply_text r ++ others_text replies
 
-abbrev pub possibilities_text : Option (List Reply) → List ℕ
-possibilities_text None = codes "; what was possible is undecided"
-possibilities_text (Some replies) = possible_text replies
+abbrev pub possible_text : Option (List Reply) → List ℕ
+possible_text None = codes "; what was possible is undecided"
+possible_text (Some replies) = replies_text replies
 
 abbrev pub entry_text : ℕ → ℕ → List ℕ
 entry_text i thread = codes "stamped: entry " ++ (decimal i ++ (codes " of thread " ++ decimal thread))
@@ -41,7 +41,7 @@ answer_text call reply = codes ": " ++ (call_text call ++ (codes " answered " ++
 
 -- what the call answered, and what was possible
 abbrev pub stuck_text : ℕ → Observation → Reply → Option (List Reply) → List ℕ
-stuck_text i e reply replies = entry_text i e.thread ++ answer_text e.call reply ++ possibilities_text replies
+stuck_text i e reply replies = entry_text i e.thread ++ answer_text e.call reply ++ possible_text replies
 
 pub record IsStuckNote (h : ObservedHistory) (most i : ℕ) (text : List ℕ) : Type 0 where
   pub at : IsReturnAt h.entries i
@@ -49,11 +49,11 @@ pub record IsStuckNote (h : ObservedHistory) (most i : ℕ) (text : List ℕ) : 
   pub possible : ArePossibleAt h most i replies
   pub says : text ≡ stuck_text i at.entry at.return.reply replies
 
--- what is said where it is undecided from which return on
+-- the note where it is undecided from which return on
 abbrev pub unexplained_text : List ℕ
 unexplained_text = codes "stamped: no order explains the history; from which return on is undecided"
 
--- what is said of what was found: nothing, unless no order explains it; or memory was refused
+-- the note of what was found: none, unless no order explains it; or memory was refused
 abbrev pub IsNote : ObservedHistory → ℕ → Finding → Result (Option (String Global)) AllocError → Type 0
 IsNote h most (Stuck i) (Ok (Some text)) = IsStuckNote h most i (string_bytes text)
 IsNote h most (Stuck i) (Ok None) = ⊥

@@ -1,4 +1,4 @@
-//! The line that answers an observed history, and what is said of it.
+//! The line that answers an observed history, and the note beside it.
 
 ghost use Rattle.std.specs.Prelude.{◌≡◌, ◌≢◌, false, IfOk, IfErr, Ok, Err};
 ghost use Rattle.stamp_cli.specs.Answer.{IsInputAnswer};
@@ -15,26 +15,26 @@ use stamp_cli::{Line, ServeFault, Source, Verdict, read_input, within};
 use stamp_observed::read_observed;
 use std::alloc::{AllocError, Global};
 
-/// What was written of an observed history, and what is said of it on standard error.
+/// The verdict of the line that was written, and the note for standard error.
 #[derive(Drop)]
-pub struct Explanation {
+pub struct VerdictAndNote {
     /// What the line that was written says: `Bad` unless it is a history.
     pub verdict: Verdict,
-    /// The line for standard error, without its line feed; `None` unless no order explains the history. Where
-    /// memory is refused for it, it isn't said.
+    /// The line for standard error, without its line feed: `Some` if no order explains the history, else
+    /// `None`. Where memory is refused for it, there is no note.
     pub note: Result<Option<String>, AllocError>,
 }
 
-/// The line that answers an observed history, and what is said of it on standard error.
+/// The line that answers an observed history, and the note for standard error.
 #[derive(Drop)]
 pub(crate) struct LineAndNote {
     /// The line that answers.
     pub(crate) line: Line,
-    /// What is said, as in `Explanation`.
+    /// The note, as in `VerdictAndNote`.
     pub(crate) note: Result<Option<String>, AllocError>,
 }
 
-/// The line that answers what was read, and what is said of it.
+/// The line that answers what was read, and the note.
 #[tactic(auto, using(stamp_cli::proofs::Refusals::inner))]
 fn line_and_note_on(alloc: Global, most: u64, input: &[u8]) -> Result<LineAndNote, ServeFault>
     ensures answer { HoldsUnlessMemory (IsInputAnswer (AnswersExplain most) input.now) result }
@@ -47,7 +47,7 @@ fn line_and_note_on(alloc: Global, most: u64, input: &[u8]) -> Result<LineAndNot
     Ok(LineAndNote { line, note })
 }
 
-/// The line that answers an observed history, without its line feed, and what is said of it.
+/// The line that answers an observed history, without its line feed, and the note.
 pub(crate) fn line_and_note_of<S: Source>(
     alloc: Global,
     most: u64,

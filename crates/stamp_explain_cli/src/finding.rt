@@ -14,7 +14,7 @@ use std::alloc::{AllocError, Global};
 #[derive(Drop)]
 pub(crate) enum Finding {
     /// An observer can't have seen it, for this fault.
-    Unseen(ObservedFault),
+    Faulty(ObservedFault),
     /// A recorded history that explains it.
     Explained(Record),
     /// It is explained until this entry returns, and no longer.
@@ -50,7 +50,7 @@ pub(crate) fn finding_of(
     ensures { IfOk result (λ found. IsFinding observed.now most found) }
 {
     match fault_of(alloc, observed)? {
-        Some(fault) => Ok(Finding::Unseen(fault)),
+        Some(fault) => Ok(Finding::Faulty(fault)),
         None => searched(alloc, observed, most),
     }
 }

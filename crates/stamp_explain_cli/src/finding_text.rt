@@ -54,7 +54,7 @@ pub(crate) fn line_of_finding(alloc: Global, finding: &Finding) -> Result<Line, 
 {
     match finding {
         Finding::Explained(record) => Ok(accepted(write_history(alloc, record)?)),
-        Finding::Unseen(fault) => Ok(refused(BadText(*fault).to_string(alloc)?)),
+        Finding::Faulty(fault) => Ok(refused(BadText(*fault).to_string(alloc)?)),
         Finding::Stuck(entry) => Ok(refused(format!(in alloc; "stuck {entry}")?)),
         Finding::Unexplained(entry) | Finding::Undecided(entry) => {
             Ok(refused(format!(in alloc; "undecided {entry}")?))

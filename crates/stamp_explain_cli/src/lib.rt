@@ -1,5 +1,5 @@
 //! The engine of the program `stamped_explain`: its command line, the line that answers an observed history,
-//! and what is said of one that no order explains.
+//! and the note beside it, of one that no order explains.
 #![tactic(auto)]
 
 mod answer;
@@ -9,6 +9,6 @@ mod note;
 mod orders;
 mod serving;
 
-pub use answer::Explanation;
-pub use orders::{MOST, most_of};
+pub use answer::VerdictAndNote;
+pub use orders::{MOST_CONFIGURATIONS, most_configurations_of};
 pub use serving::serve_explanation;

@@ -1,10 +1,10 @@
-//! What is said of a history that no order explains: where it is stuck, what the call answered, and what it
+//! The note of a history that no order explains: where it is stuck, what the call answered, and what it
 //! could have answered.
 
 ghost use Rattle.std.specs.Prelude.{◌≡◌, ◌++◌, IfOk, Some, slice_get, string_bytes};
 ghost use Rattle.stamp_explain.specs.Observed.{IsObserved, IsReturnAt};
 ghost use Rattle.stamp_explain_cli.specs.Finding.{IsFinding};
-ghost use Rattle.stamp_explain_cli.specs.Note.{IsNote, IsStuckNote, ArePossibleAt, answer_text, others_text, entry_text, possible_text, possibilities_text, stuck_text, replies_in, unexplained_text};
+ghost use Rattle.stamp_explain_cli.specs.Note.{IsNote, IsStuckNote, ArePossibleAt, answer_text, others_text, entry_text, replies_text, possible_text, stuck_text, replies_in, unexplained_text};
 
 use crate::finding::Finding;
 use stamp_core::{Call, Reply};
@@ -26,9 +26,9 @@ fn others_text(alloc: Global, replies: &[Reply]) -> Result<String, AllocError>
     Ok(text)
 }
 
-/// The possible replies as a text.
-fn possible_text(alloc: Global, replies: &[Reply]) -> Result<String, AllocError>
-    ensures { IfOk result (λ text. string_bytes text ≡ possible_text replies.now) }
+/// The replies that were possible, as a text.
+fn replies_text(alloc: Global, replies: &[Reply]) -> Result<String, AllocError>
+    ensures { IfOk result (λ text. string_bytes text ≡ replies_text replies.now) }
 {
     let Some(first) = replies.first() else {
         return format!(in alloc; "; no reply was possible, it would have waited");
@@ -38,12 +38,12 @@ fn possible_text(alloc: Global, replies: &[Reply]) -> Result<String, AllocError>
 }
 
 /// What was possible, as a text: these replies, or that it is undecided.
-fn possibilities_text(alloc: Global, replies: &Option<Vec<Reply>>) -> Result<String, AllocError>
-    ensures { IfOk result (λ text. string_bytes text ≡ possibilities_text (replies_in replies.now)) }
+fn possible_text(alloc: Global, replies: &Option<Vec<Reply>>) -> Result<String, AllocError>
+    ensures { IfOk result (λ text. string_bytes text ≡ possible_text (replies_in replies.now)) }
 {
     match replies {
         None => format!(in alloc; "; what was possible is undecided"),
-        Some(replies) => possible_text(alloc, replies.as_slice()),
+        Some(replies) => replies_text(alloc, replies.as_slice()),
     }
 }
 
@@ -84,11 +84,11 @@ fn stuck_text(
 {
     let mut text = EntryText(entry, observation.thread).to_string(alloc)?;
     text.push_str(&AnswerText(observation.call, reply).to_string(alloc)?)?;
-    text.push_str(&possibilities_text(alloc, replies)?)?;
+    text.push_str(&possible_text(alloc, replies)?)?;
     Ok(text)
 }
 
-/// The replies that the call of this entry could have had; none where that is undecided.
+/// The replies that the call of this entry could have had; `None` where that is undecided.
 fn replies_at(
     alloc: Global,
     observed: &Observed,
@@ -106,7 +106,7 @@ fn replies_at(
     }
 }
 
-/// What is said of a history that is stuck at the return of this entry.
+/// The note of a history that is stuck at the return of this entry.
 fn stuck_note(
     alloc: Global,
     observed: &Observed,
@@ -125,7 +125,7 @@ fn stuck_note(
     stuck_text(alloc, entry, observation, returned.reply, &replies)
 }
 
-/// What is said of a history that no order explains, where it is undecided from which return on.
+/// The note of a history that no order explains, where it is undecided from which return on.
 fn unexplained_text(alloc: Global) -> Result<String, AllocError>
     ensures { IfOk result (λ text. string_bytes text ≡ unexplained_text) }
 {
@@ -135,8 +135,8 @@ fn unexplained_text(alloc: Global) -> Result<String, AllocError>
     )
 }
 
-/// What is said of what was found, on standard error: nothing, unless no order explains the history. A
-/// search gives up once it has looked at more than `most` configurations.
+/// The note of what was found, for standard error: none, unless no order explains the history. A search
+/// gives up once it has looked at more than `most` configurations.
 pub(crate) fn note_of(
     alloc: Global,
     observed: &Observed,

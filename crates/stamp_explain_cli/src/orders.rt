@@ -5,8 +5,8 @@ ghost use Rattle.stamp_explain_cli.specs.Order as order;
 
 use stamp_cli::{CommandFault, number_in};
 
-/// The most configurations that are looked at, if the command line says no other number.
-pub const MOST: u64 = 4_000_000;
+/// The most configurations that a search looks at, if the command line says no other number.
+pub const MOST_CONFIGURATIONS: u64 = 4_000_000;
 
 fn two_args(option: &str, number: &str) -> Option<u64>
     ensures { result ≡ order.two_args option.now number.now }
@@ -21,15 +21,15 @@ fn form_of(args: &[&str]) -> Option<u64>
     ensures { result ≡ order.form_of (map (λ arg. arg.now) args.now) }
 {
     match args {
-        [] => Some(MOST),
+        [] => Some(MOST_CONFIGURATIONS),
         [option, number] => two_args(option, number),
         _ => None,
     }
 }
 
-/// The most configurations that the program's arguments allow: those of no argument, or of
+/// The most configurations that a search looks at by the program's arguments: those of no argument, or of
 /// `--most N`, where `N` is a number below 2^64 in decimal digits alone. Other arguments are no form.
-pub fn most_of(args: &[&str]) -> Result<u64, CommandFault>
+pub fn most_configurations_of(args: &[&str]) -> Result<u64, CommandFault>
     ensures { result ≡ order.most_in (map (λ arg. arg.now) args.now) }
 {
     form_of(args).ok_or(CommandFault::Bad)

@@ -8,7 +8,7 @@ ghost use Rattle.stamp_cli.specs.Serving.{HasRead, HasWritten};
 ghost use Rattle.stamp_cli.specs.Source.{most_reads, most_taken};
 ghost use Rattle.stamp_explain_cli.specs.Answer.{LineAndNoteView, AnswersSource};
 
-use crate::answer::{Explanation, LineAndNote, line_and_note_of};
+use crate::answer::{LineAndNote, VerdictAndNote, line_and_note_of};
 use stamp_cli::{Line, ServeFault, Sink, Source, write_text};
 use std::alloc::Global;
 
@@ -24,13 +24,13 @@ pub fn serve_explanation<S: Source, K: Sink>(
     most: u64,
     source: &mut S,
     sink: &mut K,
-) -> Result<Explanation, ServeFault>
+) -> Result<VerdictAndNote, ServeFault>
     // However it ends, there are no more reads than these, and they take no more bytes than these.
     ensures reads { HasRead ServeFault.ReadFault ServeFault.Memory (S.left source.old) (S.left source.new)
         (S.reads source.old) (S.reads source.new) most_reads most_taken result }
 
-    // The answer to all that was read is written with a line feed, and nothing else; the verdict and what is
-    // said of a history that no order explains are its.
+    // The answer to all that was read is written with a line feed, and nothing else; the verdict and the note
+    // are its.
     ensures ok { IfOk result (λ found. (answer : LineAndNoteView)
         × AnswersSource most (S.left source.old) (S.left source.new)
         (taken_since (S.reads source.old) (S.reads source.new)) (Ok answer)
@@ -57,5 +57,5 @@ pub fn serve_explanation<S: Source, K: Sink>(
     let Line { mut text, verdict } = line;
     text.push(b'\n')?;
     write_text(sink, &text)?;
-    Ok(Explanation { verdict, note })
+    Ok(VerdictAndNote { verdict, note })
 }

@@ -1,5 +1,7 @@
 use stamp_cli::{CommandFault, ReadSource, ServeFault, Verdict, WriteSink};
-use stamp_explain_cli::{Explanation, MOST, most_of, serve_explanation};
+use stamp_explain_cli::{
+    MOST_CONFIGURATIONS, VerdictAndNote, most_configurations_of, serve_explanation,
+};
 use stamp_history::{Field, ReadError};
 use std::alloc::Global;
 use std::test::Fail;
@@ -13,7 +15,7 @@ fn told(alloc: Global, most: u64, input: &str) -> Result<Told, Fail> {
     let answered = serve_explanation(alloc, most, &mut source, &mut sink);
     let written = String::from_utf8(sink.into_inner())?;
     match answered {
-        Ok(Explanation { verdict, note }) => Ok((written, Ok(verdict), note?)),
+        Ok(VerdictAndNote { verdict, note }) => Ok((written, Ok(verdict), note?)),
         Err(fault) => Ok((written, Err(fault), None)),
     }
 }
@@ -31,12 +33,27 @@ const FOUND: &str =
 
 /// What is replaced by what, the most configurations, and the line that is printed.
 const TOLD: [(&str, &str, u64, &str); 6] = [
-    ("384", "384", MOST, FOUND),
-    ("\"reply\":0", "\"reply\":768", MOST, "stuck 2\n"),
+    ("384", "384", MOST_CONFIGURATIONS, FOUND),
+    (
+        "\"reply\":0",
+        "\"reply\":768",
+        MOST_CONFIGURATIONS,
+        "stuck 2\n",
+    ),
     ("384", "384", 1, "undecided 2\n"),
-    ("\"thread\":1", "\"thread\":0", MOST, "bad 2 overlap\n"),
-    ("\"first\":3", "\"first\":6", MOST, "bad 0 interval\n"),
-    ("\"first\":1,", "", MOST, ""),
+    (
+        "\"thread\":1",
+        "\"thread\":0",
+        MOST_CONFIGURATIONS,
+        "bad 2 overlap\n",
+    ),
+    (
+        "\"first\":3",
+        "\"first\":6",
+        MOST_CONFIGURATIONS,
+        "bad 0 interval\n",
+    ),
+    ("\"first\":1,", "", MOST_CONFIGURATIONS, ""),
 ];
 
 #[test]
@@ -57,7 +74,7 @@ fn what_is_found_is_told_in_one_line(rt: HostRuntime) -> Result<(), Fail> {
 #[test]
 fn of_a_stuck_history_all_possible_replies_are_told(rt: HostRuntime) -> Result<(), Fail> {
     let input = SEEN.replace(rt.alloc(), "\"reply\":0", "\"reply\":768")?;
-    let (_, _, note) = told(rt.alloc(), MOST, &input)?;
+    let (_, _, note) = told(rt.alloc(), MOST_CONFIGURATIONS, &input)?;
     let wanted = "stamped: entry 2 of thread 1: optimistic answered 768; possible: 256, 0, 512";
     assert!(rt; note.as_deref() == Some(wanted));
     Ok(())
@@ -92,6 +109,6 @@ fn no_word_and_a_number_are_the_forms_of_the_command_line(rt: HostRuntime) {
         (&["--more", "1"], Err(CommandFault::Bad)),
     ];
     for (words, most) in table {
-        assert!(rt; most_of(words) == most);
+        assert!(rt; most_configurations_of(words) == most);
     }
 }

@@ -2,7 +2,7 @@
 #![tactic(auto)]
 
 use stamp_cli::{CommandFault, ReadSource, ServeFault, Verdict, WriteSink, fault_line};
-use stamp_explain_cli::{Explanation, most_of, serve_explanation};
+use stamp_explain_cli::{VerdictAndNote, most_configurations_of, serve_explanation};
 use std::alloc::AllocError;
 use std::process::ExitCode;
 use std::rt::Env;
@@ -20,14 +20,14 @@ fn most_given(rt: &(impl Env + AllocGlobal)) -> Result<Result<u64, CommandFault>
         .skip(1)
         .map(|arg| arg.as_str())
         .collect(rt.alloc())?;
-    Ok(most_of(&texts))
+    Ok(most_configurations_of(&texts))
 }
 
 /// Explains what comes from standard input to standard output.
 fn answer_input(
     rt: &(impl Input + Print + AllocGlobal),
     most: u64,
-) -> Result<Explanation, ServeFault> {
+) -> Result<VerdictAndNote, ServeFault> {
     let mut source = ReadSource::new(rt.reader());
     let mut sink = WriteSink::new(io::writer(rt));
     serve_explanation(rt.alloc(), most, &mut source, &mut sink)
@@ -52,7 +52,7 @@ fn main(rt: HostRuntime) -> ExitCode {
             return ExitCode::FAILURE;
         }
     };
-    let Explanation { verdict, note } = match answer_input(&rt, most) {
+    let VerdictAndNote { verdict, note } = match answer_input(&rt, most) {
         Ok(explanation) => explanation,
         Err(fault) => {
             print_fault(&rt, &fault);
