@@ -12,7 +12,7 @@ use Rattle.stamp_threads.specs.declared.record_view.RecordShape.{RecordShape}
 use Rattle.stamp_threads.specs.PassName.{HasGivenAll}
 use Rattle.stamp_threads.specs.PassView.{entry}
 use Rattle.stamp_threads.specs.RecordWord.{word_with}
-use Rattle.stamp_threads.specs.RecordLog.{RecordLog, IsLegalRecord}
+use Rattle.stamp_threads.specs.RecordLog.{RecordLog, IsLegalLog}
 use Rattle.stamp_threads.specs.RecordPass.{RecordPassView, IsConsistentWith, first_pass}
 use Rattle.stamp_threads.proofs.RecordLogs.{legal_marked, legal_longer}
 use Rattle.stamp_threads.specs.RecordRule.{KnowsPart, IsKept, opening_log, opening_pass}
@@ -69,7 +69,7 @@ module _ (words : List ℕ) where
   abbrev holder : RecordPassView
   holder = opening_pass (Some words)
 
-  one_put : (width : ℕ) → IsLegalRecord width log
+  one_put : (width : ℕ) → IsLegalLog width log
   one_put width = legal_longer width (entry first_pass.name Mark ∷ []) first_pass.name (Put words)
       Done refl refl
       (legal_marked width [] first_pass.name (first_consistent width).legal)

@@ -15,7 +15,7 @@ use Rattle.stamp_threads.specs.declared.record_view.RecordEvent.{RecordEvent}
 use Rattle.stamp_threads.specs.declared.record_view.RecordEvent.TheVariants.{Mark, Called}
 use Rattle.stamp_threads.specs.PassView.{entry, made_by}
 use Rattle.stamp_threads.specs.RecordLog.{RecordLog, calls_in, history_in, content_in}
-use Rattle.stamp_threads.specs.RecordLog.{AreRecordCalls, IsLegalRecord, put_in, puts_in, puts}
+use Rattle.stamp_threads.specs.RecordLog.{AreRecordCalls, IsLegalLog, put_in, puts_in, puts}
 use Rattle.stamp_threads.specs.RecordLog.{leaving, locked_then, is_locked, marker_then, marker_in}
 use Rattle.stamp_threads.specs.RecordLog.{is_mark, marks_of}
 use Rattle.stamp_threads.specs.RecordRule.{put_of, get_of}
@@ -77,8 +77,8 @@ record_calls-append : (xs ys : History) → AreRecordCalls xs → AreRecordCalls
 record_calls-append [] ys a b = b
 record_calls-append (x ∷ xs) ys a b = (a.0, record_calls-append xs ys a.1 b)
 
-pub legal_marked : (width : ℕ) (log : RecordLog) (name : List ℕ) → IsLegalRecord width log →
-    IsLegalRecord width (log ++ entry name Mark ∷ [])
+pub legal_marked : (width : ℕ) (log : RecordLog) (name : List ℕ) → IsLegalLog width log →
+    IsLegalLog width (log ++ entry name Mark ∷ [])
 legal_marked width log name legal = record {
   calls = subst AreRecordCalls (sym (history_marked log name)) legal.calls;
   legal = λ limits. subst (IsLegal limits width) (sym (history_marked log name))
@@ -93,7 +93,7 @@ is_record_reply limits width log call reply other replies = rw other replies
 
 pub legal_longer : (width : ℕ) (log : RecordLog) (name : List ℕ) (call : Call) (reply : Reply) →
     is_lock_call call ≡ false → RecordReplies (content_in width log) call reply →
-    IsLegalRecord width log → IsLegalRecord width (log ++ entry name (Called call reply) ∷ [])
+    IsLegalLog width log → IsLegalLog width (log ++ entry name (Called call reply) ∷ [])
 legal_longer width log name call reply other replies legal =
     let is = sym (history_longer log name call reply) in
     record {

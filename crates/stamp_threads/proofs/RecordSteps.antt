@@ -14,7 +14,7 @@ use Rattle.stamp_threads.specs.declared.record_view.RecordPhase.TheVariants.{Idl
 use Rattle.stamp_threads.specs.PassName.{HasGivenAll}
 use Rattle.stamp_threads.specs.PassView.{made_by, knowing, finding}
 use Rattle.stamp_threads.specs.Seats.{StandsAt, AreSeated, alone}
-use Rattle.stamp_threads.specs.RecordLog.{RecordLog, IsLegalRecord, puts, puts_in, is_locked}
+use Rattle.stamp_threads.specs.RecordLog.{RecordLog, IsLegalLog, puts, puts_in, is_locked}
 use Rattle.stamp_threads.specs.RecordLog.{marker_in, content_in, is_own, is_mark, marks_of}
 use Rattle.stamp_threads.specs.RecordPass.{RecordPassView, Seated, IsConsistentWith}
 use Rattle.stamp_threads.specs.RecordPass.{LeavesWord, marks_ahead, first_of}
@@ -116,12 +116,12 @@ module _ {enterable : Bool} (P : List ℕ → Type 0) (shape : RecordShape) (s :
   passes_after = stands_on Now r.roots r.log s.views r.passes id vs ws at same
       (KnowsPart P shape.width cells' log') log' grows own_fits other_fits
 
-  pub consistent_after : IsLegalRecord shape.width log' → (k : ℕ) (w : RecordPassView) →
+  pub consistent_after : IsLegalLog shape.width log' → (k : ℕ) (w : RecordPassView) →
       get_elem? ws k ≡ some w → w.known ≡ log' → IsConsistentWith shape.width w
   consistent_after legal k w h e =
       let f = own_fits k w h in
       record {
-        legal = subst (IsLegalRecord shape.width) (sym e) legal;
+        legal = subst (IsLegalLog shape.width) (sym e) legal;
         own = ap (made_by is_own w.name) e ∙ f.part.own;
         marks = ap (marks_of w.name) e ∙ f.marks;
         given = subst (HasGivenAll w.name w.splits) (sym e) f.part.given;
@@ -190,7 +190,7 @@ module _ {enterable : Bool} (P : List ℕ → Type 0) (shape : RecordShape) (s :
     one_after = passes_after P shape s r id (v ∷ []) (w ∷ []) here (same_one v w name splits) cells'
         log' grows (only_one (λ _ u. Brings P shape.width cells' log' u) w brings) others
 
-    pub one_consistent : IsLegalRecord shape.width log' → w.known ≡ log' →
+    pub one_consistent : IsLegalLog shape.width log' → w.known ≡ log' →
         IsConsistentWith shape.width w
     one_consistent legal = consistent_after P shape s r id (v ∷ []) (w ∷ []) here
         (same_one v w name splits) cells' log' grows

@@ -33,7 +33,7 @@ AreRecordCalls [] = Unit {0}
 AreRecordCalls (e ∷ es) = (is_lock_call e.0 ≡ false) × AreRecordCalls es
 
 -- a legal history of calls of the record, whatever the limits of a lock beside it
-pub record IsLegalRecord (width : ℕ) (log : RecordLog) : Type 0 where
+pub record IsLegalLog (width : ℕ) (log : RecordLog) : Type 0 where
   pub calls : AreRecordCalls (history_in log)
   pub legal : (limits : Bounds) → IsLegal limits width (history_in log)
 

@@ -12,7 +12,7 @@ use Rattle.stamp_threads.specs.PassName.{HasGivenAll}
 use Rattle.stamp_threads.specs.PassView as passes
 use Rattle.stamp_threads.specs.PassView.{made_by}
 use Rattle.stamp_threads.specs.Seats as seats
-use Rattle.stamp_threads.specs.RecordLog.{RecordLog, IsLegalRecord, is_own, marks_of, puts_in, puts}
+use Rattle.stamp_threads.specs.RecordLog.{RecordLog, IsLegalLog, is_own, marks_of, puts_in, puts}
 use Rattle.stamp_threads.specs.RecordLog.{word_after}
 
 abbrev pub RecordPassView : Type 0
@@ -62,7 +62,7 @@ marks_ahead _ = 0
 -- what the pass knows is legal, its calls there are its own, it has as many marks there as puts, and
 -- no entry has a name that it may still give
 pub record IsConsistentWith (width : ℕ) (v : RecordPassView) : Type 0 where
-  pub legal : IsLegalRecord width v.known
+  pub legal : IsLegalLog width v.known
   pub own : made_by is_own v.name v.known ≡ v.own
   pub marks : marks_of v.name v.known ≡ puts_in v.own + marks_ahead v.phase
   pub given : HasGivenAll v.name v.splits v.known
@@ -75,7 +75,7 @@ IsConsistentIn table v = (width : ℕ) → table.words ≡ width + 1 → IsConsi
 pub record LeavesWord (shape : RecordShape) (v : RecordPassView) (word : ℕ) (log : RecordLog) :
     Type 0 where
   pub begins : IsPrefix v.known log
-  pub legal : IsLegalRecord shape.width log
+  pub legal : IsLegalLog shape.width log
   pub word_is : word ≡ word_after shape.limits.layout log
   pub few : puts log ≤ shape.limits.versions
 

@@ -15,7 +15,7 @@ use Rattle.stamp_threads.specs.declared.record_view.RecordPhase.TheVariants.{Idl
 use Rattle.stamp_threads.specs.PassView.{IsPart, entry, knowing, adding, finding}
 use Rattle.stamp_threads.specs.Seats.{StandsAt, AreSeated, alone, both}
 use Rattle.stamp_threads.specs.RecordWord.{word_with}
-use Rattle.stamp_threads.specs.RecordLog.{RecordLog, IsLegalRecord, content_in, puts, puts_in}
+use Rattle.stamp_threads.specs.RecordLog.{RecordLog, IsLegalLog, content_in, puts, puts_in}
 use Rattle.stamp_threads.specs.RecordLog.{is_locked, marker_in, word_after, is_own, marks_of}
 use Rattle.stamp_threads.specs.RecordPass.{RecordPassView, RecordView, RecordToken, Seated}
 use Rattle.stamp_threads.specs.RecordPass.{IsConsistentWith, LeavesWord}
@@ -75,7 +75,7 @@ pub record IsKept (enterable : Bool) (P : List ℕ → Type 0) (shape : RecordSh
   pub log : RecordLog
   pub roots : ℕ
   pub one_root : enterable ≡ false → roots ≡ 1
-  pub legal : IsLegalRecord shape.width log
+  pub legal : IsLegalLog shape.width log
   pub wide : length s.words ≡ shape.width + 1
   pub word_is : slice_index s.words 0 ≡ word_after shape.limits.layout log
   pub few : puts log ≤ shape.limits.versions
@@ -209,8 +209,8 @@ AcquireTells shape words st m found n =
     MatchBool (found == st.first) (Acquired shape (first_of m.0) found n words)
     (LoadedForPut shape (first_of m.0) found n)
 
-abbrev pub StoreTells : Tells
-StoreTells st m found n = n ≡ alone (stored_one (first_of m.0))
+abbrev pub StoreWordTells : Tells
+StoreWordTells st m found n = n ≡ alone (stored_one (first_of m.0))
 
 abbrev pub ReleaseTells : RecordShape → List ℕ → Tells
 ReleaseTells shape words st m found n = Released shape (first_of m.0) st.first n words
@@ -218,8 +218,8 @@ ReleaseTells shape words st m found n = Released shape (first_of m.0) st.first n
 abbrev pub LoadForGetTells : RecordShape → Tells
 LoadForGetTells shape st m found n = LoadedForGet shape (first_of m.0) found n
 
-abbrev pub LoadTells : Tells
-LoadTells st m found n = n ≡ alone (loaded_one (first_of m.0) found)
+abbrev pub LoadWordTells : Tells
+LoadWordTells st m found n = n ≡ alone (loaded_one (first_of m.0) found)
 
 abbrev pub ConfirmTells : (List ℕ → Type 0) → RecordShape → List ℕ → Tells
 ConfirmTells P shape words st m found n =

@@ -1,4 +1,4 @@
--- The lock word of a record, in either layout: a lock's word, whose writers are the puts.
+-- The lock word of a record, in either layout: a lock's word, whose write acquisitions are the puts.
 use Rattle.std.specs.Prelude.{ℕ, ◌+◌, Bool, if◌then◌else◌}
 use Rattle.stamp_core.specs.Layout.{units_of}
 use Rattle.stamp_core.specs.Stamp.{write_stamp, optimistic_stamp}

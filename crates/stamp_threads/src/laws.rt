@@ -9,7 +9,7 @@ pub fn lock_passes_agree()
     ensures { LockPassesAgree }
 {}
 
-/// And so did passes of a record.
+/// Passes of a record that meet agreed before they met, in the same sense as those of a lock.
 pub fn record_passes_agree()
     ensures { RecordPassesAgree }
 {}

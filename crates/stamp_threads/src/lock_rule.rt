@@ -96,10 +96,10 @@ impl<C: CallStep> Play<(), LockPasses> for EnterLockStep<C> {
     ghost then = { EnterTells C.limits };
 }
 
-/// A pass gives a new one.
-pub struct GivePass;
+/// A pass splits a new one off.
+pub struct SplitStep;
 
-impl Split<LockPasses> for GivePass {
+impl Split<LockPasses> for SplitStep {
     ghost use Rattle.std.specs.Prelude.{map};
     ghost use Rattle.stamp_threads.specs.PassView.{after_split, split_off};
 
@@ -109,9 +109,9 @@ impl Split<LockPasses> for GivePass {
 }
 
 /// Two passes go on one seat.
-pub struct ShareSeat;
+pub struct ShareSeatStep;
 
-impl Join<LockPasses> for ShareSeat {
+impl Join<LockPasses> for ShareSeatStep {
     ghost use Rattle.std.specs.Prelude.{[], ◌++◌};
 
     ghost both = { λ vs ws. vs ++ ws };
@@ -119,10 +119,10 @@ impl Join<LockPasses> for ShareSeat {
     ghost spent = { [] };
 }
 
-/// And each on one of its own again.
-pub struct PartSeats;
+/// Two passes that share a seat go each on one of its own again.
+pub struct PartSeatsStep;
 
-impl Split<LockPasses> for PartSeats {
+impl Split<LockPasses> for PartSeatsStep {
     ghost use Rattle.std.specs.Prelude.{take, drop};
 
     ghost left = { take 1 };

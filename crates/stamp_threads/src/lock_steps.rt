@@ -10,8 +10,8 @@ ghost use Rattle.stamp_threads.specs.LockRule.{Loaded, Exchanged};
 ghost use Rattle.stamp_threads.specs.LockPassesMet.{LockPassesMet};
 
 use crate::lock_rule::{
-    CallStep, EnterLockStep, ExchangeStep, GivePass, LoadStep, LockKey, LockPasses, LockRule,
-    MeetLockStep, PartSeats, ShareSeat,
+    CallStep, EnterLockStep, ExchangeStep, LoadStep, LockKey, LockPasses, LockRule, MeetLockStep,
+    PartSeatsStep, ShareSeatStep, SplitStep,
 };
 use atomic_table::{Seat, Shared};
 use stamp_core::{Call, Reply};
@@ -78,7 +78,7 @@ pub fn split(table: &LockTable, seat: &mut LockSeat) -> LockSeat
     ensures given { StandsAlone seat.old.table_id seat.new (after_split (first_of seat.old.me.0)) }
     ensures new { StandsAlone seat.old.table_id result (split_off (first_of seat.old.me.0)) }
 {
-    table.split_seat::<GivePass>(seat)
+    table.split_seat::<SplitStep>(seat)
 }
 
 /// A load by a seat that holds two passes: it shows that both knew beginnings of one history.
@@ -99,7 +99,7 @@ pub fn share_seat(table: &LockTable, seat: &mut LockSeat, other: LockSeat)
     ensures table { seat.new.table_id ≡ seat.old.table_id }
     ensures both { seat.new.me ≡ both (first_of seat.old.me.0) (first_of other.me.0) }
 {
-    table.join_seat::<ShareSeat>(seat, other);
+    table.join_seat::<ShareSeatStep>(seat, other);
 }
 
 /// Puts the two passes of a seat on two seats.
@@ -108,5 +108,5 @@ pub fn part_seats(table: &LockTable, seat: &mut LockSeat) -> LockSeat
     ensures first { StandsAlone seat.old.table_id seat.new (first_of seat.old.me.0) }
     ensures second { StandsAlone seat.old.table_id result (second_of seat.old.me.0) }
 {
-    table.split_seat::<PartSeats>(seat)
+    table.split_seat::<PartSeatsStep>(seat)
 }

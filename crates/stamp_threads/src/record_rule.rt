@@ -1,6 +1,6 @@
 //! The rule of a record's words, and what each step on them tells. These types are for proofs
 //! alone.
-use crate::lock_rule::{GivePass, PartSeats, ShareSeat};
+use crate::lock_rule::{PartSeatsStep, ShareSeatStep, SplitStep};
 use crate::record_view::{RecordKey, RecordPasses};
 use atomic_table::{Join, Play, Split, TableRule};
 use std::marker::{Brand, PhantomData};
@@ -81,12 +81,12 @@ impl<C: WordsStep> Play<(), RecordPasses> for AcquireStep<C> {
 }
 
 /// A store of a word of the record.
-pub struct StoreStep;
+pub struct StoreWordStep;
 
-impl Play<(), RecordPasses> for StoreStep {
-    ghost use Rattle.stamp_threads.specs.RecordRule.{StoreTells};
+impl Play<(), RecordPasses> for StoreWordStep {
+    ghost use Rattle.stamp_threads.specs.RecordRule.{StoreWordTells};
 
-    ghost then = { StoreTells };
+    ghost then = { StoreWordTells };
 }
 
 /// The exchange that releases write mode.
@@ -115,9 +115,9 @@ impl<C: WordsStep> Play<(), RecordPasses> for LoadForGetStep<C> {
 pub struct LoadWordStep;
 
 impl Play<(), RecordPasses> for LoadWordStep {
-    ghost use Rattle.stamp_threads.specs.RecordRule.{LoadTells};
+    ghost use Rattle.stamp_threads.specs.RecordRule.{LoadWordTells};
 
-    ghost then = { LoadTells };
+    ghost then = { LoadWordTells };
 }
 
 /// The load by which a get sees whether the words that it loaded stood together.
@@ -153,7 +153,7 @@ impl<C: WordsStep> Play<(), RecordPasses> for MeetRecordStep<C> {
     ghost then = { MeetTells C.shape };
 }
 
-impl Split<RecordPasses> for GivePass {
+impl Split<RecordPasses> for SplitStep {
     ghost use Rattle.std.specs.Prelude.{map};
     ghost use Rattle.stamp_threads.specs.PassView.{after_split, split_off};
 
@@ -162,7 +162,7 @@ impl Split<RecordPasses> for GivePass {
     ghost right = { map split_off };
 }
 
-impl Join<RecordPasses> for ShareSeat {
+impl Join<RecordPasses> for ShareSeatStep {
     ghost use Rattle.std.specs.Prelude.{[], ◌++◌};
 
     ghost both = { λ vs ws. vs ++ ws };
@@ -170,7 +170,7 @@ impl Join<RecordPasses> for ShareSeat {
     ghost spent = { [] };
 }
 
-impl Split<RecordPasses> for PartSeats {
+impl Split<RecordPasses> for PartSeatsStep {
     ghost use Rattle.std.specs.Prelude.{take, drop};
 
     ghost left = { take 1 };

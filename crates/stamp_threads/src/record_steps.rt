@@ -13,10 +13,10 @@ ghost use Rattle.stamp_threads.specs.RecordRule.{LoadedForGet, loaded_one, Confi
 ghost use Rattle.stamp_threads.specs.RecordRule.{word_to_confirm};
 ghost use Rattle.stamp_threads.specs.RecordRule.{Met, with_phase};
 
-use crate::lock_rule::{GivePass, PartSeats, ShareSeat};
+use crate::lock_rule::{PartSeatsStep, ShareSeatStep, SplitStep};
 use crate::record_rule::{
     AcquireStep, ConfirmStep, ContentRule, EnterRecordStep, LoadForGetStep, LoadForPutStep,
-    LoadWordStep, MeetRecordStep, RecordRule, ReleaseStep, StoreStep, WordsStep,
+    LoadWordStep, MeetRecordStep, RecordRule, ReleaseStep, StoreWordStep, WordsStep,
 };
 use crate::record_view::{RecordKey, RecordPasses};
 use atomic_table::{Seat, Shared};
@@ -72,7 +72,12 @@ pub fn acquire<C: WordsStep, P: ContentRule>(
 
 /// Stores the word of this index.
 #[inline(always)]
-pub fn store<P: ContentRule>(table: &RecordTable<P>, seat: &mut RecordSeat, index: usize, word: u64)
+pub fn store_word<P: ContentRule>(
+    table: &RecordTable<P>,
+    seat: &mut RecordSeat,
+    index: usize,
+    word: u64,
+)
     requires seat { IsAtSeat table.now.table_id table.now.key.shape seat.old.table_id seat.old.me }
     requires inside { (index < table.now.key.shape.width) × (table.now.key.shape.width ≤ 16) }
     requires writing { (version : ℕ) × (words : List ℕ)
@@ -81,7 +86,7 @@ pub fn store<P: ContentRule>(table: &RecordTable<P>, seat: &mut RecordSeat, inde
     ensures table { seat.new.table_id ≡ seat.old.table_id }
     ensures learned { seat.new.me ≡ alone (stored_one (first_of seat.old.me.0)) }
 {
-    table.store::<StoreStep>(seat, index + 1, word);
+    table.store::<StoreWordStep>(seat, index + 1, word);
 }
 
 /// Stores each of the words.
@@ -97,7 +102,7 @@ pub fn store_all<P: ContentRule>(table: &RecordTable<P>, seat: &mut RecordSeat, 
         → seat.new.me ≡ alone (with_phase v (Writing version words.now table.now.key.shape.width)) }
 {
     for i in 0..words.len() {
-        store(table, seat, i, words[i]);
+        store_word(table, seat, i, words[i]);
     }
 }
 
@@ -212,7 +217,7 @@ pub fn split<P: ContentRule>(table: &RecordTable<P>, seat: &mut RecordSeat) -> R
     ensures given { StandsAlone seat.old.table_id seat.new (after_split (first_of seat.old.me.0)) }
     ensures new { StandsAlone seat.old.table_id result (split_off (first_of seat.old.me.0)) }
 {
-    table.split_seat::<GivePass>(seat)
+    table.split_seat::<SplitStep>(seat)
 }
 
 /// Puts both passes on one seat.
@@ -224,7 +229,7 @@ pub fn share_seat<P: ContentRule>(table: &RecordTable<P>, seat: &mut RecordSeat,
     ensures table { seat.new.table_id ≡ seat.old.table_id }
     ensures both { seat.new.me ≡ both (first_of seat.old.me.0) (first_of other.me.0) }
 {
-    table.join_seat::<ShareSeat>(seat, other);
+    table.join_seat::<ShareSeatStep>(seat, other);
 }
 
 /// A load by a seat that holds two passes: it shows that both knew beginnings of one history.
@@ -246,5 +251,5 @@ pub fn part_seats<P: ContentRule>(table: &RecordTable<P>, seat: &mut RecordSeat)
     ensures first { StandsAlone seat.old.table_id seat.new (first_of seat.old.me.0) }
     ensures second { StandsAlone seat.old.table_id result (second_of seat.old.me.0) }
 {
-    table.split_seat::<PartSeats>(seat)
+    table.split_seat::<PartSeatsStep>(seat)
 }

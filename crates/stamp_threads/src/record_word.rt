@@ -1,4 +1,4 @@
-//! The lock word of a record: a lock's word, whose writers are the puts.
+//! The lock word of a record: a lock's word, whose write acquisitions are the puts.
 ghost use Rattle.std.specs.Prelude.{◌≡◌, false};
 ghost use Rattle.stamp_threads.specs.RecordWord.{word_with};
 
