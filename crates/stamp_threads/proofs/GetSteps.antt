@@ -23,7 +23,7 @@ use Rattle.stamp_threads.specs.RecordPass.{RecordPassView, Seated, IsConsistentW
 use Rattle.stamp_threads.specs.RecordRule.{KnowsLoading, Knows, IsWriting, IsKept, calling}
 use Rattle.stamp_threads.specs.RecordRule.{starting_to_load, stopping, get_of, loading_one, loaded_one}
 use Rattle.stamp_threads.specs.RecordRule.{Confirmed, Overtaken, LoadedForGet, word_to_confirm, LoadForGetTells}
-use Rattle.stamp_threads.specs.RecordRule.{LoadTells, ConfirmTells}
+use Rattle.stamp_threads.specs.RecordRule.{LoadWordTells, ConfirmTells}
 use Rattle.stamp_threads.proofs.Beginnings.{begins_all}
 use Rattle.stamp_threads.proofs.MadeBy.{grows_one, made_by-same}
 use Rattle.stamp_threads.proofs.RecordWords.{free_of, same_word}
@@ -197,7 +197,7 @@ pub allows_load_word : {enterable : Bool} (P : List ℕ → Type 0) (shape : Rec
     (xs : List ℕ) → me ≡ alone (first_of me.0) → (first_of me.0).phase ≡ Loading version xs →
     length xs ≡ k → k < shape.width →
     Allows (IsKept enterable P shape) slots id me (k + 1) (λ n. n)
-    (LoadTells (step slots (k + 1) 0 0 none) me)
+    (LoadWordTells (step slots (k + 1) 0 0 none) me)
 allows_load_word P shape slots id me version k xs is loading long inside s r _ there _ =
     let v : RecordPassView = first_of me.0 in
     let here : get_elem? s.views id ≡ some (v ∷ []) =

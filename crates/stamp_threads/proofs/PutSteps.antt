@@ -25,7 +25,7 @@ use Rattle.stamp_threads.specs.RecordPass.{RecordPassView, Seated, IsConsistentW
 use Rattle.stamp_threads.specs.RecordRule.{KnowsWriting, Knows, IsWriting, IsKept}
 use Rattle.stamp_threads.specs.RecordRule.{acquiring, calling, put_of, LoadedForPut, Acquired}
 use Rattle.stamp_threads.specs.RecordRule.{storing_one, stored_one, LoadForPutTells, AcquireTells}
-use Rattle.stamp_threads.specs.RecordRule.{StoreTells, ReleaseTells}
+use Rattle.stamp_threads.specs.RecordRule.{StoreWordTells, ReleaseTells}
 use Rattle.stamp_threads.proofs.Beginnings.{begins_all}
 use Rattle.stamp_threads.proofs.MadeBy.{grows_none, grows_one, made_by-same}
 use Rattle.stamp_threads.proofs.RecordWords.{free_of, same_word, held_is, released_is}
@@ -297,14 +297,14 @@ allows_acquire P shape slots id me n old held xs is idle free up room long good 
     up room long good (eqb (get_or s.words 0 0) old) refl
 
 -- a store of a word of the record
-pub allows_store : {enterable : Bool} (P : List ℕ → Type 0) (shape : RecordShape) (slots id : ℕ) (me : Seated)
+pub allows_store_word : {enterable : Bool} (P : List ℕ → Type 0) (shape : RecordShape) (slots id : ℕ) (me : Seated)
     (version stored x : ℕ)
     (xs : List ℕ) → me ≡ alone (first_of me.0) →
     (first_of me.0).phase ≡ Writing version xs stored → stored < shape.width →
     x ≡ get_or xs stored 0 →
     Allows (IsKept enterable P shape) slots id me (stored + 1) (λ _. x)
-    (λ _. StoreTells (step slots (stored + 1) x 0 none) me x)
-allows_store P shape slots id me version stored x xs is writing inside right s r _ there _ =
+    (λ _. StoreWordTells (step slots (stored + 1) x 0 none) me x)
+allows_store_word P shape slots id me version stored x xs is writing inside right s r _ there _ =
     let v : RecordPassView = first_of me.0 in
     let here : get_elem? s.views id ≡ some (v ∷ []) =
     there ∙ ap (λ (m : Seated). some m.0) is in (

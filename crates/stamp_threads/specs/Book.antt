@@ -91,7 +91,7 @@ pub record HasWord (b : Booked) (word : LockWord) : Type 0 where
   pub book : IsBook b
   pub represented : Represents b.limits word (past_of b)
 
--- the record of a book: of a lock alone, and without a report
+-- the recorded history of a book: of a lock alone, and without a report
 pub record IsOfBook (r : Recorded) : Type 0 where
   pub width : r.width ≡ 0
   pub report : r.report ≡ []

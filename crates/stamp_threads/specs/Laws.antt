@@ -5,8 +5,8 @@ use Rattle.stamp_threads.specs.PassView.{every}
 use Rattle.stamp_threads.specs.LockLog as lock_log
 use Rattle.stamp_threads.specs.LockPass.{LockPassView}
 use Rattle.stamp_threads.specs.LockPassesMet.{LockPassesMet}
-use Rattle.stamp_threads.specs.RecordLog as record_log
 use Rattle.stamp_threads.specs.RecordLog.{is_own}
+use Rattle.stamp_threads.specs.RecordLog as record_log
 use Rattle.stamp_threads.specs.RecordPass.{RecordPassView}
 use Rattle.stamp_threads.specs.RecordCall.{RecordPassesMet}
 use Rattle.stamp_threads.specs.OneHistory.{Agree}

@@ -209,8 +209,8 @@ AcquireTells shape words st m found n =
     MatchBool (found == st.first) (Acquired shape (first_of m.0) found n words)
     (LoadedForPut shape (first_of m.0) found n)
 
-abbrev pub StoreTells : Tells
-StoreTells st m found n = n ≡ alone (stored_one (first_of m.0))
+abbrev pub StoreWordTells : Tells
+StoreWordTells st m found n = n ≡ alone (stored_one (first_of m.0))
 
 abbrev pub ReleaseTells : RecordShape → List ℕ → Tells
 ReleaseTells shape words st m found n = Released shape (first_of m.0) st.first n words
@@ -218,8 +218,8 @@ ReleaseTells shape words st m found n = Released shape (first_of m.0) st.first n
 abbrev pub LoadForGetTells : RecordShape → Tells
 LoadForGetTells shape st m found n = LoadedForGet shape (first_of m.0) found n
 
-abbrev pub LoadTells : Tells
-LoadTells st m found n = n ≡ alone (loaded_one (first_of m.0) found)
+abbrev pub LoadWordTells : Tells
+LoadWordTells st m found n = n ≡ alone (loaded_one (first_of m.0) found)
 
 abbrev pub ConfirmTells : (List ℕ → Type 0) → RecordShape → List ℕ → Tells
 ConfirmTells P shape words st m found n =

@@ -9,7 +9,7 @@ pub fn lock_passes_agree()
     ensures { LockPassesAgree }
 {}
 
-/// Passes of a record that meet had known parts of one history.
+/// Passes of a record that meet agreed before they met, in the same sense as those of a lock.
 pub fn record_passes_agree()
     ensures { RecordPassesAgree }
 {}

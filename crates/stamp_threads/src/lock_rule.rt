@@ -96,7 +96,7 @@ impl<C: CallStep> Play<(), LockPasses> for EnterLockStep<C> {
     ghost then = { EnterTells C.limits };
 }
 
-/// A pass gives a new one.
+/// A pass splits a new one off.
 pub struct SplitStep;
 
 impl Split<LockPasses> for SplitStep {
@@ -109,9 +109,9 @@ impl Split<LockPasses> for SplitStep {
 }
 
 /// Two passes go on one seat.
-pub struct ShareSeat;
+pub struct ShareSeatStep;
 
-impl Join<LockPasses> for ShareSeat {
+impl Join<LockPasses> for ShareSeatStep {
     ghost use Rattle.std.specs.Prelude.{[], ◌++◌};
 
     ghost both = { λ vs ws. vs ++ ws };
@@ -119,10 +119,10 @@ impl Join<LockPasses> for ShareSeat {
     ghost spent = { [] };
 }
 
-/// Two passes of one seat go each on a seat of its own.
-pub struct PartSeats;
+/// Two passes that share a seat go each on one of its own again.
+pub struct PartSeatsStep;
 
-impl Split<LockPasses> for PartSeats {
+impl Split<LockPasses> for PartSeatsStep {
     ghost use Rattle.std.specs.Prelude.{take, drop};
 
     ghost left = { take 1 };

@@ -11,7 +11,7 @@ ghost use Rattle.stamp_threads.specs.LockPassesMet.{LockPassesMet};
 
 use crate::lock_rule::{
     CallStep, EnterLockStep, ExchangeStep, LoadStep, LockKey, LockPasses, LockRule, MeetLockStep,
-    PartSeats, ShareSeat, SplitStep,
+    PartSeatsStep, ShareSeatStep, SplitStep,
 };
 use atomic_table::{Seat, Shared};
 use stamp_core::{Call, Reply};
@@ -99,7 +99,7 @@ pub fn share_seat(table: &LockTable, seat: &mut LockSeat, other: LockSeat)
     ensures table { seat.new.table_id ≡ seat.old.table_id }
     ensures both { seat.new.me ≡ both (first_of seat.old.me.0) (first_of other.me.0) }
 {
-    table.join_seat::<ShareSeat>(seat, other);
+    table.join_seat::<ShareSeatStep>(seat, other);
 }
 
 /// Puts the two passes of a seat on two seats.
@@ -108,5 +108,5 @@ pub fn part_seats(table: &LockTable, seat: &mut LockSeat) -> LockSeat
     ensures first { StandsAlone seat.old.table_id seat.new (first_of seat.old.me.0) }
     ensures second { StandsAlone seat.old.table_id result (second_of seat.old.me.0) }
 {
-    table.split_seat::<PartSeats>(seat)
+    table.split_seat::<PartSeatsStep>(seat)
 }

@@ -22,7 +22,7 @@ pub struct Patience {
 }
 
 impl Patience {
-    /// The patience of a call that has not tried yet.
+    /// A patience that has not tried yet.
     pub fn new() -> Patience {
         Patience { rounds: 0 }
     }

@@ -1,6 +1,6 @@
 //! The rule of a record's words, and what each step on them tells. These types are for proofs
 //! alone.
-use crate::lock_rule::{PartSeats, ShareSeat, SplitStep};
+use crate::lock_rule::{PartSeatsStep, ShareSeatStep, SplitStep};
 use crate::record_view::{RecordKey, RecordPasses};
 use atomic_table::{Join, Play, Split, TableRule};
 use std::marker::{Brand, PhantomData};
@@ -84,9 +84,9 @@ impl<C: WordsStep> Play<(), RecordPasses> for AcquireStep<C> {
 pub struct StoreWordStep;
 
 impl Play<(), RecordPasses> for StoreWordStep {
-    ghost use Rattle.stamp_threads.specs.RecordRule.{StoreTells};
+    ghost use Rattle.stamp_threads.specs.RecordRule.{StoreWordTells};
 
-    ghost then = { StoreTells };
+    ghost then = { StoreWordTells };
 }
 
 /// The exchange that releases write mode.
@@ -115,9 +115,9 @@ impl<C: WordsStep> Play<(), RecordPasses> for LoadForGetStep<C> {
 pub struct LoadWordStep;
 
 impl Play<(), RecordPasses> for LoadWordStep {
-    ghost use Rattle.stamp_threads.specs.RecordRule.{LoadTells};
+    ghost use Rattle.stamp_threads.specs.RecordRule.{LoadWordTells};
 
-    ghost then = { LoadTells };
+    ghost then = { LoadWordTells };
 }
 
 /// The load by which a get sees whether the words that it loaded stood together.
@@ -162,7 +162,7 @@ impl Split<RecordPasses> for SplitStep {
     ghost right = { map split_off };
 }
 
-impl Join<RecordPasses> for ShareSeat {
+impl Join<RecordPasses> for ShareSeatStep {
     ghost use Rattle.std.specs.Prelude.{[], ◌++◌};
 
     ghost both = { λ vs ws. vs ++ ws };
@@ -170,7 +170,7 @@ impl Join<RecordPasses> for ShareSeat {
     ghost spent = { [] };
 }
 
-impl Split<RecordPasses> for PartSeats {
+impl Split<RecordPasses> for PartSeatsStep {
     ghost use Rattle.std.specs.Prelude.{take, drop};
 
     ghost left = { take 1 };

@@ -13,7 +13,7 @@ ghost use Rattle.stamp_threads.specs.RecordRule.{LoadedForGet, loaded_one, Confi
 ghost use Rattle.stamp_threads.specs.RecordRule.{word_to_confirm};
 ghost use Rattle.stamp_threads.specs.RecordRule.{Met, with_phase};
 
-use crate::lock_rule::{PartSeats, ShareSeat, SplitStep};
+use crate::lock_rule::{PartSeatsStep, ShareSeatStep, SplitStep};
 use crate::record_rule::{
     AcquireStep, ConfirmStep, ContentRule, EnterRecordStep, LoadForGetStep, LoadForPutStep,
     LoadWordStep, MeetRecordStep, RecordRule, ReleaseStep, StoreWordStep, WordsStep,
@@ -229,7 +229,7 @@ pub fn share_seat<P: ContentRule>(table: &RecordTable<P>, seat: &mut RecordSeat,
     ensures table { seat.new.table_id ≡ seat.old.table_id }
     ensures both { seat.new.me ≡ both (first_of seat.old.me.0) (first_of other.me.0) }
 {
-    table.join_seat::<ShareSeat>(seat, other);
+    table.join_seat::<ShareSeatStep>(seat, other);
 }
 
 /// A load by a seat that holds two passes: it shows that both knew beginnings of one history.
@@ -251,5 +251,5 @@ pub fn part_seats<P: ContentRule>(table: &RecordTable<P>, seat: &mut RecordSeat)
     ensures first { StandsAlone seat.old.table_id seat.new (first_of seat.old.me.0) }
     ensures second { StandsAlone seat.old.table_id result (second_of seat.old.me.0) }
 {
-    table.split_seat::<PartSeats>(seat)
+    table.split_seat::<PartSeatsStep>(seat)
 }

@@ -4,7 +4,9 @@ use crate::pass_view::PassView;
 use stamp_core::{Call, Limits, Reply, Words};
 use std::collections::LinkedList;
 
-/// The limits of a record's lock word, of which the readers don't matter, and its width in words.
+/// The limits of a record's lock word, of which the readers don't matter, and its width in words. It
+/// is not the `Shape` of `stamp_machines`, whose limits are those of the lock that stands beside the
+/// record, and whose width is 0 where there is no record.
 #[derive(Clone, Copy)]
 pub struct RecordShape {
     /// The limits: their layout and their versions count.
