@@ -1,4 +1,4 @@
--- An order and what was read of an input have one answer.
+-- A command and what was read of an input have one answer.
 use Rattle.std.proofs.Common.{◌≡◌, ◌≤◌, ◌<◌, ◌⊎◌, ℕ, List, length, ◌∙◌, refl, sym, ap, inl, inr}
 use Rattle.std.proofs.Common.{Bool, true, false, Result, Ok, Err, nat_lt}
 use Rattle.std.proofs.lemmas.Bool.{ltb-true, ltb-false}

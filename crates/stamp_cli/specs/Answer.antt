@@ -1,4 +1,4 @@
--- The line that answers an order, or why there is none.
+-- The line that answers a command, or why there is none.
 use Rattle.std.specs.Prelude.{◌≡◌, ◌≢◌, ℕ, ◌<◌, ◌≤◌, List, Vec, length, Option, Result, Ok, Err}
 use Rattle.std.specs.declared.alloc.Global.{Global}
 use Rattle.stamp_core.specs.Record.{Recorded}
@@ -111,7 +111,7 @@ abbrev pub IsAccepted : (Result (List ℕ) ServeFault → Type 0) → Result Lin
 IsAccepted IsSo (Ok line) = IsSo (Ok line.text) × (line.verdict ≡ Accepted)
 IsAccepted IsSo (Err fault) = IsSo (Err fault)
 
--- the answer to an order by an input that is not too long, without the line feed
+-- the answer to a command by an input that is not too long, without the line feed
 abbrev pub AnswersOrder : Order → List ℕ → Result LineView ServeFault → Type 0
 AnswersOrder order.Replay input answer = IsAccepted (AnswersReplay input) answer
 AnswersOrder order.Run input answer = IsAccepted (AnswersRun input) answer
@@ -121,11 +121,11 @@ AnswersOrder order.Migrate input answer = IsAccepted (AnswersMigrate input) answ
 AnswersOrder (order.Stamp n) input answer = IsAccepted (IsStampAnswer One n) answer
 AnswersOrder (order.StampIn layout n) input answer = IsAccepted (IsStampAnswer layout n) answer
 
--- the answer to an order by any input; that of a stamp is empty, and so never too long
+-- the answer to a command by any input; that of a stamp is empty, and so never too long
 abbrev pub IsOrderAnswer : Order → List ℕ → Result LineView ServeFault → Type 0
 IsOrderAnswer order input answer = IsInputAnswer (AnswersOrder order) input answer
 
--- input is what an order reads of a source
+-- input is what a command reads of a source
 abbrev pub OrderReads : Order → Option (List ℕ) → Option (List ℕ) → List ℕ → Type 0
 OrderReads order.Replay old new input = Reads old new input
 OrderReads order.Run old new input = Reads old new input
@@ -163,7 +163,7 @@ pub record AnswersRead {A : Type 0} (WasRead : List ℕ → Type 0) (IsAnswer : 
   pub whole : length input ≡ taken
   pub is : IsAnswer input answer
 
--- a source was read as far as the order asks, and this is the answer
+-- a source was read as far as the command asks, and this is the answer
 abbrev pub AnswersSource : Order → Option (List ℕ) → Option (List ℕ) → ℕ → Result LineView ServeFault → Type 0
 AnswersSource order old new taken answer = AnswersRead (OrderReads order old new) (IsOrderAnswer order) taken answer
 

@@ -48,6 +48,6 @@ form_of (command ∷ second ∷ []) = two_args command second
 form_of (command ∷ option ∷ layout ∷ number ∷ []) = four_args command option layout number
 form_of _ = None
 
--- the order that arguments give
+-- the command that arguments give
 abbrev pub order_in : List (List ℕ) → Result Order CommandFault
 order_in args = option_map_or Ok (form_of args) (Err Bad)

@@ -9,7 +9,7 @@ pub fn lock_passes_agree()
     ensures { LockPassesAgree }
 {}
 
-/// Passes of a record that meet agreed before they met, in the same sense as those of a lock.
+/// Passes of a record that meet agreed before they met: both knew a part of one legal log.
 pub fn record_passes_agree()
     ensures { RecordPassesAgree }
 {}
