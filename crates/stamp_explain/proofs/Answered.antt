@@ -145,12 +145,13 @@ asked_as_seen h seen i index e r read observed at returned same is_index is_seen
     (is_index ∙ ap (λ (es : List Observation). index_then r.last i es) same) ∙
     asked_there h i e r at returned (ended h i e r observed at returned)
 
-pub asked_at : (h seen unreturned : ObservedHistory) (timeline : Timeline) (i index : ℕ) (e : Observation) (r : Returned)
-    (read : List Observation) → IsObserved h → slice_get h.entries i ≡ Some e → e.returned ≡ Some r →
+pub asked_at : (h seen unreturned : ObservedHistory) (timeline : Timeline) (i index : ℕ) (e : Observation)
+    (r : Returned) (read : List Observation) → IsObserved h → slice_get h.entries i ≡ Some e → e.returned ≡ Some r →
     read ≡ h.entries → index ≡ index_then r.last i read → seen ≡ seen_at r.last (i + 1) h →
     unreturned ≡ without_return index e seen → IsTimeline seen timeline →
     IsAskingAt h i e r (record { seen = seen; unreturned = unreturned; timeline = timeline; index = index })
-asked_at h seen unreturned timeline i index e r read observed at returned same is_index is_seen is_unreturned timelines =
+asked_at h seen unreturned timeline i index e r read observed at returned same is_index is_seen is_unreturned
+    timelines =
     record {
       is = record {
         at = record {

@@ -16,7 +16,8 @@ timeline_of-requires c = subst IsObserved (sym c.in_ok-seen.ensures)
     (seen_explains_as_much c.args.observed.now c.args.returned.last (c.args.entry + 1) c.requires.observed).0
 
 pub returns : goal.returns
-returns c = asked_at c.args.observed.now c.in_ok-seen.seen c.in_ok-unreturned.unreturned c.in_ok-timeline.timeline c.args.entry
+returns c = asked_at c.args.observed.now c.in_ok-seen.seen
+    c.in_ok-unreturned.unreturned c.in_ok-timeline.timeline c.args.entry
     c.index_then-index.result c.args.observation c.args.returned c.entries.result.now c.requires.observed
     c.requires.is_entry c.requires.returned c.entries.ensures.entries c.index_then-index.ensures c.in_ok-seen.ensures
     c.in_ok-unreturned.ensures c.in_ok-timeline.ensures
