@@ -93,6 +93,22 @@ def exported(crate):
     return functions, types, others, modules
 
 
+def unread(crate):
+    """What a library's root has beside the forms that are read here: modules in files of their own, and what of them
+    is exported by name."""
+    text = re.sub(r"^\s*#!?\[.*\]\n|//.*", "", text_of(f"crates/{crate}/src/lib.rt"), flags=re.M)
+    return re.sub(r"^(?:pub )?mod \w+;|^(?:ghost )?use [^;*]*;|^pub use \w+::(?:\w+|{[\w\s,]*});", "", text, flags=re.M).strip()
+
+
+def blocks_of(page, sections):
+    """What is wrong with the page's blocks: each is of Rust, and in the section of a library, of which there is one."""
+    fences = re.findall(r"^[ \t]*```.*$", page, re.M)
+    if fences != ["```rust", "```"] * (len(fences) // 2):
+        yield "a block that is not of Rust"
+    if sum(section.count("```rust\n") for section in sections.values()) != page.count("```rust\n"):
+        yield "a block outside the section of its library"
+
+
 def mentioned(libraries):
     """The words of all signatures, and of the types that they mention."""
     words = set()
@@ -140,11 +156,14 @@ def faults_of(section, library, words):
 
 
 def main():
-    sections = dict(re.findall(r"^## (\w+)\n(.*?)(?=^## |\Z)", text_of(PAGE), re.M | re.S))
+    page = text_of(PAGE)
+    sections = dict(re.findall(r"^## (\w+)\n(.*?)(?=^## |\Z)", page, re.M | re.S))
     crates = sorted(path.split("/")[1] for path in glob.glob("crates/*/src/lib.rt"))
     libraries = {crate: exported(crate) for crate in crates if not crate.endswith("_tests")}
     words = mentioned(libraries)
     faults = [f"{PAGE}: a section of no library: {name}" for name in sections if name not in libraries]
+    faults += [f"{PAGE}: {fault}" for fault in blocks_of(page, sections)]
+    faults += [f"{crate}/src/lib.rt: this can't be read: {unread(crate)[:60]}" for crate in libraries if unread(crate)]
     faults += [f"{PAGE}: {crate}: {fault}" for crate, library in libraries.items()
                for fault in faults_of(sections.get(crate, ""), library, words)]
     if faults:
