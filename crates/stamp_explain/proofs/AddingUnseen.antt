@@ -13,7 +13,7 @@ use Rattle.stamp_explain.specs.declared.node.Next.{Next}
 use Rattle.stamp_explain.specs.declared.node.Origin.{Origin}
 use Rattle.stamp_explain.specs.declared.store.Store.{Store}
 use Rattle.stamp_explain.specs.Store.{Keeps, IsStored}
-use Rattle.stamp_explain.specs.Expand.{AddsUnseen, IsIndexed, nodes_of, origins_of}
+use Rattle.stamp_explain.specs.Expand.{AddsNew, IsIndexed, nodes_of, origins_of}
 use Rattle.stamp_explain.proofs.Lists.{none_in_empty}
 
 -- what stands at an index stays there when more is added, and what is added stands behind
@@ -43,9 +43,9 @@ take_more_is nexts i d lt =
     ap (λ (n : ℕ). take n nexts) e ∙ take-suc nexts i d lt
 
 pub new_is_added : (s0 s1 s2 : Store) (from : ℕ) (w0 w1 w2 : List ℕ) (nexts : List Next) (i : ℕ) (d : Next) →
-    i < length nexts → AddsUnseen s0 s1 from w0 w1 (take i nexts) →
+    i < length nexts → AddsNew s0 s1 from w0 w1 (take i nexts) →
     IsStored s1 s2 (get_or nexts i d).node (record { from = from; took = (get_or nexts i d).took }) true →
-    w2 ≡ w1 ++ length s1.nodes.items ∷ [] → AddsUnseen s0 s2 from w0 w2 (take (i + 1) nexts)
+    w2 ≡ w1 ++ length s1.nodes.items ∷ [] → AddsNew s0 s2 from w0 w2 (take (i + 1) nexts)
 new_is_added s0 s1 s2 from w0 w1 w2 nexts i d lt adds stored pushed = record {
   keeps = stored.keeps;
   added = adds.added ++ next ∷ [];
@@ -120,9 +120,9 @@ new_is_added s0 s1 s2 from w0 w1 w2 nexts i d lt adds stored pushed = record {
         (Contains-push s1.nodes.items next.node))
 
 pub seen_is_left_out : (s0 s1 s2 : Store) (from : ℕ) (w0 w1 w2 : List ℕ) (nexts : List Next) (i : ℕ) (d : Next) →
-    i < length nexts → AddsUnseen s0 s1 from w0 w1 (take i nexts) →
+    i < length nexts → AddsNew s0 s1 from w0 w1 (take i nexts) →
     IsStored s1 s2 (get_or nexts i d).node (record { from = from; took = (get_or nexts i d).took }) false →
-    w2 ≡ w1 → AddsUnseen s0 s2 from w0 w2 (take (i + 1) nexts)
+    w2 ≡ w1 → AddsNew s0 s2 from w0 w2 (take (i + 1) nexts)
 seen_is_left_out s0 s1 s2 from w0 w1 w2 nexts i d lt adds stored same = record {
   keeps = stored.keeps;
   added = adds.added;
@@ -151,7 +151,7 @@ seen_is_left_out s0 s1 s2 from w0 w1 w2 nexts i d lt adds stored same = record {
         (subst (λ (x : Next). Contains s1.nodes.items x.node) equal stored.nodes.1)
 
 pub none_is_added : (s : Store) (from : ℕ) (w : List ℕ) (nexts : List Next) → Keeps s →
-    AddsUnseen s s from w w (take 0 nexts)
+    AddsNew s s from w w (take 0 nexts)
 none_is_added s from w nexts keeps = record {
   keeps = keeps;
   added = [];

@@ -15,7 +15,7 @@ use Rattle.stamp_explain.specs.Observed.{ObservedHistory}
 use Rattle.stamp_explain.specs.Search.{LockState}
 use Rattle.stamp_explain.specs.Configuration.{AwaitsNext, Configuration, ReachesMoreBeside}
 use Rattle.stamp_explain.specs.Node.{IsReached, IsFirstNode}
-use Rattle.stamp_explain.specs.Expand.{ComesNextBy, AddsUnseen, nodes_of}
+use Rattle.stamp_explain.specs.Expand.{ComesNextBy, AddsNew, nodes_of}
 use Rattle.stamp_explain.specs.Expand.{ComesByReturn, PassesTo}
 use Rattle.stamp_explain.specs.Expand.PassesTo.{passes_none, passes_more}
 use Rattle.stamp_explain.specs.Asking.{ComeAfterBeside, AreMore, AreReplies, Gets, GetsMore}
@@ -130,7 +130,7 @@ pub record AsksSoFar (asking : Asking) (looked : ℕ) (store : Store) (waiting :
       Searches h asking.timeline.returns.items store waiting
 
 pub asked_first : (asking : Asking) (old new : Store) (waiting : List ℕ) (next : Next) → old.nodes.items ≡ [] →
-    IsFirstNode asking.seen next.node → AddsUnseen old new 0 [] waiting (next ∷ []) → AsksSoFar asking 0 new waiting []
+    IsFirstNode asking.seen next.node → AddsNew old new 0 [] waiting (next ∷ []) → AsksSoFar asking 0 new waiting []
 asked_first asking old new waiting next empty is adds = record {
   explores = explores_first old new waiting next empty adds;
   reached = λ v has. subst (IsReachedBeside asking) (only_first old new waiting next empty adds v has)
@@ -145,7 +145,7 @@ pub asked_more : (asking : Asking) (looked : ℕ) (old new : Store) (before popp
     (replies more : List Reply) (index : ℕ) (v : Node) → AsksSoFar asking looked old before replies →
     before ≡ popped ++ index ∷ [] → slice_get old.nodes.items index ≡ Some v → ComeAfterBeside asking v nexts →
     AreMore replies more → GetsMore asking replies more → SufficeUnless asking v nexts more →
-    AddsUnseen old new index popped after nexts → AsksSoFar asking (looked + 1) new after more
+    AddsNew old new index popped after nexts → AsksSoFar asking (looked + 1) new after more
 asked_more asking looked old new before popped after nexts replies more index v is split at led grows gets suffice
     adds =
     record {

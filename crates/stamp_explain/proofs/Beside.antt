@@ -23,7 +23,7 @@ use Rattle.stamp_explain.specs.declared.node.CallTransition.{CallTransition}
 use Rattle.stamp_explain.specs.declared.asking.Asking.{Asking}
 use Rattle.stamp_explain.specs.Observed.{ObservedHistory, IsObserved, IsBefore, AllowsReply, AreOfOneObject}
 use Rattle.stamp_explain.specs.Observed.{IsReturnAt}
-use Rattle.stamp_explain.specs.Unchanging.{asks_at, asks_in, is_unchanging_at, unchanging_in}
+use Rattle.stamp_explain.specs.Unchanging.{is_open_question_at, open_question_in, is_unchanging_at, unchanging_in}
 use Rattle.stamp_explain.specs.Search.{LockState, StateTransition, after_call}
 use Rattle.stamp_explain.specs.Node.{IsReached, IsStateBy, HasGone}
 use Rattle.stamp_explain.specs.Timeline.{AreOpen, IsAwaitedAt}
@@ -313,12 +313,12 @@ beside_other asking node calls k nexts is more other = record {
 beside_question : (asking : Asking) (node : Node) (calls : List ℕ) (k : ℕ) (nexts : List Next) →
     TriesBeside asking node calls k nexts → k < length calls →
     get_or calls (length calls - 1 - k) 0 ≢ asking.index →
-    asks_at asking.seen.entries (get_or calls (length calls - 1 - k) 0) ≡ true →
+    is_open_question_at asking.seen.entries (get_or calls (length calls - 1 - k) 0) ≡ true →
     TriesBeside asking node calls (k + 1) nexts
 beside_question asking node calls k nexts is more other question = record {
   led = is.led;
   tries = λ reply h answered none. tried_question h (Some asking.index) asking.timeline.returns.items node calls k
-      nexts (is.tries reply h answered none) more (λ e at. ap asks_in (sym (other_there h asking.seen asking.index
+      nexts (is.tries reply h answered none) more (λ e at. ap open_question_in (sym (other_there h asking.seen asking.index
       (get_or calls (length calls - 1 - k) 0) e
       (turned asking.seen h asking.index (alike_of asking reply h answered)) other at)) ∙ question);
 }

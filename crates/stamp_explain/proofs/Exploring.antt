@@ -25,7 +25,7 @@ use Rattle.stamp_explain.specs.Configuration.{Reaches}
 use Rattle.stamp_explain.specs.Configuration.Reaches.{begins}
 use Rattle.stamp_explain.specs.Node.{AreTaken, IsFirstNode, StandsFor, IsReached}
 use Rattle.stamp_explain.specs.Store.{Keeps}
-use Rattle.stamp_explain.specs.Expand.{Hope, GoesOn, Suffice, AddsUnseen, IsIndexed, nodes_of}
+use Rattle.stamp_explain.specs.Expand.{Hope, GoesOn, Suffice, AddsNew, IsIndexed, nodes_of}
 use Rattle.stamp_explain.proofs.Lists.{none_in_empty, contains_cases, contains_first, contains_rest}
 use Rattle.stamp_explain.proofs.Finding.{runs_legal, legal_runs}
 use Rattle.stamp_explain.proofs.Searching.{Waits, Follows, LosesNothing, node_kept, none_left}
@@ -137,12 +137,12 @@ named_at xs j w at = by (slice_get xs j) refl (sym (slice_get-map (λ (x : Next)
 
 -- the nodes of a store that had none
 first_nodes : (old new : Store) (waiting : List ℕ) (next : Next) → old.nodes.items ≡ [] →
-    (adds : AddsUnseen old new 0 [] waiting (next ∷ [])) → new.nodes.items ≡ nodes_of adds.added
+    (adds : AddsNew old new 0 [] waiting (next ∷ [])) → new.nodes.items ≡ nodes_of adds.added
 first_nodes old new waiting next empty adds =
     adds.nodes ∙ ap (λ (ns : List Node). ns ++ nodes_of adds.added) empty
 
 pub explores_first : (old new : Store) (waiting : List ℕ) (next : Next) → old.nodes.items ≡ [] →
-    AddsUnseen old new 0 [] waiting (next ∷ []) → Explores 0 new waiting
+    AddsNew old new 0 [] waiting (next ∷ []) → Explores 0 new waiting
 explores_first old new waiting next empty adds = record {
   keeps = adds.keeps;
   inside = subst (All (λ (p : ℕ). p < length new.nodes.items)) (sym adds.to_do) adds.inside;
@@ -157,7 +157,7 @@ explores_first old new waiting next empty adds = record {
 
 -- all of them are the first
 pub only_first : (old new : Store) (waiting : List ℕ) (next : Next) → old.nodes.items ≡ [] →
-    AddsUnseen old new 0 [] waiting (next ∷ []) → (v : Node) → Contains new.nodes.items v → next.node ≡ v
+    AddsNew old new 0 [] waiting (next ∷ []) → (v : Node) → Contains new.nodes.items v → next.node ≡ v
 only_first old new waiting next empty adds v has =
     let found : (x : Next) × (Contains adds.added x × (x.node ≡ v)) = named adds.added v
     (subst (λ (ns : List Node). Contains ns v) (first_nodes old new waiting next empty adds) has) in
@@ -169,7 +169,7 @@ only_first old new waiting next empty adds v has =
     which w (inr none) = absurd (none_in_empty w none)
 
 pub searches_first : (h : ObservedHistory) (returns : List ℕ) (old new : Store) (waiting : List ℕ) (next : Next) →
-    old.nodes.items ≡ [] → IsFirstNode h next.node → AddsUnseen old new 0 [] waiting (next ∷ []) →
+    old.nodes.items ≡ [] → IsFirstNode h next.node → AddsNew old new 0 [] waiting (next ∷ []) →
     Searches h returns new waiting
 searches_first h returns old new waiting next empty is adds = record {
   loses = record {
@@ -202,7 +202,7 @@ Comes nexts w = (x : Next) × (Contains nexts x × (x.node ≡ w))
 
 pub explores_more : (looked : ℕ) (old new : Store) (before popped after : List ℕ) (nexts : List Next)
     (index : ℕ) → Explores looked old before → before ≡ popped ++ index ∷ [] →
-    AddsUnseen old new index popped after nexts → Explores (looked + 1) new after
+    AddsNew old new index popped after nexts → Explores (looked + 1) new after
 explores_more looked old new before popped after nexts index is split adds = record {
   keeps = adds.keeps;
   inside = subst (All (λ (p : ℕ). p < length new.nodes.items)) (sym adds.to_do)
@@ -236,7 +236,7 @@ explores_more looked old new before popped after nexts index is split adds = rec
 pub searches_more : (h : ObservedHistory) (returns : List ℕ) (old new : Store) (before popped after : List ℕ)
     (nexts : List Next) (index : ℕ) (v : Node) → Searches h returns old before → before ≡ popped ++ index ∷ [] →
     slice_get old.nodes.items index ≡ Some v → Suffice h returns v nexts →
-    AddsUnseen old new index popped after nexts → Searches h returns new after
+    AddsNew old new index popped after nexts → Searches h returns new after
 searches_more h returns old new before popped after nexts index v is split at suffice adds = record {
   loses = record {
     kept = λ u n seen hope. turned (kept.kept u n

@@ -9,8 +9,8 @@ use Rattle.std.proofs.lemmas.Option.{none-some, slice_get_within, get_or_from_sl
 use Rattle.std.proofs.lemmas.Bool.{false≢true, cases_order}
 use Rattle.stamp_explain.specs.declared.observed.Observation.{Observation}
 use Rattle.stamp_explain.specs.declared.observed.Returned.{Returned}
-use Rattle.stamp_explain.specs.declared.found.Found.{Found}
-use Rattle.stamp_explain.specs.declared.found.Found.TheVariants.{Linearization, Nothing, Undecided}
+use Rattle.stamp_explain.specs.declared.found.SearchEnd.{SearchEnd}
+use Rattle.stamp_explain.specs.declared.found.SearchEnd.TheVariants.{Linearization, Nothing, Undecided}
 use Rattle.stamp_explain.specs.Observed.{ObservedHistory, IsObserved, HasReturned, IsReturnAt}
 use Rattle.stamp_explain.specs.Explained.{IsEffectOf, AreApart, RespectsBefore, IsExplained, IsExplainedBy}
 use Rattle.stamp_explain.specs.Cut.{cut_entry, cut_entries, returned_by, cut, seen_at, IsStuck}
@@ -445,14 +445,14 @@ unexplained_between h most ends low high p are is le at =
     }
 
 -- what becomes of the two, and of what is known, by what was found between them
-pub data Narrows (low high : ℕ) (unexplained stuck : Bool) (middle l u : ℕ) (x s : Bool) : Found → Type 0 where
+pub data Narrows (low high : ℕ) (unexplained stuck : Bool) (middle l u : ℕ) (x s : Bool) : SearchEnd → Type 0 where
   above : {order : Vec Taken Global} → l ≡ middle + 1 → u ≡ high → x ≡ unexplained → s ≡ stuck →
       Narrows low high unexplained stuck middle l u x s (Linearization order)
   below : l ≡ low → u ≡ middle → x ≡ true → s ≡ true → Narrows low high unexplained stuck middle l u x s Nothing
   at_least : l ≡ low → u ≡ middle → x ≡ unexplained → s ≡ false →
       Narrows low high unexplained stuck middle l u x s Undecided
 
-pub narrows_so : {low high : ℕ} {unexplained stuck : Bool} {middle l u : ℕ} {x s : Bool} {found it : Found} →
+pub narrows_so : {low high : ℕ} {unexplained stuck : Bool} {middle l u : ℕ} {x s : Bool} {found it : SearchEnd} →
     found ≡ it → Narrows low high unexplained stuck middle l u x s it →
     Narrows low high unexplained stuck middle l u x s found
 narrows_so {low} {high} {unexplained} {stuck} {middle} {l} {u} {x} {s} is narrows =
@@ -483,7 +483,7 @@ same h most unexplained ends low high stuck l u x s l_is u_is x_is s_is is =
     (subst (λ (b : Bool). IsBetween h most unexplained ends low high b) (sym s_is) is)))
 
 narrowed : (h : ObservedHistory) (most : ℕ) (unexplained : Bool) (ends : List (ℕ × ℕ)) (low high middle : ℕ)
-    (stuck : Bool) (found : Found) (l u : ℕ) (x s : Bool) → IsObserved h → AreEnds h.entries ends →
+    (stuck : Bool) (found : SearchEnd) (l u : ℕ) (x s : Bool) → IsObserved h → AreEnds h.entries ends →
     IsBetween h most unexplained ends low high stuck → low ≤ middle → middle < high →
     IsFoundApart (seen_at (get_or ends middle (0, 0)).0 ((get_or ends middle (0, 0)).1 + 1) h) most found →
     Narrows low high unexplained stuck middle l u x s found → IsBetween h most x ends l u s
@@ -505,7 +505,7 @@ narrowed h most unexplained ends low high middle stuck Undecided l u x s observe
 
 -- they are narrowed by what was found at the middle
 pub halved : {h : ObservedHistory} {most : ℕ} {unexplained : Bool} {ends : List (ℕ × ℕ)} {low high : ℕ}
-    {stuck : Bool} {found : Found} {l u : ℕ} {x s : Bool} → IsObserved h → AreEnds h.entries ends →
+    {stuck : Bool} {found : SearchEnd} {l u : ℕ} {x s : Bool} → IsObserved h → AreEnds h.entries ends →
     IsBetween h most unexplained ends low high stuck → low < high →
     IsFoundApart (seen_at (get_or ends (low + (high - low) / 2) (0, 0)).0
     ((get_or ends (low + (high - low) / 2) (0, 0)).1 + 1) h) most found →

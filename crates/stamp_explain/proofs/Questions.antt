@@ -15,7 +15,7 @@ use Rattle.stamp_core.specs.declared.call.Call.TheVariants.{IsWriteLocked, IsRea
 use Rattle.stamp_core.specs.declared.reply.Reply.{Reply}
 use Rattle.stamp_explain.specs.declared.observed.Observation.{Observation}
 use Rattle.stamp_explain.specs.declared.observed.Returned.{Returned}
-use Rattle.stamp_explain.specs.Unchanging.{changes_nothing, is_question, asks_by, is_open_question}
+use Rattle.stamp_explain.specs.Unchanging.{changes_nothing, is_question, open_question_by, is_open_question}
 use Rattle.stamp_explain.specs.Explained.{Effect, IsEffectOf, history_of, indices_of}
 use Rattle.stamp_explain.specs.Search.{LockState, StateTransition, Runs}
 use Rattle.stamp_explain.specs.ExplainLaws.{OpenQuestionsAreNotNeeded}
@@ -54,7 +54,7 @@ question_changes_nothing call reply asks = by call asks
 open_question : (e : Observation) → is_open_question e ≡ true → (e.returned ≡ None) × (is_question e.call ≡ true)
 open_question e asks = by e.returned refl asks
   where
-    by : (o : Option Returned) → e.returned ≡ o → asks_by e.call o ≡ true →
+    by : (o : Option Returned) → e.returned ≡ o → open_question_by e.call o ≡ true →
         (e.returned ≡ None) × (is_question e.call ≡ true)
     by None at asks = (at, asks)
     by (Some r) at asks = absurd (false≢true asks)

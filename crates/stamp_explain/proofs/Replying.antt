@@ -14,15 +14,15 @@ use Rattle.stamp_explain.specs.declared.observed.Returned.{Returned}
 use Rattle.stamp_explain.specs.Observed.{ObservedHistory, IsObserved, IsInterval, IsBefore, DoNotOverlap, IsReturnAt}
 use Rattle.stamp_explain.specs.Explained.{IsExplained}
 use Rattle.stamp_explain.specs.Cut.{cut_after, seen_at}
-use Rattle.stamp_explain.specs.declared.found.Found.{Found}
-use Rattle.stamp_explain.specs.declared.found.Found.TheVariants.{Linearization, Nothing, Undecided}
+use Rattle.stamp_explain.specs.declared.found.SearchEnd.{SearchEnd}
+use Rattle.stamp_explain.specs.declared.found.SearchEnd.TheVariants.{Linearization, Nothing, Undecided}
 use Rattle.stamp_explain.specs.Configuration.{IsGivenUp}
 use Rattle.stamp_explain.specs.Expand.{IsFoundApart}
 use Rattle.stamp_explain.specs.Possible.{IsPossible, IsUndecidedAtReply, returned_with, with_reply}
 use Rattle.stamp_explain.proofs.Seeing.{seen_explains_as_much}
 
 -- what is told of a reply by what a search found
-abbrev pub Tells : ObservedHistory → ℕ → ℕ → Reply → Found → Type 0
+abbrev pub Tells : ObservedHistory → ℕ → ℕ → Reply → SearchEnd → Type 0
 Tells h i most reply (Linearization order) = IsPossible h i reply
 Tells h i most reply Nothing = ¬ IsPossible h i reply
 Tells h i most reply Undecided = IsUndecidedAtReply h i most reply
@@ -165,7 +165,7 @@ read_at h i e read is entry same = slice_get_read h.entries (length h.entries) i
 
 -- what a search found of what is seen
 pub found_tells : (h seen : ObservedHistory) (i most : ℕ) (e : Observation) (r : Returned) (reply : Reply) →
-    slice_get h.entries i ≡ Some e → e.returned ≡ Some r → IsObserved h → (found : Found) →
+    slice_get h.entries i ≡ Some e → e.returned ≡ Some r → IsObserved h → (found : SearchEnd) →
     seen ≡ seen_at r.last (i + 1) (with_reply i e r reply h) → IsFoundApart seen most found →
     Tells h i most reply found
 found_tells h seen i most e r reply at returned is (Linearization order) same found =

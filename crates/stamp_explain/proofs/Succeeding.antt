@@ -17,7 +17,7 @@ use Rattle.stamp_core.specs.declared.reply.Reply.{Reply}
 use Rattle.stamp_explain.specs.Observed.{ObservedHistory, IsObserved, HasReturned, IsBefore, AllowsReply}
 use Rattle.stamp_explain.specs.Explained.{Effect}
 use Rattle.stamp_explain.specs.Unchanging.{changes_nothing, unchanging_by, is_unchanging, unchanging_in}
-use Rattle.stamp_explain.specs.Unchanging.{is_unchanging_at, asks_in, asks_at}
+use Rattle.stamp_explain.specs.Unchanging.{is_unchanging_at, open_question_in, is_open_question_at}
 use Rattle.stamp_explain.specs.Search.{LockState, StateTransition, MayTake}
 use Rattle.stamp_explain.specs.Search.{StandsBefore}
 use Rattle.stamp_explain.specs.Ahead.{GivesWay}
@@ -192,7 +192,7 @@ choice_leads h asked timeline node a calls i w is bit none are awaited at choice
       none = none.none a s taken (awaited_at h timeline node a is) stands;
       object = choice.object a it.effect.entry at (ap (λ (j : ℕ). slice_get h.entries j) (sym it.index) ∙
           it.may.effect.is_entry);
-      asks_not = ap asks_in (sym it.may.effect.is_entry) ∙ ap (asks_at h.entries) it.index ∙ choice.asks_not;
+      no_question = ap open_question_in (sym it.may.effect.is_entry) ∙ ap (is_open_question_at h.entries) it.index ∙ choice.no_question;
       first = is_first_alike h asked timeline node a s taken calls it.effect is are stands it.may.effect.is_entry
           (subst (λ (j : ℕ). ¬ GivesWay h asked node calls j) (sym it.index) choice.gives_no_way);
     }))

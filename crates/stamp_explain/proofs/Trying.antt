@@ -17,7 +17,7 @@ use Rattle.stamp_explain.specs.declared.timeline.Timeline.{Timeline}
 use Rattle.stamp_explain.specs.Observed.{ObservedHistory, IsObserved, IsBefore, IsReturnAt}
 use Rattle.stamp_explain.specs.Observed.{AreOfOneObject}
 use Rattle.stamp_explain.specs.Explained.{Effect}
-use Rattle.stamp_explain.specs.Unchanging.{asks_by, asks_in, is_open_question}
+use Rattle.stamp_explain.specs.Unchanging.{open_question_by, open_question_in, is_open_question}
 use Rattle.stamp_explain.specs.Search.{IsAlikeSooner, LockState, StateTransition, MayTake}
 use Rattle.stamp_explain.specs.Ahead.{IsAhead, GivesWay}
 use Rattle.stamp_core.specs.Call.{is_lock_call}
@@ -67,7 +67,7 @@ pub record Tries (h : ObservedHistory) (asked : Option ℕ) (returns : List ℕ)
 pub none_tried : (h : ObservedHistory) (asked : Option ℕ) (returns : List ℕ) (node : Node) (calls : List ℕ) →
     Tries h asked returns node calls 0 []
 none_tried h asked returns node calls = record {
-  tried = λ a s taken awaited stands x u may alike asks_not p lt le is. absurd (omega (arith, lt, le));
+  tried = λ a s taken awaited stands x u may alike no_question p lt le is. absurd (omega (arith, lt, le));
 }
 
 pub last_or_less : (p k n : ℕ) → n ≤ p + (k + 1) → p < n → k < n → (n ≤ p + k) ⊎ (p ≡ n - 1 - k)
@@ -83,8 +83,8 @@ pub one_more_tried : (h : ObservedHistory) (asked : Option ℕ) (returns : List 
     is_open_question x.entry ≡ false → get_or calls (length calls - 1 - k) 0 ≡ x.index →
     MakesOrWaits h asked returns node calls x u taken new) → Tries h asked returns node calls (k + 1) new
 one_more_tried h asked returns node calls k old new tries more kept makes = record {
-  tried = λ a s taken awaited stands x u may alike asks_not p lt le is.
-      by a s taken awaited stands x u may alike asks_not p lt is (last_or_less p k (length calls) le lt more);
+  tried = λ a s taken awaited stands x u may alike no_question p lt le is.
+      by a s taken awaited stands x u may alike no_question p lt is (last_or_less p k (length calls) le lt more);
 }
   where
     stays : (x : Effect) (u : LockState) (taken : List ℕ) → MakesOrWaits h asked returns node calls x u taken old →
@@ -104,10 +104,10 @@ one_more_tried h asked returns node calls k old new tries more kept makes = reco
         MayTake (StateTransition h.limits) h.entries a s taken x u → AreOfOneObject a x.entry →
         is_open_question x.entry ≡ false → (p : ℕ) → p < length calls → get_or calls p 0 ≡ x.index →
         (length calls ≤ p + k) ⊎ (p ≡ length calls - 1 - k) → MakesOrWaits h asked returns node calls x u taken new
-    by a s taken awaited stands x u may alike asks_not p lt is (inl le) =
-        stays x u taken (tries.tried a s taken awaited stands x u may alike asks_not p lt le is)
-    by a s taken awaited stands x u may alike asks_not p lt is (inr same) =
-        makes a s taken awaited stands x u may alike asks_not (ap (λ (n : ℕ). get_or calls n 0) (sym same) ∙ is)
+    by a s taken awaited stands x u may alike no_question p lt is (inl le) =
+        stays x u taken (tries.tried a s taken awaited stands x u may alike no_question p lt le is)
+    by a s taken awaited stands x u may alike no_question p lt is (inr same) =
+        makes a s taken awaited stands x u may alike no_question (ap (λ (n : ℕ). get_or calls n 0) (sym same) ∙ is)
 
 -- it can't take effect
 pub tried_none : (h : ObservedHistory) (asked : Option ℕ) (returns : List ℕ) (node : Node) (calls : List ℕ) (k : ℕ)
@@ -115,7 +115,7 @@ pub tried_none : (h : ObservedHistory) (asked : Option ℕ) (returns : List ℕ)
     Took h returns node (get_or calls (length calls - 1 - k) 0) None → Tries h asked returns node calls (k + 1) nexts
 tried_none h asked returns node calls k nexts tries more took =
     one_more_tried h asked returns node calls k nexts nexts tries more (λ w has. has)
-    (λ a s taken awaited stands x u may alike asks_not is. absurd (took.takes a s taken awaited stands x u may (sym
+    (λ a s taken awaited stands x u may alike no_question is. absurd (took.takes a s taken awaited stands x u may (sym
     is)))
 
 -- it is of the other object
@@ -126,7 +126,7 @@ pub tried_other : (h : ObservedHistory) (asked : Option ℕ) (returns : List ℕ
     Tries h asked returns node calls (k + 1) nexts
 tried_other h asked returns node calls k nexts tries more other =
     one_more_tried h asked returns node calls k nexts nexts tries more (λ w has. has)
-    (λ a s taken awaited stands x u may alike asks_not is. absurd (other a x.entry awaited
+    (λ a s taken awaited stands x u may alike no_question is. absurd (other a x.entry awaited
     (ap (λ (i : ℕ). slice_get h.entries i) is ∙ may.effect.is_entry) alike))
 
 -- it is a question that is under way
@@ -136,7 +136,7 @@ pub tried_question : (h : ObservedHistory) (asked : Option ℕ) (returns : List 
     is_open_question e ≡ true) → Tries h asked returns node calls (k + 1) nexts
 tried_question h asked returns node calls k nexts tries more question =
     one_more_tried h asked returns node calls k nexts nexts tries more (λ w has. has)
-    (λ a s taken awaited stands x u may alike asks_not is. absurd (false≢true (sym asks_not ∙
+    (λ a s taken awaited stands x u may alike no_question is. absurd (false≢true (sym no_question ∙
     question x.entry (ap (λ (i : ℕ). slice_get h.entries i) is ∙ may.effect.is_entry))))
 
 -- another goes ahead of it
@@ -146,7 +146,7 @@ pub tried_later : (h : ObservedHistory) (asked : Option ℕ) (returns : List ℕ
     Tries h asked returns node calls (k + 1) nexts
 tried_later h asked returns node calls k nexts tries more out =
     one_more_tried h asked returns node calls k nexts nexts tries more (λ w has. has)
-    (λ a s taken awaited stands x u may alike asks_not is. inl (subst (GivesWay h asked node calls) is out))
+    (λ a s taken awaited stands x u may alike no_question is. inl (subst (GivesWay h asked node calls) is out))
 
 -- it takes effect, and then returns are past
 pub tried_some : (h : ObservedHistory) (asked : Option ℕ) (returns : List ℕ) (node : Node) (calls : List ℕ) (k : ℕ)
@@ -155,7 +155,7 @@ pub tried_some : (h : ObservedHistory) (asked : Option ℕ) (returns : List ℕ)
     Tries h asked returns node calls (k + 1) (nexts ++ next ∷ [])
 tried_some h asked returns node calls k nexts w next tries more took passes =
     one_more_tried h asked returns node calls k nexts (nexts ++ next ∷ []) tries more
-    (λ v has. Contains-append_left nexts (next ∷ []) v has) (λ a s taken awaited stands x u may alike asks_not is.
+    (λ v has. Contains-append_left nexts (next ∷ []) v has) (λ a s taken awaited stands x u may alike no_question is.
     let some : IsTakenTo h returns node a (get_or calls (length calls - 1 - k) 0) s taken w =
     took.takes a s taken awaited stands in
     inr (record {
@@ -176,7 +176,7 @@ pub tried_not : (h : ObservedHistory) (asked : Option ℕ) (returns : List ℕ) 
 tried_not h asked returns node calls k nexts awaited tries more read (of_other other) =
     tried_other h asked returns node calls k nexts tries more (λ a e is at. other a e (read a is) at)
 tried_not h asked returns node calls k nexts awaited tries more read (questions is) =
-    tried_question h asked returns node calls k nexts tries more (λ e at. ap asks_in (sym at) ∙ is)
+    tried_question h asked returns node calls k nexts tries more (λ e at. ap open_question_in (sym at) ∙ is)
 tried_not h asked returns node calls k nexts awaited tries more read (comes_later out) =
     tried_later h asked returns node calls k nexts tries more out
 tried_not h asked returns node calls k nexts awaited tries more read (stays took) =
@@ -200,7 +200,7 @@ bound_ahead e f ahead =
 pub record Completes (h : ObservedHistory) (timeline : Timeline) (node : Node) (a : Observation) (s : LockState)
     (taken : List ℕ) (u : LockState) (left : ℕ) (x : Effect) : Type 0 where
   object : AreOfOneObject a x.entry
-  asks_not : is_open_question x.entry ≡ false
+  no_question : is_open_question x.entry ≡ false
   may : MayTake (StateTransition h.limits) h.entries a s taken x u
   rest : CompletesIn (StateTransition h.limits) h.entries (get_or timeline.returns.items node.past 0 ∷
       drop (suc node.past) timeline.returns.items) u (x.index ∷ taken) left
@@ -215,7 +215,7 @@ pub completes_ahead : (h : ObservedHistory) (asked : Option ℕ) (timeline : Tim
     (record { index = out.first; entry = out.goes.entry; reply = x.reply })
 completes_ahead h asked timeline node a calls s taken u left x is are stands it out same = record {
   object = it.object ∙ ap is_lock_call (sym ahead.calls.call);
-  asks_not = ap (asks_by out.goes.entry.call) ahead.calls.at_first;
+  no_question = ap (open_question_by out.goes.entry.call) ahead.calls.at_first;
   may = may_take_alike h.limits h.entries a s u taken x out.first out.goes.entry it.may out.goes.is_entry sooner fresh
       begun;
   rest = alike_in_as_many h.limits h.entries a (i ∷ drop (suc node.past) returns) s u taken x out.first
@@ -269,7 +269,7 @@ pub goes_or_waits : (h : ObservedHistory) (asked : Option ℕ) (timeline : Timel
     Completes h timeline node a s taken u left y → GoesOn h timeline.returns.items nexts most) →
     GoesOn h timeline.returns.items nexts most
 goes_or_waits h asked timeline node a calls k nexts s taken most u left x is are all stands tries fewer it again =
-    by (tries.tried a s taken (awaited_at h timeline node a is) stands x u it.may it.object it.asks_not at.0 at.1
+    by (tries.tried a s taken (awaited_at h timeline node a is) stands x u it.may it.object it.no_question at.0 at.1
     (omega (arith, all)) (get_or_default calls at.0 0 x.index at.1 ∙ at.2))
   where
     returns : List ℕ
@@ -393,9 +393,9 @@ suffice_by_one h asked timeline node a calls k nexts is bit are all tries n agai
 
         by : (b : Bool) → is_open_question on.effect.entry ≡ b → GoesOn h returns nexts n
         by true asking = later on.left fewer (again on.left fewer (hope_without on asking))
-        by false asks_not = some_goes_on h asked timeline node a calls k nexts hope.state hope.taken n on.state on.left
+        by false no_question = some_goes_on h asked timeline node a calls k nexts hope.state hope.taken n on.state on.left
             (bound on.effect.entry.returned) on.effect is are all hope.stands tries fewer (omega arith)
-            (record { object = on.alike; asks_not = asks_not; may = on.may; rest = on.completes })
+            (record { object = on.alike; no_question = no_question; may = on.may; rest = on.completes })
 
 pub suffice_bounded : (h : ObservedHistory) (asked : Option ℕ) (timeline : Timeline) (node : Node) (a : Observation)
     (calls : List ℕ) (k : ℕ) (nexts : List Next) → Awaits h timeline node a → bit_at node.threads a.thread ≢ 1 →

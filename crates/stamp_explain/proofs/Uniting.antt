@@ -16,8 +16,8 @@ use Rattle.stamp_explain.specs.declared.apart.Subhistory.{Subhistory}
 use Rattle.stamp_explain.specs.declared.linearization.Taken.{Taken}
 use Rattle.stamp_explain.specs.Observed.{ObservedHistory, IsObserved, of_lock, of_record, is_of_lock, is_of_record}
 use Rattle.stamp_explain.specs.Explained.{Effect, IsEffectOf, RespectsBefore, IsExplained}
-use Rattle.stamp_explain.specs.declared.found.Found.{Found}
-use Rattle.stamp_explain.specs.declared.found.Found.TheVariants.{Linearization, Nothing, Undecided}
+use Rattle.stamp_explain.specs.declared.found.SearchEnd.{SearchEnd}
+use Rattle.stamp_explain.specs.declared.found.SearchEnd.TheVariants.{Linearization, Nothing, Undecided}
 use Rattle.stamp_explain.specs.Configuration.{GivesUp, IsGivenUp, IsNotRefused}
 use Rattle.stamp_explain.specs.Expand.{IsFoundApart, IsSearched}
 use Rattle.stamp_explain.specs.Linearization.{IsLinearizationOf, taken_of}
@@ -362,7 +362,7 @@ began_first es fs t s others k a b t_is s_is at le u e f at_u at_e at_f =
     )
 
 -- what one search finds where there is no record
-pub found_alone : (h : ObservedHistory) (most : ℕ) (found : Found) → IsObserved h → h.width ≡ 0 →
+pub found_alone : (h : ObservedHistory) (most : ℕ) (found : SearchEnd) → IsObserved h → h.width ≡ 0 →
     IsSearched h most found → IsFoundApart h most found
 found_alone h most (Linearization order) observed without found = found
 found_alone h most Nothing observed without found = found
@@ -376,7 +376,7 @@ found_alone h most Undecided observed without found =
     }
 
 -- of neither the search found that no order explains it
-not_refused : (h : ObservedHistory) (most : ℕ) (lock : Bool) (sub : Subhistory) (found : Found) →
+not_refused : (h : ObservedHistory) (most : ℕ) (lock : Bool) (sub : Subhistory) (found : SearchEnd) →
     IsSubhistoryOf h lock sub → IsSearched sub.history most found → found ≢ Nothing →
     IsNotRefused (of_object lock h) most
 not_refused h most lock sub (Linearization order) is found some = inr (subst IsExplained is.history
@@ -386,7 +386,7 @@ not_refused h most lock sub Undecided is found some = inl (subst (λ (g : Observ
     found)
 
 -- one of the searches gave up, and none found that there is no order
-pub given_up_by : (h : ObservedHistory) (most : ℕ) (locks records : Subhistory) (a b : Found) →
+pub given_up_by : (h : ObservedHistory) (most : ℕ) (locks records : Subhistory) (a b : SearchEnd) →
     IsSubhistoryOf h true locks → IsSubhistoryOf h false records → IsSearched locks.history most a →
     IsSearched records.history most b → a ≢ Nothing → b ≢ Nothing → (a ≡ Undecided) ⊎ (b ≡ Undecided) →
     IsGivenUp h most
@@ -398,9 +398,9 @@ given_up_by h most locks records a b is also found too some any one = record {
   where
     by : (a ≡ Undecided) ⊎ (b ≡ Undecided) → GivesUp (of_lock h) most ⊎ GivesUp (of_record h) most
     by (inl same) = inl (subst (λ (g : ObservedHistory). GivesUp g most) is.history
-        (subst (λ (f : Found). IsSearched locks.history most f) same found))
+        (subst (λ (f : SearchEnd). IsSearched locks.history most f) same found))
     by (inr same) = inr (subst (λ (g : ObservedHistory). GivesUp g most) also.history
-        (subst (λ (f : Found). IsSearched records.history most f) same too))
+        (subst (λ (f : SearchEnd). IsSearched records.history most f) same too))
 
 -- where no order explains one of them, none explains the whole
 pub none_of_one : (h : ObservedHistory) (lock : Bool) (sub : Subhistory) → IsObserved h → IsSubhistoryOf h lock sub →

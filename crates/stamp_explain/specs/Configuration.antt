@@ -51,7 +51,7 @@ pub record IsChosen (h : ObservedHistory) (asked : Option ℕ) (awaited : Observ
     (x : Effect) : Type 0 where
   pub none : NoneIsAtOnce h asked awaited s taken
   pub object : AreOfOneObject awaited x.entry
-  pub asks_not : is_open_question x.entry ≡ false
+  pub no_question : is_open_question x.entry ≡ false
   pub first : IsFirstAlike h asked awaited taken x
 
 -- of the open calls this one is tried

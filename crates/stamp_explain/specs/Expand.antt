@@ -10,11 +10,11 @@ use Rattle.stamp_explain.specs.declared.node.Next.{Next}
 use Rattle.stamp_explain.specs.declared.node.Origin.{Origin}
 use Rattle.stamp_explain.specs.declared.node.Waiting.{Waiting}
 use Rattle.stamp_explain.specs.declared.store.Store.{Store}
-use Rattle.stamp_explain.specs.declared.found.Found.{Found}
-use Rattle.stamp_explain.specs.declared.found.Found.TheVariants.{Linearization, Nothing, Undecided}
+use Rattle.stamp_explain.specs.declared.found.SearchEnd.{SearchEnd}
+use Rattle.stamp_explain.specs.declared.found.SearchEnd.TheVariants.{Linearization, Nothing, Undecided}
 use Rattle.stamp_explain.specs.declared.timeline.Timeline.{Timeline}
 use Rattle.stamp_explain.specs.Observed.{ObservedHistory, IsObserved, AreOfOneObject}
-use Rattle.stamp_explain.specs.Unchanging.{asks_at}
+use Rattle.stamp_explain.specs.Unchanging.{is_open_question_at}
 use Rattle.stamp_explain.specs.Ahead.{GivesWay}
 use Rattle.stamp_explain.specs.Explained.{Effect, IsEffectOf, IsExplained}
 use Rattle.stamp_explain.specs.Search.{LockState, StateTransition, MayTake, IsCompletedBy}
@@ -164,7 +164,7 @@ pub data IsNoChoice (h : ObservedHistory) (asked : Option ℕ) (returns : List �
     (awaited i : ℕ) : Type 0 where
   of_other : ((a e : Observation) → slice_get h.entries awaited ≡ Some a → slice_get h.entries i ≡ Some e →
       ¬ AreOfOneObject a e) → IsNoChoice h asked returns node calls awaited i
-  questions : asks_at h.entries i ≡ true → IsNoChoice h asked returns node calls awaited i
+  questions : is_open_question_at h.entries i ≡ true → IsNoChoice h asked returns node calls awaited i
   comes_later : GivesWay h asked node calls i → IsNoChoice h asked returns node calls awaited i
   stays : Took h returns node i None → IsNoChoice h asked returns node calls awaited i
 
@@ -173,7 +173,7 @@ pub record IsChoiceOf (h : ObservedHistory) (asked : Option ℕ) (returns : List
     (awaited i : ℕ) (w : Next) : Type 0 where
   pub object : (a e : Observation) → slice_get h.entries awaited ≡ Some a → slice_get h.entries i ≡ Some e →
       AreOfOneObject a e
-  pub asks_not : asks_at h.entries i ≡ false
+  pub no_question : is_open_question_at h.entries i ≡ false
   pub gives_no_way : ¬ GivesWay h asked node calls i
   pub took : Took h returns node i (Some w)
 
@@ -182,13 +182,13 @@ IsChoice h asked returns node calls awaited i None = IsNoChoice h asked returns 
 IsChoice h asked returns node calls awaited i (Some w) = IsChoiceOf h asked returns node calls awaited i w
 
 -- what a search finds that looks at so many configurations before it gives up
-abbrev pub IsSearched : ObservedHistory → ℕ → Found → Type 0
+abbrev pub IsSearched : ObservedHistory → ℕ → SearchEnd → Type 0
 IsSearched h most (Linearization order) = IsLinearizationOf h order.items
 IsSearched h most Nothing = ¬ IsExplained h
 IsSearched h most Undecided = GivesUp h most
 
 -- what is found where lock and record are searched apart
-abbrev pub IsFoundApart : ObservedHistory → ℕ → Found → Type 0
+abbrev pub IsFoundApart : ObservedHistory → ℕ → SearchEnd → Type 0
 IsFoundApart h most (Linearization order) = IsLinearizationOf h order.items
 IsFoundApart h most Nothing = ¬ IsExplained h
 IsFoundApart h most Undecided = IsGivenUp h most
@@ -225,7 +225,7 @@ pub record IsIndexed (nodes : List Node) (indices : List ℕ) (v : Node) : Type 
 
 -- nodes that come from the one of this index and were not seen are added to those seen, and their indices to those
 -- that wait
-pub record AddsUnseen (old new : Store) (from : ℕ) (waited waiting : List ℕ) (nexts : List Next) : Type 0 where
+pub record AddsNew (old new : Store) (from : ℕ) (waited waiting : List ℕ) (nexts : List Next) : Type 0 where
   pub keeps : Keeps new
   pub added : List Next
   pub nodes : new.nodes.items ≡ old.nodes.items ++ nodes_of added

@@ -49,20 +49,20 @@ is_question Get = true
 is_question _ = false
 
 -- it is under way, and such a call
-abbrev pub asks_by : Call → Option Returned → Bool
-asks_by call None = is_question call
-asks_by call (Some r) = false
+abbrev pub open_question_by : Call → Option Returned → Bool
+open_question_by call None = is_question call
+open_question_by call (Some r) = false
 
 abbrev pub is_open_question : Observation → Bool
-is_open_question e = asks_by e.call e.returned
+is_open_question e = open_question_by e.call e.returned
 
-abbrev pub asks_in : Option Observation → Bool
-asks_in None = false
-asks_in (Some e) = is_open_question e
+abbrev pub open_question_in : Option Observation → Bool
+open_question_in None = false
+open_question_in (Some e) = is_open_question e
 
 -- so is the call of this entry
-abbrev pub asks_at : List Observation → ℕ → Bool
-asks_at entries i = asks_in (slice_get entries i)
+abbrev pub is_open_question_at : List Observation → ℕ → Bool
+is_open_question_at entries i = open_question_in (slice_get entries i)
 
 -- the call has returned, and its reply tells that it changed nothing
 abbrev pub unchanging_by : Call → Option Returned → Bool

@@ -8,7 +8,7 @@ ghost use Rattle.stamp_explain.specs.declared.observed.Returned.{Returned};
 ghost use Rattle.stamp_explain.specs.Observed.{ObservedHistory, IsObserved};
 ghost use Rattle.stamp_explain.specs.Configuration.{ReachesMoreBeside};
 ghost use Rattle.stamp_explain.specs.Cut.{index_then};
-ghost use Rattle.stamp_explain.specs.Expand.{AddsUnseen, Suffice, Took};
+ghost use Rattle.stamp_explain.specs.Expand.{AddsNew, Suffice, Took};
 ghost use Rattle.stamp_explain.specs.Store.{Keeps};
 ghost use Rattle.stamp_explain.specs.Possible.{without_return};
 ghost use Rattle.stamp_explain.specs.Asking.{Adds, AreAsked, ComeAfterBeside, AreMore, AreReplies, GetsMore, IsSeenWith, IsAsking, IsAskingAt, ComesAfterBeside, MayGoOnBeside, NoneIsAtOnceBeside, SufficeBeside, SufficeUnless};
@@ -193,14 +193,14 @@ impl Asking {
 
 /// Adds the nodes that were not seen, which come from the one of this index, to those seen, and their
 /// indices to those that wait.
-fn add_unseen(
+fn add_new(
     store: &mut Store,
     waiting: &mut Vec<usize>,
     from: usize,
     nexts: &[Next],
 ) -> Result<(), AllocError>
     requires { Keeps store.old }
-    ensures { IfOk result (λ _. AddsUnseen store.old store.new from waiting.old.items waiting.new.items nexts.now) }
+    ensures { IfOk result (λ _. AddsNew store.old store.new from waiting.old.items waiting.new.items nexts.now) }
 {
     for next in nexts {
         let index = store.nodes.len();
@@ -232,7 +232,7 @@ pub(crate) fn replies_of(
         node: first_node(&asking.seen),
         took: None,
     };
-    add_unseen(&mut store, &mut waiting, 0, &[first])?;
+    add_new(&mut store, &mut waiting, 0, &[first])?;
     let mut nexts = Vec::new(alloc);
     let mut replies = Vec::new(alloc);
     for _ in 0..most {
@@ -241,7 +241,7 @@ pub(crate) fn replies_of(
         };
         let node = store.nodes[index];
         asking.go_on(&node, &mut nexts, &mut replies)?;
-        add_unseen(&mut store, &mut waiting, index, nexts.as_slice())?;
+        add_new(&mut store, &mut waiting, index, nexts.as_slice())?;
     }
     if waiting.is_empty() {
         return Ok(Some(replies));

@@ -4,7 +4,7 @@ ghost use Rattle.stamp_explain.specs.Observed.{IsObserved};
 ghost use Rattle.stamp_explain.specs.Answer.{IsAnswer, IsNotFound};
 
 use crate::first_fault::first_fault;
-use crate::found::{Found, find};
+use crate::found::{SearchEnd, find};
 use crate::observed::Observed;
 use crate::recording::record_of;
 use crate::timeline::ends_of;
@@ -96,8 +96,8 @@ pub fn explain(alloc: Global, observed: &Observed, most: u64) -> Result<Record, 
     ensures { IsAnswer observed.now most result }
 {
     match find(alloc, observed, most)? {
-        Found::Linearization(order) => Ok(record_of(alloc, observed, order.as_slice())?),
-        Found::Nothing => without_order(alloc, observed, most, true),
-        Found::Undecided => without_order(alloc, observed, most, false),
+        SearchEnd::Linearization(order) => Ok(record_of(alloc, observed, order.as_slice())?),
+        SearchEnd::Nothing => without_order(alloc, observed, most, true),
+        SearchEnd::Undecided => without_order(alloc, observed, most, false),
     }
 }

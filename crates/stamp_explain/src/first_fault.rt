@@ -8,7 +8,7 @@ ghost use Rattle.stamp_explain.specs.Answer.{IsNotFound, IsFault};
 
 use crate::cut::seen_at;
 use crate::explaining::ExplainError;
-use crate::found::{Found, find};
+use crate::found::{SearchEnd, find};
 use crate::observed::Observed;
 use std::alloc::{AllocError, Global};
 
@@ -19,7 +19,7 @@ fn found_at(
     observed: &Observed,
     end: (u64, usize),
     most: u64,
-) -> Result<Found, AllocError>
+) -> Result<SearchEnd, AllocError>
     requires observed { IsObserved observed.now }
     requires end { end.1 < length observed.now.entries }
     ensures { IfOk result (λ found. IsFoundApart (seen_at end.0 (end.1 + 1) observed.now) most found) }
@@ -52,13 +52,13 @@ pub(crate) fn first_fault(
     while low < high {
         let middle = low + (high - low) / 2;
         match found_at(alloc, observed, ends[middle], most)? {
-            Found::Linearization(_) => low = middle + 1,
-            Found::Nothing => {
+            SearchEnd::Linearization(_) => low = middle + 1,
+            SearchEnd::Nothing => {
                 high = middle;
                 unexplained = true;
                 stuck = true;
             }
-            Found::Undecided => {
+            SearchEnd::Undecided => {
                 high = middle;
                 stuck = false;
             }

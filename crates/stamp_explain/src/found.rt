@@ -12,7 +12,7 @@ use std::alloc::{AllocError, Global};
 
 /// What a search finds.
 #[derive(Drop)]
-pub(crate) enum Found {
+pub(crate) enum SearchEnd {
     /// A linearization: an order of calls that explains the history.
     Linearization(Vec<Taken>),
     /// None does.
@@ -22,7 +22,7 @@ pub(crate) enum Found {
 }
 
 /// What one search finds of all calls of a history.
-fn find_alone(alloc: Global, observed: &Observed, most: u64) -> Result<Found, AllocError>
+fn find_alone(alloc: Global, observed: &Observed, most: u64) -> Result<SearchEnd, AllocError>
     requires { IsObserved observed.now }
     ensures { IfOk result (λ found. IsSearched observed.now most found) }
 {
@@ -32,7 +32,7 @@ fn find_alone(alloc: Global, observed: &Observed, most: u64) -> Result<Found, Al
 
 /// Looks for an order that explains the history. Lock and record are searched apart, and each search gives
 /// up once it has looked at more than `most` configurations.
-pub(crate) fn find(alloc: Global, observed: &Observed, most: u64) -> Result<Found, AllocError>
+pub(crate) fn find(alloc: Global, observed: &Observed, most: u64) -> Result<SearchEnd, AllocError>
     requires { IsObserved observed.now }
     ensures { IfOk result (λ found. IsFoundApart observed.now most found) }
 {
@@ -44,15 +44,15 @@ pub(crate) fn find(alloc: Global, observed: &Observed, most: u64) -> Result<Foun
     let of_locks = find_alone(alloc, &locks.history, most)?;
     let of_records = find_alone(alloc, &records.history, most)?;
     match of_locks {
-        Found::Nothing => Ok(Found::Nothing),
-        Found::Undecided => match of_records {
-            Found::Nothing => Ok(Found::Nothing),
-            Found::Linearization(_) | Found::Undecided => Ok(Found::Undecided),
+        SearchEnd::Nothing => Ok(SearchEnd::Nothing),
+        SearchEnd::Undecided => match of_records {
+            SearchEnd::Nothing => Ok(SearchEnd::Nothing),
+            SearchEnd::Linearization(_) | SearchEnd::Undecided => Ok(SearchEnd::Undecided),
         },
-        Found::Linearization(lock_order) => match of_records {
-            Found::Nothing => Ok(Found::Nothing),
-            Found::Undecided => Ok(Found::Undecided),
-            Found::Linearization(record_order) => Ok(Found::Linearization(merged(
+        SearchEnd::Linearization(lock_order) => match of_records {
+            SearchEnd::Nothing => Ok(SearchEnd::Nothing),
+            SearchEnd::Undecided => Ok(SearchEnd::Undecided),
+            SearchEnd::Linearization(record_order) => Ok(SearchEnd::Linearization(merged(
                 alloc,
                 observed,
                 &locks,

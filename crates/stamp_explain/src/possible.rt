@@ -5,7 +5,7 @@ ghost use Rattle.stamp_explain.specs.Possible.{AreAllPossible, ArePossible, IsPo
 
 use crate::asking::{asking_of, replies_of};
 use crate::cut::seen_at;
-use crate::found::{Found, find};
+use crate::found::{SearchEnd, find};
 use crate::observed::{Observation, Observed, Returned};
 use stamp_core::Reply;
 use std::alloc::{AllocError, Global};
@@ -97,9 +97,9 @@ fn is_possible(
     let asked = with_reply(alloc, observed, entry, *observation, *returned, reply)?;
     let seen = seen_at(alloc, &asked, returned.last, entry + 1)?;
     match find(alloc, &seen, most)? {
-        Found::Linearization(_) => Ok(true),
-        Found::Nothing => Ok(false),
-        Found::Undecided => Err(PossibleError::Undecided),
+        SearchEnd::Linearization(_) => Ok(true),
+        SearchEnd::Nothing => Ok(false),
+        SearchEnd::Undecided => Err(PossibleError::Undecided),
     }
 }
 

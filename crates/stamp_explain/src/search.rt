@@ -10,14 +10,14 @@ ghost use Rattle.stamp_explain.specs.Store.{Keeps};
 ghost use Rattle.stamp_explain.specs.Expand.{MayGoOn, Expands, Took, PassesTo, IsChoice, IsNotInEffect, NoneIsAtOnceAt, IsSearched, LooksAt, waiting_from};
 
 use crate::ahead::gives_way;
-use crate::found::Found;
+use crate::found::SearchEnd;
 use crate::linearization::linearization_to;
 use crate::node::{Next, Node, Origin, Waiting, has_bit, with_bit, without_bit};
 use crate::observed::{Observed, are_of_one_object};
 use crate::store::Store;
 use crate::timeline::Timeline;
 use crate::transition::transition_of;
-use crate::unchanging::{asks_at, is_unchanging_at};
+use crate::unchanging::{is_open_question_at, is_unchanging_at};
 use stamp_core::Word;
 use std::alloc::{AllocError, Global};
 
@@ -146,7 +146,7 @@ pub(crate) fn choice_of(
         → IsOpenAt observed.now returns node.now.past i
         → IsChoice observed.now asked returns node.now calls.now awaited i result }
 {
-    if !are_of_one_object(observed, awaited, i) || asks_at(observed, i) {
+    if !are_of_one_object(observed, awaited, i) || is_open_question_at(observed, i) {
         return None;
     }
     let next = take_of(observed, node, i)?;
@@ -207,7 +207,7 @@ pub(crate) fn search(
     observed: &Observed,
     timeline: &Timeline,
     most: u64,
-) -> Result<Found, AllocError>
+) -> Result<SearchEnd, AllocError>
     requires observed { IsObserved observed.now }
     requires timeline { IsTimeline observed.now timeline.now }
     ensures { IfOk result (λ found. IsSearched observed.now most found) }
@@ -223,15 +223,15 @@ pub(crate) fn search(
         let node = store.nodes[index];
         if node.past >= returns.len() {
             let order = linearization_to(alloc, observed, timeline, &store, index)?;
-            return Ok(Found::Linearization(order));
+            return Ok(SearchEnd::Linearization(order));
         }
         successors(observed, timeline, &node, &mut nexts)?;
         leave(&mut waiting, index, nexts.as_slice())?;
         if !look(&mut store, &mut waiting)? {
-            return Ok(Found::Nothing);
+            return Ok(SearchEnd::Nothing);
         }
     }
-    Ok(Found::Undecided)
+    Ok(SearchEnd::Undecided)
 }
 
 /// The node at which a search begins.

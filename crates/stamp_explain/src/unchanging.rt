@@ -1,7 +1,7 @@
 //! Calls whose reply tells that they changed nothing.
 ghost use Rattle.std.specs.Prelude.{◌≡◌, ◌==◌};
 ghost use Rattle.stamp_core.specs.declared.reply.Reply.TheVariants.{Stamp};
-ghost use Rattle.stamp_explain.specs.Unchanging.{is_this_stamp, changes_nothing, is_question, is_open_question, asks_at, is_unchanging, is_unchanging_at};
+ghost use Rattle.stamp_explain.specs.Unchanging.{is_this_stamp, changes_nothing, is_question, is_open_question, is_open_question_at, is_unchanging, is_unchanging_at};
 
 use crate::observed::{Observation, Observed};
 use stamp_core::{Call, Reply};
@@ -80,8 +80,8 @@ fn is_open_question(entry: &Observation) -> bool
 }
 
 /// Whether the call of this entry is an open question: under way, and one that changes nothing by any reply.
-pub(crate) fn asks_at(observed: &Observed, i: usize) -> bool
-    ensures { result ≡ asks_at observed.now.entries i }
+pub(crate) fn is_open_question_at(observed: &Observed, i: usize) -> bool
+    ensures { result ≡ is_open_question_at observed.now.entries i }
 {
     match observed.entries().get(i) {
         None => false,

@@ -296,10 +296,10 @@ fn positions_are_below_2_to_the_58(rt: HostRuntime) -> Result<(), Fail> {
 }
 
 /// The one reply that was found, if any, or why none is known.
-type Found = Result<Option<Reply>, PossibleError>;
+type SearchEnd = Result<Option<Reply>, PossibleError>;
 
 /// What was found; memory, where it is more than one.
-fn only(replies: Result<Vec<Reply>, PossibleError>) -> Found {
+fn only(replies: Result<Vec<Reply>, PossibleError>) -> SearchEnd {
     let replies = replies?;
     if replies.len() > 1 {
         return Err(PossibleError::Memory);
@@ -361,7 +361,7 @@ fn a_call_under_way_that_took_effect_ends_with_the_history(rt: HostRuntime) -> R
 }
 
 /// Whether this is found of a read after the acquisition of a write, among three replies and among all.
-fn is_found(rt: &impl AllocGlobal, most: u64, found: Found) -> Result<bool, Fail> {
+fn is_found(rt: &impl AllocGlobal, most: u64, found: SearchEnd) -> Result<bool, Fail> {
     let read = (1, Call::TryRead, 4, Some((5, Reply::Stamp(257))));
     let Some(observed) = made(rt, 0, &[WRITE, read, WRITE], 2)? else {
         return Ok(false);

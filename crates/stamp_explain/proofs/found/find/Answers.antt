@@ -1,6 +1,6 @@
 use Rattle.std.proofs.Common.{false, true, sym, ◌∙◌, subst}
 use Rattle.std.proofs.lemmas.Result.{IfOk-weaker}
-use Rattle.stamp_explain.specs.declared.found.Found.{Found}
+use Rattle.stamp_explain.specs.declared.found.SearchEnd.{SearchEnd}
 use Rattle.stamp_explain.specs.Expand.{IsFoundApart, IsSearched}
 use Rattle.stamp_explain.proofs.Subhistories.{subhistory_observed}
 use Rattle.stamp_explain.proofs.Uniting.{found_alone, none_of_one}
@@ -22,15 +22,15 @@ find_alone-requires-3 c = subhistory_observed c.args.observed.now false c.in_ok-
 
 pub returns-in-Nothing : goal.returns-in-Nothing
 returns-in-Nothing c = none_of_one c.args.observed.now true c.in_ok-locks.locks c.requires c.in_ok-locks.ensures
-    (subst (λ (f : Found). IsSearched c.in_ok-locks.locks.history c.args.most f) c.in-Nothing.is
+    (subst (λ (f : SearchEnd). IsSearched c.in_ok-locks.locks.history c.args.most f) c.in-Nothing.is
     c.in_ok-of_locks.ensures)
 
 pub returns-in-Nothing-of_records : goal.returns-in-Nothing-of_records
 returns-in-Nothing-of_records c = none_of_one c.args.observed.now false c.in_ok-records.records c.requires
-    c.in_ok-records.ensures (subst (λ (f : Found). IsSearched c.in_ok-records.records.history c.args.most f)
+    c.in_ok-records.ensures (subst (λ (f : SearchEnd). IsSearched c.in_ok-records.records.history c.args.most f)
     c.in-Nothing-of_records.is c.in_ok-of_records.ensures)
 
 pub returns-in-Nothing-of_records-2 : goal.returns-in-Nothing-of_records-2
 returns-in-Nothing-of_records-2 c = none_of_one c.args.observed.now false c.in_ok-records.records c.requires
-    c.in_ok-records.ensures (subst (λ (f : Found). IsSearched c.in_ok-records.records.history c.args.most f)
+    c.in_ok-records.ensures (subst (λ (f : SearchEnd). IsSearched c.in_ok-records.records.history c.args.most f)
     c.in-Nothing-of_records-2.is c.in_ok-of_records.ensures)

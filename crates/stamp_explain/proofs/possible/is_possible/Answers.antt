@@ -2,7 +2,7 @@ use Rattle.std.proofs.Common.{◌+◌, refl, sym, ◌∙◌, ap, subst}
 use Rattle.std.proofs.lemmas.Bool.{false≢true}
 use Rattle.stamp_explain.specs.Observed.{ObservedHistory, IsObserved}
 use Rattle.stamp_explain.specs.Cut.{seen_at}
-use Rattle.stamp_explain.specs.declared.found.Found.{Found}
+use Rattle.stamp_explain.specs.declared.found.SearchEnd.{SearchEnd}
 use Rattle.stamp_explain.proofs.Replying.{Tells, replied_is_observed, found_tells, read_at}
 use Rattle.stamp_explain.proofs.Seeing.{seen_explains_as_much}
 use Rattle.stamp_explain.proofs.possible.is_possible.Goals as goal
@@ -23,7 +23,7 @@ find-requires c = subst IsObserved (sym c.in_ok-seen.ensures)
 
 pub returns-in-Linearization-clause-ok : goal.returns-in-Linearization-clause-ok
 returns-in-Linearization-clause-ok c = (
-  λ _. subst (λ (f : Found). Tells c.args.observed.now c.args.entry c.args.most c.args.reply f) c.in-Linearization.is
+  λ _. subst (λ (f : SearchEnd). Tells c.args.observed.now c.args.entry c.args.most c.args.reply f) c.in-Linearization.is
       (found_tells c.args.observed.now c.in_ok-seen.seen c.args.entry c.args.most c.index-entries-entry.result
       c.in-Some.returned c.args.reply (read_at c.args.observed.now c.args.entry c.index-entries-entry.result
       c.entries.result.now c.requires.returned c.index-entries-entry.is c.entries.ensures.entries) c.in-Some.is
@@ -36,7 +36,7 @@ returns-in-Linearization-clause-ok c = (
 pub returns-in-Nothing-clause-ok : goal.returns-in-Nothing-clause-ok
 returns-in-Nothing-clause-ok c = (
   λ no. absurd (false≢true no),
-  λ is. absurd (subst (λ (f : Found). Tells c.args.observed.now c.args.entry c.args.most c.args.reply f)
+  λ is. absurd (subst (λ (f : SearchEnd). Tells c.args.observed.now c.args.entry c.args.most c.args.reply f)
       c.in-Nothing.is
       (found_tells c.args.observed.now c.in_ok-seen.seen c.args.entry c.args.most c.index-entries-entry.result
       c.in-Some.returned c.args.reply (read_at c.args.observed.now c.args.entry c.index-entries-entry.result
@@ -47,7 +47,7 @@ returns-in-Nothing-clause-ok c = (
 )
 
 pub returns-clause-undecided : goal.returns-clause-undecided
-returns-clause-undecided c = λ _. subst (λ (f : Found). Tells c.args.observed.now c.args.entry c.args.most
+returns-clause-undecided c = λ _. subst (λ (f : SearchEnd). Tells c.args.observed.now c.args.entry c.args.most
     c.args.reply f) c.in-Undecided.is
     (found_tells c.args.observed.now c.in_ok-seen.seen c.args.entry c.args.most c.index-entries-entry.result
     c.in-Some.returned c.args.reply (read_at c.args.observed.now c.args.entry c.index-entries-entry.result

@@ -6,8 +6,8 @@ use Rattle.stamp_explain.specs.declared.node.Origin.{Origin}
 use Rattle.stamp_explain.specs.declared.store.Store.{Store}
 use Rattle.stamp_explain.specs.Store.{IsStored}
 use Rattle.stamp_explain.proofs.AddingUnseen.{new_is_added, seen_is_left_out}
-use Rattle.stamp_explain.proofs.asking.add_unseen.Goals as goal
-use Rattle.stamp_explain.proofs.asking.add_unseen.Goals.{then-branch+in_ok-push, else-branch}
+use Rattle.stamp_explain.proofs.asking.add_new.Goals as goal
+use Rattle.stamp_explain.proofs.asking.add_new.Goals.{then-branch+in_ok-push, else-branch}
 
 -- what is read where nothing stands
 abbrev blank : Next
