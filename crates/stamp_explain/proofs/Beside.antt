@@ -318,7 +318,8 @@ beside_question : (asking : Asking) (node : Node) (calls : List ℕ) (k : ℕ) (
 beside_question asking node calls k nexts is more other question = record {
   led = is.led;
   tries = λ reply h answered none. tried_question h (Some asking.index) asking.timeline.returns.items node calls k
-      nexts (is.tries reply h answered none) more (λ e at. ap open_question_in (sym (other_there h asking.seen asking.index
+      nexts (is.tries reply h answered none) more (λ e at. ap open_question_in (sym
+      (other_there h asking.seen asking.index
       (get_or calls (length calls - 1 - k) 0) e
       (turned asking.seen h asking.index (alike_of asking reply h answered)) other at)) ∙ question);
 }

@@ -192,7 +192,8 @@ choice_leads h asked timeline node a calls i w is bit none are awaited at choice
       none = none.none a s taken (awaited_at h timeline node a is) stands;
       object = choice.object a it.effect.entry at (ap (λ (j : ℕ). slice_get h.entries j) (sym it.index) ∙
           it.may.effect.is_entry);
-      no_question = ap open_question_in (sym it.may.effect.is_entry) ∙ ap (is_open_question_at h.entries) it.index ∙ choice.no_question;
+      no_question = ap open_question_in (sym it.may.effect.is_entry) ∙
+          ap (is_open_question_at h.entries) it.index ∙ choice.no_question;
       first = is_first_alike h asked timeline node a s taken calls it.effect is are stands it.may.effect.is_entry
           (subst (λ (j : ℕ). ¬ GivesWay h asked node calls j) (sym it.index) choice.gives_no_way);
     }))

@@ -393,7 +393,8 @@ suffice_by_one h asked timeline node a calls k nexts is bit are all tries n agai
 
         by : (b : Bool) → is_open_question on.effect.entry ≡ b → GoesOn h returns nexts n
         by true asking = later on.left fewer (again on.left fewer (hope_without on asking))
-        by false no_question = some_goes_on h asked timeline node a calls k nexts hope.state hope.taken n on.state on.left
+        by false no_question = some_goes_on h asked timeline node a calls k nexts hope.state
+            hope.taken n on.state on.left
             (bound on.effect.entry.returned) on.effect is are all hope.stands tries fewer (omega arith)
             (record { object = on.alike; no_question = no_question; may = on.may; rest = on.completes })
 

@@ -23,7 +23,8 @@ find-requires c = subst IsObserved (sym c.in_ok-seen.ensures)
 
 pub returns-in-Linearization-clause-ok : goal.returns-in-Linearization-clause-ok
 returns-in-Linearization-clause-ok c = (
-  λ _. subst (λ (f : SearchEnd). Tells c.args.observed.now c.args.entry c.args.most c.args.reply f) c.in-Linearization.is
+  λ _. subst (λ (f : SearchEnd).
+      Tells c.args.observed.now c.args.entry c.args.most c.args.reply f) c.in-Linearization.is
       (found_tells c.args.observed.now c.in_ok-seen.seen c.args.entry c.args.most c.index-entries-entry.result
       c.in-Some.returned c.args.reply (read_at c.args.observed.now c.args.entry c.index-entries-entry.result
       c.entries.result.now c.requires.returned c.index-entries-entry.is c.entries.ensures.entries) c.in-Some.is
